@@ -1,0 +1,54 @@
+#!/usr/bin/env python3
+"""measure.py [PROGRAM]: times the workbench on long sessions, and prints a table: session, bytes in, bytes out, the median of five times.
+
+The sessions are made here, so that the repository keeps none of their megabytes.
+"""
+import statistics
+import subprocess
+import sys
+import time
+from pathlib import Path
+
+
+def member(name, lines):
+    """The commands that type a member of these lines."""
+    yield f"ADD {name} SOURCE"
+    for number, line in enumerate(lines):
+        yield f"INSERT {name} {number} {line}"
+
+
+def procedure(name, count):
+    """A procedure of so many lines: it declares two variables, assigns one to the other, and prints."""
+    yield f"{name}: PROC OPTIONS(MAIN);"
+    yield "DCL X FIXED BIN(31), Y FIXED BIN(31);"
+    for _ in range(count - 4):
+        yield "X = Y;"
+    yield "PUT LIST(X + 1);"
+    yield f"END {name};"
+
+
+def sessions():
+    one = list(member("M", procedure("M", 9999)))
+    yield "one member of 9,999 lines, built and run", one + ["BUILD", "RUN"]
+    yield "the same, built ten times", one + ["BUILD"] * 10
+    many = [command for k in range(30) for command in member(f"M{k}", procedure(f"M{k}", 2000))]
+    yield "thirty members of 2,000 lines, built", many + ["BUILD"]
+    printing = ["M: PROC OPTIONS(MAIN);", "DCL X FIXED BIN(31);"] + ["PUT LIST(X, X, X, X, X, X, X, X, X, X);"] * 1900 + ["END;"]
+    yield "19,000 items printed, ten times", list(member("M", printing)) + ["BUILD"] + ["RUN"] * 10
+
+
+def main():
+    program = sys.argv[1:] or [str(Path(__file__).resolve().parent.parent / "bin" / "pliwb")]
+    subprocess.run(program, input=b"", stdout=subprocess.DEVNULL, check=True)
+    print(f"{'session':45} {'in':>10} {'out':>10} {'median':>9}")
+    for title, commands in sessions():
+        text = "".join(command + "\n" for command in commands).encode()
+        times, answers = [], b""
+        for _ in range(5):
+            begin = time.perf_counter()
+            answers = subprocess.run(program, input=text, stdout=subprocess.PIPE, check=True).stdout
+            times.append(time.perf_counter() - begin)
+        print(f"{title:45} {len(text):10,} {len(answers):10,} {statistics.median(times):8.3f}s")
+
+
+main()

@@ -1,0 +1,21 @@
+//! Names, codes, tokens, trees and devices: what every other crate speaks of.
+#![tactic(auto)]
+
+mod code;
+mod device;
+mod laws;
+mod line;
+mod name;
+mod token;
+mod tree;
+
+pub use code::{Code, code_order, one_code};
+pub use device::{Device, Failed, Sink, Source, put_all, take_all};
+pub use laws::{one_tree, read_is_spelled, spelled_is_read};
+pub use line::Line;
+pub use name::{NAME_LIMIT, Name};
+pub use token::{Fault, Sign, Token, TokenText};
+pub use tree::{Body, Expression, Reference, Statement, Unit};
+
+#[cfg(test)]
+mod tests;

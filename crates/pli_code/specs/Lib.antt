@@ -1,0 +1,9 @@
+pub mod Declarations
+pub mod Errors
+pub mod Link
+pub mod Machine
+pub mod ModuleView
+pub mod Print
+pub mod Translation
+pub mod Types
+pub mod World

@@ -1,0 +1,17 @@
+//! The lexer: the tokens of a member's lines, or the fault of the first place where no token can stand.
+#![tactic(auto)]
+
+mod answer;
+mod laws;
+mod piece;
+mod reading;
+
+pub use answer::{LexError, LexFault};
+pub use laws::{
+    lines_have_their_faults, lines_read_are_spelled, lines_spelled_are_read,
+    texts_have_their_faults, texts_read_are_spelled, texts_spelled_are_read, worked_examples,
+};
+pub use reading::lex;
+
+#[cfg(test)]
+mod tests;

@@ -1,0 +1,16 @@
+pub mod Comes
+pub mod Declared
+pub mod Examples
+pub mod Growth
+pub mod Means
+pub mod Placed
+pub mod Ready
+pub mod Runs
+pub mod Simulation
+pub mod SoundLines
+pub mod SoundTexts
+pub mod Stands
+pub mod Tables
+pub mod Whole
+pub mod WholeRun
+pub mod Widths

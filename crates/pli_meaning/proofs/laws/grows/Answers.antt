@@ -1,0 +1,9 @@
+use Rattle.pli_meaning.proofs.Growth.{growth}
+use Rattle.pli_meaning.proofs.WholeRun.{members_grow}
+use Rattle.pli_meaning.proofs.laws.grows.Goals as goal
+
+pub returns-clause-members : goal.returns-clause-members
+returns-clause-members c = members_grow
+
+pub returns-clause-procedures : goal.returns-clause-procedures
+returns-clause-procedures c = growth

@@ -1,0 +1,5 @@
+use Rattle.pli_meaning.proofs.WholeRun.{one_meaning}
+use Rattle.pli_meaning.proofs.laws.one_meaning.Goals as goal
+
+pub returns : goal.returns
+returns c = one_meaning

@@ -1,0 +1,9 @@
+use Rattle.pli_meaning.proofs.Simulation.{simulation}
+use Rattle.pli_meaning.proofs.WholeRun.{members_simulate}
+use Rattle.pli_meaning.proofs.laws.simulates.Goals as goal
+
+pub returns-clause-members : goal.returns-clause-members
+returns-clause-members c = members_simulate
+
+pub returns-clause-procedures : goal.returns-clause-procedures
+returns-clause-procedures c = simulation

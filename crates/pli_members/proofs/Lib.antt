@@ -1,0 +1,6 @@
+mod Edits
+mod Places
+mod Puts
+mod Runs
+mod Searches
+mod StaysKept

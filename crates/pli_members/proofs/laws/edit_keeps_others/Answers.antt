@@ -1,0 +1,5 @@
+use Rattle.pli_members.proofs.Runs.{edit_keeps_others}
+use Rattle.pli_members.proofs.laws.edit_keeps_others.Goals as goal
+
+pub returns : goal.returns
+returns c = edit_keeps_others

@@ -1,0 +1,6 @@
+pub mod Fields
+pub mod Kept
+pub mod Members
+pub mod Refusals
+pub mod Search
+pub mod Versions

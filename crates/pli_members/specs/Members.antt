@@ -1,0 +1,74 @@
+-- The members of a workbench: a finite map from names to members, with versions (own).
+use Rattle.std.specs.Prelude.{ℕ, ◌+◌, Bool, List, [], Option, None, Some, insert}
+use Rattle.std.specs.Option.{option_map}
+use Rattle.std.specs.Ordering.{nat_cmp}
+use Rattle.std.specs.declared.cmp.Ordering.{Ordering}
+use Rattle.std.specs.Cmp.Lexicographic.{slice_cmp}
+use Rattle.std.specs.Map.{keys_of, lookup, remove_entry}
+use Rattle.std.specs.BTreeMap.{is_at, insert_entry}
+use Rattle.pli_base.specs.Name.{Name}
+use Rattle.pli_members.specs.declared.kind.Kind.{Kind}
+
+-- a kind, the lines, each a list of bytes, and the version that the last edit gave
+pub record Member : Type 0 where
+  pub kind : Kind
+  pub lines : List (List ℕ)
+  pub version : ℕ
+
+-- the members in the order of their names, and the version that the next edit gives; 2^64 is none
+pub record Store : Type 0 where
+  pub entries : List (Name × Member)
+  pub next : ℕ
+
+-- names are ordered as texts
+abbrev pub name_order : Name → Name → Ordering
+name_order = slice_cmp nat_cmp
+
+-- whether the second name is the first
+abbrev pub is_named : Name → Name → Bool
+is_named name = is_at (name_order name)
+
+-- the names, in order
+abbrev pub names_of : Store → List Name
+names_of s = keys_of s.entries
+
+-- the member of a name
+abbrev pub member_of : Store → Name → Option Member
+member_of s name = lookup (is_named name) s.entries
+
+-- the kind of the member of a name
+abbrev pub kind_of : Store → Name → Option Kind
+kind_of s name = option_map (λ m. m.kind) (member_of s name)
+
+-- the lines of the member of a name
+abbrev pub lines_of : Store → Name → Option (List (List ℕ))
+lines_of s name = option_map (λ m. m.lines) (member_of s name)
+
+-- the version of the member of a name
+abbrev pub version_of : Store → Name → Option ℕ
+version_of s name = option_map (λ m. m.version) (member_of s name)
+
+-- no members
+abbrev pub empty_store : ℕ → Store
+empty_store first = record { entries = []; next = first }
+
+-- the store where the name has this kind and these lines, under the next version
+abbrev pub with_member : Store → Name → Kind → List (List ℕ) → Store
+with_member s name kind lines = record { entries = insert_entry name_order s.entries name (record { kind = kind; lines = lines; version = s.next }); next = s.next + 1 }
+
+-- a member without lines comes to the store
+abbrev pub added : Store → Name → Kind → Store
+added s name kind = with_member s name kind []
+
+-- the member of the name leaves the store
+abbrev pub deleted : Store → Name → Store
+deleted s name = record { entries = remove_entry (is_named name) s.entries; next = s.next }
+
+-- the member, if there is one, has its lines changed
+abbrev pub with_lines : Store → Name → (List (List ℕ) → List (List ℕ)) → Option Member → Store
+with_lines s name change None = s
+with_lines s name change (Some m) = with_member s name m.kind (change m.lines)
+
+-- a line is put after line `after` of the member, first where that is 0
+abbrev pub with_line : Store → Name → ℕ → List ℕ → Store
+with_line s name after text = with_lines s name (λ lines. insert lines after text) (member_of s name)

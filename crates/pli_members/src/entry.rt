@@ -1,0 +1,83 @@
+//! A name with its member.
+ghost use Rattle.std.specs.Prelude.{◌≡◌, ◌≤◌, length, insert, OnOk, OnErr};
+
+use crate::kind::Kind;
+use pli_base::{Line, Name};
+use std::alloc::AllocError;
+use std::marker::Model;
+
+/// A name and its member. Contracts see the pair of the two.
+#[derive(Drop)]
+pub struct Entry {
+    name: Name,
+    kind: Kind,
+    lines: Vec<Line>,
+    version: u64,
+}
+
+impl Model for Entry {
+    ghost use Rattle.pli_members.specs.Members.{Member};
+    ghost use Rattle.pli_base.specs.Name.{Name as Characters};
+
+    ghost Value = { Characters × Member };
+
+    ghost view = { λ e. (e.name, record { kind = e.kind; lines = e.lines.items; version = e.version }) };
+}
+
+impl Entry {
+    // An entry of these parts.
+    pub(crate) fn new(name: Name, kind: Kind, lines: Vec<Line>, version: u64) -> Entry
+        ensures { result ≡ (name, record { kind = kind; lines = lines.items; version = version }) }
+    {
+        Entry {
+            name,
+            kind,
+            lines,
+            version,
+        }
+    }
+
+    /// The name.
+    pub fn name(&self) -> Name
+        ensures { result ≡ self.now.0 }
+    {
+        self.name
+    }
+
+    /// What the member is for.
+    pub fn kind(&self) -> Kind
+        ensures { result ≡ self.now.1.kind }
+    {
+        self.kind
+    }
+
+    /// The member's lines.
+    pub fn lines(&self) -> &[Line]
+        ensures { result.now ≡ self.now.1.lines }
+    {
+        self.lines.as_slice()
+    }
+
+    /// The version that the member's last edit gave.
+    pub fn version(&self) -> u64
+        ensures { result ≡ self.now.1.version }
+    {
+        self.version
+    }
+
+    // Puts a line after line `after`, under a new version.
+    pub(crate) fn put_line(
+        &mut self,
+        after: usize,
+        line: Line,
+        version: u64,
+    ) -> Result<(), AllocError>
+        requires { after ≤ length self.old.1.lines }
+        ensures ok { OnOk result (self.new ≡ (self.old.0, record { kind = self.old.1.kind; lines = insert self.old.1.lines after line; version = version })) }
+        ensures err { OnErr result (self.new ≡ self.old) }
+    {
+        self.lines.insert(after, line)?;
+        self.version = version;
+        Ok(())
+    }
+}

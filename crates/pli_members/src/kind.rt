@@ -1,0 +1,10 @@
+//! Kinds of members.
+
+/// What a member is for (own).
+#[derive(Clone, Copy, Debug, PartialEq, Eq)]
+pub enum Kind {
+    /// A unit of its own, which a build compiles.
+    Source,
+    /// A text that others include.
+    Include,
+}

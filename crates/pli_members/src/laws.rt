@@ -1,0 +1,27 @@
+//! Laws of the members.
+ghost use Rattle.pli_members.specs.Versions.{NextIsNew, EditGivesNext, EditKeepsOthers, DeletionTakes, DeletionKeepsOthers};
+
+/// The version that an accepted edit gives was never given before.
+pub fn next_is_new()
+    ensures { NextIsNew }
+{}
+
+/// A member that is edited has the version that was the next one.
+pub fn edit_gives_next()
+    ensures { EditGivesNext }
+{}
+
+/// An edit leaves every other member as it was.
+pub fn edit_keeps_others()
+    ensures { EditKeepsOthers }
+{}
+
+/// A member that is deleted is gone.
+pub fn deletion_takes()
+    ensures { DeletionTakes }
+{}
+
+/// A deletion leaves every other member as it was.
+pub fn deletion_keeps_others()
+    ensures { DeletionKeepsOthers }
+{}

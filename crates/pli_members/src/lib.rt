@@ -1,0 +1,22 @@
+//! The members of a workbench: a finite map from names to lines of text, with versions.
+#![tactic(auto)]
+
+mod entry;
+mod kind;
+mod laws;
+mod lines;
+mod members;
+mod names;
+mod refusal;
+
+pub use entry::Entry;
+pub use kind::Kind;
+pub use laws::{
+    deletion_keeps_others, deletion_takes, edit_gives_next, edit_keeps_others, next_is_new,
+};
+pub use members::Members;
+pub use names::Names;
+pub use refusal::{EditError, Refusal};
+
+#[cfg(test)]
+mod tests;
