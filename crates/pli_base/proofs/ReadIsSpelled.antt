@@ -1,13 +1,13 @@
 -- What is read is spelled so.
-use Rattle.std.proofs.Common.{⊎_elim, ◌≡◌, ◌+◌, ◌-◌, ◌<◌, ◌≤◌, ℕ, suc, zero, nat_lt, Bool, true, false, cond, List, [], ◌∷◌, ◌++◌, Option, Some, None, Result, Ok, Err, length, codes, refl, ap, ◌∙◌, sym, subst, arith, ◌||◌, ◌⊎◌, inl, inr, IsTrue, append_assoc, length-append}
+use Rattle.std.proofs.Common.{⊎_elim, ◌≡◌, ◌+◌, ◌-◌, ◌≤◌, ℕ, suc, zero, nat_lt, Bool, true, false, cond, List, [], ◌∷◌, ◌++◌, Option, Some, None, Result, Ok, Err, length, codes, refl, ap, ◌∙◌, sym, subst, arith, ◌⊎◌, inl, inr, IsTrue, append_assoc, length-append}
 use Rattle.std.proofs.lemmas.List.{append-nil}
 use Rattle.pli_base.specs.Name.{Name}
 use Rattle.pli_base.specs.NameLaws.{equal_from_pointwise}
 use Rattle.pli_base.specs.Words.{Tokens, same_name, is_procedure, is_declare, is_binary, is_binary_word, is_word, is_number, is_open, is_close, is_semicolon, operator_limit, declared_precision}
-use Rattle.pli_base.specs.Tree.{Reference, Expression, Variable, Constant, Sum, operators, Body, Null, Declare, Assign, Put, Statement, Procedure}
-use Rattle.pli_base.specs.Reading.{◌>>=◌, Front, at_fault, taken, ended, limited, variable_at, sum_from, operand_at, expression_at, listed_after, listed_at, attributes_at, item_at, declare_of, put_of, is_sum_tail, is_expression, assigned, Piece, Ends, Does, doing, ending_of, keyword_piece_of, assignment_of, assignment_or, piece_of, Pieces, with_front, pieces, options_at, misplaced, heading_of, is_end, continued, statements_of, of_pieces, unless_misplaced, procedure_of}
-use Rattle.pli_base.specs.Grammar.{IsOperand, SpellsExpression, SpellsLimited, SpellsListed, SpellsItem, SpellsBody, SpellsEnd, HasNoSemicolon, SpellsStatements, SpellsProcedure}
-use Rattle.pli_base.specs.declared.code.Code.TheVariants.{NoProcedure, NotAStatement, WrongEndName, EndMissing, NestedTooDeep}
+use Rattle.pli_base.specs.Tree.{Reference, Expression, Constant, Sum, operators, Body, Statement, Procedure}
+use Rattle.pli_base.specs.Reading.{◌>>=◌, Front, at_fault, taken, ended, variable_at, sum_from, operand_at, expression_at, listed_after, listed_at, attributes_at, item_at, declare_of, put_of, is_sum_tail, is_expression, assigned, Piece, Ends, Does, doing, ending_of, keyword_piece_of, assignment_of, assignment_or, piece_of, Pieces, with_front, pieces, options_at, misplaced, heading_of, is_end, continued, statements_of, of_pieces, unless_misplaced, procedure_of}
+use Rattle.pli_base.specs.Grammar.{SpellsExpression, SpellsLimited, SpellsListed, SpellsItem, SpellsBody, SpellsEnd, HasNoSemicolon, SpellsStatements, SpellsProcedure}
+use Rattle.pli_base.specs.declared.code.Code.TheVariants.{NotAStatement, WrongEndName, NestedTooDeep}
 use Rattle.pli_base.specs.declared.token.Fault.{Fault}
 use Rattle.pli_base.specs.declared.token.Sign.TheVariants.{Colon, Semicolon, Comma, OpenParenthesis, CloseParenthesis, Equals, Plus}
 use Rattle.pli_base.specs.declared.token.TokenText.{TokenText}

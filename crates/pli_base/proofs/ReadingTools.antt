@@ -1,13 +1,13 @@
 -- Steps of reading, taken apart.
-use Rattle.std.proofs.Common.{◌≡◌, ◌+◌, ◌-◌, ◌<◌, ◌≤◌, ℕ, suc, zero, nat_lt, Bool, true, false, cond, List, [], ◌∷◌, ◌++◌, Option, Some, None, Result, Ok, Err, length, refl, ap, ◌∙◌, sym, subst, arith, ◌||◌, ◌⊎◌, inl, inr, IsTrue}
+use Rattle.std.proofs.Common.{◌≡◌, ◌<◌, ℕ, nat_lt, Bool, true, false, cond, [], ◌∷◌, Option, Some, Result, Ok, Err, refl, ap}
 use Rattle.std.proofs.lemmas.Bool.{ltb-true, eqb-true}
 use Rattle.pli_base.specs.Name.{Name}
 use Rattle.pli_base.specs.NameLaws.{equal_from_pointwise}
-use Rattle.pli_base.specs.Words.{Tokens, same_name, is_word, is_binary_word, is_binary, is_number, is_open, is_close, operator_limit}
-use Rattle.pli_base.specs.Reading.{◌>>=◌, at_fault, taken, ended, limited}
+use Rattle.pli_base.specs.Words.{Tokens, is_word, is_binary_word, is_binary, is_number, is_open, is_close, operator_limit}
+use Rattle.pli_base.specs.Reading.{◌>>=◌, taken, ended, limited}
 use Rattle.pli_base.specs.declared.code.Code.TheVariants.{NotAStatement, NestedTooDeep}
 use Rattle.pli_base.specs.declared.token.Fault.{Fault}
-use Rattle.pli_base.specs.declared.token.Sign.TheVariants.{Colon, Semicolon, Comma, OpenParenthesis, CloseParenthesis, Equals, Plus}
+use Rattle.pli_base.specs.declared.token.Sign.TheVariants.{OpenParenthesis, CloseParenthesis}
 use Rattle.pli_base.specs.declared.token.TokenText.{TokenText}
 use Rattle.pli_base.specs.declared.token.TokenText.TheVariants.{Word, Number, Sign}
 

@@ -4,7 +4,6 @@ use Rattle.pli_base.specs.Name.{Name}
 use Rattle.pli_base.specs.Words.{Tokens, is_procedure, is_declare, is_binary, is_semicolon, operator_limit, declared_precision}
 use Rattle.pli_base.specs.Tree.{Reference, Expression, Variable, Constant, Sum, operators, Body, Null, Declare, Assign, Put, Statement, Procedure}
 use Rattle.pli_base.specs.declared.token.Sign.TheVariants.{Colon, Semicolon, Comma, OpenParenthesis, CloseParenthesis, Equals, Plus}
-use Rattle.pli_base.specs.declared.token.TokenText.{TokenText}
 use Rattle.pli_base.specs.declared.token.TokenText.TheVariants.{Word, Number, Sign}
 
 -- an operand is an expression that is no sum

@@ -7,7 +7,7 @@ use Rattle.pli_base.specs.Tree.{Reference, Expression, Variable, Constant, Sum, 
 use Rattle.pli_base.specs.declared.code.Code.{Code}
 use Rattle.pli_base.specs.declared.code.Code.TheVariants.{NoProcedure, NotAStatement, WrongEndName, EndMissing, NestedTooDeep}
 use Rattle.pli_base.specs.declared.token.Fault.{Fault}
-use Rattle.pli_base.specs.declared.token.Sign.TheVariants.{Colon, Comma, CloseParenthesis, Equals, Plus}
+use Rattle.pli_base.specs.declared.token.Sign.TheVariants.{Colon, Comma, Equals, Plus}
 use Rattle.pli_base.specs.declared.token.TokenText.{TokenText}
 use Rattle.pli_base.specs.declared.token.TokenText.TheVariants.{Word, Number, Sign}
 

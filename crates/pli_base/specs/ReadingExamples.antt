@@ -1,10 +1,10 @@
 -- Texts and what they are read as: computed.
-use Rattle.std.specs.Prelude.{◌≡◌, refl, ℕ, Ok, List, [], ◌∷◌, ◌++◌, codes}
+use Rattle.std.specs.Prelude.{◌≡◌, refl, ℕ, Ok, [], ◌∷◌, ◌++◌, codes}
 use Rattle.pli_base.specs.Words.{Tokens}
-use Rattle.pli_base.specs.Tree.{Reference, Expression, Variable, Constant, Sum, Declare, Assign, Put}
+use Rattle.pli_base.specs.Tree.{Variable, Constant, Sum, Declare, Assign, Put}
 use Rattle.pli_base.specs.Reading.{at_fault, taken, ended, sum_from, operand_at, expression_at, listed_at, attributes_at, item_at, declare_of, put_of, is_sum_tail, is_expression, assigned, ending_of, keyword_piece_of, assignment_of, piece_of, pieces, options_at, misplaced, heading_of, is_end, continued, statements_of, of_pieces, procedure_of}
 use Rattle.pli_base.specs.declared.code.Code.TheVariants.{NoProcedure, NotAStatement, WrongEndName, EndMissing}
-use Rattle.pli_base.specs.declared.token.Sign.TheVariants.{Colon, Semicolon, Comma, OpenParenthesis, CloseParenthesis, Equals, Plus}
+use Rattle.pli_base.specs.declared.token.Sign.TheVariants.{Colon, Semicolon, OpenParenthesis, CloseParenthesis, Equals, Plus}
 use Rattle.pli_base.specs.declared.token.TokenText.TheVariants.{Word, Number, Sign}
 
 -- `M: PROC OPTIONS(MAIN);`

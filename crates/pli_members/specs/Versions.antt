@@ -32,3 +32,7 @@ DeletionTakes = (s : Store) (name : Name) → IsKept s → member_of (deleted s 
 -- and leaves the others
 abbrev pub DeletionKeepsOthers : Type 0
 DeletionKeepsOthers = (s : Store) (name other : Name) → other ≢ name → member_of (deleted s name) other ≡ member_of s other
+
+-- accepted edits keep what is true of every store
+abbrev pub RunsKeep : Type 0
+RunsKeep = (start s : Store) (given : List ℕ) → Run start given s → IsKept start → IsKept s

@@ -1,5 +1,5 @@
 //! Laws of the members.
-ghost use Rattle.pli_members.specs.Versions.{NextIsNew, EditGivesNext, EditKeepsOthers, DeletionTakes, DeletionKeepsOthers};
+ghost use Rattle.pli_members.specs.Versions.{NextIsNew, EditGivesNext, EditKeepsOthers, DeletionTakes, DeletionKeepsOthers, RunsKeep};
 
 /// The version that an accepted edit gives was never given before.
 pub fn next_is_new()
@@ -24,4 +24,9 @@ pub fn deletion_takes()
 /// A deletion leaves every other member as it was.
 pub fn deletion_keeps_others()
     ensures { DeletionKeepsOthers }
+{}
+
+/// Accepted edits keep the limits, the order of the names, and versions below the next one, no two alike.
+pub fn runs_keep()
+    ensures { RunsKeep }
 {}

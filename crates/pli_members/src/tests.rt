@@ -1,6 +1,6 @@
 use crate::{
     EditError, Kind, Members, Refusal, deletion_keeps_others, deletion_takes, edit_gives_next,
-    edit_keeps_others, next_is_new,
+    edit_keeps_others, next_is_new, runs_keep,
 };
 use pli_base::Name;
 use std::test::Fail;
@@ -64,6 +64,7 @@ fn versions(rt: HostRuntime) -> Result<(), Fail> {
         refused(Refusal::VersionsExhausted)
     );
     next_is_new();
+    runs_keep();
     edit_gives_next();
     edit_keeps_others();
     deletion_takes();

@@ -1,0 +1,152 @@
+-- Commands that are obeyed are cases of the session.
+use Rattle.std.specs.Prelude.{◌≡◌, ◌≢◌, is_some, ℕ, Bool, true, false, nat_eq, if◌then◌else◌, Option, Some, None, Result, Ok, Err, List, [], ◌∷◌, ◌++◌, ◌⊎◌, refl}
+use Rattle.std.proofs.Common.{sym, ap, ◌∙◌, subst, inl, inr, append_assoc, arith}
+use Rattle.std.proofs.lemmas.Bool.Decides.{nat_tests}
+use Rattle.std.specs.Io.KnownBytes.{Appends}
+use Rattle.pli_base.specs.Name.{Name}
+use Rattle.pli_base.specs.Devices.{AppendsPrefix}
+use Rattle.pli_base.specs.DeviceLaws.{Appends-then, Appends-then_AppendsPrefix, AppendsPrefix-more}
+use Rattle.pli_members.specs.Members.{Store}
+use Rattle.pli_members.specs.declared.refusal.Refusal.{Refusal}
+use Rattle.pli_code.specs.ModuleView.{Module, module_view}
+use Rattle.pli_code.specs.declared.instruction.Module as declared_module
+use Rattle.pli_bench.specs.Standing.{IsStanding}
+use Rattle.pli_code.specs.Machine.{Outcome, RunsTo}
+use Rattle.pli_code.specs.declared.ending.Ending.{Ending}
+use Rattle.pli_code.specs.declared.ending.Ran.{Ran}
+use Rattle.pli_meaning.specs.Scratch.{Built, Made, Diagnosed, scratch, Means}
+use Rattle.pli_meaning.proofs.WholeRun.{members_simulate}
+use Rattle.pli_meaning.specs.Members.{HasMeaning}
+use Rattle.pli_bench.specs.Answering.{Writes}
+use Rattle.pli_bench.specs.MachineRuns.{RanTo, StoppedWithin, OneOutcome}
+use Rattle.pli_bench.specs.Obeying.{Does, end_answer, gone}
+use Rattle.pli_bench.specs.Commands.{Command, command_of}
+use Rattle.pli_bench.specs.Runs.{AnsweredOne, next_after}
+use Rattle.pli_bench.specs.declared.serving.Next.{Next}
+use Rattle.pli_bench.specs.declared.serving.WriteFailed.{WriteFailed}
+use Rattle.pli_bench.proofs.MachineOutcome.{one_outcome}
+use Rattle.pli_bench.specs.Session.{State, EditsInMemory, Edits, ending_line, refused, okay, no_memory, not_built, Builds, is_made, Runs, run_answer, build_answer, Breaks, Obeys, Step, quits, is_quit}
+
+abbrev pub state : Store → Bool → ℕ → State
+state store stands steps = record { store = store; stands = stands; steps = steps }
+
+module _ (refusal_of : Store → Option Refusal) (target_of : Store → Store) (s : State) (store : Store) (stands : Bool) (steps : ℕ) (is : state store stands steps ≡ s) where
+  -- an edit that may want memory: it was made, it was refused, or there was none
+  pub made_in_memory : (new : Store) → refusal_of store ≡ None → new ≡ target_of store → EditsInMemory (refusal_of s.store) (target_of s.store) s okay (state new false steps)
+  made_in_memory new e h =
+      subst (λ t. EditsInMemory (refusal_of t.store) (target_of t.store) t okay (state new false steps)) is
+      (subst (λ f. EditsInMemory f (target_of store) (state store stands steps) okay (state new false steps)) (sym e) (inl (refl, ap (λ m. state m false steps) h)))
+
+  pub refused_in_memory : (new : Store) (r : Refusal) → refusal_of store ≡ Some r → new ≡ store → EditsInMemory (refusal_of s.store) (target_of s.store) s (refused r) (state new stands steps)
+  refused_in_memory new r e h =
+      subst (λ t. EditsInMemory (refusal_of t.store) (target_of t.store) t (refused r) (state new stands steps)) is
+      (subst (λ f. EditsInMemory f (target_of store) (state store stands steps) (refused r) (state new stands steps)) (sym e) (refl, ap (λ m. state m stands steps) h))
+
+  pub no_memory_for : (new : Store) → refusal_of store ≡ None → new ≡ store → EditsInMemory (refusal_of s.store) (target_of s.store) s no_memory (state new stands steps)
+  no_memory_for new e h =
+      subst (λ t. EditsInMemory (refusal_of t.store) (target_of t.store) t no_memory (state new stands steps)) is
+      (subst (λ f. EditsInMemory f (target_of store) (state store stands steps) no_memory (state new stands steps)) (sym e) (inr (refl, ap (λ m. state m stands steps) h)))
+
+  -- an edit that wants none
+  pub made : (new : Store) → refusal_of store ≡ None → new ≡ target_of store → Edits (refusal_of s.store) (target_of s.store) s okay (state new false steps)
+  made new e h =
+      subst (λ t. Edits (refusal_of t.store) (target_of t.store) t okay (state new false steps)) is
+      (subst (λ f. Edits f (target_of store) (state store stands steps) okay (state new false steps)) (sym e) (refl, ap (λ m. state m false steps) h))
+
+  pub refused_edit : (new : Store) (r : Refusal) → refusal_of store ≡ Some r → new ≡ store → Edits (refusal_of s.store) (target_of s.store) s (refused r) (state new stands steps)
+  refused_edit new r e h =
+      subst (λ t. Edits (refusal_of t.store) (target_of t.store) t (refused r) (state new stands steps)) is
+      (subst (λ f. Edits f (target_of store) (state store stands steps) (refused r) (state new stands steps)) (sym e) (refl, ap (λ m. state m stands steps) h))
+
+module _ (s : State) (store : Store) (stands : Bool) (steps : ℕ) (is : state store stands steps ≡ s) where
+  -- a build answers what a build from scratch gives
+  pub builds : (b : Built) → b ≡ scratch store.entries → Builds s (build_answer b) (state store (is_made b) steps)
+  builds b e =
+      subst (λ t. Builds t (build_answer b) (state store (is_made b) steps)) is
+      (inl (ap build_answer e, ap (λ x. state store (is_made x) steps) e))
+
+  -- or memory was refused
+  pub builds_not : Builds s no_memory (state store false steps)
+  builds_not = subst (λ t. Builds t no_memory (state store false steps)) is (inr (refl, refl))
+
+-- no module stands
+pub runs_not : (s : State) (n : ℕ) → s.stands ≡ false → Runs s.stands n s not_built s
+runs_not s n e = subst (λ b. Runs b n s not_built s) (sym e) (refl, refl)
+
+-- a part is written after another
+pub writes_then : {A E : Type 0} (a b c : Option (List ℕ)) (xs ys : List ℕ) (r : Result A E) → Appends a b xs → Writes b c ys r → Writes a c (xs ++ ys) r
+writes_then a b c xs ys (Ok x) p q = Appends-then a b c xs ys p q
+writes_then a b c xs ys (Err e) p q = Appends-then_AppendsPrefix a b c xs ys p q
+
+module _ (s : State) (n : ℕ) (m : Module) (stands : s.stands ≡ true) (built : scratch s.store.entries ≡ Made m) where
+  means_at : HasMeaning s.store.entries m n
+  means_at = members_simulate s.store.entries m built n
+
+  runs_with : (answer : List ℕ) → (answer ≡ run_answer means_at.outcome) ⊎ Breaks means_at.outcome.output answer → Runs s.stands n s answer s
+  runs_with answer h = subst (λ b. Runs b n s answer s) (sym stands) (means_at.outcome, means_at.means, h, refl)
+
+  -- a run that came to its end
+  pub run_done : {A E : Type 0} (a b c : Option (List ℕ)) (ran : Ran) (r : Result A E) → RanTo m n ran a b → Writes b c (end_answer ran.column ran.ending) r
+      → (x : List ℕ) × Runs s.stands n s x s × Writes a c x r
+  run_done a b c ran r h w =
+      let same : h.outcome ≡ means_at.outcome = one_outcome m n h.outcome means_at.outcome h.runs means_at.runs in
+      let text : h.outcome.output ++ end_answer ran.column ran.ending ≡ run_answer means_at.outcome =
+          ap (λ k. h.outcome.output ++ end_answer k ran.ending) h.column ∙ ap (λ k. h.outcome.output ++ end_answer h.outcome.column k) h.ending
+          ∙ sym (append_assoc h.outcome.output _ _) ∙ ap run_answer same in
+      (h.outcome.output ++ end_answer ran.column ran.ending, runs_with _ (inl text), writes_then a b c _ _ r h.put w)
+
+  -- a run for which memory was refused
+  pub run_broken : {A E : Type 0} (a b c : Option (List ℕ)) (r : Result A E) → StoppedWithin m n a b → Writes b c (10 ∷ no_memory) r
+      → (x : List ℕ) × Runs s.stands n s x s × Writes a c x r
+  run_broken a b c r h w =
+      let p = h means_at.outcome means_at.runs in
+      (p.written ++ 10 ∷ no_memory, runs_with _ (inr (record { written = p.written; left = p.left; whole = p.whole; says = refl })), writes_then a b c _ _ r p.appended w)
+
+  -- a run whose writer failed
+  pub run_unwritten : (a b : Option (List ℕ)) → StoppedWithin m n a b → (x : List ℕ) × Runs s.stands n s x s × AppendsPrefix a b x
+  run_unwritten a b h =
+      let p = AppendsPrefix-more a b means_at.outcome.output (end_answer means_at.outcome.column means_at.outcome.ending) (h means_at.outcome means_at.runs) in
+      (means_at.outcome.output ++ end_answer means_at.outcome.column means_at.outcome.ending, runs_with _ (inl (sym (append_assoc means_at.outcome.output _ _))), p)
+
+-- a command that does not quit
+pub answered_one : {A E : Type 0} (s t : State) (line : List ℕ) (command : Option Command) (a b : Option (List ℕ)) (given : Result A E) (r : Result Next WriteFailed)
+    → command_of line ≡ command → is_quit command ≡ false → r ≡ gone given → Does (Obeys command) s t a b given → AnsweredOne Step quits s line t a b r
+answered_one s t line command a b (Ok x) r e q g d =
+    subst (AnsweredOne Step quits s line t a b) (sym g) (d.0, subst (λ k. Obeys k s d.0 t) (sym e) d.1, d.2, ap next_after (sym (ap is_quit e ∙ q)))
+answered_one s t line command a b (Err x) r e q g d =
+    subst (AnsweredOne Step quits s line t a b) (sym g) (d.0, subst (λ k. Obeys k s d.0 t) (sym e) d.1, d.2)
+
+not_one : (column : ℕ) → column ≢ 1 → nat_eq column 1 ≡ false
+not_one column h = grind (arith, nat_tests)
+
+-- behind a full or a begun line there is a line end
+later_end : (column : ℕ) (e : Ending) → column ≢ 1 → 10 ∷ [] ++ ending_line e ≡ end_answer column e
+later_end column e h = ap (λ b. (if b then [] else 10 ∷ []) ++ ending_line e) (sym (not_one column h))
+
+pub end_first : {A E : Type 0} (a b : Option (List ℕ)) (column : ℕ) (e : Ending) (r : Result A E) → column ≡ 1 → Writes a b (ending_line e) r → Writes a b (end_answer column e) r
+end_first a b column e r h w = subst (λ k. Writes a b (end_answer k e) r) (sym h) w
+
+pub end_later : {A E : Type 0} (a b c : Option (List ℕ)) (column : ℕ) (e : Ending) (r : Result A E) → column ≢ 1 → Appends a b (10 ∷ []) → Writes b c (ending_line e) r
+    → Writes a c (end_answer column e) r
+end_later a b c column e r h p w = subst (λ t. Writes a c t r) (later_end column e h) (writes_then a b c _ _ r p w)
+
+pub end_broken : (a b : Option (List ℕ)) (column : ℕ) (e : Ending) → column ≢ 1 → AppendsPrefix a b (10 ∷ []) → AppendsPrefix a b (end_answer column e)
+end_broken a b column e h p = subst (AppendsPrefix a b) (later_end column e h) (AppendsPrefix-more a b (10 ∷ []) (ending_line e) p)
+
+-- a module that stands is that of the members
+pub standing_built : (s : State) (store : Store) (standing : Option declared_module.Module) (steps : ℕ) (m : declared_module.Module) → state store (is_some standing) steps ≡ s
+    → standing ≡ Some m → IsStanding store.entries standing → (s.stands ≡ true) × (scratch s.store.entries ≡ Made (module_view m))
+standing_built s store standing steps m is some h =
+    (ap (λ t. t.stands) (sym is) ∙ ap is_some some, ap (λ t. scratch t.store.entries) (sym is) ∙ subst (IsStanding store.entries) some h)
+
+module _ (s : State) (n k : ℕ) (same : n ≡ k) (m : Module) (stands : s.stands ≡ true) (built : scratch s.store.entries ≡ Made m) where
+  pub run_done_at : {A E : Type 0} (a b c : Option (List ℕ)) (ran : Ran) (r : Result A E) → RanTo m n ran a b → Writes b c (end_answer ran.column ran.ending) r
+      → (x : List ℕ) × Runs s.stands k s x s × Writes a c x r
+  run_done_at a b c ran r h w = subst (λ k. (x : List ℕ) × Runs s.stands k s x s × Writes a c x r) same (run_done s n m stands built a b c ran r h w)
+
+  pub run_broken_at : {A E : Type 0} (a b c : Option (List ℕ)) (r : Result A E) → StoppedWithin m n a b → Writes b c (10 ∷ no_memory) r
+      → (x : List ℕ) × Runs s.stands k s x s × Writes a c x r
+  run_broken_at a b c r h w = subst (λ k. (x : List ℕ) × Runs s.stands k s x s × Writes a c x r) same (run_broken s n m stands built a b c r h w)
+
+  pub run_unwritten_at : (a b : Option (List ℕ)) → StoppedWithin m n a b → (x : List ℕ) × Runs s.stands k s x s × AppendsPrefix a b x
+  run_unwritten_at a b h = subst (λ k. (x : List ℕ) × Runs s.stands k s x s × AppendsPrefix a b x) same (run_unwritten s n m stands built a b h)

@@ -1,0 +1,21 @@
+-- What compiling a unit answers, and what it appends to the text of diagnostics.
+use Rattle.std.specs.Prelude.{◌≡◌, ℕ, List, ◌++◌, Option, Result, Ok, Err, []}
+use Rattle.std.specs.List.{flat_map}
+use Rattle.std.specs.Result.{result_ok}
+use Rattle.pli_base.specs.Name.{Name}
+use Rattle.pli_base.specs.TreeView.{unit_view}
+use Rattle.pli_meaning.specs.Scratch as scratch
+use Rattle.pli_bench.specs.declared.compile.Parsed.{Parsed}
+
+abbrev pub parsed_view : Parsed → scratch.Parsed
+parsed_view p = record { tokens = p.tokens.items; tree = unit_view p.tree }
+
+-- the text of a unit's diagnostics, if it has any
+abbrev pub text_of : {A : Type 0} → Name → Result A (List scratch.Diagnostic) → List ℕ
+text_of unit (Ok x) = []
+text_of unit (Err diagnostics) = flat_map (scratch.diagnostic_line unit) diagnostics
+
+-- the value that was read, if there is one, and its diagnostics at the end of the text
+pub record Tells {A : Type 0} (unit : Name) (read : Result A (List scratch.Diagnostic)) (answer : Option A) (old new : List ℕ) : Type 0 where
+  pub value : answer ≡ result_ok read
+  pub appended : new ≡ old ++ text_of unit read

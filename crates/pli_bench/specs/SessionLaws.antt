@@ -1,0 +1,16 @@
+-- Lines that are too long for a command are all alike.
+use Rattle.std.specs.Prelude.{◌≡◌, ℕ, ◌<◌, Bool, true, false, Option, None, List, length, nat_lt}
+use Rattle.std.proofs.Common.{sym, subst, ap, ◌∙◌, refl}
+use Rattle.std.proofs.lemmas.Bool.{lt-ltb}
+use Rattle.pli_bench.specs.Commands.{command_of, line_limit}
+use Rattle.pli_bench.specs.Session.{State, Obeys, Step, quits, is_quit}
+
+-- a line over the limit is no command
+none_of : (line : List ℕ) → line_limit < length line → command_of line ≡ None
+none_of line h = rw (lt-ltb line_limit (length line) h) refl
+
+pub long_alike : (s t : State) (line other answer : List ℕ) → line_limit < length line → line_limit < length other → Step s line answer t → Step s other answer t
+long_alike s t line other answer h k step = subst (λ c. Obeys c s answer t) (none_of line h ∙ sym (none_of other k)) step
+
+pub long_goes : (line : List ℕ) → line_limit < length line → quits line ≡ false
+long_goes line h = ap is_quit (none_of line h)

@@ -1,0 +1,83 @@
+//! Texts of several parts, gathered or put one after another.
+ghost use Rattle.std.specs.Prelude.{◌≡◌, ◌++◌, OnOk, MatchResult, map};
+ghost use Rattle.std.specs.Io.KnownBytes.{Appends};
+ghost use Rattle.pli_base.specs.Devices.{AppendsPrefix};
+ghost use Rattle.pli_bench.specs.Answering.{joined, Writes};
+ghost use Rattle.pli_bench.specs.Runs.{Marked};
+ghost use Rattle.pli_bench.specs.Session.{ending_line, refused};
+
+use itoa::Buffer;
+use pli_base::{Failed, Sink, put_all};
+use pli_code::Ending;
+use pli_members::Refusal;
+use std::alloc::AllocError;
+
+/// Appends the parts to `text`, one after another.
+pub fn append_parts(text: &mut Vec<u8>, parts: &[&[u8]]) -> Result<(), AllocError>
+    ensures { OnOk result (text.new.items ≡ text.old.items ++ joined (map (λ p. p.now) parts.now)) }
+{
+    for part in parts {
+        text.extend_from_slice(part)?;
+    }
+    Ok(())
+}
+
+/// Puts the parts, one after another.
+pub fn put_parts<W: Sink>(writer: &mut W, parts: &[&[u8]]) -> Result<(), Failed>
+    ensures written { Writes (W.contents writer.old) (W.contents writer.new) (joined (map (λ p. p.now) parts.now)) result }
+    ensures mark { Marked (W.failed writer.old) (W.failed writer.new) result }
+{
+    for part in parts {
+        put_all(writer, part)?;
+    }
+    Ok(())
+}
+
+/// Puts the line that says how a run ended.
+pub fn put_ending<W: Sink>(writer: &mut W, ending: Ending) -> Result<(), Failed>
+    ensures written { Writes (W.contents writer.old) (W.contents writer.new) (ending_line ending) result }
+    ensures mark { Marked (W.failed writer.old) (W.failed writer.new) result }
+{
+    match ending {
+        Ending::Ended => put_parts(writer, &[b"ENDED\n"]),
+        Ending::OutOfSteps => put_parts(writer, &[b"OUT OF STEPS\n"]),
+        Ending::MachineFault => put_parts(writer, &[b"MACHINE FAULT\n"]),
+        Ending::Error {
+            error,
+            unit,
+            statement,
+        } => {
+            let mut digits = Buffer::new();
+            put_parts(
+                writer,
+                &[
+                    b"ERROR ",
+                    error.label().as_bytes(),
+                    b" ",
+                    error.text().as_bytes(),
+                    b" ",
+                    unit.bytes(),
+                    b" ",
+                    digits.format(statement).as_bytes(),
+                    b"\n",
+                ],
+            )
+        }
+    }
+}
+
+/// Puts the line of a refusal.
+pub fn put_refusal<W: Sink>(writer: &mut W, refusal: Refusal) -> Result<(), Failed>
+    ensures written { Writes (W.contents writer.old) (W.contents writer.new) (refused refusal) result }
+    ensures mark { Marked (W.failed writer.old) (W.failed writer.new) result }
+{
+    put_parts(
+        writer,
+        &[
+            refusal.label().as_bytes(),
+            b" ",
+            refusal.text().as_bytes(),
+            b"\n",
+        ],
+    )
+}

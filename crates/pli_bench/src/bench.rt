@@ -1,0 +1,196 @@
+//! The workbench: members, the module that stands, and the commands on them.
+ghost use Rattle.std.specs.Prelude.{◌≡◌};
+ghost use Rattle.pli_bench.specs.Answering.{Writes};
+ghost use Rattle.pli_bench.specs.Commands as spelt;
+ghost use Rattle.pli_bench.specs.Obeying.{Does, end_answer, gone};
+ghost use Rattle.pli_bench.specs.Runs.{Marked, Served, Blames};
+ghost use Rattle.pli_bench.specs.Session.{Obeys, Step, quits, opened};
+
+use crate::answer::{put_ending, put_parts, put_refusal};
+use crate::build::{Built, build};
+use crate::command::{Command, read_command};
+use crate::machine::{RunFault, run};
+use crate::serving::{Interpreter, Next, ServeFault, WriteFailed, serve};
+use pli_base::{Failed, Name, Sink, Source};
+use pli_code::{Module, Ran};
+use pli_members::{EditError, Kind, Members};
+use std::alloc::{AllocError, Global};
+use std::marker::Model;
+
+/// The version that a new workbench gives first (own).
+const FIRST_VERSION: u64 = 1;
+
+/// A workbench. Contracts see its members with their versions, whether a module of them stands, and the steps of a bare
+/// RUN.
+#[derive(Drop)]
+pub struct Bench {
+    alloc: Global,
+    members: Members,
+    standing: Option<Module>,
+    steps: u64,
+}
+
+impl Model for Bench {
+    ghost use Rattle.std.specs.Prelude.{is_some};
+    ghost use Rattle.pli_bench.specs.Session.{State};
+
+    ghost Value = { State };
+
+    ghost use Rattle.pli_bench.specs.Standing.{IsStanding};
+
+    ghost view = { λ b. record { store = b.members; stands = is_some b.standing; steps = b.steps } };
+
+    ghost invariant = { λ b. IsStanding b.members.entries b.standing };
+}
+
+/// What a command that was answered, or not, tells the session.
+fn going_on(answered: Result<(), Failed>) -> Result<Next, WriteFailed>
+    ensures { result ≡ gone answered }
+{
+    match answered {
+        Ok(()) => Ok(Next::Go),
+        Err(Failed) => Err(WriteFailed),
+    }
+}
+
+/// Puts what stands behind the output of a run: a line end, unless the next column is the first, and how it ended.
+fn put_end<W: Sink>(writer: &mut W, ran: Ran) -> Result<(), Failed>
+    ensures written { Writes (W.contents writer.old) (W.contents writer.new) (end_answer ran.column ran.ending) result }
+    ensures mark { Marked (W.failed writer.old) (W.failed writer.new) result }
+{
+    if ran.column == 1 {
+        return put_ending(writer, ran.ending);
+    }
+    put_parts(writer, &[b"\n"])?;
+    put_ending(writer, ran.ending)
+}
+
+impl Bench {
+    /// A workbench without members, whose first version is 1. A bare RUN has `steps` steps.
+    pub fn new(alloc: Global, steps: u64) -> Bench
+        ensures { result ≡ opened steps }
+    {
+        Bench {
+            alloc,
+            members: Members::new(alloc, FIRST_VERSION),
+            standing: None,
+            steps,
+        }
+    }
+
+    fn add<W: Sink>(&mut self, name: Name, writer: &mut W) -> Result<(), Failed>
+        ensures answered { Does (Obeys (Some (spelt.Add name))) self.old self.new (W.contents writer.old) (W.contents writer.new) result }
+        ensures mark { Marked (W.failed writer.old) (W.failed writer.new) result }
+    {
+        match self.members.add(name, Kind::Source) {
+            Ok(()) => {
+                self.standing = None;
+                put_parts(writer, &[b"OK\n"])
+            }
+            Err(EditError::Refused(refusal)) => put_refusal(writer, refusal),
+            Err(EditError::OutOfMemory) => put_parts(writer, &[b"NO MEMORY\n"]),
+        }
+    }
+
+    fn delete<W: Sink>(&mut self, name: Name, writer: &mut W) -> Result<(), Failed>
+        ensures answered { Does (Obeys (Some (spelt.Delete name))) self.old self.new (W.contents writer.old) (W.contents writer.new) result }
+        ensures mark { Marked (W.failed writer.old) (W.failed writer.new) result }
+    {
+        match self.members.delete(name) {
+            Ok(()) => {
+                self.standing = None;
+                put_parts(writer, &[b"OK\n"])
+            }
+            Err(refusal) => put_refusal(writer, refusal),
+        }
+    }
+
+    fn insert<W: Sink>(&mut self, name: Name, after: u32, text: &[u8], writer: &mut W) -> Result<(), Failed>
+        ensures answered { Does (Obeys (Some (spelt.Insert name after text.now))) self.old self.new (W.contents writer.old) (W.contents writer.new) result }
+        ensures mark { Marked (W.failed writer.old) (W.failed writer.new) result }
+    {
+        match self.members.insert_line(name, after as usize, text) {
+            Ok(()) => {
+                self.standing = None;
+                put_parts(writer, &[b"OK\n"])
+            }
+            Err(EditError::Refused(refusal)) => put_refusal(writer, refusal),
+            Err(EditError::OutOfMemory) => put_parts(writer, &[b"NO MEMORY\n"]),
+        }
+    }
+
+    fn rebuild<W: Sink>(&mut self, writer: &mut W) -> Result<(), Failed>
+        ensures answered { Does (Obeys (Some spelt.Build)) self.old self.new (W.contents writer.old) (W.contents writer.new) result }
+        ensures mark { Marked (W.failed writer.old) (W.failed writer.new) result }
+    {
+        match build(self.alloc, &self.members) {
+            Ok(Built::Made(module)) => {
+                self.standing = Some(module);
+                put_parts(writer, &[b"BUILT\n"])
+            }
+            Ok(Built::Diagnosed(text)) => {
+                self.standing = None;
+                put_parts(writer, &[text.as_slice(), b"NOT BUILT\n"])
+            }
+            Err(AllocError) => {
+                self.standing = None;
+                put_parts(writer, &[b"NO MEMORY\n"])
+            }
+        }
+    }
+
+    fn execute<W: Sink>(&self, steps: Option<u64>, writer: &mut W) -> Result<(), Failed>
+        ensures answered { Does (Obeys (Some (spelt.Run steps))) self.now self.now (W.contents writer.old) (W.contents writer.new) result }
+        ensures mark { Marked (W.failed writer.old) (W.failed writer.new) result }
+    {
+        let Some(module) = &self.standing else {
+            return put_parts(writer, &[b"B2 NOT BUILT\n"]);
+        };
+        match run(self.alloc, module, steps.unwrap_or(self.steps), writer) {
+            Ok(ran) => put_end(writer, ran),
+            Err(RunFault::OutOfMemory) => put_parts(writer, &[b"\nNO MEMORY\n"]),
+            Err(RunFault::WriteFailed) => Err(Failed),
+        }
+    }
+
+    /// Answers the commands of `reader` on `writer`, up to QUIT or to the end, with at most `reads` reads.
+    pub fn serve<R: Source, W: Sink>(&mut self, reader: &mut R, writer: &mut W, reads: u64) -> Result<Next, ServeFault>
+        ensures served { Served Step quits self.old self.new (R.remaining reader.old) (R.remaining reader.new) (W.contents writer.old) (W.contents writer.new) reads result }
+        ensures blamed { Blames result (R.failed reader.new) (W.failed writer.new) }
+    {
+        serve(self, reader, writer, reads)
+    }
+}
+
+impl Interpreter for Bench {
+    ghost use Rattle.pli_bench.specs.Session.{Step, quits};
+    ghost use Rattle.pli_bench.specs.SessionLaws.{long_alike, long_goes};
+
+    ghost steps = { Step };
+
+    ghost quits = { quits };
+
+    /// Answers the command on a line, which has no line end.
+    fn command<W: Sink>(&mut self, line: &[u8], writer: &mut W) -> Result<Next, WriteFailed> {
+        match read_command(line) {
+            None => going_on(put_parts(writer, &[b"B1 BAD COMMAND\n"])),
+            Some(Command::Add(target)) => going_on(self.add(target.name, writer)),
+            Some(Command::Delete(target)) => going_on(self.delete(target.name, writer)),
+            Some(Command::Insert {
+                target,
+                after,
+                text,
+            }) => going_on(self.insert(target.name, after, text, writer)),
+            Some(Command::Build) => going_on(self.rebuild(writer)),
+            Some(Command::Run(steps)) => going_on(self.execute(steps, writer)),
+            Some(Command::Quit) => match put_parts(writer, &[b"OK\n"]) {
+                Ok(()) => Ok(Next::Quit),
+                Err(Failed) => Err(WriteFailed),
+            },
+        }
+    }
+
+    ghost too_long = { long_alike };
+
+    ghost too_long_goes = { long_goes };
+}

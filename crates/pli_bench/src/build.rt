@@ -1,0 +1,125 @@
+//! A build from scratch of the members.
+ghost use Rattle.std.specs.Prelude.{◌≡◌, ◌≤◌, ◌++◌, IfOk, OnOk, length, map};
+ghost use Rattle.std.specs.List.{flat_map};
+ghost use Rattle.pli_meaning.specs.Scratch.{scratch, link_line, all_text, all_units, text_in, units_in, place_line};
+ghost use Rattle.pli_bench.specs.Building.{built_view};
+ghost use Rattle.pli_bench.specs.LinkAnswers.{compiled_view, fault_view, place_view};
+
+use crate::answer::append_parts;
+use crate::compile::compile;
+use crate::link::{self, Compiled, LinkError, LinkFault, Place};
+use pli_base::Code;
+use pli_code::Module;
+use pli_members::{Entry, Kind, Members};
+use std::alloc::{AllocError, Global};
+
+/// What a build gives: the text of its diagnostics, or a module.
+#[derive(Drop)]
+pub enum Built {
+    Diagnosed(Vec<u8>),
+    Made(Module),
+}
+
+/// Compiles a member, if it is a source, and appends what that gives to `units` or `text`.
+fn compile_entry(
+    alloc: Global,
+    entry: &Entry,
+    units: &mut Vec<Compiled>,
+    text: &mut Vec<u8>,
+) -> Result<(), AllocError>
+    requires { length entry.now.1.lines ≤ 9999 }
+    ensures units { OnOk result (map compiled_view units.new.items ≡ map compiled_view units.old.items ++ units_in entry.now.0 entry.now.1.kind entry.now.1.lines) }
+    ensures text { OnOk result (text.new.items ≡ text.old.items ++ text_in entry.now.0 entry.now.1.kind entry.now.1.lines) }
+{
+    match entry.kind() {
+        Kind::Source => {
+            if let Some(compiled) = compile(alloc, entry.name(), entry.lines(), text)? {
+                units.push(compiled)?;
+            }
+            Ok(())
+        }
+        Kind::Include => Ok(()),
+    }
+}
+
+/// The units of the source members, in the order of their names; the diagnostics go to `text`.
+fn compile_all(
+    alloc: Global,
+    members: &Members,
+    text: &mut Vec<u8>,
+) -> Result<Vec<Compiled>, AllocError>
+    ensures units { IfOk result (λ units. map compiled_view units.items ≡ all_units members.now.entries) }
+    ensures text { OnOk result (text.new.items ≡ text.old.items ++ all_text members.now.entries) }
+{
+    let mut units = Vec::new(alloc);
+    for entry in members.entries() {
+        compile_entry(alloc, entry, &mut units, text)?;
+    }
+    Ok(units)
+}
+
+/// Appends `code text procedure unit`.
+fn write_place(text: &mut Vec<u8>, code: Code, place: Place) -> Result<(), AllocError>
+    ensures { OnOk result (text.new.items ≡ text.old.items ++ place_line code (place_view place)) }
+{
+    append_parts(
+        text,
+        &[
+            code.label().as_bytes(),
+            b" ",
+            code.text().as_bytes(),
+            b" ",
+            place.procedure.bytes(),
+            b" ",
+            place.unit.bytes(),
+            b"\n",
+        ],
+    )
+}
+
+/// Appends the line of a fault of linking.
+fn write_link_fault(text: &mut Vec<u8>, fault: LinkFault) -> Result<(), AllocError>
+    ensures { OnOk result (text.new.items ≡ text.old.items ++ link_line (fault_view fault)) }
+{
+    match fault {
+        LinkFault::NoMainProcedure => append_parts(
+            text,
+            &[
+                Code::NoMainProcedure.label().as_bytes(),
+                b" ",
+                Code::NoMainProcedure.text().as_bytes(),
+                b"\n",
+            ],
+        ),
+        LinkFault::TwoMainProcedures(place) => write_place(text, Code::TwoMainProcedures, place),
+        LinkFault::DefinedTwice(place) => write_place(text, Code::DefinedTwice, place),
+    }
+}
+
+/// The lines of faults of linking.
+fn link_text(alloc: Global, faults: &[LinkFault]) -> Result<Vec<u8>, AllocError>
+    ensures { IfOk result (λ text. text.items ≡ flat_map link_line (map fault_view faults.now)) }
+{
+    let mut text = Vec::new(alloc);
+    for fault in faults {
+        write_link_fault(&mut text, *fault)?;
+    }
+    Ok(text)
+}
+
+/// Builds all source members anew.
+#[tactic(auto, unfolding(pli_meaning::specs::Scratch::scratch))]
+pub fn build(alloc: Global, members: &Members) -> Result<Built, AllocError>
+    ensures { IfOk result (λ built. built_view built ≡ scratch members.now.entries) }
+{
+    let mut text = Vec::new(alloc);
+    let units = compile_all(alloc, members, &mut text)?;
+    if !text.is_empty() {
+        return Ok(Built::Diagnosed(text));
+    }
+    match link::link(alloc, units) {
+        Ok(module) => Ok(Built::Made(module)),
+        Err(LinkError::Faults(faults)) => Ok(Built::Diagnosed(link_text(alloc, &faults)?)),
+        Err(LinkError::OutOfMemory) => Err(AllocError),
+    }
+}

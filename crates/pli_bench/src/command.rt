@@ -1,0 +1,171 @@
+//! Reading a command line.
+ghost use Rattle.std.specs.Prelude.{◌≡◌, ◌≤◌, ◌<◌, ◌^◌, IfSome, IsTrue, length, option_map};
+ghost use Rattle.std.specs.Option.{option_copied};
+ghost use Rattle.std.specs.List.{list_all, position};
+ghost use Rattle.pli_base.specs.Name.{is_digit};
+ghost use Rattle.pli_bench.specs.Commands.{is_blank, first_word, behind_blank, is_word, decimal_value, number_of, add_of, insert_of, run_of, command_of};
+ghost use Rattle.pli_bench.specs.CommandView.{command_view};
+
+use pli_base::Name;
+
+/// The greatest number of bytes in a command (own).
+pub const LINE_LIMIT: usize = 200;
+
+/// The greatest number of digits in a line's number, and in a number of steps (own).
+const LINE_DIGITS: usize = 9;
+
+const STEP_DIGITS: usize = 18;
+
+/// The member that a command names.
+#[derive(Clone, Copy, Debug)]
+pub struct Target {
+    pub name: Name,
+}
+
+/// A command of the session (own).
+#[derive(Clone, Copy, Debug)]
+pub enum Command<'a> {
+    /// A new member that holds program text.
+    Add(Target),
+    Delete(Target),
+    /// A new line behind the line of this number, 0 for the front.
+    Insert {
+        target: Target,
+        after: u32,
+        text: &'a [u8],
+    },
+    Build,
+    /// So many steps, or the bench's own number.
+    Run(Option<u64>),
+    Quit,
+}
+
+/// Where the first blank stands.
+fn blank_place(text: &[u8]) -> Option<usize>
+    ensures { result ≡ position is_blank text.now }
+{
+    text.iter().position(|byte| *byte == b' ')
+}
+
+/// A text's first word, and what stands behind the first blank.
+fn split_word(text: &[u8]) -> (&[u8], Option<&[u8]>)
+    ensures word { result.0.now ≡ first_word text.now }
+    ensures rest { option_copied result.1 ≡ behind_blank text.now }
+{
+    match blank_place(text) {
+        None => (text, None),
+        Some(at) => (&text[..at], Some(&text[at + 1..])),
+    }
+}
+
+/// Whether `text` is `word`, in either case.
+fn is_word(word: &[u8], text: &[u8]) -> bool
+    ensures { result ≡ is_word word.now text.now }
+{
+    text.eq_ignore_ascii_case(word)
+}
+
+fn is_digit(byte: u8) -> bool
+    ensures { result ≡ is_digit byte }
+{
+    matches!(byte, b'0'..=b'9')
+}
+
+fn all_digits(text: &[u8]) -> bool
+    ensures { result ≡ list_all is_digit text.now }
+{
+    text.iter().all(|byte| is_digit(*byte))
+}
+
+/// The value of digits.
+fn decimal_value(digits: &[u8]) -> u64
+    requires count { length digits.now ≤ 18 }
+    requires form { IsTrue (list_all is_digit digits.now) }
+    ensures value { result ≡ decimal_value digits.now }
+    ensures below { result < 10 ^ length digits.now }
+{
+    let mut value = 0;
+    for digit in digits {
+        value = value * 10 + u64::from(*digit - b'0');
+    }
+    value
+}
+
+/// The number that one to `limit` digits spell.
+fn read_number(digits: &[u8], limit: usize) -> Option<u64>
+    requires { limit ≤ 18 }
+    ensures number { result ≡ number_of limit digits.now }
+    ensures below { IfSome result (λ n. n < 10 ^ limit) }
+{
+    if digits.is_empty() || digits.len() > limit || !all_digits(digits) {
+        return None;
+    }
+    Some(decimal_value(digits))
+}
+
+/// What stands behind `ADD`.
+fn read_add(text: &[u8]) -> Option<Command<'_>>
+    ensures { option_map command_view result ≡ add_of text.now }
+{
+    let (word, rest) = split_word(text);
+    if !is_word(b"SOURCE", rest?) {
+        return None;
+    }
+    Some(Command::Add(Target {
+        name: Name::read(word)?,
+    }))
+}
+
+/// What stands behind `INSERT`.
+fn read_insert(text: &[u8]) -> Option<Command<'_>>
+    ensures { option_map command_view result ≡ insert_of text.now }
+{
+    let (word, rest) = split_word(text);
+    let name = Name::read(word);
+    let (digits, line) = split_word(rest?);
+    let after = read_number(digits, LINE_DIGITS)?;
+    Some(Command::Insert {
+        target: Target { name: name? },
+        after: after as u32,
+        text: line.unwrap_or(b""),
+    })
+}
+
+/// What stands behind `RUN`.
+fn read_run(rest: Option<&[u8]>) -> Option<Command<'_>>
+    ensures { option_map command_view result ≡ run_of (option_copied rest.entry) }
+{
+    match rest {
+        None => Some(Command::Run(None)),
+        Some(digits) => Some(Command::Run(Some(read_number(digits, STEP_DIGITS)?))),
+    }
+}
+
+/// The command that `line` spells, which has no line end. None where it spells no command: it is over 200 bytes; its
+/// first word is no command's, in either case; a blank more stands between words or behind the last; a name or a number
+/// is of a wrong form; or a word is missing or too many (own).
+pub fn read_command(line: &[u8]) -> Option<Command<'_>>
+    ensures { option_map command_view result ≡ command_of line.now }
+{
+    if line.len() > LINE_LIMIT {
+        return None;
+    }
+    let (word, rest) = split_word(line);
+    if is_word(b"ADD", word) {
+        read_add(rest?)
+    } else if is_word(b"DELETE", word) {
+        Some(Command::Delete(Target {
+            name: Name::read(rest?)?,
+        }))
+    } else if is_word(b"INSERT", word) {
+        read_insert(rest?)
+    } else if is_word(b"BUILD", word) {
+        rest.is_none().then_some(Command::Build)
+    } else if is_word(b"RUN", word) {
+        read_run(rest)
+    } else if is_word(b"QUIT", word) {
+        rest.is_none().then_some(Command::Quit)
+    } else {
+        None
+    }
+}
