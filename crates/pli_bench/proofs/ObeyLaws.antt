@@ -91,8 +91,8 @@ module _ (s : State) (n : ℕ) (m : Module) (stands : s.stands ≡ true) (built 
   run_done a b c ran r h w =
       let same : h.outcome ≡ means_at.outcome = one_outcome m n h.outcome means_at.outcome h.runs means_at.runs in
       let text : h.outcome.output ++ end_answer ran.column ran.ending ≡ run_answer means_at.outcome =
-          ap (λ k. h.outcome.output ++ end_answer k ran.ending) h.column ∙ ap (λ k. h.outcome.output ++ end_answer h.outcome.column k) h.ending
-          ∙ sym (append_assoc h.outcome.output _ _) ∙ ap run_answer same in
+      ap (λ k. h.outcome.output ++ end_answer k ran.ending) h.column ∙ ap (λ k. h.outcome.output ++ end_answer h.outcome.column k) h.ending
+      ∙ sym (append_assoc h.outcome.output _ _) ∙ ap run_answer same in
       (h.outcome.output ++ end_answer ran.column ran.ending, runs_with _ (inl text), writes_then a b c _ _ r h.put w)
 
   -- a run for which memory was refused

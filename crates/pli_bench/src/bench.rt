@@ -1,9 +1,10 @@
 //! The workbench: members, the module that stands, and the commands on them.
-ghost use Rattle.std.specs.Prelude.{◌≡◌};
+ghost use Rattle.std.specs.Prelude.{◌≡◌, Err};
+ghost use Rattle.pli_bench.specs.declared.serving.ServeFault.TheVariants.{TooManyReads};
 ghost use Rattle.pli_bench.specs.Answering.{Writes};
 ghost use Rattle.pli_bench.specs.Commands as spelt;
 ghost use Rattle.pli_bench.specs.Obeying.{Does, end_answer, gone};
-ghost use Rattle.pli_bench.specs.Runs.{Marked, Served, Blames};
+ghost use Rattle.pli_bench.specs.Runs.{AnsweredOne, Marked, Served, Blames};
 ghost use Rattle.pli_bench.specs.Session.{Obeys, Step, quits, opened};
 
 use crate::answer::{put_ending, put_parts, put_refusal};
@@ -105,7 +106,13 @@ impl Bench {
         }
     }
 
-    fn insert<W: Sink>(&mut self, name: Name, after: u32, text: &[u8], writer: &mut W) -> Result<(), Failed>
+    fn insert<W: Sink>(
+        &mut self,
+        name: Name,
+        after: u32,
+        text: &[u8],
+        writer: &mut W,
+    ) -> Result<(), Failed>
         ensures answered { Does (Obeys (Some (spelt.Insert name after text.now))) self.old self.new (W.contents writer.old) (W.contents writer.new) result }
         ensures mark { Marked (W.failed writer.old) (W.failed writer.new) result }
     {
@@ -153,10 +160,42 @@ impl Bench {
         }
     }
 
+    /// Answers the command on a line, which has no line end. A line of more than 200 bytes is no command. All of the
+    /// answer is put before the call ends.
+    pub fn command<W: Sink>(&mut self, line: &[u8], writer: &mut W) -> Result<Next, WriteFailed>
+        ensures answered { AnsweredOne Step quits self.old line.now self.new (W.contents writer.old) (W.contents writer.new) result }
+        ensures mark { Marked (W.failed writer.old) (W.failed writer.new) result }
+    {
+        match read_command(line) {
+            None => going_on(put_parts(writer, &[b"B1 BAD COMMAND\n"])),
+            Some(Command::Add(target)) => going_on(self.add(target.name, writer)),
+            Some(Command::Delete(target)) => going_on(self.delete(target.name, writer)),
+            Some(
+                Command::Insert {
+                    target,
+                    after,
+                    text,
+                },
+            ) => going_on(self.insert(target.name, after, text, writer)),
+            Some(Command::Build) => going_on(self.rebuild(writer)),
+            Some(Command::Run(steps)) => going_on(self.execute(steps, writer)),
+            Some(Command::Quit) => match put_parts(writer, &[b"OK\n"]) {
+                Ok(()) => Ok(Next::Quit),
+                Err(Failed) => Err(WriteFailed),
+            },
+        }
+    }
+
     /// Answers the commands of `reader` on `writer`, up to QUIT or to the end, with at most `reads` reads.
-    pub fn serve<R: Source, W: Sink>(&mut self, reader: &mut R, writer: &mut W, reads: u64) -> Result<Next, ServeFault>
+    pub fn serve<R: Source, W: Sink>(
+        &mut self,
+        reader: &mut R,
+        writer: &mut W,
+        reads: u64,
+    ) -> Result<Next, ServeFault>
         ensures served { Served Step quits self.old self.new (R.remaining reader.old) (R.remaining reader.new) (W.contents writer.old) (W.contents writer.new) reads result }
         ensures blamed { Blames result (R.failed reader.new) (W.failed writer.new) }
+        ensures unread { reads ≡ 0 → result ≡ Err TooManyReads }
     {
         serve(self, reader, writer, reads)
     }
@@ -170,24 +209,8 @@ impl Interpreter for Bench {
 
     ghost quits = { quits };
 
-    /// Answers the command on a line, which has no line end.
     fn command<W: Sink>(&mut self, line: &[u8], writer: &mut W) -> Result<Next, WriteFailed> {
-        match read_command(line) {
-            None => going_on(put_parts(writer, &[b"B1 BAD COMMAND\n"])),
-            Some(Command::Add(target)) => going_on(self.add(target.name, writer)),
-            Some(Command::Delete(target)) => going_on(self.delete(target.name, writer)),
-            Some(Command::Insert {
-                target,
-                after,
-                text,
-            }) => going_on(self.insert(target.name, after, text, writer)),
-            Some(Command::Build) => going_on(self.rebuild(writer)),
-            Some(Command::Run(steps)) => going_on(self.execute(steps, writer)),
-            Some(Command::Quit) => match put_parts(writer, &[b"OK\n"]) {
-                Ok(()) => Ok(Next::Quit),
-                Err(Failed) => Err(WriteFailed),
-            },
-        }
+        Bench::command(self, line, writer)
     }
 
     ghost too_long = { long_alike };

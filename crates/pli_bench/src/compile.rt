@@ -26,12 +26,7 @@ struct Parsed {
 }
 
 /// Appends `unit member:line code text`. As long as nothing is included the member is the unit.
-fn write_diagnostic(
-    text: &mut Vec<u8>,
-    unit: Name,
-    line: u32,
-    code: Code,
-) -> Result<(), AllocError>
+fn write_diagnostic(text: &mut Vec<u8>, unit: Name, line: u32, code: Code) -> Result<(), AllocError>
     ensures { OnOk result (text.new.items ≡ text.old.items ++ diagnostic_line unit (record { line = line; code = code })) }
 {
     let mut digits = Buffer::new();
@@ -79,7 +74,12 @@ fn parse_tokens(
     ensures { IfOk result (λ parsed. Tells unit (parsed_tokens (Ok tokens.items)) (option_map parsed_view parsed) text.old.items text.new.items) }
 {
     if tokens.len() > TOKEN_LIMIT {
-        write_diagnostic(text, unit, line_at(&tokens, TOKEN_LIMIT), Code::TooManyTokens)?;
+        write_diagnostic(
+            text,
+            unit,
+            line_at(&tokens, TOKEN_LIMIT),
+            Code::TooManyTokens,
+        )?;
         return Ok(None);
     }
     let texts = texts_of(alloc, &tokens)?;

@@ -67,11 +67,11 @@ descriptions_of (n ∷ ns) = FixedBinary greatest_precision ∷ []
 
 abbrev pub code_of : Procedure → Code
 code_of u = record {
-    slots = length (declared_names u);
-    descriptions = descriptions_of (declared_names u);
-    values = map pos (values_of u);
-    instructions = statements_code (declared_names u) (values_of u) u.statements ++ op.Return 0 ∷ []
-  }
+  slots = length (declared_names u);
+  descriptions = descriptions_of (declared_names u);
+  values = map pos (values_of u);
+  instructions = statements_code (declared_names u) (values_of u) u.statements ++ op.Return 0 ∷ [];
+}
 
 -- the greatest number of entries of a table of a unit
 abbrev pub table_limit : ℕ

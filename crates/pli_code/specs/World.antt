@@ -33,9 +33,9 @@ numbers_from first (suc count) = first ∷ numbers_from (suc first) count
 -- a new activation of a procedure of a unit, at its statement 1, with so many variables that begin as zero
 unfoldable pub entered : Name → (count : ℕ) → World → World
 entered unit count w = record w {
-    storage = w.storage ++ replicate count (pos 0);
-    activations = record { unit = unit; statement = 1; slots = numbers_from (length w.storage) count } ∷ w.activations
-  }
+  storage = w.storage ++ replicate count (pos 0);
+  activations = record { unit = unit; statement = 1; slots = numbers_from (length w.storage) count } ∷ w.activations;
+}
 
 abbrev pub without_newest : List Activation → List Activation
 without_newest [] = []

@@ -9,7 +9,7 @@ loop-part-preserved g c =
     let within : c.loop-part.part-index < length c.args.parts.now = omega arith in
     record {
       written = more_written (λ p. p.now) c.args.parts.now c.loop-part.part-index _ _ _ _ within c.loop-part.invariant.written c.in_ok-put_all.ensures.written;
-      mark = search rules
+      mark = search rules;
     }
 
 pub returns-in_err-put_all-clause-written : goal.returns-in_err-put_all-clause-written

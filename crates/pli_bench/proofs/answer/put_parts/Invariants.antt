@@ -7,5 +7,5 @@ use Rattle.pli_bench.proofs.answer.put_parts.Given as goal
 abbrev pub invariant-loop-part : goal.invariant-loop-part
 invariant-loop-part g l = record {
   written : Appends (g.W.Sink.contents l.initial.writer) (g.W.Sink.contents l.writer) (joined (map (λ p. p.now) (take l.part-index l.parts)));
-  mark : g.W.Sink.failed l.writer ≡ g.W.Sink.failed l.initial.writer
+  mark : g.W.Sink.failed l.writer ≡ g.W.Sink.failed l.initial.writer;
 }

@@ -7,5 +7,5 @@ use Rattle.pli_bench.proofs.build.compile_all.Given as goal
 abbrev pub invariant-loop-entry : goal.invariant-loop-entry
 invariant-loop-entry l = record {
   units : map compiled_view l.units.items ++ all_units (drop l.entry-index l.entry-items) ≡ all_units l.entry-items;
-  text : l.text.items ++ all_text (drop l.entry-index l.entry-items) ≡ l.initial.text.items ++ all_text l.entry-items
+  text : l.text.items ++ all_text (drop l.entry-index l.entry-items) ≡ l.initial.text.items ++ all_text l.entry-items;
 }

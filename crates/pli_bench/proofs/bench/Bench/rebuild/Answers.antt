@@ -11,9 +11,11 @@ returns-in-Ok-Made-clause-answered g c =
 
 pub returns-in-Ok-Diagnosed-clause-answered : goal.returns-in-Ok-Diagnosed-clause-answered
 returns-in-Ok-Diagnosed-clause-answered g c =
-    let given = rw c.in-Ok-Diagnosed.field-0-is at c.in-Ok-Diagnosed.ensures in
-    (build_answer (Diagnosed c.in-Ok-Diagnosed.text.items), builds c.args.self.now c.self.inside.members _ c.self.inside.steps c.self.view_is (Diagnosed c.in-Ok-Diagnosed.text.items) given,
-    rw (← c.as_slice.ensures.value) c.put_parts-in-Ok-Diagnosed.ensures.written)
+    let given = rw c.in-Ok-Diagnosed.field-0-is at c.in-Ok-Diagnosed.ensures in (
+      build_answer (Diagnosed c.in-Ok-Diagnosed.text.items),
+      builds c.args.self.now c.self.inside.members _ c.self.inside.steps c.self.view_is (Diagnosed c.in-Ok-Diagnosed.text.items) given,
+      rw (← c.as_slice.ensures.value) c.put_parts-in-Ok-Diagnosed.ensures.written,
+    )
 
 pub returns-in-Err-clause-answered : goal.returns-in-Err-clause-answered
 returns-in-Err-clause-answered g c = (no_memory, builds_not c.args.self.now c.self.inside.members _ c.self.inside.steps c.self.view_is, c.put_parts-in-Err.ensures.written)
