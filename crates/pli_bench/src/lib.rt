@@ -17,3 +17,6 @@ mod serving;
 
 pub use bench::Bench;
 pub use serving::{Next, ServeFault, WriteFailed};
+
+#[cfg(test)]
+mod tests;

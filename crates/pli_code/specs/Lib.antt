@@ -1,5 +1,6 @@
 pub mod Declarations
 pub mod Errors
+pub mod Examples
 pub mod Link
 pub mod Machine
 pub mod ModuleView

@@ -2,7 +2,9 @@
 #![tactic(auto)]
 
 mod ending;
+mod examples;
 mod instruction;
 
 pub use ending::{Ending, Ran, RunError};
+pub use examples::worked_examples;
 pub use instruction::{Code, Description, Instruction, Module};

@@ -1,0 +1,272 @@
+//! Sessions over memory devices, with their exact answers.
+ghost use Rattle.std.specs.Prelude.{None};
+
+use crate::{Bench, Next, ServeFault};
+use pli_base::{Device, Failed, Sink, Source};
+use std::alloc::Global;
+use std::io::Cursor;
+use std::test::Fail;
+
+/// A session with its answers.
+type Row = (&'static [u8], &'static [u8]);
+
+/// `X = 2 + 3`, printed within three steps and not within two.
+const FIRST_RUN: Row = (
+    b"ADD M SOURCE\nINSERT M 0 M: PROC OPTIONS(MAIN);\nINSERT M 1 DCL X FIXED BIN(31); X = 2 + 3; PUT LIST(X);\nINSERT M 2 END M;\nBUILD\nRUN 3\nRUN 2\n",
+    b"OK\nOK\nOK\nOK\nBUILT\n             5 \nENDED\nOUT OF STEPS\n",
+);
+
+/// The answers of a new workbench to a session.
+fn answers(alloc: Global, session: &[u8]) -> Result<Vec<u8>, ServeFault> {
+    let mut bench = Bench::new(alloc, 1_000_000);
+    let mut reader = Device::over(Cursor::new(session));
+    let mut writer = Device::over(Vec::new(alloc));
+    bench.serve(&mut reader, &mut writer, 1_000_000)?;
+    Ok(writer.into_inner())
+}
+
+/// Sessions with their answers.
+const SESSIONS: [Row; 15] = [
+    FIRST_RUN,
+    (
+        b"BUILD\nRUN\nFOO\nADD E SOURCE\nADD E SOURCE\nINSERT E 1 X\nBUILD\n",
+        b"N1 NO MAIN PROCEDURE\nNOT BUILT\nB2 NOT BUILT\nB1 BAD COMMAND\nOK\nM1 NAME TAKEN\nM3 NO SUCH LINE\nE E:1 P1 NO PROCEDURE\nNOT BUILT\n",
+    ),
+    (
+        b"ADD M SOURCE\nINSERT M 0 M: PROC OPTIONS(MAIN);\nINSERT M 1 DCL X FIXED BIN(31); X = 2147483647; PUT LIST(X + 1);\nINSERT M 2 END M;\nBUILD\nRUN\n",
+        b"OK\nOK\nOK\nOK\nBUILT\nERROR E9 FIXEDOVERFLOW M 4\n",
+    ),
+    (b"add e source\nquit\nADD F SOURCE\n", b"OK\nOK\n"),
+    (
+        b"ADD M SOURCE\nINSERT M 0 M: PROC OPTIONS(MAIN); END;\nADD Q SOURCE\nINSERT Q 0 M: PROC OPTIONS(MAIN); END;\nBUILD\n",
+        b"OK\nOK\nOK\nOK\nN2 TWO MAIN PROCEDURES M Q\nN4 DEFINED TWICE M Q\nNOT BUILT\n",
+    ),
+    // units in the order of their names, whose procedures have other names
+    (
+        b"ADD Q SOURCE\nINSERT Q 0 A: PROC OPTIONS(MAIN); END;\nADD M SOURCE\nINSERT M 0 B: PROC OPTIONS(MAIN); END;\nBUILD\nINSERT Q 1 END;\nINSERT M 0 X\nBUILD\n",
+        b"OK\nOK\nOK\nOK\nN2 TWO MAIN PROCEDURES A Q\nNOT BUILT\nOK\nOK\nM M:2 P1 NO PROCEDURE\nQ Q:2 P2 NOT A STATEMENT\nNOT BUILT\n",
+    ),
+    // an edit after a build
+    (
+        b"ADD M SOURCE\nINSERT M 0 M: PROC OPTIONS(MAIN); END;\nBUILD\nADD M SOURCE\nRUN 1\nRUN 0\nINSERT M 0\nRUN\nBUILD\nRUN\nDELETE M\nRUN\nBUILD\nADD M SOURCE\nBUILD\n",
+        b"OK\nOK\nBUILT\nM1 NAME TAKEN\nENDED\nOUT OF STEPS\nOK\nB2 NOT BUILT\nBUILT\nENDED\nOK\nB2 NOT BUILT\nN1 NO MAIN PROCEDURE\nNOT BUILT\nOK\nM M:1 P1 NO PROCEDURE\nNOT BUILT\n",
+    ),
+    // steps that end between two items, and items of constants
+    (
+        b"ADD M SOURCE\nINSERT M 0 M: PROC OPTIONS(MAIN); PUT LIST(1, 007); ; PUT LIST(20); END;\nBUILD\nRUN 1\nRUN 2\nRUN 3\nRUN 4\nRUN\n",
+        b"OK\nOK\nBUILT\nOUT OF STEPS\n   1                         7 \nOUT OF STEPS\n   1                         7 \nOUT OF STEPS\n   1                         7                     20 \nENDED\n   1                         7                     20 \nENDED\n",
+    ),
+    // an item that has no place in its line
+    (
+        b"ADD M SOURCE\nINSERT M 0 M: PROC OPTIONS(MAIN); PUT LIST(1, 2, 3, 4, 5, 6, 0000000007); END;\nBUILD\nRUN\n",
+        b"OK\nOK\nBUILT\n   1                       2                       3                       4                       5 \n   6                                7 \nENDED\n",
+    ),
+    // refusals
+    (
+        b"DELETE M\nINSERT M 0 X\nADD M SOURCE\nINSERT M 1 X\nINSERT M 0 \x7f\nINSERT M 0 \tX\nDELETE m\nDELETE M\n",
+        b"M2 NO SUCH MEMBER\nM2 NO SUCH MEMBER\nOK\nM3 NO SUCH LINE\nM5 BAD BYTE\nOK\nOK\nM2 NO SUCH MEMBER\n",
+    ),
+    // what is no command
+    (
+        b"\nBUILD \nRUN 1234567890123456789\nADD 1M SOURCE\nADD M INCLUDE\nINSERT M 1234567890 X\n QUIT\n",
+        b"B1 BAD COMMAND\nB1 BAD COMMAND\nB1 BAD COMMAND\nB1 BAD COMMAND\nB1 BAD COMMAND\nB1 BAD COMMAND\nB1 BAD COMMAND\n",
+    ),
+    // line ends
+    (
+        b"ADD M SOURCE\r\nDELETE M\r\r\nRUN",
+        b"OK\nB1 BAD COMMAND\nB2 NOT BUILT\n",
+    ),
+    (b"RUN\r", b"B1 BAD COMMAND\n"),
+    (b"RUN\n", b"B2 NOT BUILT\n"),
+    (b"", b""),
+];
+
+#[test]
+fn sessions(rt: HostRuntime) -> Result<(), Fail> {
+    for (session, wanted) in SESSIONS {
+        let found = answers(rt.alloc(), session).ok().ok_or("answers")?;
+        assert_eq!(rt; found.as_slice(), wanted);
+    }
+    Ok(())
+}
+
+/// The one line of a member, with what a build says of it.
+const DIAGNOSTICS: [Row; 10] = [
+    (
+        b"M: PROC OPTIONS(MAIN); X = 2 - 1; END;",
+        b"M M:1 X3 BAD CHARACTER\n",
+    ),
+    (
+        b"M: PROC OPTIONS(MAIN); X = 12A; END;",
+        b"M M:1 X4 BAD NUMBER\n",
+    ),
+    (
+        b"ABCDEFGHIJKLMNOPQRSTUVWXYZ_$3456: ?",
+        b"M M:1 X5 NAME TOO LONG\n",
+    ),
+    (b"", b"M M:1 P1 NO PROCEDURE\n"),
+    (b"M: BEGIN; END;", b"M M:1 P1 NO PROCEDURE\n"),
+    (
+        b"M: PROC OPTIONS(MAIN); GO; END;",
+        b"M M:1 P2 NOT A STATEMENT\n",
+    ),
+    (
+        b"M: PROC OPTIONS(MAIN); END N;",
+        b"M M:1 P8 WRONG END NAME\n",
+    ),
+    (b"M: PROC OPTIONS(MAIN); X = 1;", b"M M:1 P9 END MISSING\n"),
+    (
+        b"M: PROC OPTIONS(MAIN); X = Y + 1; END;",
+        b"M M:1 A1 NOT DECLARED\nM M:1 A1 NOT DECLARED\n",
+    ),
+    (
+        b"M: PROC OPTIONS(MAIN); DCL X FIXED BIN(31), X FIXED BIN(31); END;",
+        b"M M:1 A2 DECLARED TWICE\n",
+    ),
+];
+
+#[test]
+fn diagnostics(rt: HostRuntime) -> Result<(), Fail> {
+    for (line, wanted) in DIAGNOSTICS {
+        let mut session = Vec::from_slice(rt.alloc(), b"ADD M SOURCE\nINSERT M 0 ")?;
+        session.extend_from_slice(line)?;
+        session.extend_from_slice(b"\nBUILD\nRUN\n")?;
+        let mut answer = Vec::from_slice(rt.alloc(), b"OK\nOK\n")?;
+        answer.extend_from_slice(wanted)?;
+        answer.extend_from_slice(b"NOT BUILT\nB2 NOT BUILT\n")?;
+        let found = answers(rt.alloc(), session.as_slice())
+            .ok()
+            .ok_or("answers")?;
+        assert_eq!(rt; found.as_slice(), answer.as_slice());
+    }
+    Ok(())
+}
+
+#[test]
+fn long_lines(rt: HostRuntime) -> Result<(), Fail> {
+    let table: [(usize, &[u8]); 4] = [
+        (120, b"OK\nOK\n"),
+        (121, b"OK\nM4 LINE TOO LONG\n"),
+        (189, b"OK\nM4 LINE TOO LONG\n"),
+        (190, b"OK\nB1 BAD COMMAND\n"),
+    ];
+    for (count, wanted) in table {
+        let mut session = Vec::from_slice(rt.alloc(), b"ADD E SOURCE\nINSERT E 0 ")?;
+        for _ in 0..count {
+            session.push(b'X')?;
+        }
+        session.extend_from_slice(b"\r\n")?;
+        let found = answers(rt.alloc(), session.as_slice())
+            .ok()
+            .ok_or("answers")?;
+        assert_eq!(rt; found.as_slice(), wanted, "at {count}");
+    }
+    Ok(())
+}
+
+/// Gives its bytes in pieces, and fails after some calls.
+#[derive(Drop)]
+struct Pieces<'a> {
+    left: &'a [u8],
+    piece: usize,
+    calls: u32,
+    failed: bool,
+}
+
+impl<'a> Source for Pieces<'a> {
+    ghost remaining = { λ _. None };
+
+    ghost failed = { λ p. p.failed };
+
+    fn take(&mut self, buffer: &mut [u8]) -> Result<usize, Failed> {
+        self.failed = self.failed || self.calls == 0;
+        if self.failed {
+            return Err(Failed);
+        }
+        self.calls -= 1;
+        let count = self.piece.min(self.left.len()).min(buffer.len());
+        let (front, left) = self.left.split_at(count);
+        for (place, byte) in front.iter().enumerate() {
+            buffer[place] = *byte;
+        }
+        self.left = left;
+        Ok(count)
+    }
+}
+
+/// Keeps what is written, and fails after some calls.
+#[derive(Drop)]
+struct Kept {
+    bytes: Vec<u8>,
+    calls: u32,
+    failed: bool,
+}
+
+impl Sink for Kept {
+    ghost contents = { λ _. None };
+
+    ghost failed = { λ k. k.failed };
+
+    fn put(&mut self, bytes: &[u8]) -> Result<usize, Failed> {
+        self.failed = self.failed
+            || self.calls == 0
+            || self.bytes.extend_from_slice(bytes).is_err();
+        if self.failed {
+            return Err(Failed);
+        }
+        self.calls -= 1;
+        Ok(bytes.len())
+    }
+}
+
+/// What the first session gives in pieces, where the devices fail after so many calls.
+fn served(
+    alloc: Global,
+    piece: usize,
+    reads: u64,
+    takes: u32,
+    puts: u32,
+) -> (Result<Next, ServeFault>, Vec<u8>) {
+    let mut bench = Bench::new(alloc, 1_000_000);
+    let mut reader = Pieces {
+        left: FIRST_RUN.0,
+        piece,
+        calls: takes,
+        failed: false,
+    };
+    let mut writer = Kept {
+        bytes: Vec::new(alloc),
+        calls: puts,
+        failed: false,
+    };
+    let result = bench.serve(&mut reader, &mut writer, reads);
+    let Kept { bytes, .. } = writer;
+    (result, bytes)
+}
+
+#[test]
+fn in_any_pieces(rt: HostRuntime) {
+    for piece in [1, 2, 3, 7, 4096] {
+        let (result, bytes) = served(rt.alloc(), piece, 999, 999, 999);
+        assert_eq!(rt; result, Ok(Next::End));
+        assert_eq!(rt; bytes.as_slice(), FIRST_RUN.1);
+    }
+}
+
+#[test]
+fn failing_devices(rt: HostRuntime) {
+    for calls in 0..10u32 {
+        let (result, bytes) = served(rt.alloc(), 4096, 99, 99, calls);
+        assert_eq!(rt; result, Err(ServeFault::WriteFailed), "put {calls}");
+        assert!(rt; FIRST_RUN.1.starts_with(bytes.as_slice()), "put {calls}");
+        let (result, bytes) = served(rt.alloc(), 15, 99, calls, 99);
+        assert_eq!(rt; result, Err(ServeFault::ReadFailed), "take {calls}");
+        assert!(rt; FIRST_RUN.1.starts_with(bytes.as_slice()), "take {calls}");
+        let (result, bytes) = served(rt.alloc(), 15, u64::from(calls), 99, 99);
+        assert_eq!(rt; result, Err(ServeFault::TooManyReads), "read {calls}");
+        assert!(rt; FIRST_RUN.1.starts_with(bytes.as_slice()), "read {calls}");
+    }
+    let (result, bytes) = served(rt.alloc(), 4096, 2, 2, 10);
+    assert_eq!(rt; result, Ok(Next::End));
+    assert_eq!(rt; bytes.as_slice(), FIRST_RUN.1);
+}
