@@ -26,7 +26,7 @@ fn answers(alloc: Global, session: &[u8]) -> Result<Vec<u8>, ServeFault> {
 }
 
 /// Sessions with their answers.
-const SESSIONS: [Row; 15] = [
+const SESSIONS: [Row; 20] = [
     FIRST_RUN,
     (
         b"BUILD\nRUN\nFOO\nADD E SOURCE\nADD E SOURCE\nINSERT E 1 X\nBUILD\n",
@@ -77,6 +77,31 @@ const SESSIONS: [Row; 15] = [
         b"OK\nB1 BAD COMMAND\nB2 NOT BUILT\n",
     ),
     (b"RUN\r", b"B1 BAD COMMAND\n"),
+    // a unit with a fault keeps the others from a module
+    (
+        b"ADD M SOURCE\nINSERT M 0 M: PROC OPTIONS(MAIN); END;\nADD N SOURCE\nINSERT N 0 N: PROC OPTIONS(MAIN); X? = 1; END;\nBUILD\nDELETE N\nBUILD\nRUN\n",
+        b"OK\nOK\nOK\nOK\nN N:1 X3 BAD CHARACTER\nNOT BUILT\nOK\nBUILT\nENDED\n",
+    ),
+    // a diagnostic stands at its line, whatever is put above it
+    (
+        b"ADD M SOURCE\nINSERT M 0 M: PROC OPTIONS(MAIN);\nINSERT M 1 Y = 1;\nINSERT M 2 END M;\nBUILD\nINSERT M 1\nBUILD\nINSERT M 1 DCL Y FIXED BIN(31);\nBUILD\nRUN 2\n",
+        b"OK\nOK\nOK\nOK\nM M:2 A1 NOT DECLARED\nNOT BUILT\nOK\nM M:3 A1 NOT DECLARED\nNOT BUILT\nOK\nBUILT\nENDED\n",
+    ),
+    // no word is reserved
+    (
+        b"ADD K SOURCE\nINSERT K 0 K: PROC OPTIONS(MAIN); DCL PUT FIXED BIN(31), END FIXED BIN(31);\nINSERT K 1 PUT = 2; END = PUT + PUT; DCL DCL FIXED BINARY(31); DCL = END + 1;\nINSERT K 2 PUT LIST(PUT, END, DCL); END K;\nBUILD\nRUN\n",
+        b"OK\nOK\nOK\nOK\nBUILT\n             2                       4                       5 \nENDED\n",
+    ),
+    // all faults of declarations, in the order of their tokens
+    (
+        b"ADD M SOURCE\nINSERT M 0 M: PROC OPTIONS(MAIN); DCL X FIXED BIN(31), X FIXED BIN(31); Z = Y + X;\nINSERT M 1 PUT LIST(W, 1); END;\nBUILD\n",
+        b"OK\nOK\nOK\nM M:1 A2 DECLARED TWICE\nM M:1 A1 NOT DECLARED\nM M:1 A1 NOT DECLARED\nM M:2 A1 NOT DECLARED\nNOT BUILT\n",
+    ),
+    // a member deleted and added again
+    (
+        b"ADD B SOURCE\nADD A SOURCE\nDELETE B\nADD B SOURCE\nINSERT A 0 A: PROC OPTIONS(MAIN); PUT LIST(3 + 4); END A;\nINSERT B 0 B: PROC OPTIONS(MAIN); PUT LIST(10); END B;\nBUILD\nDELETE A\nBUILD\nRUN\n",
+        b"OK\nOK\nOK\nOK\nOK\nOK\nN2 TWO MAIN PROCEDURES B B\nNOT BUILT\nOK\nBUILT\n   10 \nENDED\n",
+    ),
     (b"RUN\n", b"B2 NOT BUILT\n"),
     (b"", b""),
 ];
@@ -219,9 +244,10 @@ impl Sink for Kept {
     }
 }
 
-/// What the first session gives in pieces, where the devices fail after so many calls.
+/// What a session gives in pieces, where the devices fail after so many calls.
 fn served(
     alloc: Global,
+    session: &[u8],
     piece: usize,
     reads: u64,
     takes: u32,
@@ -229,7 +255,7 @@ fn served(
 ) -> (Result<Next, ServeFault>, Vec<u8>) {
     let mut bench = Bench::new(alloc, 1_000_000);
     let mut reader = Pieces {
-        left: FIRST_RUN.0,
+        left: session,
         piece,
         calls: takes,
         failed: false,
@@ -246,27 +272,56 @@ fn served(
 
 #[test]
 fn in_any_pieces(rt: HostRuntime) {
-    for piece in [1, 2, 3, 7, 4096] {
-        let (result, bytes) = served(rt.alloc(), piece, 999, 999, 999);
-        assert_eq!(rt; result, Ok(Next::End));
-        assert_eq!(rt; bytes.as_slice(), FIRST_RUN.1);
+    for (session, wanted) in SESSIONS {
+        for piece in [1, 2, 3, 7, 4096] {
+            let (_, bytes) = served(rt.alloc(), session, piece, 999, 999, 999);
+            assert_eq!(rt; bytes.as_slice(), wanted, "in pieces of {piece}");
+        }
     }
 }
 
 #[test]
 fn failing_devices(rt: HostRuntime) {
     for calls in 0..10u32 {
-        let (result, bytes) = served(rt.alloc(), 4096, 99, 99, calls);
+        let (result, bytes) = served(rt.alloc(), FIRST_RUN.0, 4096, 99, 99, calls);
         assert_eq!(rt; result, Err(ServeFault::WriteFailed), "put {calls}");
         assert!(rt; FIRST_RUN.1.starts_with(bytes.as_slice()), "put {calls}");
-        let (result, bytes) = served(rt.alloc(), 15, 99, calls, 99);
+        let (result, bytes) = served(rt.alloc(), FIRST_RUN.0, 15, 99, calls, 99);
         assert_eq!(rt; result, Err(ServeFault::ReadFailed), "take {calls}");
         assert!(rt; FIRST_RUN.1.starts_with(bytes.as_slice()), "take {calls}");
-        let (result, bytes) = served(rt.alloc(), 15, u64::from(calls), 99, 99);
+        let (result, bytes) = served(rt.alloc(), FIRST_RUN.0, 15, u64::from(calls), 99, 99);
         assert_eq!(rt; result, Err(ServeFault::TooManyReads), "read {calls}");
         assert!(rt; FIRST_RUN.1.starts_with(bytes.as_slice()), "read {calls}");
     }
-    let (result, bytes) = served(rt.alloc(), 4096, 2, 2, 10);
+    let (result, bytes) = served(rt.alloc(), FIRST_RUN.0, 4096, 2, 2, 10);
     assert_eq!(rt; result, Ok(Next::End));
     assert_eq!(rt; bytes.as_slice(), FIRST_RUN.1);
+}
+
+/// The answers where a member of so many lines of a hundred null statements is built.
+fn of_null_statements(alloc: Global, lines: u32) -> Result<Vec<u8>, Fail> {
+    let mut session = Vec::from_slice(
+        alloc,
+        b"ADD M SOURCE\nINSERT M 0 M: PROC OPTIONS(MAIN);\nINSERT M 1 END;\n",
+    )?;
+    for _ in 0..lines {
+        session.extend_from_slice(b"INSERT M 1 ")?;
+        session.extend_from_slice(&[b';'; 100])?;
+        session.push(b'\n')?;
+    }
+    session.extend_from_slice(b"BUILD\n")?;
+    Ok(answers(alloc, &session).ok().ok_or("answers")?)
+}
+
+#[test]
+fn limits(rt: HostRuntime) -> Result<(), Fail> {
+    for (lines, wanted) in [
+        (655, b"BUILT\n".as_slice()),
+        (656, b"M M:1 G1 CODE TOO LONG\nNOT BUILT\n".as_slice()),
+        (2000, b"M M:2001 I3 TOO MANY TOKENS\nNOT BUILT\n".as_slice()),
+    ] {
+        let found = of_null_statements(rt.alloc(), lines)?;
+        assert!(rt; found.as_slice().ends_with(wanted), "{lines} lines");
+    }
+    Ok(())
 }
