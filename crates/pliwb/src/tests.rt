@@ -23,11 +23,11 @@ fn statuses(rt: HostRuntime) -> Result<(), Fail> {
     let program = "ADD M SOURCE\nINSERT M 0 M: PROC OPTIONS(MAIN); ; END;\nBUILD\nRUN\n";
     let (status, text, told) = ran(&rt, &[], program)?;
     assert_eq!(rt; status, 0);
-    assert!(rt; text.as_slice() == b"OK\nOK\nBUILT\nENDED\n");
+    assert!(rt; text.as_slice() == b"OK\nOK\nBUILT\nENDED\n".as_slice());
     assert!(rt; !told);
     let (status, text, _) = ran(&rt, &["--steps", "1"], program)?;
     assert_eq!(rt; status, 0);
-    assert!(rt; text.as_slice() == b"OK\nOK\nBUILT\nOUT OF STEPS\n");
+    assert!(rt; text.as_slice() == b"OK\nOK\nBUILT\nOUT OF STEPS\n".as_slice());
     for words in [
         ["--steps", "-1"],
         ["--steps", "x"],
