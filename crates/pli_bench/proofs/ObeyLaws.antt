@@ -18,13 +18,13 @@ use Rattle.pli_meaning.specs.Scratch.{Built, Made, Diagnosed, scratch, Means}
 use Rattle.pli_meaning.proofs.WholeRun.{members_simulate}
 use Rattle.pli_meaning.specs.Members.{HasMeaning}
 use Rattle.pli_bench.specs.Answering.{Writes}
-use Rattle.pli_bench.specs.MachineRuns.{RanTo, StoppedWithin, OneOutcome}
+use Rattle.pli_machine.specs.Runs.{RanTo, StoppedWithin, OneOutcome}
 use Rattle.pli_bench.specs.Obeying.{Does, end_answer, gone}
 use Rattle.pli_bench.specs.Commands.{Command, command_of}
 use Rattle.pli_bench.specs.Runs.{AnsweredOne, next_after}
 use Rattle.pli_bench.specs.declared.serving.Next.{Next}
 use Rattle.pli_bench.specs.declared.serving.WriteFailed.{WriteFailed}
-use Rattle.pli_bench.proofs.MachineOutcome.{one_outcome}
+use Rattle.pli_machine.proofs.Outcome.{one_outcome}
 use Rattle.pli_bench.specs.Session.{State, EditsInMemory, Edits, ending_line, refused, okay, no_memory, not_built, Builds, is_made, Runs, run_answer, build_answer, Breaks, Obeys, Step, quits, is_quit}
 
 abbrev pub state : Store → Bool → ℕ → State

@@ -3,17 +3,10 @@ pub mod Building
 pub mod CommandView
 pub mod Commands
 pub mod Compiling
-pub mod DeclareAnswers
-pub mod GenerateAnswers
 pub mod Going
 pub mod Kept
 pub mod Lines
-pub mod LinkAnswers
-pub mod MachinePrint
-pub mod MachineRuns
-pub mod MachineView
 pub mod Obeying
-pub mod ParseAnswers
 pub mod Runs
 pub mod Session
 pub mod SessionLaws

@@ -3,13 +3,13 @@ ghost use Rattle.std.specs.Prelude.{◌≡◌, ◌≤◌, ◌++◌, IfOk, OnOk, 
 ghost use Rattle.std.specs.List.{flat_map};
 ghost use Rattle.pli_meaning.specs.Scratch.{scratch, link_line, all_text, all_units, text_in, units_in, place_line};
 ghost use Rattle.pli_bench.specs.Building.{built_view};
-ghost use Rattle.pli_bench.specs.LinkAnswers.{compiled_view, fault_view, place_view};
+ghost use Rattle.pli_link.specs.Answers.{compiled_view, fault_view, place_view};
 
 use crate::answer::append_parts;
 use crate::compile::compile;
-use crate::link::{self, Compiled, LinkError, LinkFault, Place};
 use pli_base::Code;
 use pli_code::Module;
+use pli_link::{Compiled, LinkError, LinkFault, Place, link};
 use pli_members::{Entry, Kind, Members};
 use std::alloc::{AllocError, Global};
 
@@ -117,7 +117,7 @@ pub fn build(alloc: Global, members: &Members) -> Result<Built, AllocError>
     if !text.is_empty() {
         return Ok(Built::Diagnosed(text));
     }
-    match link::link(alloc, units) {
+    match link(alloc, units) {
         Ok(module) => Ok(Built::Made(module)),
         Err(LinkError::Faults(faults)) => Ok(Built::Diagnosed(link_text(alloc, &faults)?)),
         Err(LinkError::OutOfMemory) => Err(AllocError),

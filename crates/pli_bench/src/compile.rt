@@ -3,16 +3,16 @@ ghost use Rattle.std.specs.Prelude.{◌≡◌, ◌≤◌, ◌++◌, Ok, length, 
 ghost use Rattle.std.specs.List.{flat_map};
 ghost use Rattle.pli_meaning.specs.Scratch.{diagnostic_line, located, line_of, parsed_tokens, parsed_of, compiled_from, compiled_of};
 ghost use Rattle.pli_bench.specs.Compiling.{Tells, parsed_view};
-ghost use Rattle.pli_bench.specs.LinkAnswers.{compiled_view};
+ghost use Rattle.pli_link.specs.Answers.{compiled_view};
 
 use crate::answer::append_parts;
-use crate::declare::{self, DeclareError};
-use crate::generate::{self, GenerateError};
-use crate::link::Compiled;
-use crate::parse::{self, ParseError};
 use itoa::Buffer;
 use pli_base::{Code, Fault, Line, Name, Token, TokenText, Unit};
+use pli_declare::{DeclareError, resolve};
+use pli_gen::{GenerateError, generate};
 use pli_lex::{LexError, lex};
+use pli_link::Compiled;
+use pli_parse::{ParseError, parse};
 use std::alloc::{AllocError, Global};
 
 /// The greatest number of tokens of a unit (own).
@@ -83,7 +83,7 @@ fn parse_tokens(
         return Ok(None);
     }
     let texts = texts_of(alloc, &tokens)?;
-    match parse::parse(alloc, &texts) {
+    match parse(alloc, &texts) {
         Ok(tree) => Ok(Some(Parsed { tokens, tree })),
         Err(ParseError::Fault(fault)) => {
             write_diagnostic(text, unit, line_at(&tokens, fault.at as usize), fault.code)?;
@@ -138,7 +138,7 @@ fn code_tree(
 ) -> Result<Option<Compiled>, AllocError>
     ensures { IfOk result (λ compiled. Tells unit (compiled_from unit (Ok (parsed_view parsed.now))) (option_map compiled_view compiled) text.old.items text.new.items) }
 {
-    let resolved = match declare::resolve(alloc, &parsed.tree) {
+    let resolved = match resolve(alloc, &parsed.tree) {
         Ok(resolved) => resolved,
         Err(DeclareError::Faults(faults)) => {
             write_faults(text, unit, &parsed.tokens, &faults)?;
@@ -146,7 +146,7 @@ fn code_tree(
         }
         Err(DeclareError::OutOfMemory) => return Err(AllocError),
     };
-    match generate::generate(alloc, &parsed.tree, &resolved) {
+    match generate(alloc, &parsed.tree, &resolved.names) {
         Ok(code) => Ok(Some(Compiled {
             unit,
             procedure: parsed.tree.name,

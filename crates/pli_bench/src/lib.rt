@@ -1,5 +1,4 @@
-//! The workbench: the parser, declarations, the generator, the linker and the machine, a module each, and the commands on
-//! members of text that use them.
+//! The workbench: commands on members of text, which build and run the program that they hold.
 #![tactic(auto)]
 
 mod answer;
@@ -7,11 +6,6 @@ mod bench;
 mod build;
 mod command;
 mod compile;
-mod declare;
-mod generate;
-mod link;
-mod machine;
-mod parse;
 mod pending;
 mod serving;
 

@@ -1,0 +1,11 @@
+use Rattle.std.proofs.Common.{◌≡◌, map, drop}
+use Rattle.std.specs.List.{flat_map}
+use Rattle.pli_base.specs.TreeView.{statement_view}
+use Rattle.pli_code.specs.Translation.{numbered, body_constants}
+use Rattle.pli_gen.specs.Answers.{statement_values}
+use Rattle.pli_gen.proofs.translation.values_of.Given as goal
+
+abbrev pub invariant-loop-statement : goal.invariant-loop-statement
+invariant-loop-statement l =
+    numbered l.values.keys (flat_map (λ s. body_constants s.body) (map statement_view (drop l.statement-index l.statements)))
+    ≡ statement_values (map statement_view l.statements)

@@ -1,0 +1,47 @@
+-- What the linker answers, as callers see it.
+use Rattle.std.specs.Prelude.{◌≡◌, Bool, Result, Ok, Err, List, [], ◌∷◌, ◌++◌, map}
+use Rattle.std.specs.Cmp.Lexicographic.{slice_cmp}
+use Rattle.std.specs.Ordering.{nat_cmp, is_gt}
+use Rattle.pli_base.specs.Name.{Name}
+use Rattle.pli_code.specs.Link as link
+use Rattle.pli_code.specs.ModuleView.{Module, code_view, module_view}
+use Rattle.pli_code.specs.declared.instruction.Module as declared_module
+use Rattle.pli_link.specs.declared.linking.Compiled.{Compiled}
+use Rattle.pli_link.specs.declared.linking.Place.{Place}
+use Rattle.pli_link.specs.declared.linking.LinkFault.{LinkFault}
+use Rattle.pli_link.specs.declared.linking.LinkFault.TheVariants.{NoMainProcedure, TwoMainProcedures, DefinedTwice}
+use Rattle.pli_link.specs.declared.linking.LinkError.{LinkError}
+use Rattle.pli_link.specs.declared.linking.LinkError.TheVariants.{Faults, OutOfMemory}
+
+-- what units, places and faults say, apart from where they lie in memory
+abbrev pub compiled_view : Compiled → link.Compiled
+compiled_view c = record { unit = c.unit; procedure = c.procedure; code = code_view c.code }
+
+abbrev pub place_view : Place → link.Place
+place_view p = record { procedure = p.procedure; unit = p.unit }
+
+abbrev pub fault_view : LinkFault → link.LinkFault
+fault_view NoMainProcedure = link.NoMainProcedure
+fault_view (TwoMainProcedures place) = link.TwoMainProcedures (place_view place)
+fault_view (DefinedTwice place) = link.DefinedTwice (place_view place)
+
+-- the module, or all faults, unless memory runs out
+abbrev pub Links : Result declared_module.Module LinkError → Result Module (List link.LinkFault) → Type 0
+Links (Ok m) given = given ≡ Ok (module_view m)
+Links (Err (Faults faults)) given = given ≡ Err (map fault_view faults.items)
+Links (Err OutOfMemory) given = Unit {0}
+
+-- every unit but the first
+abbrev pub later : List link.Compiled → List link.Compiled
+later [] = []
+later (c ∷ cs) = cs
+
+-- the faults of two units or more
+abbrev pub faults_of : List link.Compiled → List link.LinkFault
+faults_of cs =
+    map link.TwoMainProcedures (link.in_order (map link.place_of_unit (later cs)))
+    ++ map link.DefinedTwice (link.in_order (link.defined_again [] cs))
+
+-- the place's procedure has a greater name
+abbrev pub is_past : Name → Place → Bool
+is_past procedure other = is_gt (slice_cmp nat_cmp other.procedure procedure)

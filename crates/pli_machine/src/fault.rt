@@ -1,0 +1,29 @@
+//! Why a run gives no ending.
+ghost use Rattle.std.specs.Prelude.{◌≡◌};
+ghost use Rattle.pli_machine.specs.declared.fault.RunFault.TheVariants.{OutOfMemory, WriteFailed};
+
+use pli_base::Failed;
+use std::alloc::AllocError;
+
+/// Why a run gives no ending.
+#[derive(Clone, Copy, Debug, PartialEq, Eq)]
+pub enum RunFault {
+    OutOfMemory,
+    WriteFailed,
+}
+
+impl From<AllocError> for RunFault {
+    ghost from_gives = { λ _ fault. fault ≡ OutOfMemory };
+
+    fn from(_error: AllocError) -> RunFault {
+        RunFault::OutOfMemory
+    }
+}
+
+impl From<Failed> for RunFault {
+    ghost from_gives = { λ _ fault. fault ≡ WriteFailed };
+
+    fn from(_error: Failed) -> RunFault {
+        RunFault::WriteFailed
+    }
+}
