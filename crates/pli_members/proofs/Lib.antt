@@ -1,6 +1,6 @@
+mod Changes
 mod Edits
 mod Places
-mod Puts
 mod Runs
 mod RunsKept
 mod Searches

@@ -1,6 +1,5 @@
 -- The laws of the members.
 use Rattle.std.proofs.Common.{◌≡◌, ℕ, zero, suc, ◌+◌, ◌<◌, true, List, length, get_or, Option, Some, None, refl, ap, ◌∙◌, arith}
-use Rattle.std.specs.List.{insert}
 use Rattle.std.specs.Option.{option_map}
 use Rattle.std.specs.Ordering.{is_eq}
 use Rattle.std.specs.Cmp.Lexicographic.{nat_list_cmp_total}
@@ -9,9 +8,9 @@ use Rattle.std.proofs.lemmas.Map.{lookup-remove_entry}
 use Rattle.std.proofs.lemmas.Map.Keys.{IsDistinct-from_sorted}
 use Rattle.std.proofs.lemmas.Map.Lookups.{exact_bytes}
 use Rattle.pli_base.specs.Name.{Name}
-use Rattle.pli_members.specs.Members.{Store, Member, name_order, is_named, names_of, member_of, with_lines}
-use Rattle.pli_members.specs.Refusals.{refusal_of_put}
-use Rattle.pli_members.specs.Versions.{Run, begun, adding, deleting, inserting, NextIsNew, EditGivesNext, EditKeepsOthers, DeletionTakes, DeletionKeepsOthers}
+use Rattle.pli_members.specs.Members.{Store, Member, Change, name_order, is_named, names_of, member_of, with_lines}
+use Rattle.pli_members.specs.Refusals.{refusal_in_member}
+use Rattle.pli_members.specs.Versions.{Run, begun, adding, deleting, changing, NextIsNew, EditGivesNext, EditKeepsOthers, DeletionTakes, DeletionKeepsOthers}
 use Rattle.std.proofs.lemmas.Map.Views.{tells_apart}
 use Rattle.pli_members.proofs.Places.{cond-true}
 use Rattle.pli_members.proofs.Edits.{lookup-put, lookup-put_other, lookup-taken_other}
@@ -31,10 +30,10 @@ deletion_takes s name kept =
 pub deletion_keeps_others : DeletionKeepsOthers
 deletion_keeps_others s name other differs = lookup-taken_other name_order name exact_bytes other differs s.entries
 
--- a line that is put raises the next version
-next-with_line : (s : Store) (name : Name) (after : ℕ) (text : List ℕ) (change : List (List ℕ) → List (List ℕ)) (o : Option Member) → refusal_of_put s o after text ≡ None → (with_lines s name change o).next ≡ s.next + 1
-next-with_line s name after text change None h = cc
-next-with_line s name after text change (Some m) h = refl
+-- a change raises the next version
+next-with_lines : (s : Store) (name : Name) (change : Change) (o : Option Member) → refusal_in_member s change o ≡ None → (with_lines s name change o).next ≡ s.next + 1
+next-with_lines s name change None h = cc
+next-with_lines s name change (Some m) h = refl
 
 -- the versions that were given are below the next
 given_below : (start s : Store) (given : List ℕ) → Run start given s → (k d : ℕ) → k < length given → get_or given k d < s.next
@@ -42,8 +41,8 @@ given_below start _ _ begun k d h = absurd (omega arith)
 given_below start _ _ (adding given s name kind run fresh) zero d h = omega arith
 given_below start _ _ (adding given s name kind run fresh) (suc k) d h = omega (arith, given_below start s given run k d (omega arith))
 given_below start _ _ (deleting given s name run fresh) k d h = given_below start s given run k d h
-given_below start _ _ (inserting given s name after text run fresh) zero d h = omega (arith, next-with_line s name after text (λ lines. insert lines after text) (member_of s name) fresh)
-given_below start _ _ (inserting given s name after text run fresh) (suc k) d h = omega (arith, next-with_line s name after text (λ lines. insert lines after text) (member_of s name) fresh, given_below start s given run k d (omega arith))
+given_below start _ _ (changing given s name change run fresh) zero d h = omega (arith, next-with_lines s name change (member_of s name) fresh)
+given_below start _ _ (changing given s name change run fresh) (suc k) d h = omega (arith, next-with_lines s name change (member_of s name) fresh, given_below start s given run k d (omega arith))
 
 pub next_is_new : NextIsNew
 next_is_new start s given run contained = omega (arith, given_below start s given run contained.0 s.next contained.1, contained.2)

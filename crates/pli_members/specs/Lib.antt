@@ -1,3 +1,5 @@
+pub mod ChangeView
+pub mod Examples
 pub mod Fields
 pub mod Kept
 pub mod Members

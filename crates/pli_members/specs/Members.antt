@@ -1,5 +1,5 @@
 -- The members of a workbench: a finite map from names to members, with versions (own).
-use Rattle.std.specs.Prelude.{ℕ, ◌+◌, Bool, List, [], Option, None, Some, insert}
+use Rattle.std.specs.Prelude.{ℕ, ◌+◌, ◌-◌, Bool, List, [], ◌++◌, take, drop, slice_set, Option, None, Some, insert}
 use Rattle.std.specs.Option.{option_map}
 use Rattle.std.specs.Ordering.{nat_cmp}
 use Rattle.std.specs.declared.cmp.Ordering.{Ordering}
@@ -64,11 +64,38 @@ added s name kind = with_member s name kind []
 abbrev pub deleted : Store → Name → Store
 deleted s name = record { entries = remove_entry (is_named name) s.entries; next = s.next }
 
--- the member, if there is one, has its lines changed
-abbrev pub with_lines : Store → Name → (List (List ℕ) → List (List ℕ)) → Option Member → Store
-with_lines s name change None = s
-with_lines s name change (Some m) = with_member s name m.kind (change m.lines)
+-- a change of a member's lines, which are counted from 1
+pub data Change : Type 0 where
+  -- a line is put behind line `after`, first where that is 0
+  Insert : (after : ℕ) (text : List ℕ) → Change
+  -- a line has another text
+  Replace : (number : ℕ) (text : List ℕ) → Change
+  -- the lines from the first to the last are taken away
+  Remove : (first last : ℕ) → Change
 
--- a line is put after line `after` of the member, first where that is 0
+-- the lines behind a change
+abbrev pub changed_lines : Change → List (List ℕ) → List (List ℕ)
+changed_lines (Insert after text) lines = insert lines after text
+changed_lines (Replace number text) lines = slice_set lines (number - 1) text
+changed_lines (Remove first last) lines = take (first - 1) lines ++ drop last lines
+
+-- the member, if there is one, has its lines changed
+abbrev pub with_lines : Store → Name → Change → Option Member → Store
+with_lines s name change None = s
+with_lines s name change (Some m) = with_member s name m.kind (changed_lines change m.lines)
+
+-- the lines of the member of the name are changed
+abbrev pub with_change : Store → Name → Change → Store
+with_change s name change = with_lines s name change (member_of s name)
+
+-- a line is put behind line `after` of the member, first where that is 0
 abbrev pub with_line : Store → Name → ℕ → List ℕ → Store
-with_line s name after text = with_lines s name (λ lines. insert lines after text) (member_of s name)
+with_line s name after text = with_change s name (Insert after text)
+
+-- a line of the member has another text
+abbrev pub with_line_replaced : Store → Name → ℕ → List ℕ → Store
+with_line_replaced s name number text = with_change s name (Replace number text)
+
+-- the lines from the first to the last are taken away from the member
+abbrev pub without_lines : Store → Name → ℕ → ℕ → Store
+without_lines s name first last = with_change s name (Remove first last)

@@ -2,7 +2,7 @@
 use Rattle.std.specs.Prelude.{ℕ, ◌^◌, Bool, not, ◌||◌, ◌&&◌, nat_eq, nat_lt, nat_le, List, length, Option, None, Some, is_some, Result, Ok, Err, codes, if◌then◌else◌}
 use Rattle.std.specs.List.{list_all}
 use Rattle.pli_base.specs.Name.{Name}
-use Rattle.pli_members.specs.Members.{Store, Member, member_of}
+use Rattle.pli_members.specs.Members.{Store, Member, Change, Insert, Replace, Remove, member_of}
 use Rattle.pli_members.specs.declared.refusal.Refusal.{Refusal}
 use Rattle.pli_members.specs.declared.refusal.Refusal.TheVariants.{NameTaken, NoSuchMember, NoSuchLine, LineTooLong, BadByte, TooManyLines, TooManyMembers, VersionsExhausted}
 use Rattle.pli_members.specs.declared.refusal.EditError.{EditError}
@@ -28,28 +28,49 @@ refusal_of_add s name =
 abbrev pub refusal_of_delete : Store → Name → Option Refusal
 refusal_of_delete s name = if is_some (member_of s name) then None else Some NoSuchMember
 
--- the refusal of a line by itself, after line `after` of `lines`
-abbrev pub refusal_of_line : List (List ℕ) → ℕ → List ℕ → Option Refusal
-refusal_of_line lines after text =
-    if nat_lt (length lines) after then Some NoSuchLine
-    else (if nat_lt 120 (length text) then Some LineTooLong
+-- the refusal of a line's text
+abbrev pub refusal_of_text : List ℕ → Option Refusal
+refusal_of_text text =
+    if nat_lt 120 (length text) then Some LineTooLong
     else (if not (list_all may_stand text) then Some BadByte
-    else (if nat_le 9999 (length lines) then Some TooManyLines
-    else None)))
+    else None)
+
+-- this refusal, or else the one of lines among which there is no room
+abbrev pub or_full : List (List ℕ) → Option Refusal → Option Refusal
+or_full lines (Some r) = Some r
+or_full lines None = if nat_le 9999 (length lines) then Some TooManyLines else None
+
+-- the refusal of a change of these lines
+abbrev pub refusal_of_lines : Change → List (List ℕ) → Option Refusal
+refusal_of_lines (Insert after text) lines = if nat_le after (length lines) then or_full lines (refusal_of_text text) else Some NoSuchLine
+refusal_of_lines (Replace number text) lines = if nat_le 1 number && nat_le number (length lines) then refusal_of_text text else Some NoSuchLine
+refusal_of_lines (Remove first last) lines = if nat_le 1 first && nat_le first last && nat_le last (length lines) then None else Some NoSuchLine
 
 -- this refusal, or else the one of a store without a version left
 abbrev pub or_exhausted : Store → Option Refusal → Option Refusal
 or_exhausted s (Some r) = Some r
 or_exhausted s None = if is_exhausted s then Some VersionsExhausted else None
 
--- the refusal of a line put into a member
-abbrev pub refusal_of_put : Store → Option Member → ℕ → List ℕ → Option Refusal
-refusal_of_put s None after text = Some NoSuchMember
-refusal_of_put s (Some m) after text = or_exhausted s (refusal_of_line m.lines after text)
+-- the refusal of a change of this member
+abbrev pub refusal_in_member : Store → Change → Option Member → Option Refusal
+refusal_in_member s change None = Some NoSuchMember
+refusal_in_member s change (Some m) = or_exhausted s (refusal_of_lines change m.lines)
+
+-- the refusal of a change of the member of the name
+abbrev pub refusal_of_change : Store → Name → Change → Option Refusal
+refusal_of_change s name change = refusal_in_member s change (member_of s name)
 
 -- the refusal of an insertion
 abbrev pub refusal_of_insert : Store → Name → ℕ → List ℕ → Option Refusal
-refusal_of_insert s name after text = refusal_of_put s (member_of s name) after text
+refusal_of_insert s name after text = refusal_of_change s name (Insert after text)
+
+-- the refusal of a replacement
+abbrev pub refusal_of_replace : Store → Name → ℕ → List ℕ → Option Refusal
+refusal_of_replace s name number text = refusal_of_change s name (Replace number text)
+
+-- the refusal of a removal
+abbrev pub refusal_of_remove : Store → Name → ℕ → ℕ → Option Refusal
+refusal_of_remove s name first last = refusal_of_change s name (Remove first last)
 
 -- the refusal that an answer has
 abbrev pub refusal_in : {T : Type 0} → Result T EditError → Option Refusal

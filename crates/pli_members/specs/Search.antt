@@ -1,12 +1,12 @@
 -- Where a search for a name ends.
-use Rattle.std.specs.Prelude.{◌≡◌, ℕ, ◌+◌, ◌^◌, ◌<◌, ◌≤◌, List, length, insert, remove, slice_get, slice_set, Some, None}
+use Rattle.std.specs.Prelude.{◌≡◌, ℕ, ◌+◌, ◌^◌, ◌<◌, ◌≤◌, length, insert, remove, slice_get, slice_set, Some, None}
 use Rattle.std.specs.Map.{remove_entry}
 use Rattle.std.specs.BTreeMap.{insert_entry}
 use Rattle.pli_base.specs.Name.{Name}
 use Rattle.pli_members.specs.Fields.{next_version}
 use Rattle.pli_members.specs.declared.members.Step.{Step}
-use Rattle.pli_members.specs.Refusals.{refusal_of_line}
-use Rattle.pli_members.specs.Members.{Member, Store, is_named, name_order, member_of}
+use Rattle.pli_members.specs.Refusals.{refusal_of_lines}
+use Rattle.pli_members.specs.Members.{Member, Store, Change, is_named, name_order, member_of}
 
 -- the member of the name stands at this place, so that edits at the place are edits of the name
 pub record IsPlace (s : Store) (name : Name) (at : ℕ) : Type 0 where
@@ -28,8 +28,8 @@ pub record IsStep (s : Store) (step : Step) : Type 0 where
   pub fits : step.version < 2 ^ 64
   pub after : next_version step.next ≡ step.version + 1
 
--- the text may be put after line `after` of the member at the place, under the version
-pub record CanPut (s : Store) (name : Name) (after : ℕ) (text : List ℕ) (at : ℕ) (step : Step) : Type 0 where
+-- the lines of the member at the place may be changed so, under the version
+pub record CanChange (s : Store) (name : Name) (change : Change) (at : ℕ) (step : Step) : Type 0 where
   pub place : IsPlace s name at
-  pub clear : refusal_of_line place.member.lines after text ≡ None
+  pub clear : refusal_of_lines change place.member.lines ≡ None
   pub left : IsStep s step

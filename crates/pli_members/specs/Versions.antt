@@ -1,9 +1,9 @@
 -- No version is given twice, and an edit changes its member alone.
 use Rattle.std.specs.Prelude.{◌≡◌, ◌≢◌, ℕ, List, [], ◌∷◌, None, Some, Contains}
 use Rattle.pli_base.specs.Name.{Name}
-use Rattle.pli_members.specs.Members.{Store, added, deleted, with_line, with_member, member_of, version_of}
+use Rattle.pli_members.specs.Members.{Store, Change, added, deleted, with_change, with_member, member_of, version_of}
 use Rattle.pli_members.specs.Kept.{IsKept}
-use Rattle.pli_members.specs.Refusals.{refusal_of_add, refusal_of_delete, refusal_of_insert}
+use Rattle.pli_members.specs.Refusals.{refusal_of_add, refusal_of_delete, refusal_of_change}
 use Rattle.pli_members.specs.declared.kind.Kind.{Kind}
 
 -- accepted edits lead from one store to another, and gave these versions, the last one first
@@ -11,7 +11,7 @@ pub data Run (start : Store) : List ℕ → Store → Type 0 where
   begun : Run start [] start
   adding : (given : List ℕ) (s : Store) (name : Name) (kind : Kind) → Run start given s → refusal_of_add s name ≡ None → Run start (s.next ∷ given) (added s name kind)
   deleting : (given : List ℕ) (s : Store) (name : Name) → Run start given s → refusal_of_delete s name ≡ None → Run start given (deleted s name)
-  inserting : (given : List ℕ) (s : Store) (name : Name) (after : ℕ) (text : List ℕ) → Run start given s → refusal_of_insert s name after text ≡ None → Run start (s.next ∷ given) (with_line s name after text)
+  changing : (given : List ℕ) (s : Store) (name : Name) (change : Change) → Run start given s → refusal_of_change s name change ≡ None → Run start (s.next ∷ given) (with_change s name change)
 
 -- the next version was not given before
 abbrev pub NextIsNew : Type 0

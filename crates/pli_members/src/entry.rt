@@ -1,5 +1,5 @@
 //! A name with its member.
-ghost use Rattle.std.specs.Prelude.{◌≡◌, ◌≤◌, length, insert, OnOk, OnErr};
+ghost use Rattle.std.specs.Prelude.{◌≡◌, ◌≤◌, ◌<◌, ◌++◌, length, insert, slice_set, take, drop, OnOk, OnErr};
 
 use crate::kind::Kind;
 use pli_base::{Line, Name};
@@ -79,5 +79,24 @@ impl Entry {
         self.lines.insert(after, line)?;
         self.version = version;
         Ok(())
+    }
+
+    // Gives a line another text, under a new version. The first line stands at 0.
+    pub(crate) fn set_line(&mut self, at: usize, line: Line, version: u64)
+        requires { at < length self.old.1.lines }
+        ensures { self.new ≡ (self.old.0, record { kind = self.old.1.kind; lines = slice_set self.old.1.lines at line; version = version }) }
+    {
+        self.lines[at] = line;
+        self.version = version;
+    }
+
+    // Takes the lines from `start` up to `end` away, under a new version. Only what stands behind them is moved.
+    pub(crate) fn take_lines(&mut self, start: usize, end: usize, version: u64)
+        requires order { start ≤ end }
+        requires in_range { end ≤ length self.old.1.lines }
+        ensures { self.new ≡ (self.old.0, record { kind = self.old.1.kind; lines = take start self.old.1.lines ++ drop end self.old.1.lines; version = version }) }
+    {
+        drop(self.lines.drain(start..end));
+        self.version = version;
     }
 }

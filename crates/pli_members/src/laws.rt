@@ -1,4 +1,5 @@
 //! Laws of the members.
+ghost use Rattle.pli_members.specs.Examples.{LinePut, FirstLineReplaced, LastLinesRemoved, OneLineRemoved, NoLineZero, RemovalsInRange, RefusedInOrder};
 ghost use Rattle.pli_members.specs.Versions.{NextIsNew, EditGivesNext, EditKeepsOthers, DeletionTakes, DeletionKeepsOthers, RunsKeep};
 
 /// The version that an accepted edit gives was never given before.
@@ -29,4 +30,15 @@ pub fn deletion_keeps_others()
 /// Accepted edits keep the limits, the order of the names, and versions below the next one, no two alike.
 pub fn runs_keep()
     ensures { RunsKeep }
+{}
+
+/// Worked examples of changes of lines, and of what is refused first.
+pub fn worked_examples()
+    ensures put { LinePut }
+    ensures replaced { FirstLineReplaced }
+    ensures removed { LastLinesRemoved }
+    ensures one_removed { OneLineRemoved }
+    ensures no_line_zero { NoLineZero }
+    ensures removals { RemovalsInRange }
+    ensures in_order { RefusedInOrder }
 {}

@@ -13,7 +13,7 @@ pub use entry::Entry;
 pub use kind::Kind;
 pub use laws::{
     deletion_keeps_others, deletion_takes, edit_gives_next, edit_keeps_others, next_is_new,
-    runs_keep,
+    runs_keep, worked_examples,
 };
 pub use members::Members;
 pub use names::Names;

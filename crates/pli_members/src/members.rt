@@ -3,15 +3,16 @@ ghost use Rattle.pli_members.specs.Fields.{next_version};
 ghost use Rattle.std.specs.Prelude.{◌≡◌, ◌+◌, ◌^◌, ◌<◌, ◌≤◌, length, IfOk, IfErr, OnOk, OnErr, None};
 ghost use Rattle.std.specs.Option.{option_copied, option_map};
 ghost use Rattle.std.specs.Result.{result_err};
-ghost use Rattle.pli_members.specs.Members.{empty_store, names_of, member_of, kind_of, lines_of, version_of, added, deleted, with_line};
+ghost use Rattle.pli_members.specs.Members.{empty_store, names_of, member_of, kind_of, lines_of, version_of, added, deleted, with_line, with_line_replaced, without_lines};
 ghost use Rattle.pli_members.specs.Kept.{IsKept};
-ghost use Rattle.pli_members.specs.Refusals.{refusal_of_add, refusal_of_delete, refusal_of_insert, refusal_in};
-ghost use Rattle.pli_members.specs.Search.{IsPlace, IsGap, IsStep, CanPut};
+ghost use Rattle.pli_members.specs.Refusals.{refusal_of_add, refusal_of_delete, refusal_of_insert, refusal_of_replace, refusal_of_remove, refusal_of_change, refusal_in};
+ghost use Rattle.pli_members.specs.ChangeView.{change_view};
+ghost use Rattle.pli_members.specs.Search.{IsPlace, IsGap, IsStep, CanChange};
 ghost use Rattle.pli_members.specs.declared.refusal.Refusal.TheVariants.{VersionsExhausted};
 
 use crate::entry::Entry;
 use crate::kind::Kind;
-use crate::lines::line_refusal;
+use crate::lines::{Change, change_refusal};
 use crate::names::Names;
 use crate::refusal::{EditError, Refusal};
 use pli_base::{Line, Name};
@@ -142,7 +143,7 @@ impl Members {
         ensures err { OnErr result (self.new ≡ self.old) }
         ensures refusal { refusal_in result ≡ refusal_of_insert self.old name after text.now }
     {
-        let (at, step) = self.line_place(&name, after, text)?;
+        let (at, step) = self.change_place(&name, Change::Insert { after, text })?;
         let line = Line::new(self.alloc, text)?;
         let entry = &mut self.entries[at];
         entry.put_line(after, line, step.version)?;
@@ -150,15 +151,43 @@ impl Members {
         Ok(())
     }
 
-    // The place of a member that a line may be put into, and the version that it then gets.
-    fn line_place(&self, name: &Name, after: usize, text: &[u8]) -> Result<(usize, Step), Refusal>
-        ensures refusal { result_err result ≡ refusal_of_insert self.now name.now after text.now }
-        ensures found { IfOk result (λ put. CanPut self.now name.now after text.now put.0 put.1) }
+    /// Gives line `number` of a member another text; the first is 1. Refused with M2 to M5 and M8, in this order.
+    pub fn replace_line(&mut self, name: Name, number: usize, text: &[u8]) -> Result<(), EditError>
+        ensures ok { OnOk result (self.new ≡ with_line_replaced self.old name number text.now) }
+        ensures err { OnErr result (self.new ≡ self.old) }
+        ensures refusal { refusal_in result ≡ refusal_of_replace self.old name number text.now }
+    {
+        let (at, step) = self.change_place(&name, Change::Replace { number, text })?;
+        let line = Line::new(self.alloc, text)?;
+        let entry = &mut self.entries[at];
+        entry.set_line(number - 1, line, step.version);
+        self.next = step.next;
+        Ok(())
+    }
+
+    /// Takes the lines from `first` to `last` away from a member; the first line is 1. Refused with M2, M3 and M8, in
+    /// this order. Takes no memory.
+    pub fn remove_lines(&mut self, name: Name, first: usize, last: usize) -> Result<(), Refusal>
+        ensures ok { OnOk result (self.new ≡ without_lines self.old name first last) }
+        ensures err { OnErr result (self.new ≡ self.old) }
+        ensures refusal { result_err result ≡ refusal_of_remove self.old name first last }
+    {
+        let (at, step) = self.change_place(&name, Change::Remove { first, last })?;
+        let entry = &mut self.entries[at];
+        entry.take_lines(first - 1, last, step.version);
+        self.next = step.next;
+        Ok(())
+    }
+
+    // The place of a member whose lines may be changed so, and the version that it then gets.
+    fn change_place(&self, name: &Name, change: Change<'_>) -> Result<(usize, Step), Refusal>
+        ensures refusal { result_err result ≡ refusal_of_change self.now name.now (change_view change.entry) }
+        ensures found { IfOk result (λ found. CanChange self.now name.now (change_view change.entry) found.0 found.1) }
     {
         let Ok(at) = self.place(name) else {
             return Err(Refusal::NoSuchMember);
         };
-        if let Some(refusal) = line_refusal(self.entries[at].lines(), after, text) {
+        if let Some(refusal) = change_refusal(self.entries[at].lines(), change) {
             return Err(refusal);
         }
         Ok((at, self.step()?))

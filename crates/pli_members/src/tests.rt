@@ -1,8 +1,10 @@
 use crate::{
     EditError, Kind, Members, Refusal, deletion_keeps_others, deletion_takes, edit_gives_next,
-    edit_keeps_others, next_is_new, runs_keep,
+    edit_keeps_others, next_is_new, runs_keep, worked_examples,
 };
 use pli_base::Name;
+use std::alloc::Global;
+use std::process::Abort;
 use std::test::Fail;
 
 // What an edit that is refused answers.
@@ -58,6 +60,10 @@ fn versions(rt: HostRuntime) -> Result<(), Fail> {
         members.insert_line(a, 0, b"X"),
         refused(Refusal::VersionsExhausted)
     );
+    assert_eq!(rt;
+        members.replace_line(a, 1, b"X"),
+        refused(Refusal::NoSuchLine)
+    );
     assert_eq!(rt; members.delete(a), Ok(()));
     assert_eq!(rt;
         members.add(a, Kind::Source),
@@ -69,6 +75,7 @@ fn versions(rt: HostRuntime) -> Result<(), Fail> {
     edit_keeps_others();
     deletion_takes();
     deletion_keeps_others();
+    worked_examples();
     Ok(())
 }
 
@@ -109,6 +116,109 @@ fn refusals(rt: HostRuntime) -> Result<(), Fail> {
     Ok(())
 }
 
+// A member of these lines, the first edit of which gave version 1.
+fn member_of(rt: &impl Abort, alloc: Global, name: Name, lines: &[&[u8]]) -> Members {
+    let mut members = Members::new(alloc, 1);
+    assert_eq!(rt; members.add(name, Kind::Source), Ok(()));
+    for (after, line) in lines.iter().enumerate() {
+        assert_eq!(rt; members.insert_line(name, after, line), Ok(()));
+    }
+    members
+}
+
+// Whether a member has these lines, and no others.
+fn has_lines(members: &Members, name: Name, wanted: &[&[u8]]) -> bool {
+    let Some(lines) = members.lines(name) else {
+        return false;
+    };
+    lines.len() == wanted.len()
+        && lines
+            .iter()
+            .zip(wanted)
+            .all(|(line, text)| line.text() == *text)
+}
+
+#[test]
+fn replacements(rt: HostRuntime) -> Result<(), Fail> {
+    let (a, b) = (Name::read(b"A").ok_or("A")?, Name::read(b"B").ok_or("B")?);
+    let long = [b'X'; 121];
+    let mut members = member_of(&rt, rt.alloc(), a, &[b"1", b"2", b"3"]);
+    assert_eq!(rt; members.version(a), Some(4));
+    assert_eq!(rt; members.replace_line(a, 2, b"two"), Ok(()));
+    assert!(rt; has_lines(&members, a, &[b"1", b"two", b"3"]));
+    assert_eq!(rt; members.replace_line(a, 1, b""), Ok(()));
+    assert_eq!(rt; members.replace_line(a, 3, &long[1..]), Ok(()));
+    assert!(rt; has_lines(&members, a, &[b"", b"two", &long[1..]]));
+    assert_eq!(rt; members.version(a), Some(7));
+    for (name, number, text, refusal) in [
+        (b, 0, long.as_slice(), Refusal::NoSuchMember),
+        (a, 0, &long, Refusal::NoSuchLine),
+        (a, 4, b"", Refusal::NoSuchLine),
+        (a, 1, &long, Refusal::LineTooLong),
+        (a, 3, b"\x7f", Refusal::BadByte),
+        (a, 3, b"X\n", Refusal::BadByte),
+    ] {
+        assert_eq!(rt; members.replace_line(name, number, text), refused(refusal));
+    }
+    assert!(rt; has_lines(&members, a, &[b"", b"two", &long[1..]]));
+    assert_eq!(rt; members.version(a), Some(7));
+    Ok(())
+}
+
+#[test]
+fn removals(rt: HostRuntime) -> Result<(), Fail> {
+    let (a, b) = (Name::read(b"A").ok_or("A")?, Name::read(b"B").ok_or("B")?);
+    let texts: [&[u8]; 5] = [b"1", b"2", b"3", b"4", b"5"];
+    for (first, last, left) in [
+        (1, 1, [b"2".as_slice(), b"3", b"4", b"5"].as_slice()),
+        (5, 5, &[b"1", b"2", b"3", b"4"]),
+        (2, 4, &[b"1", b"5"]),
+        (1, 4, &[b"5"]),
+        (2, 5, &[b"1"]),
+        (3, 4, &[b"1", b"2", b"5"]),
+        (1, 5, &[]),
+    ] {
+        let mut members = member_of(&rt, rt.alloc(), a, &texts);
+        assert_eq!(rt; members.remove_lines(a, first, last), Ok(()));
+        assert!(rt; has_lines(&members, a, left), "{first} to {last}");
+        assert_eq!(rt; members.version(a), Some(7));
+    }
+    let mut members = member_of(&rt, rt.alloc(), a, &texts);
+    for (first, last) in [(0, 0), (0, 1), (3, 2), (1, 6), (6, 6), (6, 5)] {
+        assert_eq!(rt;
+            members.remove_lines(a, first, last),
+            Err(Refusal::NoSuchLine)
+        );
+    }
+    assert_eq!(rt; members.remove_lines(b, 1, 1), Err(Refusal::NoSuchMember));
+    assert!(rt; has_lines(&members, a, &texts));
+    assert_eq!(rt; members.version(a), Some(6));
+    assert_eq!(rt; members.remove_lines(a, 1, 5), Ok(()));
+    assert_eq!(rt; members.remove_lines(a, 1, 1), Err(Refusal::NoSuchLine));
+    assert_eq!(rt; members.insert_line(a, 0, b"6"), Ok(()));
+    assert!(rt; has_lines(&members, a, &[b"6"]));
+    Ok(())
+}
+
+#[test]
+fn last_version(rt: HostRuntime) -> Result<(), Fail> {
+    let a = Name::read(b"A").ok_or("A")?;
+    let mut members = Members::new(rt.alloc(), 18_446_744_073_709_551_614);
+    assert_eq!(rt; members.add(a, Kind::Include), Ok(()));
+    assert_eq!(rt; members.insert_line(a, 0, b"X"), Ok(()));
+    assert_eq!(rt; members.version(a), Some(18_446_744_073_709_551_615));
+    let exhausted = Refusal::VersionsExhausted;
+    assert_eq!(rt; members.replace_line(a, 1, b"Y"), refused(exhausted));
+    assert_eq!(rt;
+        members.replace_line(a, 1, b"\x7f"),
+        refused(Refusal::BadByte)
+    );
+    assert_eq!(rt; members.remove_lines(a, 1, 1), Err(exhausted));
+    assert_eq!(rt; members.remove_lines(a, 1, 2), Err(Refusal::NoSuchLine));
+    assert!(rt; has_lines(&members, a, &[b"X"]));
+    Ok(())
+}
+
 #[test]
 fn limits(rt: HostRuntime) -> Result<(), Fail> {
     let mut members = Members::new(rt.alloc(), 1);
@@ -134,6 +244,14 @@ fn limits(rt: HostRuntime) -> Result<(), Fail> {
         members.insert_line(n, 10000, b""),
         refused(Refusal::NoSuchLine)
     );
+    assert_eq!(rt;
+        members.insert_line(n, 9999, b"\x7f"),
+        refused(Refusal::BadByte)
+    );
+    assert_eq!(rt; members.replace_line(n, 9999, b"Y"), Ok(()));
+    assert!(rt; says(&members, n, 9998, b"Y"));
+    assert_eq!(rt; members.remove_lines(n, 2, 9999), Ok(()));
+    assert!(rt; has_lines(&members, n, &[b"X = 1;"]));
     Ok(())
 }
 
@@ -159,6 +277,15 @@ fn refused_growths(rt: HostRuntime) -> Result<(), Fail> {
             assert_eq!(rt; answer, Ok(()));
             assert!(rt; says(&members, name, 0, line));
         }
+        let version = members.version(name);
+        answer = members.replace_line(name, 2, b"W = 4;");
+        if answer == Err(EditError::OutOfMemory) {
+            assert!(rt; members.version(name) == version && says(&members, name, 1, b"Y = 2;"));
+            answer = members.replace_line(name, 2, b"W = 4;");
+        }
+        assert_eq!(rt; answer, Ok(()));
+        assert_eq!(rt; members.remove_lines(name, 1, 1), Ok(()));
+        assert!(rt; has_lines(&members, name, &[b"W = 4;", b"X = 1;"]));
     }
     Ok(())
 }
