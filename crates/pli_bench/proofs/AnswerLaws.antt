@@ -1,7 +1,7 @@
 -- Parts put one after another.
 use Rattle.std.specs.Prelude.{◌≡◌, ℕ, ◌+◌, ◌<◌, List, [], ◌∷◌, ◌++◌, length, map, take, drop, get_or, Option, refl}
 use Rattle.std.proofs.Common.{sym, ap, ◌∙◌, append_assoc, append-nil, take-append-drop}
-use Rattle.std.proofs.lemmas.List.{take_more, drop_more, map-append}
+use Rattle.std.proofs.lemmas.List.{take_more, map-append}
 use Rattle.std.specs.Io.KnownBytes.{Appends}
 use Rattle.pli_base.specs.Devices.{AppendsPrefix}
 use Rattle.pli_base.specs.DeviceLaws.{Appends-then, AppendsPrefix-more, Appends-then_AppendsPrefix}

@@ -1,6 +1,8 @@
 pub mod AnswerLaws
+pub mod BatchLaws
 pub mod BuildLaws
 pub mod LineLaws
+pub mod ListingLaws
 pub mod ObeyLaws
 pub mod RunLaws
 pub mod Words

@@ -6,26 +6,26 @@ use Rattle.std.specs.Io.KnownBytes.{Appends}
 use Rattle.pli_base.specs.Name.{Name}
 use Rattle.pli_base.specs.Devices.{AppendsPrefix}
 use Rattle.pli_base.specs.DeviceLaws.{Appends-then, Appends-then_AppendsPrefix, AppendsPrefix-more}
-use Rattle.pli_members.specs.Members.{Store}
+use Rattle.pli_members.specs.Members.{Store, lines_of}
 use Rattle.pli_members.specs.declared.refusal.Refusal.{Refusal}
+use Rattle.pli_members.specs.declared.refusal.Refusal.TheVariants.{NoSuchMember}
 use Rattle.pli_code.specs.ModuleView.{Module, module_view}
 use Rattle.pli_code.specs.declared.instruction.Module as declared_module
 use Rattle.pli_bench.specs.Standing.{IsStanding}
-use Rattle.pli_code.specs.Machine.{Outcome, RunsTo}
 use Rattle.pli_code.specs.declared.ending.Ending.{Ending}
 use Rattle.pli_code.specs.declared.ending.Ran.{Ran}
-use Rattle.pli_meaning.specs.Scratch.{Built, Made, Diagnosed, scratch, Means}
+use Rattle.pli_meaning.specs.Scratch.{Built, Made, scratch}
 use Rattle.pli_meaning.proofs.WholeRun.{members_simulate}
 use Rattle.pli_meaning.specs.Members.{HasMeaning}
 use Rattle.pli_bench.specs.Answering.{Writes}
-use Rattle.pli_machine.specs.Runs.{RanTo, StoppedWithin, OneOutcome}
+use Rattle.pli_machine.specs.Runs.{RanTo, StoppedWithin}
 use Rattle.pli_bench.specs.Obeying.{Does, end_answer, gone}
 use Rattle.pli_bench.specs.Commands.{Command, command_of}
 use Rattle.pli_bench.specs.Runs.{AnsweredOne, next_after}
 use Rattle.pli_bench.specs.declared.serving.Next.{Next}
 use Rattle.pli_bench.specs.declared.serving.WriteFailed.{WriteFailed}
 use Rattle.pli_machine.proofs.Outcome.{one_outcome}
-use Rattle.pli_bench.specs.Session.{State, EditsInMemory, Edits, ending_line, refused, okay, no_memory, not_built, Builds, is_made, Runs, run_answer, build_answer, Breaks, Obeys, Step, quits, is_quit}
+use Rattle.pli_bench.specs.Session.{State, Lists, numbered_lines, EditsInMemory, Edits, ending_line, refused, okay, no_memory, not_built, Builds, is_made, Runs, run_answer, build_answer, Breaks, Obeys, Step, quits, is_quit}
 
 abbrev pub state : Store → Bool → ℕ → State
 state store stands steps = record { store = store; stands = stands; steps = steps }
@@ -68,6 +68,15 @@ module _ (s : State) (store : Store) (stands : Bool) (steps : ℕ) (is : state s
   -- or memory was refused
   pub builds_not : Builds s no_memory (state store false steps)
   builds_not = subst (λ t. Builds t no_memory (state store false steps)) is (inr (refl, refl))
+
+module _ (s : State) (store : Store) (stands : Bool) (steps : ℕ) (is : state store stands steps ≡ s) (name : Name) where
+  -- there is no member to list
+  pub lists_none : lines_of store name ≡ None → Lists (lines_of s.store name) s (refused NoSuchMember) s
+  lists_none e = subst (λ o. Lists o s (refused NoSuchMember) s) (sym e ∙ ap (λ t. lines_of t.store name) is) (refl, refl)
+
+  -- the lines of one are listed
+  pub lists : (lines : List (List ℕ)) → lines_of store name ≡ Some lines → Lists (lines_of s.store name) s (numbered_lines 1 lines ++ okay) s
+  lists lines e = subst (λ o. Lists o s (numbered_lines 1 lines ++ okay) s) (sym e ∙ ap (λ t. lines_of t.store name) is) (refl, refl)
 
 -- no module stands
 pub runs_not : (s : State) (n : ℕ) → s.stands ≡ false → Runs s.stands n s not_built s

@@ -4,13 +4,23 @@ use Rattle.std.specs.Option.{option_and_then}
 use Rattle.std.specs.List.{list_all, position, before_first}
 use Rattle.std.specs.Str.{str_eq_ignore_ascii_case}
 use Rattle.pli_base.specs.Name.{Name, is_digit, name_of}
+use Rattle.pli_members.specs.declared.kind.Kind.{Kind}
+use Rattle.pli_members.specs.declared.kind.Kind.TheVariants.{Source, Include}
 
 pub data Command : Type 0 where
-  -- a new member that holds program text
-  Add : (name : Name) → Command
+  -- a new member of this kind, without lines
+  Add : (name : Name) (kind : Kind) → Command
   Delete : (name : Name) → Command
   -- a new line behind the line of this number, 0 for the front
   Insert : (name : Name) (after : ℕ) (text : List ℕ) → Command
+  -- another text for the line of this number, 1 for the first
+  Replace : (name : Name) (number : ℕ) (text : List ℕ) → Command
+  -- the lines from the first to the last go
+  Remove : (name : Name) (first last : ℕ) → Command
+  -- the lines of a member are listed
+  ListLines : (name : Name) → Command
+  -- the members are listed
+  ListMembers : Command
   Build : Command
   -- so many steps, or the bench's own number
   Run : (steps : Option ℕ) → Command
@@ -49,27 +59,65 @@ abbrev pub alone : Command → Option (List ℕ) → Option Command
 alone command None = Some command
 alone command (Some rest) = None
 
--- `name SOURCE`
+-- the kind that a word names
+abbrev pub kind_of_word : List ℕ → Option Kind
+kind_of_word word = if is_word (codes "SOURCE") word then Some Source else (if is_word (codes "INCLUDE") word then Some Include else None)
+
+-- the addition, where its name and its kind are of their form
+abbrev pub add_with : Option Name → Option Kind → Option Command
+add_with (Some name) (Some kind) = Some (Add name kind)
+add_with name kind = None
+
+-- `name SOURCE` or `name INCLUDE`
 abbrev pub add_of : List ℕ → Option Command
-add_of text = option_and_then kind_of (behind_blank text)
-  where
-    kind_of : List ℕ → Option Command
-    kind_of kind = if is_word (codes "SOURCE") kind then option_map Add (name_of (first_word text)) else None
+add_of text = option_and_then (λ word. add_with (name_of (first_word text)) (kind_of_word word)) (behind_blank text)
 
 -- `name`
 abbrev pub delete_of : List ℕ → Option Command
 delete_of text = option_map Delete (name_of text)
 
-abbrev pub insert_with : Option Name → Option ℕ → (text : List ℕ) → Option Command
-insert_with (Some name) (Some after) text = Some (Insert name after text)
-insert_with name after text = None
+-- a line of a member, and a text for it
+pub record NumberedText : Type 0 where
+  pub name : Name
+  pub number : ℕ
+  pub text : List ℕ
+
+-- these parts
+abbrev pub numbered_text : Name → ℕ → List ℕ → NumberedText
+numbered_text name number text = record { name = name; number = number; text = text }
+
+-- the line and its text, where the name and the number are of their form
+abbrev pub numbered_with : Option Name → Option ℕ → (text : List ℕ) → Option NumberedText
+numbered_with (Some name) (Some number) text = Some (numbered_text name number text)
+numbered_with name number text = None
 
 -- `name k text`, where an empty text may stand without its blank
+abbrev pub numbered_of : List ℕ → Option NumberedText
+numbered_of text = option_and_then (λ rest. numbered_with (name_of (first_word text)) (number_of 9 (first_word rest)) (unwrap_or (behind_blank rest) [])) (behind_blank text)
+
+-- what stands behind INSERT
 abbrev pub insert_of : List ℕ → Option Command
-insert_of text = option_and_then numbered (behind_blank text)
+insert_of text = option_map (λ t. Insert t.name t.number t.text) (numbered_of text)
+
+-- what stands behind REPLACE
+abbrev pub replace_of : List ℕ → Option Command
+replace_of text = option_map (λ t. Replace t.name t.number t.text) (numbered_of text)
+
+-- the removal, where its name and both its numbers are of their form
+abbrev pub remove_with : Option Name → Option ℕ → Option ℕ → Option Command
+remove_with (Some name) (Some first) (Some last) = Some (Remove name first last)
+remove_with name first last = None
+
+-- `name a b`
+abbrev pub remove_of : List ℕ → Option Command
+remove_of text = option_and_then behind_name (behind_blank text)
   where
-    numbered : List ℕ → Option Command
-    numbered rest = insert_with (name_of (first_word text)) (number_of 9 (first_word rest)) (unwrap_or (behind_blank rest) [])
+    behind_name : List ℕ → Option Command
+    behind_name rest = option_and_then (λ last. remove_with (name_of (first_word text)) (number_of 9 (first_word rest)) (number_of 9 last)) (behind_blank rest)
+
+-- `name`
+abbrev pub list_of : List ℕ → Option Command
+list_of text = option_map ListLines (name_of text)
 
 -- nothing, or `n`
 abbrev pub run_of : Option (List ℕ) → Option Command
@@ -82,10 +130,14 @@ command_with word rest =
     if is_word (codes "ADD") word then option_and_then add_of rest
     else (if is_word (codes "DELETE") word then option_and_then delete_of rest
     else (if is_word (codes "INSERT") word then option_and_then insert_of rest
+    else (if is_word (codes "REPLACE") word then option_and_then replace_of rest
+    else (if is_word (codes "REMOVE") word then option_and_then remove_of rest
+    else (if is_word (codes "LIST") word then option_and_then list_of rest
+    else (if is_word (codes "MEMBERS") word then alone ListMembers rest
     else (if is_word (codes "BUILD") word then alone Build rest
     else (if is_word (codes "RUN") word then run_of rest
     else (if is_word (codes "QUIT") word then alone Quit rest
-    else None)))))
+    else None)))))))))
 
 -- the command that a line spells
 abbrev pub command_of : List ℕ → Option Command
@@ -103,11 +155,41 @@ spelt_insert_of_nothing_behind_a_blank = refl
 spelt_insert_of_blanks : command_of (codes "INSERT M 1  X ") ≡ Some (Insert (codes "M") 1 (codes " X "))
 spelt_insert_of_blanks = refl
 
-spelt_add : command_of (codes "add main_1 Source") ≡ Some (Add (codes "MAIN_1"))
+spelt_add : command_of (codes "add main_1 Source") ≡ Some (Add (codes "MAIN_1") Source)
 spelt_add = refl
 
-unspelt_include : command_of (codes "ADD M INCLUDE") ≡ None
-unspelt_include = refl
+spelt_include : command_of (codes "ADD k include") ≡ Some (Add (codes "K") Include)
+spelt_include = refl
+
+unspelt_kind : command_of (codes "ADD K INCLUDES") ≡ None
+unspelt_kind = refl
+
+spelt_replace : command_of (codes "Replace m 12 ;;") ≡ Some (Replace (codes "M") 12 (codes ";;"))
+spelt_replace = refl
+
+spelt_replace_by_nothing : command_of (codes "REPLACE M 1") ≡ Some (Replace (codes "M") 1 [])
+spelt_replace_by_nothing = refl
+
+spelt_remove : command_of (codes "remove M 2 0013") ≡ Some (Remove (codes "M") 2 13)
+spelt_remove = refl
+
+unspelt_remove_of_one_number : command_of (codes "REMOVE M 2") ≡ None
+unspelt_remove_of_one_number = refl
+
+unspelt_remove_behind_a_blank : command_of (codes "REMOVE M 2 3 ") ≡ None
+unspelt_remove_behind_a_blank = refl
+
+spelt_list : command_of (codes "LIST m") ≡ Some (ListLines (codes "M"))
+spelt_list = refl
+
+unspelt_list : command_of (codes "LIST") ≡ None
+unspelt_list = refl
+
+spelt_members : command_of (codes "members") ≡ Some ListMembers
+spelt_members = refl
+
+unspelt_members : command_of (codes "MEMBERS M") ≡ None
+unspelt_members = refl
 
 unspelt_name : command_of (codes "DELETE 1M") ≡ None
 unspelt_name = refl

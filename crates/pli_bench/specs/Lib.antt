@@ -1,4 +1,5 @@
 pub mod Answering
+pub mod Batches
 pub mod Building
 pub mod CommandView
 pub mod Commands

@@ -1,16 +1,19 @@
 -- The session: what a command answers, and what it leaves.
-use Rattle.std.specs.Prelude.{◌≡◌, ℕ, Bool, true, false, nat_eq, ◌⊎◌, Option, Some, None, List, [], ◌∷◌, ◌++◌, codes, decimal, unwrap_or, if◌then◌else◌}
+use Rattle.std.specs.Prelude.{◌≡◌, ℕ, ◌+◌, Bool, true, false, nat_eq, ◌⊎◌, Option, Some, None, List, [], ◌∷◌, ◌++◌, length, codes, decimal, unwrap_or, if◌then◌else◌}
+use Rattle.std.specs.List.{flat_map}
 use Rattle.pli_base.specs.Name.{Name}
-use Rattle.pli_members.specs.Members.{Store, empty_store, added, deleted, with_line}
-use Rattle.pli_members.specs.Refusals.{refusal_of_add, refusal_of_delete, refusal_of_insert, refusal_label, refusal_text}
+use Rattle.pli_members.specs.Members.{Store, Member, empty_store, lines_of, added, deleted, with_line, with_line_replaced, without_lines}
+use Rattle.pli_members.specs.Refusals.{refusal_of_add, refusal_of_delete, refusal_of_insert, refusal_of_replace, refusal_of_remove, refusal_label, refusal_text}
 use Rattle.pli_members.specs.declared.refusal.Refusal.{Refusal}
-use Rattle.pli_members.specs.declared.kind.Kind.TheVariants.{Source}
+use Rattle.pli_members.specs.declared.refusal.Refusal.TheVariants.{NoSuchMember}
+use Rattle.pli_members.specs.declared.kind.Kind.{Kind}
+use Rattle.pli_members.specs.declared.kind.Kind.TheVariants.{Source, Include}
 use Rattle.pli_code.specs.Errors.{error_label, error_text}
 use Rattle.pli_code.specs.Machine.{Outcome}
 use Rattle.pli_code.specs.declared.ending.Ending.{Ending}
 use Rattle.pli_code.specs.declared.ending.Ending.TheVariants.{Ended, OutOfSteps, Error, MachineFault}
 use Rattle.pli_meaning.specs.Scratch.{Built, Diagnosed, Made, scratch, Means}
-use Rattle.pli_bench.specs.Commands.{Command, Add, Delete, Insert, Build, Run, Quit, command_of}
+use Rattle.pli_bench.specs.Commands.{Command, Add, Delete, Insert, Replace, Remove, ListLines, ListMembers, Build, Run, Quit, command_of}
 
 -- the members, whether a module of them stands, and the steps of a bare RUN
 pub record State : Type 0 where
@@ -90,12 +93,39 @@ abbrev pub Runs : Bool → ℕ → State → List ℕ → State → Type 0
 Runs false n s answer new = Says not_built s answer new
 Runs true n s answer new = (o : Outcome) × Means s.store.entries n o × ((answer ≡ run_answer o) ⊎ Breaks o.output answer) × (new ≡ s)
 
+-- a line of a member, behind its number
+abbrev pub numbered_line : ℕ → List ℕ → List ℕ
+numbered_line number text = line (decimal number ++ 32 ∷ text)
+
+-- lines behind their numbers, the first of which is given
+abbrev pub numbered_lines : ℕ → List (List ℕ) → List ℕ
+numbered_lines number [] = []
+numbered_lines number (text ∷ lines) = numbered_line number text ++ numbered_lines (number + 1) lines
+
+-- the lines of a member, if there is one, are listed from 1 on
+abbrev pub Lists : Option (List (List ℕ)) → State → List ℕ → State → Type 0
+Lists None s answer new = Says (refused NoSuchMember) s answer new
+Lists (Some lines) s answer new = Says (numbered_lines 1 lines ++ okay) s answer new
+
+-- the word for a kind of members
+abbrev pub kind_word : Kind → List ℕ
+kind_word Source = codes "SOURCE"
+kind_word Include = codes "INCLUDE"
+
+-- a member's name, its kind and how many lines it has
+abbrev pub member_line : Name × Member → List ℕ
+member_line entry = line (entry.0 ++ 32 ∷ kind_word entry.1.kind ++ 32 ∷ decimal (length entry.1.lines))
+
 -- what a command may answer, and what it leaves
 abbrev pub Obeys : Option Command → State → List ℕ → State → Type 0
 Obeys None s answer new = Says bad_command s answer new
-Obeys (Some (Add name)) s answer new = EditsInMemory (refusal_of_add s.store name) (added s.store name Source) s answer new
+Obeys (Some (Add name kind)) s answer new = EditsInMemory (refusal_of_add s.store name) (added s.store name kind) s answer new
 Obeys (Some (Delete name)) s answer new = Edits (refusal_of_delete s.store name) (deleted s.store name) s answer new
 Obeys (Some (Insert name after text)) s answer new = EditsInMemory (refusal_of_insert s.store name after text) (with_line s.store name after text) s answer new
+Obeys (Some (Replace name number text)) s answer new = EditsInMemory (refusal_of_replace s.store name number text) (with_line_replaced s.store name number text) s answer new
+Obeys (Some (Remove name first last)) s answer new = Edits (refusal_of_remove s.store name first last) (without_lines s.store name first last) s answer new
+Obeys (Some (ListLines name)) s answer new = Lists (lines_of s.store name) s answer new
+Obeys (Some ListMembers) s answer new = Says (flat_map member_line s.store.entries ++ okay) s answer new
 Obeys (Some Build) s answer new = Builds s answer new
 Obeys (Some (Run n)) s answer new = Runs s.stands (unwrap_or n s.steps) s answer new
 Obeys (Some Quit) s answer new = Says okay s answer new

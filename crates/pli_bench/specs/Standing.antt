@@ -1,5 +1,5 @@
 -- The module that stands is that of a build from scratch of the members.
-use Rattle.std.specs.Prelude.{◌≡◌, ℕ, List, Option, Some, None}
+use Rattle.std.specs.Prelude.{◌≡◌, List, Option, Some, None}
 use Rattle.pli_base.specs.Name.{Name}
 use Rattle.pli_code.specs.ModuleView.{module_view}
 use Rattle.pli_code.specs.declared.instruction.Module.{Module}

@@ -10,11 +10,12 @@ ghost use Rattle.pli_bench.specs.Session.{Obeys, Step, quits, opened};
 use crate::answer::{put_ending, put_parts, put_refusal};
 use crate::build::{Built, build};
 use crate::command::{Command, read_command};
+use crate::listing::{put_lines, put_members};
 use crate::serving::{Interpreter, Next, ServeFault, WriteFailed, serve};
 use pli_base::{Failed, Name, Sink, Source};
 use pli_code::{Module, Ran};
 use pli_machine::{RunFault, run};
-use pli_members::{EditError, Kind, Members};
+use pli_members::{EditError, Kind, Members, Refusal};
 use std::alloc::{AllocError, Global};
 use std::marker::Model;
 
@@ -79,11 +80,11 @@ impl Bench {
         }
     }
 
-    fn add<W: Sink>(&mut self, name: Name, writer: &mut W) -> Result<(), Failed>
-        ensures answered { Does (Obeys (Some (spelt.Add name))) self.old self.new (W.contents writer.old) (W.contents writer.new) result }
+    fn add<W: Sink>(&mut self, name: Name, kind: Kind, writer: &mut W) -> Result<(), Failed>
+        ensures answered { Does (Obeys (Some (spelt.Add name kind))) self.old self.new (W.contents writer.old) (W.contents writer.new) result }
         ensures mark { Marked (W.failed writer.old) (W.failed writer.new) result }
     {
-        match self.members.add(name, Kind::Source) {
+        match self.members.add(name, kind) {
             Ok(()) => {
                 self.standing = None;
                 put_parts(writer, &[b"OK\n"])
@@ -124,6 +125,67 @@ impl Bench {
             Err(EditError::Refused(refusal)) => put_refusal(writer, refusal),
             Err(EditError::OutOfMemory) => put_parts(writer, &[b"NO MEMORY\n"]),
         }
+    }
+
+    fn replace<W: Sink>(
+        &mut self,
+        name: Name,
+        number: u32,
+        text: &[u8],
+        writer: &mut W,
+    ) -> Result<(), Failed>
+        ensures answered { Does (Obeys (Some (spelt.Replace name number text.now))) self.old self.new (W.contents writer.old) (W.contents writer.new) result }
+        ensures mark { Marked (W.failed writer.old) (W.failed writer.new) result }
+    {
+        match self.members.replace_line(name, number as usize, text) {
+            Ok(()) => {
+                self.standing = None;
+                put_parts(writer, &[b"OK\n"])
+            }
+            Err(EditError::Refused(refusal)) => put_refusal(writer, refusal),
+            Err(EditError::OutOfMemory) => put_parts(writer, &[b"NO MEMORY\n"]),
+        }
+    }
+
+    fn remove<W: Sink>(
+        &mut self,
+        name: Name,
+        first: u32,
+        last: u32,
+        writer: &mut W,
+    ) -> Result<(), Failed>
+        ensures answered { Does (Obeys (Some (spelt.Remove name first last))) self.old self.new (W.contents writer.old) (W.contents writer.new) result }
+        ensures mark { Marked (W.failed writer.old) (W.failed writer.new) result }
+    {
+        match self
+            .members
+            .remove_lines(name, first as usize, last as usize)
+        {
+            Ok(()) => {
+                self.standing = None;
+                put_parts(writer, &[b"OK\n"])
+            }
+            Err(refusal) => put_refusal(writer, refusal),
+        }
+    }
+
+    fn list_lines<W: Sink>(&self, name: Name, writer: &mut W) -> Result<(), Failed>
+        ensures answered { Does (Obeys (Some (spelt.ListLines name))) self.now self.now (W.contents writer.old) (W.contents writer.new) result }
+        ensures mark { Marked (W.failed writer.old) (W.failed writer.new) result }
+    {
+        let Some(lines) = self.members.lines(name) else {
+            return put_refusal(writer, Refusal::NoSuchMember);
+        };
+        put_lines(writer, lines)?;
+        put_parts(writer, &[b"OK\n"])
+    }
+
+    fn list_members<W: Sink>(&self, writer: &mut W) -> Result<(), Failed>
+        ensures answered { Does (Obeys (Some spelt.ListMembers)) self.now self.now (W.contents writer.old) (W.contents writer.new) result }
+        ensures mark { Marked (W.failed writer.old) (W.failed writer.new) result }
+    {
+        put_members(writer, self.members.entries())?;
+        put_parts(writer, &[b"OK\n"])
     }
 
     fn rebuild<W: Sink>(&mut self, writer: &mut W) -> Result<(), Failed>
@@ -168,7 +230,7 @@ impl Bench {
     {
         match read_command(line) {
             None => going_on(put_parts(writer, &[b"B1 BAD COMMAND\n"])),
-            Some(Command::Add(target)) => going_on(self.add(target.name, writer)),
+            Some(Command::Add { target, kind }) => going_on(self.add(target.name, kind, writer)),
             Some(Command::Delete(target)) => going_on(self.delete(target.name, writer)),
             Some(
                 Command::Insert {
@@ -177,6 +239,22 @@ impl Bench {
                     text,
                 },
             ) => going_on(self.insert(target.name, after, text, writer)),
+            Some(
+                Command::Replace {
+                    target,
+                    number,
+                    text,
+                },
+            ) => going_on(self.replace(target.name, number, text, writer)),
+            Some(
+                Command::Remove {
+                    target,
+                    first,
+                    last,
+                },
+            ) => going_on(self.remove(target.name, first, last, writer)),
+            Some(Command::ListLines(target)) => going_on(self.list_lines(target.name, writer)),
+            Some(Command::ListMembers) => going_on(self.list_members(writer)),
             Some(Command::Build) => going_on(self.rebuild(writer)),
             Some(Command::Run(steps)) => going_on(self.execute(steps, writer)),
             Some(Command::Quit) => match put_parts(writer, &[b"OK\n"]) {

@@ -3,10 +3,11 @@ ghost use Rattle.std.specs.Prelude.{◌≡◌, ◌≤◌, ◌<◌, ◌^◌, IfSo
 ghost use Rattle.std.specs.Option.{option_copied};
 ghost use Rattle.std.specs.List.{list_all, position};
 ghost use Rattle.pli_base.specs.Name.{is_digit};
-ghost use Rattle.pli_bench.specs.Commands.{is_blank, first_word, behind_blank, is_word, decimal_value, number_of, add_of, insert_of, run_of, command_of};
+ghost use Rattle.pli_bench.specs.Commands.{is_blank, first_word, behind_blank, is_word, decimal_value, number_of, kind_of_word, numbered_text, numbered_of, add_of, insert_of, replace_of, remove_of, run_of, command_of};
 ghost use Rattle.pli_bench.specs.CommandView.{command_view};
 
 use pli_base::Name;
+use pli_members::Kind;
 
 /// The greatest number of bytes in a command (own).
 pub const LINE_LIMIT: usize = 200;
@@ -25,8 +26,11 @@ pub struct Target {
 /// A command of the session (own).
 #[derive(Clone, Copy, Debug)]
 pub enum Command<'a> {
-    /// A new member that holds program text.
-    Add(Target),
+    /// A new member of this kind, without lines.
+    Add {
+        target: Target,
+        kind: Kind,
+    },
     Delete(Target),
     /// A new line behind the line of this number, 0 for the front.
     Insert {
@@ -34,6 +38,22 @@ pub enum Command<'a> {
         after: u32,
         text: &'a [u8],
     },
+    /// Another text for the line of this number, 1 for the first.
+    Replace {
+        target: Target,
+        number: u32,
+        text: &'a [u8],
+    },
+    /// The lines from the first to the last go.
+    Remove {
+        target: Target,
+        first: u32,
+        last: u32,
+    },
+    /// The lines of a member are listed.
+    ListLines(Target),
+    /// The members are listed.
+    ListMembers,
     Build,
     /// So many steps, or the bench's own number.
     Run(Option<u64>),
@@ -103,31 +123,84 @@ fn read_number(digits: &[u8], limit: usize) -> Option<u64>
     Some(decimal_value(digits))
 }
 
+/// The kind that a word names.
+fn read_kind(word: &[u8]) -> Option<Kind>
+    ensures { result ≡ kind_of_word word.now }
+{
+    if is_word(b"SOURCE", word) {
+        Some(Kind::Source)
+    } else if is_word(b"INCLUDE", word) {
+        Some(Kind::Include)
+    } else {
+        None
+    }
+}
+
 /// What stands behind `ADD`.
 fn read_add(text: &[u8]) -> Option<Command<'_>>
     ensures { option_map command_view result ≡ add_of text.now }
 {
     let (word, rest) = split_word(text);
-    if !is_word(b"SOURCE", rest?) {
-        return None;
-    }
-    Some(Command::Add(Target {
-        name: Name::read(word)?,
-    }))
+    let name = Name::read(word);
+    let kind = read_kind(rest?)?;
+    Some(Command::Add {
+        target: Target { name: name? },
+        kind,
+    })
+}
+
+/// A line's number in a member, and a text for it, which is empty where nothing stands behind the number.
+fn read_numbered(text: &[u8]) -> Option<(Target, u32, &[u8])>
+    ensures { option_map (λ n. numbered_text n.0.name n.1 n.2.now) result ≡ numbered_of text.now }
+{
+    let (word, rest) = split_word(text);
+    let name = Name::read(word);
+    let (digits, line) = split_word(rest?);
+    let number = read_number(digits, LINE_DIGITS)?;
+    Some((Target { name: name? }, number as u32, line.unwrap_or(b"")))
 }
 
 /// What stands behind `INSERT`.
 fn read_insert(text: &[u8]) -> Option<Command<'_>>
     ensures { option_map command_view result ≡ insert_of text.now }
 {
+    let Some((target, after, text)) = read_numbered(text) else {
+        return None;
+    };
+    Some(Command::Insert {
+        target,
+        after,
+        text,
+    })
+}
+
+/// What stands behind `REPLACE`.
+fn read_replace(text: &[u8]) -> Option<Command<'_>>
+    ensures { option_map command_view result ≡ replace_of text.now }
+{
+    let Some((target, number, text)) = read_numbered(text) else {
+        return None;
+    };
+    Some(Command::Replace {
+        target,
+        number,
+        text,
+    })
+}
+
+/// What stands behind `REMOVE`.
+fn read_remove(text: &[u8]) -> Option<Command<'_>>
+    ensures { option_map command_view result ≡ remove_of text.now }
+{
     let (word, rest) = split_word(text);
     let name = Name::read(word);
-    let (digits, line) = split_word(rest?);
-    let after = read_number(digits, LINE_DIGITS)?;
-    Some(Command::Insert {
+    let (digits, rest) = split_word(rest?);
+    let first = read_number(digits, LINE_DIGITS);
+    let last = read_number(rest?, LINE_DIGITS)?;
+    Some(Command::Remove {
         target: Target { name: name? },
-        after: after as u32,
-        text: line.unwrap_or(b""),
+        first: first? as u32,
+        last: last as u32,
     })
 }
 
@@ -159,6 +232,16 @@ pub fn read_command(line: &[u8]) -> Option<Command<'_>>
         }))
     } else if is_word(b"INSERT", word) {
         read_insert(rest?)
+    } else if is_word(b"REPLACE", word) {
+        read_replace(rest?)
+    } else if is_word(b"REMOVE", word) {
+        read_remove(rest?)
+    } else if is_word(b"LIST", word) {
+        Some(Command::ListLines(Target {
+            name: Name::read(rest?)?,
+        }))
+    } else if is_word(b"MEMBERS", word) {
+        rest.is_none().then_some(Command::ListMembers)
     } else if is_word(b"BUILD", word) {
         rest.is_none().then_some(Command::Build)
     } else if is_word(b"RUN", word) {

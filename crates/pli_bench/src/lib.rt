@@ -2,10 +2,12 @@
 #![tactic(auto)]
 
 mod answer;
+mod batch;
 mod bench;
 mod build;
 mod command;
 mod compile;
+mod listing;
 mod pending;
 mod serving;
 

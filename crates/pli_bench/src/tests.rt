@@ -26,7 +26,7 @@ fn answers(alloc: Global, session: &[u8]) -> Result<Vec<u8>, ServeFault> {
 }
 
 /// Sessions with their answers.
-const SESSIONS: [Row; 20] = [
+const SESSIONS: [Row; 26] = [
     FIRST_RUN,
     (
         b"BUILD\nRUN\nFOO\nADD E SOURCE\nADD E SOURCE\nINSERT E 1 X\nBUILD\n",
@@ -68,7 +68,7 @@ const SESSIONS: [Row; 20] = [
     ),
     // what is no command
     (
-        b"\nBUILD \nRUN 1234567890123456789\nADD 1M SOURCE\nADD M INCLUDE\nINSERT M 1234567890 X\n QUIT\n",
+        b"\nBUILD \nRUN 1234567890123456789\nADD 1M SOURCE\nADD M INCLUDES\nINSERT M 1234567890 X\n QUIT\n",
         b"B1 BAD COMMAND\nB1 BAD COMMAND\nB1 BAD COMMAND\nB1 BAD COMMAND\nB1 BAD COMMAND\nB1 BAD COMMAND\nB1 BAD COMMAND\n",
     ),
     // line ends
@@ -101,6 +101,36 @@ const SESSIONS: [Row; 20] = [
     (
         b"ADD B SOURCE\nADD A SOURCE\nDELETE B\nADD B SOURCE\nINSERT A 0 A: PROC OPTIONS(MAIN); PUT LIST(3 + 4); END A;\nINSERT B 0 B: PROC OPTIONS(MAIN); PUT LIST(10); END B;\nBUILD\nDELETE A\nBUILD\nRUN\n",
         b"OK\nOK\nOK\nOK\nOK\nOK\nN2 TWO MAIN PROCEDURES B B\nNOT BUILT\nOK\nBUILT\n   10 \nENDED\n",
+    ),
+    // members and their lines
+    (
+        b"MEMBERS\nLIST Q\nADD M SOURCE\nADD K INCLUDE\nINSERT K 0 X = 1;\nINSERT K 1\nINSERT K 2  Y \nlist k\nLIST M\nADD B_$1 SOURCE\nDELETE M\nADD A INCLUDE\nmembers\n",
+        b"OK\nM2 NO SUCH MEMBER\nOK\nOK\nOK\nOK\nOK\n1 X = 1;\n2 \n3  Y \nOK\nOK\nOK\nOK\nOK\nA INCLUDE 0\nB_$1 SOURCE 0\nK INCLUDE 3\nOK\n",
+    ),
+    // lines with other texts
+    (
+        b"REPLACE M 0\nADD M SOURCE\nREPLACE M 1 X\nINSERT M 0 A\nINSERT M 1 B\nINSERT M 2 C\nREPLACE M 2 b\nreplace m 000000003\nREPLACE M 0 X\nREPLACE M 4 X\nREPLACE M 1 \x7f\nREPLACE M 1 \t;\nLIST M\nMEMBERS\n",
+        b"M2 NO SUCH MEMBER\nOK\nM3 NO SUCH LINE\nOK\nOK\nOK\nOK\nOK\nM3 NO SUCH LINE\nM3 NO SUCH LINE\nM5 BAD BYTE\nOK\n1 \t;\n2 b\n3 \nOK\nM SOURCE 3\nOK\n",
+    ),
+    // lines that go
+    (
+        b"REMOVE M 1 1\nADD M SOURCE\nREMOVE M 1 1\nINSERT M 0 A\nINSERT M 1 B\nINSERT M 2 C\nINSERT M 3 D\nREMOVE M 0 1\nREMOVE M 3 2\nREMOVE M 1 5\nREMOVE M 5 5\nREMOVE M 2 3\nLIST M\nremove m 2 2\nLIST M\nREMOVE M 1 1\nLIST M\nREMOVE M 1 1\n",
+        b"M2 NO SUCH MEMBER\nOK\nM3 NO SUCH LINE\nOK\nOK\nOK\nOK\nM3 NO SUCH LINE\nM3 NO SUCH LINE\nM3 NO SUCH LINE\nM3 NO SUCH LINE\nOK\n1 A\n2 D\nOK\nOK\n1 A\nOK\nOK\nOK\nM3 NO SUCH LINE\n",
+    ),
+    // what an accepted edit does to the module that stands, and what lists and refused edits do
+    (
+        b"ADD M SOURCE\nINSERT M 0 M: PROC OPTIONS(MAIN);\nINSERT M 1 PUT LIST(7); END;\nBUILD\nLIST M\nMEMBERS\nLIST K\nREMOVE M 3 3\nREPLACE M 3\nADD M INCLUDE\nRUN 2\nREPLACE M 2 PUT LIST(8); END;\nRUN\nBUILD\nRUN\nREMOVE M 2 2\nRUN\nBUILD\n",
+        b"OK\nOK\nOK\nBUILT\n1 M: PROC OPTIONS(MAIN);\n2 PUT LIST(7); END;\nOK\nM SOURCE 2\nOK\nM2 NO SUCH MEMBER\nM3 NO SUCH LINE\nM3 NO SUCH LINE\nM1 NAME TAKEN\n   7 \nENDED\nOK\nB2 NOT BUILT\nBUILT\n   8 \nENDED\nOK\nB2 NOT BUILT\nM M:1 P9 END MISSING\nNOT BUILT\n",
+    ),
+    // an INCLUDE member is no unit
+    (
+        b"ADD K INCLUDE\nINSERT K 0 ??\nBUILD\nADD M SOURCE\nINSERT M 0 M: PROC OPTIONS(MAIN); END;\nBUILD\nRUN\nADD N INCLUDE\nRUN\n",
+        b"OK\nOK\nN1 NO MAIN PROCEDURE\nNOT BUILT\nOK\nOK\nBUILT\nENDED\nOK\nB2 NOT BUILT\n",
+    ),
+    // what is no command either
+    (
+        b"LIST\nLIST \nLIST 1M\nLIST M X\nMEMBERS \nMEMBERS X\nREPLACE M\nREPLACE M 1234567890 X\nREPLACE M X Y\nREMOVE M 1\nREMOVE M 1 2 3\nREMOVE M 1  2\nREMOVE M 1 1234567890\nREMOVE M 1 2 \nADD M OTHER\nADD M INCLUDE \nADD M\n",
+        b"B1 BAD COMMAND\nB1 BAD COMMAND\nB1 BAD COMMAND\nB1 BAD COMMAND\nB1 BAD COMMAND\nB1 BAD COMMAND\nB1 BAD COMMAND\nB1 BAD COMMAND\nB1 BAD COMMAND\nB1 BAD COMMAND\nB1 BAD COMMAND\nB1 BAD COMMAND\nB1 BAD COMMAND\nB1 BAD COMMAND\nB1 BAD COMMAND\nB1 BAD COMMAND\nB1 BAD COMMAND\n",
     ),
     (b"RUN\n", b"B2 NOT BUILT\n"),
     (b"", b""),
@@ -296,6 +326,56 @@ fn failing_devices(rt: HostRuntime) {
     let (result, bytes) = served(rt.alloc(), FIRST_RUN.0, 4096, 2, 2, 10);
     assert_eq!(rt; result, Ok(Next::End));
     assert_eq!(rt; bytes.as_slice(), FIRST_RUN.1);
+}
+
+#[test]
+fn failing_listings(rt: HostRuntime) {
+    let session = b"ADD M SOURCE\nINSERT M 0 X\nLIST M\nMEMBERS\n";
+    let wanted = b"OK\nOK\n1 X\nOK\nM SOURCE 1\nOK\n";
+    for calls in 0..6u32 {
+        let (result, bytes) = served(rt.alloc(), session, 4096, 99, 99, calls);
+        assert_eq!(rt; result, Err(ServeFault::WriteFailed), "put {calls}");
+        assert!(rt; wanted.starts_with(bytes.as_slice()), "put {calls}");
+    }
+    let (result, bytes) = served(rt.alloc(), session, 4096, 99, 99, 6);
+    assert_eq!(rt; result, Ok(Next::End));
+    assert_eq!(rt; bytes.as_slice(), wanted.as_slice());
+}
+
+#[test]
+fn long_listings(rt: HostRuntime) -> Result<(), Fail> {
+    let mut session = Vec::from_slice(rt.alloc(), b"ADD M SOURCE\n")?;
+    let mut wanted = Vec::from_slice(rt.alloc(), b"OK\n")?;
+    let mut listing = Vec::new(rt.alloc());
+    for place in 0..500usize {
+        let text = &[b'X'; 120][..place % 121];
+        session.extend_from_slice(format!(in rt.alloc(); "INSERT M {place} ")?.as_bytes())?;
+        session.extend_from_slice(text)?;
+        session.push(b'\n')?;
+        wanted.extend_from_slice(b"OK\n")?;
+        listing.extend_from_slice(format!(in rt.alloc(); "{} ", place + 1)?.as_bytes())?;
+        listing.extend_from_slice(text)?;
+        listing.push(b'\n')?;
+    }
+    session.extend_from_slice(b"LIST M\n")?;
+    wanted.extend_from_slice(&listing)?;
+    wanted.extend_from_slice(b"OK\n")?;
+    let found = answers(rt.alloc(), &session).ok().ok_or("answers")?;
+    assert!(rt; found.as_slice() == wanted.as_slice());
+    let mut session = Vec::new(rt.alloc());
+    let mut wanted = Vec::new(rt.alloc());
+    let mut listing = Vec::new(rt.alloc());
+    for number in 1000..1400u32 {
+        session.extend_from_slice(format!(in rt.alloc(); "ADD N{number} INCLUDE\n")?.as_bytes())?;
+        wanted.extend_from_slice(b"OK\n")?;
+        listing.extend_from_slice(format!(in rt.alloc(); "N{number} INCLUDE 0\n")?.as_bytes())?;
+    }
+    session.extend_from_slice(b"MEMBERS\n")?;
+    wanted.extend_from_slice(&listing)?;
+    wanted.extend_from_slice(b"OK\n")?;
+    let found = answers(rt.alloc(), &session).ok().ok_or("answers")?;
+    assert!(rt; found.as_slice() == wanted.as_slice());
+    Ok(())
 }
 
 /// The answers where a member of so many lines of a hundred null statements is built.
