@@ -11,7 +11,7 @@ use Rattle.pli_base.specs.declared.code.Code.TheVariants.{NotAStatement, WrongEn
 use Rattle.pli_base.specs.declared.token.Fault.{Fault}
 use Rattle.pli_base.specs.declared.token.Sign.TheVariants.{Colon, Semicolon, Comma, OpenParenthesis, CloseParenthesis, Equals, Plus}
 use Rattle.pli_base.specs.declared.token.TokenText.{TokenText}
-use Rattle.pli_base.specs.declared.token.TokenText.TheVariants.{Word, Number, Sign}
+use Rattle.pli_base.specs.declared.token.TokenText.TheVariants.{Word, Decimal, Sign}
 use Rattle.pli_base.proofs.ReadingTools.{same_ok, some_same, bind_ok, guard_ok, no_ok, limited_ok, taken_ok, ended_ok, word_is, binary_is, number_is, open_is, close_is}
 
 -- the front of the tokens spells what was read, and the rest is left
@@ -35,11 +35,11 @@ sum_spelled count q p left ls (Sign Plus ∷ Word n ∷ ts) x spelled counted fe
     further q p ls ts (Sign Plus) (Word n) x
     (sum_spelled (count + 1) q (p + 2) (Sum left (variable_at n (p + 1))) (ls ++ Sign Plus ∷ Word n ∷ []) ts x
     (ls, Word n ∷ [], refl, spelled, tt, (refl, e)) (omega (arith, counted)) (omega (arith, g.0)) (omega (arith, place, length-append ls (Sign Plus ∷ Word n ∷ []))) g.1)
-sum_spelled count q p left ls (Sign Plus ∷ Number v d ∷ ts) x spelled counted few place h =
+sum_spelled count q p left ls (Sign Plus ∷ Decimal v d ∷ ts) x spelled counted few place h =
     let g = limited_ok count p (sum_from (count + 1) (Sum left (Constant v d)) (p + 2) ts) x h in
-    further q p ls ts (Sign Plus) (Number v d) x
-    (sum_spelled (count + 1) q (p + 2) (Sum left (Constant v d)) (ls ++ Sign Plus ∷ Number v d ∷ []) ts x
-    (ls, Number v d ∷ [], refl, spelled, tt, refl) (omega (arith, counted)) (omega (arith, g.0)) (omega (arith, place, length-append ls (Sign Plus ∷ Number v d ∷ []))) g.1)
+    further q p ls ts (Sign Plus) (Decimal v d) x
+    (sum_spelled (count + 1) q (p + 2) (Sum left (Constant v d)) (ls ++ Sign Plus ∷ Decimal v d ∷ []) ts x
+    (ls, Decimal v d ∷ [], refl, spelled, tt, refl) (omega (arith, counted)) (omega (arith, g.0)) (omega (arith, place, length-append ls (Sign Plus ∷ Decimal v d ∷ []))) g.1)
 sum_spelled count q p left ls (Sign Plus ∷ ts) x spelled counted few place h = absurd (no_ok (nat_lt count operator_limit) (record { code = NotAStatement; at = p + 1 }) (record { code = NestedTooDeep; at = p }) x h)
 sum_spelled count q p left ls ts x spelled counted few place h =
     subst (Goes q p ls ts) (same_ok h) ([], refl, omega arith, (subst (λ us. SpellsExpression q us left) (sym (append-nil ls)) spelled, omega arith))
@@ -50,13 +50,13 @@ expression_spelled p [] x h = cc
 expression_spelled p (Word n ∷ ts) x h =
     let g = sum_spelled 0 p (p + 1) (variable_at n p) (Word n ∷ []) ts x (refl, refl) refl (omega arith) refl h in
     (Word n ∷ g.0, ap (λ us. Word n ∷ us) g.1, omega (arith, g.2), g.3)
-expression_spelled p (Number v d ∷ ts) x h =
-    let g = sum_spelled 0 p (p + 1) (Constant v d) (Number v d ∷ []) ts x refl refl (omega arith) refl h in
-    (Number v d ∷ g.0, ap (λ us. Number v d ∷ us) g.1, omega (arith, g.2), g.3)
-expression_spelled p (Sign s ∷ ts) x h = cc
+expression_spelled p (Decimal v d ∷ ts) x h =
+    let g = sum_spelled 0 p (p + 1) (Constant v d) (Decimal v d ∷ []) ts x refl refl (omega arith) refl h in
+    (Decimal v d ∷ g.0, ap (λ us. Decimal v d ∷ us) g.1, omega (arith, g.2), g.3)
+expression_spelled p (t ∷ ts) x h = cc
 
 pub attributes_spelled : (p : ℕ) (ts rest : Tokens) → attributes_at p ts ≡ Ok rest
-    → (b : Name) × (d : ℕ) × IsTrue (is_binary b) × (ts ≡ Word (codes "FIXED") ∷ Word b ∷ Sign OpenParenthesis ∷ Number declared_precision d ∷ Sign CloseParenthesis ∷ rest)
+    → (b : Name) × (d : ℕ) × IsTrue (is_binary b) × (ts ≡ Word (codes "FIXED") ∷ Word b ∷ Sign OpenParenthesis ∷ Decimal declared_precision d ∷ Sign CloseParenthesis ∷ rest)
 unfolding attributes_at
 attributes_spelled p ts rest h =
     let a = bind_ok (taken (is_word (codes "FIXED")) p ts) _ rest h in
@@ -81,10 +81,9 @@ item_spelled p [] x h = cc
 item_spelled p (Word n ∷ ts) x h =
     let g = bind_ok (attributes_at (p + 1) ts) _ x h in
     let a = attributes_spelled (p + 1) ts g.0 g.1 in
-    let front : Tokens = Word n ∷ Word (codes "FIXED") ∷ Word a.0 ∷ Sign OpenParenthesis ∷ Number declared_precision a.1 ∷ Sign CloseParenthesis ∷ [] in
+    let front : Tokens = Word n ∷ Word (codes "FIXED") ∷ Word a.0 ∷ Sign OpenParenthesis ∷ Decimal declared_precision a.1 ∷ Sign CloseParenthesis ∷ [] in
     subst (Fronts SpellsItem p (Word n ∷ ts)) (same_ok g.2) (front, ap (λ us. Word n ∷ us) a.3, refl, (a.0, a.1, a.2, refl, refl))
-item_spelled p (Number v d ∷ ts) x h = cc
-item_spelled p (Sign s ∷ ts) x h = cc
+item_spelled p (t ∷ ts) x h = cc
 
 -- a list with commas
 module _ {A : Type 0} (one : ℕ → Tokens → Result (Front A) Fault) (Spells : ℕ → Tokens → A → Type 0) (one_spelled : (p : ℕ) (ts : Tokens) (x : Front A) → one p ts ≡ Ok x → Fronts Spells p ts x) where
@@ -153,14 +152,14 @@ unfolding sum_from is_sum_tail
 sum_whole count left p [] x test h = ap (λ (y : Front Expression). y.rest) (sym (same_ok h))
 sum_whole count left p (Sign Plus ∷ Word n ∷ ts) x test h =
     sum_whole (count + 1) (Sum left (variable_at n (p + 1))) (p + 2) ts x test (limited_ok count p (sum_from (count + 1) (Sum left (variable_at n (p + 1))) (p + 2) ts) x h).1
-sum_whole count left p (Sign Plus ∷ Number v d ∷ ts) x test h =
+sum_whole count left p (Sign Plus ∷ Decimal v d ∷ ts) x test h =
     sum_whole (count + 1) (Sum left (Constant v d)) (p + 2) ts x test (limited_ok count p (sum_from (count + 1) (Sum left (Constant v d)) (p + 2) ts) x h).1
 sum_whole count left p ts x test h = cc
 
 expression_whole : (p : ℕ) (ts : Tokens) (x : Front Expression) → is_expression ts ≡ true → expression_at p ts ≡ Ok x → x.rest ≡ []
 unfolding expression_at operand_at is_expression
 expression_whole p (Word n ∷ ts) x test h = sum_whole 0 (variable_at n p) (p + 1) ts x test h
-expression_whole p (Number v d ∷ ts) x test h = sum_whole 0 (Constant v d) (p + 1) ts x test h
+expression_whole p (Decimal v d ∷ ts) x test h = sum_whole 0 (Constant v d) (p + 1) ts x test h
 expression_whole p ts x test h = cc
 
 assignment_spelled : (n : Name) (p : ℕ) (ts : Tokens) (body : Body) → is_expression ts ≡ true → assignment_of n p ts ≡ Ok body → SpellsBody p (Word n ∷ Sign Equals ∷ ts) body

@@ -9,7 +9,7 @@ use Rattle.pli_base.specs.declared.code.Code.TheVariants.{NotAStatement, NestedT
 use Rattle.pli_base.specs.declared.token.Fault.{Fault}
 use Rattle.pli_base.specs.declared.token.Sign.TheVariants.{OpenParenthesis, CloseParenthesis}
 use Rattle.pli_base.specs.declared.token.TokenText.{TokenText}
-use Rattle.pli_base.specs.declared.token.TokenText.TheVariants.{Word, Number, Sign}
+use Rattle.pli_base.specs.declared.token.TokenText.TheVariants.{Word, Decimal, Sign}
 
 pub same_ok : {A : Type 0} {x y : A} → ◌≡◌ {A = Result A Fault} (Ok x) (Ok y) → x ≡ y
 same_ok h = cc
@@ -47,18 +47,15 @@ ended_ok p (t ∷ ts) u h = cc
 
 pub word_is : (w : Name) (t : TokenText) → is_word w t ≡ true → t ≡ Word w
 word_is w (Word n) h = ap Word (equal_from_pointwise n w h)
-word_is w (Number v d) h = cc
-word_is w (Sign s) h = cc
+word_is w t h = cc
 
 pub binary_is : (t : TokenText) → is_binary_word t ≡ true → (b : Name) × (is_binary b ≡ true) × (t ≡ Word b)
 binary_is (Word b) h = (b, h, refl)
-binary_is (Number v d) h = cc
-binary_is (Sign s) h = cc
+binary_is t h = cc
 
-pub number_is : (n : ℕ) (t : TokenText) → is_number n t ≡ true → (d : ℕ) × (t ≡ Number n d)
-number_is n (Word b) h = cc
-number_is n (Number v d) h = (d, ap (λ w. Number w d) (eqb-true v n h))
-number_is n (Sign s) h = cc
+pub number_is : (n : ℕ) (t : TokenText) → is_number n t ≡ true → (d : ℕ) × (t ≡ Decimal n d)
+number_is n (Decimal v d) h = (d, ap (λ w. Decimal w d) (eqb-true v n h))
+number_is n t h = cc
 
 pub open_is : (t : TokenText) → is_open t ≡ true → t ≡ Sign OpenParenthesis
 open_is (Sign OpenParenthesis) h = refl

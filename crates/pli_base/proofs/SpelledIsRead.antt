@@ -11,7 +11,7 @@ use Rattle.pli_base.specs.Grammar.{IsOperand, SpellsExpression, SpellsLimited, S
 use Rattle.pli_base.specs.declared.code.Code.TheVariants.{NestedTooDeep}
 use Rattle.pli_base.specs.declared.token.Fault.{Fault}
 use Rattle.pli_base.specs.declared.token.Sign.TheVariants.{Colon, Semicolon, Comma, OpenParenthesis, CloseParenthesis, Equals, Plus}
-use Rattle.pli_base.specs.declared.token.TokenText.TheVariants.{Word, Number, Sign}
+use Rattle.pli_base.specs.declared.token.TokenText.TheVariants.{Word, Decimal, Sign}
 use Rattle.pli_base.proofs.ReadingTools.{same_ok}
 
 -- no sum goes on here
@@ -82,7 +82,7 @@ expression_again : ReadAgain expression_at SpellsLimited
 expression_again p ts more x spelled stops = sum_again x p ts more spelled.0 spelled.1 ∙ sum_ends (operators x) x (p + length ts) more stops
 
 attributes_again : (p : ℕ) (b : Name) (d : ℕ) (rest : Tokens) → is_binary b ≡ true
-    → attributes_at p (Word (codes "FIXED") ∷ Word b ∷ Sign OpenParenthesis ∷ Number declared_precision d ∷ Sign CloseParenthesis ∷ rest) ≡ Ok rest
+    → attributes_at p (Word (codes "FIXED") ∷ Word b ∷ Sign OpenParenthesis ∷ Decimal declared_precision d ∷ Sign CloseParenthesis ∷ rest) ≡ Ok rest
 unfolding attributes_at taken
 attributes_again p b d rest h = rw h refl
 

@@ -4,7 +4,7 @@ use Rattle.pli_base.specs.Name.{Name}
 use Rattle.pli_base.specs.Words.{Tokens, is_procedure, is_declare, is_binary, is_semicolon, operator_limit, declared_precision}
 use Rattle.pli_base.specs.Tree.{Reference, Expression, Variable, Constant, Sum, operators, Body, Null, Declare, Assign, Put, Statement, Procedure}
 use Rattle.pli_base.specs.declared.token.Sign.TheVariants.{Colon, Semicolon, Comma, OpenParenthesis, CloseParenthesis, Equals, Plus}
-use Rattle.pli_base.specs.declared.token.TokenText.TheVariants.{Word, Number, Sign}
+use Rattle.pli_base.specs.declared.token.TokenText.TheVariants.{Word, Decimal, Sign}
 
 -- an operand is an expression that is no sum
 abbrev pub IsOperand : Expression → Type 0
@@ -15,7 +15,7 @@ IsOperand (Sum l r) = ⊥
 -- expr = operand {"+" operand}, grouped to the left
 abbrev pub SpellsExpression : ℕ → Tokens → Expression → Type 0
 SpellsExpression p ts (Variable r) = (ts ≡ Word r.name ∷ []) × (r.at ≡ p)
-SpellsExpression p ts (Constant v d) = ts ≡ Number v d ∷ []
+SpellsExpression p ts (Constant v d) = ts ≡ Decimal v d ∷ []
 SpellsExpression p ts (Sum l r) =
     (ls : Tokens) × (rs : Tokens) × (ts ≡ ls ++ Sign Plus ∷ rs) × SpellsExpression p ls l × IsOperand r × SpellsExpression (p + length ls + 1) rs r
 
@@ -34,7 +34,7 @@ SpellsListed Spells p ts (x ∷ y ∷ more) =
 abbrev pub SpellsItem : ℕ → Tokens → Reference → Type 0
 SpellsItem p ts r =
     (b : Name) × (d : ℕ) × IsTrue (is_binary b) × (r.at ≡ p)
-    × (ts ≡ Word r.name ∷ Word (codes "FIXED") ∷ Word b ∷ Sign OpenParenthesis ∷ Number declared_precision d ∷ Sign CloseParenthesis ∷ [])
+    × (ts ≡ Word r.name ∷ Word (codes "FIXED") ∷ Word b ∷ Sign OpenParenthesis ∷ Decimal declared_precision d ∷ Sign CloseParenthesis ∷ [])
 
 -- a statement without its `;`. No word is reserved: what stands before `=` and one expression is a name
 abbrev pub SpellsBody : ℕ → Tokens → Body → Type 0

@@ -9,7 +9,7 @@ use Rattle.pli_base.specs.declared.code.Code.TheVariants.{NoProcedure, NotAState
 use Rattle.pli_base.specs.declared.token.Fault.{Fault}
 use Rattle.pli_base.specs.declared.token.Sign.TheVariants.{Colon, Comma, Equals, Plus}
 use Rattle.pli_base.specs.declared.token.TokenText.{TokenText}
-use Rattle.pli_base.specs.declared.token.TokenText.TheVariants.{Word, Number, Sign}
+use Rattle.pli_base.specs.declared.token.TokenText.TheVariants.{Word, Decimal, Sign}
 
 infixl 10 ◌>>=◌
 -- goes on with what was read, or stays at the fault
@@ -46,14 +46,14 @@ limited count p read = if nat_lt count operator_limit then read else at_fault Ne
 -- a sum of count operators so far goes on as long as a `+` comes
 unfoldable pub sum_from : (count : ℕ) → Expression → ℕ → Tokens → Result (Front Expression) Fault
 sum_from count left p (Sign Plus ∷ Word n ∷ ts) = limited count p (sum_from (count + 1) (Sum left (variable_at n (p + 1))) (p + 2) ts)
-sum_from count left p (Sign Plus ∷ Number v d ∷ ts) = limited count p (sum_from (count + 1) (Sum left (Constant v d)) (p + 2) ts)
+sum_from count left p (Sign Plus ∷ Decimal v d ∷ ts) = limited count p (sum_from (count + 1) (Sum left (Constant v d)) (p + 2) ts)
 sum_from count left p (Sign Plus ∷ ts) = limited count p (at_fault NotAStatement (p + 1))
 sum_from count left p ts = Ok (record { value = left; next = p; rest = ts })
 
 -- a name or a constant
 unfoldable pub operand_at : ℕ → Tokens → Result (Front Expression) Fault
 operand_at p (Word n ∷ ts) = Ok (record { value = variable_at n p; next = p + 1; rest = ts })
-operand_at p (Number v d ∷ ts) = Ok (record { value = Constant v d; next = p + 1; rest = ts })
+operand_at p (Decimal v d ∷ ts) = Ok (record { value = Constant v d; next = p + 1; rest = ts })
 operand_at p ts = at_fault NotAStatement p
 
 -- the longest expression at the front
@@ -109,13 +109,13 @@ put_of p ts = do
 unfoldable pub is_sum_tail : Tokens → Bool
 is_sum_tail [] = true
 is_sum_tail (Sign Plus ∷ Word n ∷ ts) = is_sum_tail ts
-is_sum_tail (Sign Plus ∷ Number v d ∷ ts) = is_sum_tail ts
+is_sum_tail (Sign Plus ∷ Decimal v d ∷ ts) = is_sum_tail ts
 is_sum_tail ts = false
 
 -- the tokens are one expression, of any number of operators
 unfoldable pub is_expression : Tokens → Bool
 is_expression (Word n ∷ ts) = is_sum_tail ts
-is_expression (Number v d ∷ ts) = is_sum_tail ts
+is_expression (Decimal v d ∷ ts) = is_sum_tail ts
 is_expression ts = false
 
 -- a statement is an assignment where its tokens are a name, `=` and one expression, whatever the words are: then what is behind the `=`

@@ -5,7 +5,7 @@ use Rattle.pli_base.specs.Tree.{Variable, Constant, Sum, Declare, Assign, Put}
 use Rattle.pli_base.specs.Reading.{at_fault, taken, ended, sum_from, operand_at, expression_at, listed_at, attributes_at, item_at, declare_of, put_of, is_sum_tail, is_expression, assigned, ending_of, keyword_piece_of, assignment_of, piece_of, pieces, options_at, misplaced, heading_of, is_end, continued, statements_of, of_pieces, procedure_of}
 use Rattle.pli_base.specs.declared.code.Code.TheVariants.{NoProcedure, NotAStatement, WrongEndName, EndMissing}
 use Rattle.pli_base.specs.declared.token.Sign.TheVariants.{Colon, Semicolon, OpenParenthesis, CloseParenthesis, Equals, Plus}
-use Rattle.pli_base.specs.declared.token.TokenText.TheVariants.{Word, Number, Sign}
+use Rattle.pli_base.specs.declared.token.TokenText.TheVariants.{Word, Decimal, Sign}
 
 -- `M: PROC OPTIONS(MAIN);`
 heading : Tokens
@@ -18,12 +18,12 @@ ending = Word (codes "END") ∷ Sign Semicolon ∷ []
 -- `DCL X FIXED BIN(n);`
 declaration : ℕ → Tokens
 declaration n =
-    Word (codes "DCL") ∷ Word (codes "X") ∷ Word (codes "FIXED") ∷ Word (codes "BIN") ∷ Sign OpenParenthesis ∷ Number n 2 ∷ Sign CloseParenthesis ∷ Sign Semicolon ∷ []
+    Word (codes "DCL") ∷ Word (codes "X") ∷ Word (codes "FIXED") ∷ Word (codes "BIN") ∷ Sign OpenParenthesis ∷ Decimal n 2 ∷ Sign CloseParenthesis ∷ Sign Semicolon ∷ []
 
 -- `M: PROC OPTIONS(MAIN); DCL X FIXED BIN(31); X = 2 + 3; PUT LIST(X); END M;`
 whole : procedure_of
     (heading ++ declaration 31
-    ++ Word (codes "X") ∷ Sign Equals ∷ Number 2 1 ∷ Sign Plus ∷ Number 3 1 ∷ Sign Semicolon ∷ []
+    ++ Word (codes "X") ∷ Sign Equals ∷ Decimal 2 1 ∷ Sign Plus ∷ Decimal 3 1 ∷ Sign Semicolon ∷ []
     ++ Word (codes "PUT") ∷ Word (codes "LIST") ∷ Sign OpenParenthesis ∷ Word (codes "X") ∷ Sign CloseParenthesis ∷ Sign Semicolon ∷ []
     ++ Word (codes "END") ∷ Word (codes "M") ∷ Sign Semicolon ∷ [])
     ≡ Ok (record {

@@ -4,7 +4,7 @@ use Rattle.std.specs.Cmp.Lexicographic.{pointwise}
 use Rattle.pli_base.specs.Name.{Name}
 use Rattle.pli_base.specs.declared.token.Sign.TheVariants.{Semicolon, Comma, OpenParenthesis, CloseParenthesis, Plus}
 use Rattle.pli_base.specs.declared.token.TokenText.{TokenText}
-use Rattle.pli_base.specs.declared.token.TokenText.TheVariants.{Word, Number, Sign}
+use Rattle.pli_base.specs.declared.token.TokenText.TheVariants.{Word, Decimal, Sign}
 
 abbrev pub Tokens : Type 0
 Tokens = List TokenText
@@ -25,19 +25,16 @@ is_binary n = same_name n (codes "BINARY") || same_name n (codes "BIN")
 -- the token is this name
 abbrev pub is_word : Name → TokenText → Bool
 is_word w (Word n) = same_name n w
-is_word w (Number v d) = false
-is_word w (Sign s) = false
+is_word w _ = false
 
 abbrev pub is_binary_word : TokenText → Bool
 is_binary_word (Word n) = is_binary n
-is_binary_word (Number v d) = false
-is_binary_word (Sign s) = false
+is_binary_word _ = false
 
--- the token is a constant of this value
+-- the token is a decimal constant of this value
 abbrev pub is_number : ℕ → TokenText → Bool
-is_number value (Word n) = false
-is_number value (Number v d) = nat_eq v value
-is_number value (Sign s) = false
+is_number value (Decimal v d) = nat_eq v value
+is_number value _ = false
 
 abbrev pub is_semicolon : TokenText → Bool
 is_semicolon (Sign Semicolon) = true

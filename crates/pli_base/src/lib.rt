@@ -6,6 +6,7 @@ mod device;
 mod laws;
 mod line;
 mod name;
+mod string;
 mod token;
 mod tree;
 
@@ -14,7 +15,8 @@ pub use device::{Device, Failed, Sink, Source, put_all, take_all};
 pub use laws::{one_tree, read_is_spelled, spelled_is_read};
 pub use line::Line;
 pub use name::{NAME_LIMIT, Name};
-pub use token::{Fault, Sign, Token, TokenText};
+pub use string::{BitString, CharacterString};
+pub use token::{Fault, Origin, Sign, Token, TokenText};
 pub use tree::{Body, Expression, Reference, Statement, Unit};
 
 #[cfg(test)]

@@ -1,8 +1,8 @@
 ghost use Rattle.std.specs.Prelude.{Some};
 
 use crate::{
-    Code, Device, Failed, Line, NAME_LIMIT, Name, Sink, Source, code_order, one_code, put_all,
-    take_all,
+    BitString, CharacterString, Code, Device, Failed, Line, NAME_LIMIT, Name, Sink, Source,
+    TokenText, code_order, one_code, put_all, take_all,
 };
 use std::collections::HashMap;
 use std::io::Cursor;
@@ -112,5 +112,22 @@ fn failures(rt: HostRuntime) -> Result<(), Fail> {
     let mut narrow = Device::over(room.as_mut_slice());
     assert_eq!(rt; put_all(&mut narrow, b"abc"), Err(Failed));
     assert_eq!(rt; narrow.put(b""), Err(Failed));
+    Ok(())
+}
+
+#[test]
+fn strings(rt: HostRuntime) -> Result<(), Fail> {
+    let alloc = rt.alloc();
+    let string = CharacterString::new(Vec::from_slice(alloc, b"it's")?);
+    assert_eq!(rt; string.copy(alloc)?.bytes(), b"it's".as_slice());
+    let text = TokenText::Bits(BitString::new(Vec::from_slice(alloc, &[true, false])?));
+    match text.copy(alloc)? {
+        TokenText::Bits(bits) => assert_eq!(rt; bits.bits(), [true, false].as_slice()),
+        _ => assert!(rt; false),
+    }
+    match TokenText::Characters(string).copy(alloc)? {
+        TokenText::Characters(characters) => assert_eq!(rt; characters.bytes(), b"it's".as_slice()),
+        _ => assert!(rt; false),
+    }
     Ok(())
 }

@@ -8,7 +8,7 @@ use Rattle.pli_meaning.specs.Scratch as scratch
 use Rattle.pli_bench.specs.declared.compile.Parsed.{Parsed}
 
 abbrev pub parsed_view : Parsed → scratch.Parsed
-parsed_view p = record { tokens = p.tokens.items; tree = unit_view p.tree }
+parsed_view p = record { origins = p.expansion.origins; tree = unit_view p.tree }
 
 -- the text of a unit's diagnostics, if it has any
 abbrev pub text_of : {A : Type 0} → Name → Result A (List scratch.Diagnostic) → List ℕ

@@ -15,6 +15,7 @@ use crate::serving::{Interpreter, Next, ServeFault, WriteFailed, serve};
 use pli_base::{Failed, Name, Sink, Source};
 use pli_code::{Module, Ran};
 use pli_machine::{RunFault, run};
+use pli_include::Expander;
 use pli_members::{EditError, Kind, Members, Refusal};
 use std::alloc::{AllocError, Global};
 use std::marker::Model;
@@ -28,6 +29,7 @@ const FIRST_VERSION: u64 = 1;
 pub struct Bench {
     alloc: Global,
     members: Members,
+    expander: Expander,
     standing: Option<Module>,
     steps: u64,
 }
@@ -75,6 +77,7 @@ impl Bench {
         Bench {
             alloc,
             members: Members::new(alloc, FIRST_VERSION),
+            expander: Expander::new(alloc),
             standing: None,
             steps,
         }
@@ -192,7 +195,7 @@ impl Bench {
         ensures answered { Does (Obeys (Some spelt.Build)) self.old self.new (W.contents writer.old) (W.contents writer.new) result }
         ensures mark { Marked (W.failed writer.old) (W.failed writer.new) result }
     {
-        match build(self.alloc, &self.members) {
+        match build(self.alloc, &mut self.expander, &self.members) {
             Ok(Built::Made(module)) => {
                 self.standing = Some(module);
                 put_parts(writer, &[b"BUILT\n"])

@@ -1,5 +1,5 @@
 //! A build from scratch of the members.
-ghost use Rattle.std.specs.Prelude.{◌≡◌, ◌≤◌, ◌++◌, IfOk, OnOk, length, map};
+ghost use Rattle.std.specs.Prelude.{◌≡◌, ◌++◌, IfOk, OnOk, map};
 ghost use Rattle.std.specs.List.{flat_map};
 ghost use Rattle.pli_meaning.specs.Scratch.{scratch, link_line, all_text, all_units, text_in, units_in, place_line};
 ghost use Rattle.pli_bench.specs.Building.{built_view};
@@ -9,6 +9,7 @@ use crate::answer::append_parts;
 use crate::compile::compile;
 use pli_base::Code;
 use pli_code::Module;
+use pli_include::Expander;
 use pli_link::{Compiled, LinkError, LinkFault, Place, link};
 use pli_members::{Entry, Kind, Members};
 use std::alloc::{AllocError, Global};
@@ -23,17 +24,18 @@ pub enum Built {
 /// Compiles a member, if it is a source, and appends what that gives to `units` or `text`.
 fn compile_entry(
     alloc: Global,
+    expander: &mut Expander,
+    members: &Members,
     entry: &Entry,
     units: &mut Vec<Compiled>,
     text: &mut Vec<u8>,
 ) -> Result<(), AllocError>
-    requires { length entry.now.1.lines ≤ 9999 }
-    ensures units { OnOk result (map compiled_view units.new.items ≡ map compiled_view units.old.items ++ units_in entry.now.0 entry.now.1.kind entry.now.1.lines) }
-    ensures text { OnOk result (text.new.items ≡ text.old.items ++ text_in entry.now.0 entry.now.1.kind entry.now.1.lines) }
+    ensures units { OnOk result (map compiled_view units.new.items ≡ map compiled_view units.old.items ++ units_in members.now.entries entry.now.0 entry.now.1.kind) }
+    ensures text { OnOk result (text.new.items ≡ text.old.items ++ text_in members.now.entries entry.now.0 entry.now.1.kind) }
 {
     match entry.kind() {
         Kind::Source => {
-            if let Some(compiled) = compile(alloc, entry.name(), entry.lines(), text)? {
+            if let Some(compiled) = compile(alloc, expander, members, entry.name(), text)? {
                 units.push(compiled)?;
             }
             Ok(())
@@ -45,15 +47,16 @@ fn compile_entry(
 /// The units of the source members, in the order of their names; the diagnostics go to `text`.
 fn compile_all(
     alloc: Global,
+    expander: &mut Expander,
     members: &Members,
     text: &mut Vec<u8>,
 ) -> Result<Vec<Compiled>, AllocError>
-    ensures units { IfOk result (λ units. map compiled_view units.items ≡ all_units members.now.entries) }
-    ensures text { OnOk result (text.new.items ≡ text.old.items ++ all_text members.now.entries) }
+    ensures units { IfOk result (λ units. map compiled_view units.items ≡ all_units members.now.entries members.now.entries) }
+    ensures text { OnOk result (text.new.items ≡ text.old.items ++ all_text members.now.entries members.now.entries) }
 {
     let mut units = Vec::new(alloc);
     for entry in members.entries() {
-        compile_entry(alloc, entry, &mut units, text)?;
+        compile_entry(alloc, expander, members, entry, &mut units, text)?;
     }
     Ok(units)
 }
@@ -109,11 +112,15 @@ fn link_text(alloc: Global, faults: &[LinkFault]) -> Result<Vec<u8>, AllocError>
 
 /// Builds all source members anew.
 #[tactic(auto, unfolding(pli_meaning::specs::Scratch::scratch))]
-pub fn build(alloc: Global, members: &Members) -> Result<Built, AllocError>
+pub fn build(
+    alloc: Global,
+    expander: &mut Expander,
+    members: &Members,
+) -> Result<Built, AllocError>
     ensures { IfOk result (λ built. built_view built ≡ scratch members.now.entries) }
 {
     let mut text = Vec::new(alloc);
-    let units = compile_all(alloc, members, &mut text)?;
+    let units = compile_all(alloc, expander, members, &mut text)?;
     if !text.is_empty() {
         return Ok(Built::Diagnosed(text));
     }

@@ -1,33 +1,37 @@
-//! A unit compiled from its lines, or its diagnostics as they are answered.
+//! A unit compiled from its expansion, or its diagnostics as they are answered.
 ghost use Rattle.std.specs.Prelude.{◌≡◌, ◌≤◌, ◌++◌, Ok, length, map, option_map, slice_get, IfOk, OnOk};
 ghost use Rattle.std.specs.List.{flat_map};
-ghost use Rattle.pli_meaning.specs.Scratch.{diagnostic_line, located, line_of, parsed_tokens, parsed_of, compiled_from, compiled_of};
+ghost use Rattle.pli_meaning.specs.Scratch.{diagnostic_line, located, origin_of, parsed_as, parsed_of, compiled_from, compiled_of};
+ghost use Rattle.pli_base.specs.Reading.{procedure_of};
 ghost use Rattle.pli_bench.specs.Compiling.{Tells, parsed_view};
 ghost use Rattle.pli_link.specs.Answers.{compiled_view};
 
 use crate::answer::append_parts;
 use itoa::Buffer;
-use pli_base::{Code, Fault, Line, Name, Token, TokenText, Unit};
+use pli_base::{Code, Fault, Name, Origin, Unit};
 use pli_declare::{DeclareError, resolve};
 use pli_gen::{GenerateError, generate};
-use pli_lex::{LexError, lex};
+use pli_include::{Expander, Expansion};
 use pli_link::Compiled;
+use pli_members::Members;
 use pli_parse::{ParseError, parse};
 use std::alloc::{AllocError, Global};
 
-/// The greatest number of tokens of a unit (own).
-const TOKEN_LIMIT: usize = 200_000;
-
-/// A unit's tokens and its tree.
+/// A unit's expansion and its tree.
 #[derive(Drop)]
 struct Parsed {
-    tokens: Vec<Token>,
+    expansion: Expansion,
     tree: Unit,
 }
 
-/// Appends `unit member:line code text`. As long as nothing is included the member is the unit.
-fn write_diagnostic(text: &mut Vec<u8>, unit: Name, line: u32, code: Code) -> Result<(), AllocError>
-    ensures { OnOk result (text.new.items ≡ text.old.items ++ diagnostic_line unit (record { line = line; code = code })) }
+/// Appends `unit member:line code text`.
+fn write_diagnostic(
+    text: &mut Vec<u8>,
+    unit: Name,
+    origin: Origin,
+    code: Code,
+) -> Result<(), AllocError>
+    ensures { OnOk result (text.new.items ≡ text.old.items ++ diagnostic_line unit (record { origin = origin; code = code })) }
 {
     let mut digits = Buffer::new();
     append_parts(
@@ -35,9 +39,9 @@ fn write_diagnostic(text: &mut Vec<u8>, unit: Name, line: u32, code: Code) -> Re
         &[
             unit.bytes(),
             b" ",
-            unit.bytes(),
+            origin.member.bytes(),
             b":",
-            digits.format(line).as_bytes(),
+            digits.format(origin.line).as_bytes(),
             b" ",
             code.label().as_bytes(),
             b" ",
@@ -47,70 +51,57 @@ fn write_diagnostic(text: &mut Vec<u8>, unit: Name, line: u32, code: Code) -> Re
     )
 }
 
-/// The line of the token at a place, or 1 where there is none.
-fn line_at(tokens: &[Token], place: usize) -> u32
-    ensures { result ≡ line_of (slice_get tokens.now place) }
+/// The origin of the token at a place, or the unit's line 1 where there is none.
+fn origin_at(unit: Name, origins: &[Origin], place: usize) -> Origin
+    ensures { result ≡ origin_of unit (slice_get origins.now place) }
 {
-    match tokens.get(place) {
-        Some(token) => token.line,
-        None => 1,
+    match origins.get(place) {
+        Some(origin) => *origin,
+        None => Origin {
+            member: unit,
+            line: 1,
+        },
     }
 }
 
-/// What the tokens say, one after another.
-fn texts_of(alloc: Global, tokens: &[Token]) -> Result<Vec<TokenText>, AllocError>
-    ensures { IfOk result (λ texts. texts.items ≡ map (λ t. t.text) tokens.now) }
-{
-    tokens.iter().map(|token| token.text).collect(alloc)
-}
-
-/// The tree of tokens, or its diagnostic.
-fn parse_tokens(
+/// The tree of an expansion without a fault, or its diagnostic.
+fn parse_expansion(
     alloc: Global,
     unit: Name,
-    tokens: Vec<Token>,
+    expansion: Expansion,
     text: &mut Vec<u8>,
 ) -> Result<Option<Parsed>, AllocError>
-    ensures { IfOk result (λ parsed. Tells unit (parsed_tokens (Ok tokens.items)) (option_map parsed_view parsed) text.old.items text.new.items) }
+    ensures { IfOk result (λ parsed. Tells unit (parsed_as unit expansion.origins (procedure_of expansion.texts)) (option_map parsed_view parsed) text.old.items text.new.items) }
 {
-    if tokens.len() > TOKEN_LIMIT {
-        write_diagnostic(
-            text,
-            unit,
-            line_at(&tokens, TOKEN_LIMIT),
-            Code::TooManyTokens,
-        )?;
-        return Ok(None);
-    }
-    let texts = texts_of(alloc, &tokens)?;
-    match parse(alloc, &texts) {
-        Ok(tree) => Ok(Some(Parsed { tokens, tree })),
+    match parse(alloc, expansion.texts()) {
+        Ok(tree) => Ok(Some(Parsed { expansion, tree })),
         Err(ParseError::Fault(fault)) => {
-            write_diagnostic(text, unit, line_at(&tokens, fault.at as usize), fault.code)?;
+            let origin = origin_at(unit, expansion.origins(), fault.at as usize);
+            write_diagnostic(text, unit, origin, fault.code)?;
             Ok(None)
         }
         Err(ParseError::OutOfMemory) => Err(AllocError),
     }
 }
 
-/// The tree of a unit's lines, or its diagnostic.
-#[tactic(auto, unfolding(pli_meaning::specs::Scratch::parsed_of))]
-fn parse_lines(
+/// The tree of a unit's expansion, or its diagnostic.
+#[tactic(auto, unfolding(pli_meaning::specs::Scratch::parsed_of, pli_include::specs::Expanded::expansion_of))]
+fn parse_unit(
     alloc: Global,
+    expander: &mut Expander,
+    members: &Members,
     unit: Name,
-    lines: &[Line],
     text: &mut Vec<u8>,
 ) -> Result<Option<Parsed>, AllocError>
-    requires { length lines.now ≤ 9999 }
-    ensures { IfOk result (λ parsed. Tells unit (parsed_of lines.now) (option_map parsed_view parsed) text.old.items text.new.items) }
+    ensures { IfOk result (λ parsed. Tells unit (parsed_of members.now.entries unit) (option_map parsed_view parsed) text.old.items text.new.items) }
 {
-    match lex(alloc, lines) {
-        Ok(tokens) => parse_tokens(alloc, unit, tokens, text),
-        Err(LexError::Fault(fault)) => {
-            write_diagnostic(text, unit, fault.line, fault.code)?;
+    let expansion = expander.expand(members, unit)?;
+    match expansion.fault() {
+        Some(fault) => {
+            write_diagnostic(text, unit, fault.origin, fault.code)?;
             Ok(None)
         }
-        Err(LexError::OutOfMemory) => Err(AllocError),
+        None => parse_expansion(alloc, unit, expansion, text),
     }
 }
 
@@ -118,13 +109,14 @@ fn parse_lines(
 fn write_faults(
     text: &mut Vec<u8>,
     unit: Name,
-    tokens: &[Token],
+    origins: &[Origin],
     faults: &[Fault],
 ) -> Result<(), AllocError>
-    ensures { OnOk result (text.new.items ≡ text.old.items ++ flat_map (diagnostic_line unit) (map (located tokens.now) faults.now)) }
+    ensures { OnOk result (text.new.items ≡ text.old.items ++ flat_map (diagnostic_line unit) (map (located unit origins.now) faults.now)) }
 {
     for fault in faults {
-        write_diagnostic(text, unit, line_at(tokens, fault.at as usize), fault.code)?;
+        let origin = origin_at(unit, origins, fault.at as usize);
+        write_diagnostic(text, unit, origin, fault.code)?;
     }
     Ok(())
 }
@@ -138,10 +130,11 @@ fn code_tree(
 ) -> Result<Option<Compiled>, AllocError>
     ensures { IfOk result (λ compiled. Tells unit (compiled_from unit (Ok (parsed_view parsed.now))) (option_map compiled_view compiled) text.old.items text.new.items) }
 {
+    let origins = parsed.expansion.origins();
     let resolved = match resolve(alloc, &parsed.tree) {
         Ok(resolved) => resolved,
         Err(DeclareError::Faults(faults)) => {
-            write_faults(text, unit, &parsed.tokens, &faults)?;
+            write_faults(text, unit, origins, &faults)?;
             return Ok(None);
         }
         Err(DeclareError::OutOfMemory) => return Err(AllocError),
@@ -153,7 +146,7 @@ fn code_tree(
             code,
         })),
         Err(GenerateError::TooLong) => {
-            write_diagnostic(text, unit, line_at(&parsed.tokens, 0), Code::CodeTooLong)?;
+            write_diagnostic(text, unit, origin_at(unit, origins, 0), Code::CodeTooLong)?;
             Ok(None)
         }
         Err(GenerateError::OutOfMemory) => Err(AllocError),
@@ -164,14 +157,14 @@ fn code_tree(
 #[tactic(auto, unfolding(pli_meaning::specs::Scratch::compiled_of))]
 pub fn compile(
     alloc: Global,
+    expander: &mut Expander,
+    members: &Members,
     unit: Name,
-    lines: &[Line],
     text: &mut Vec<u8>,
 ) -> Result<Option<Compiled>, AllocError>
-    requires { length lines.now ≤ 9999 }
-    ensures { IfOk result (λ compiled. Tells unit (compiled_of unit lines.now) (option_map compiled_view compiled) text.old.items text.new.items) }
+    ensures { IfOk result (λ compiled. Tells unit (compiled_of members.now.entries unit) (option_map compiled_view compiled) text.old.items text.new.items) }
 {
-    match parse_lines(alloc, unit, lines, text)? {
+    match parse_unit(alloc, expander, members, unit, text)? {
         Some(parsed) => code_tree(alloc, unit, &parsed, text),
         None => Ok(None),
     }

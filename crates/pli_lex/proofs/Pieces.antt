@@ -1,221 +1,175 @@
--- The piece at the front of a text is a separator or a token, and a token is read as it stands.
-use Rattle.std.proofs.Common.{◌≡◌, ℕ, ◌<◌, Bool, true, false, cond, not, ◌&&◌, eqb, leb, List, [], ◌∷◌, ◌++◌, length, take, drop, Option, Some, None, Result, Ok, Err, refl, sym, ap, subst, ◌∙◌, arith, inl, inr, ◌⊎◌}
-use Rattle.std.specs.List.{list_all, prefix_len}
-use Rattle.std.proofs.lemmas.Bool.{and_parts, and_from, eqb-true, not-true}
-use Rattle.std.proofs.lemmas.Bool.Decides.{nat_tests}
-use Rattle.std.proofs.lemmas.List.{take_at, drop_at}
+-- A token that is found at the front of a text stands there.
+use Rattle.std.proofs.Common.{◌≡◌, ℕ, ◌+◌, true, false, not, ◌&&◌, ◌||◌, List, [], ◌∷◌, ◌++◌, length, length-append, take, drop, Option, Some, None, Ok, Err, refl, sym, ap, subst, ◌∙◌, append_assoc, arith, inl, inr}
+use Rattle.std.specs.List.{prefix_len}
+use Rattle.std.specs.Option.{is_some}
+use Rattle.std.proofs.lemmas.Bool.{cases_Bool, and_parts, eqb-true, not-true}
+use Rattle.std.proofs.lemmas.List.{take-append-drop, drop_at}
 use Rattle.std.proofs.lemmas.List.Folds.{length-prefix_len}
-use Rattle.pli_base.specs.Name.{Name, is_letter, is_digit, is_name_character, has_form, name_of}
-use Rattle.pli_base.specs.declared.code.Code.{Code}
-use Rattle.pli_base.specs.declared.code.Code.TheVariants.{BadNumber}
+use Rattle.pli_base.specs.Name.{Name, is_letter, is_digit, is_name_character, name_of}
+use Rattle.pli_base.specs.declared.code.Code.TheVariants.{UnendedString, BadNumber, BadBits}
 use Rattle.pli_base.specs.declared.token.Sign.{Sign}
-use Rattle.pli_base.specs.declared.token.Sign.TheVariants.{Colon, Semicolon, Comma, OpenParenthesis, CloseParenthesis, Equals, Plus}
-use Rattle.pli_base.specs.declared.token.TokenText.{TokenText}
 use Rattle.pli_base.specs.declared.token.TokenText.TheVariants as texts
-use Rattle.pli_lex.specs.Tokens.{is_separator, sign_character, begins_with, continues_number, decimal_value, is_constant, IsToken, EndsAt}
-use Rattle.pli_lex.specs.Reading.{Piece, word, word_at, number_at, sign, sign_of, sign_at, piece_at}
-use Rattle.pli_lex.proofs.Runs.{run_starts, run_stops, run_again}
+use Rattle.pli_lex.specs.Characters.{is_quote, is_b, is_width_digit, on_one_line, continues_number, begins_with}
+use Rattle.pli_lex.specs.Signs.{sign_of}
+use Rattle.pli_lex.specs.Tokens.{value_in, is_constant, is_binary_constant, doubled, quoted, width_of, are_digits, bits_in, IsToken, EndsAt}
+use Rattle.pli_lex.specs.Reading.{Found, word, word_at, decimal, binary, number_at, string_from, suffix_width, bits, string, string_found, string_at, sign, sign_at, token_at}
+use Rattle.pli_lex.proofs.Choices.{chosen, ok_is, begins_split}
+use Rattle.pli_lex.proofs.Runs.{run_stops}
+use Rattle.pli_lex.proofs.Strings.{string_closes}
 
--- ---- choices
+-- the token stands at the front of the text and takes so many characters
+abbrev pub StandsAt : List ℕ → Found → Type 0
+StandsAt text found = (run rest : List ℕ) × (text ≡ run ++ rest) × (found.1 ≡ length run) × IsToken run found.0 × EndsAt run found.0 rest
 
-pub chosen : {A : Type 0} (b : Bool) (x y z : A) → cond b x y ≡ z → ((b ≡ true) × (x ≡ z)) ⊎ ((b ≡ false) × (y ≡ z))
-chosen true x y z e = inl (refl, e)
-chosen false x y z e = inr (refl, e)
+-- ---- names
 
-abbrev done : {A E : Type 0} → A → Result A E
-done x = Ok x
+named : (o : Option Name) (width : ℕ) (found : Found) → word o width ≡ Ok found → (name : Name) × (o ≡ Some name) × ((texts.Word name, width) ≡ found)
+named None width found e = absurd cc
+named (Some name) width found e = (name, refl, ok_is (texts.Word name, width) found e)
 
-pub ok_is : {A E : Type 0} (x y : A) → done {E = E} x ≡ done y → x ≡ y
-ok_is x y e = cc
-
--- ---- kinds of characters
-
-letter_in_name : (c : ℕ) → is_letter c ≡ true → is_name_character c ≡ true
-letter_in_name c letter = rw letter refl
-
-digit_in_name : (c : ℕ) → is_digit c ≡ true → is_name_character c ≡ true
-digit_in_name c digit = grind (arith, nat_tests)
-
-letter_no_separator : (c : ℕ) → is_letter c ≡ true → is_separator c ≡ false
-letter_no_separator c letter = grind (arith, nat_tests)
-
-digit_no_separator : (c : ℕ) → is_digit c ≡ true → is_separator c ≡ false
-digit_no_separator c digit = grind (arith, nat_tests)
-
-digit_no_letter : (c : ℕ) → is_digit c ≡ true → is_letter c ≡ false
-digit_no_letter c digit = grind (arith, nat_tests)
-
--- digits go on with a number
-digit_continues : (rest : List ℕ) → begins_with continues_number rest ≡ false → begins_with is_digit rest ≡ false
-digit_continues [] stops = refl
-digit_continues (c ∷ cs) stops = grind (arith, nat_tests)
-
--- ---- what is found is a separator or a token
-
--- what a piece says of the text
-abbrev pub Stands : List ℕ → Option TokenText → ℕ → Type 0
-Stands text None width = (width ≡ 1) × (begins_with is_separator text ≡ true)
-Stands text (Some t) width = IsToken (take width text) t × EndsAt t (drop width text)
-
-abbrev pub PieceStands : List ℕ → Piece → Type 0
-PieceStands text piece = Stands text piece.0 piece.1 × (0 < piece.1)
-
-named : (o : Option Name) (width : ℕ) (p : Piece) → word o width ≡ Ok p → (name : Name) × (o ≡ Some name) × ((Some (texts.Word name), width) ≡ p)
-named None width p e = absurd cc
-named (Some name) width p e = (name, refl, ok_is (Some (texts.Word name), width) p e)
-
-word_stands : (text : List ℕ) (p : Piece) → begins_with is_letter text ≡ true → word_at text ≡ Ok p → PieceStands text p
-word_stands [] p letter found = absurd cc
-word_stands (c ∷ cs) p letter found =
-    let text = c ∷ cs in
+word_stands : (text : List ℕ) (found : Found) → word_at text ≡ Ok found → StandsAt text found
+word_stands text found e =
     let width = prefix_len is_name_character text in
-    let n = named (name_of (take width text)) width p found in
-    let some : 0 < width = run_starts is_name_character text (letter_in_name c letter) in
-    subst (PieceStands text) n.2 ((n.1, run_stops is_name_character text), some)
+    let n = named (name_of (take width text)) width found e in
+    subst (StandsAt text) n.2 (take width text, drop width text, sym (take-append-drop width text), sym (length-prefix_len is_name_character text), n.1, run_stops is_name_character text)
 
-number_stands : (text : List ℕ) (p : Piece) → begins_with is_digit text ≡ true → number_at text ≡ Ok p → PieceStands text p
-number_stands text p digit found =
+-- ---- numbers
+
+decimal_stands : (run rest : List ℕ) (found : Found) → decimal run rest ≡ Ok found → StandsAt (run ++ rest) found
+decimal_stands run rest found e =
+    let test = is_constant run && not (begins_with continues_number rest) in
+    let there : Found = (texts.Decimal (value_in 10 run) (length run), length run) in
+    elim (chosen test (Ok there) (Err BadNumber) (Ok found) e) [
+      | inl is ↦
+          let parts = and_parts (is_constant run) (not (begins_with continues_number rest)) is.0 in
+          subst (StandsAt (run ++ rest)) (ok_is there found is.1) (run, rest, refl, refl, (parts.0, refl, refl), not-true _ parts.1)
+      | inr is ↦ absurd (let e : Err BadNumber ≡ Ok found = is.1 in cc)
+    ]
+
+binary_stands : (run rest : List ℕ) (b : ℕ) (found : Found) → is_b b ≡ true → binary run rest ≡ Ok found → StandsAt (run ++ b ∷ rest) found
+binary_stands run rest b found b_is e =
+    let test = is_binary_constant run && not (begins_with continues_number rest) in
+    let there : Found = (texts.Binary (value_in 2 run) (length run), length run + 1) in
+    elim (chosen test (Ok there) (Err BadNumber) (Ok found) e) [
+      | inl is ↦
+          let parts = and_parts (is_binary_constant run) (not (begins_with continues_number rest)) is.0 in
+          subst (StandsAt (run ++ b ∷ rest)) (ok_is there found is.1)
+          (run ++ b ∷ [], rest, sym (append_assoc run (b ∷ []) rest), sym (length-append run (b ∷ [])), (run, b, refl, b_is, parts.0, refl, refl), not-true _ parts.1)
+      | inr is ↦ absurd (let e : Err BadNumber ≡ Ok found = is.1 in cc)
+    ]
+
+number_stands : (text : List ℕ) (found : Found) → number_at text ≡ Ok found → StandsAt text found
+number_stands text found e =
     let width = prefix_len is_digit text in
     let run = take width text in
-    let test = is_constant run && not (begins_with continues_number (drop width text)) in
-    let piece : Piece = (Some (texts.Number (decimal_value run) width), width) in
-    elim (chosen test (Ok piece) (Err BadNumber) (Ok p) found) [
+    let rest = drop width text in
+    elim (chosen (begins_with is_b rest) _ _ (Ok found) e) [
       | inl is ↦
-          let parts = and_parts (is_constant run) (not (begins_with continues_number (drop width text))) is.0 in
-          subst (PieceStands text) (ok_is piece p is.1) (((parts.0, refl, sym (length-prefix_len is_digit text)), not-true _ parts.1), run_starts is_digit text digit)
-      | inr is ↦ absurd (let e : Err BadNumber ≡ Ok p = is.1 in cc)
+          let b = begins_split is_b rest is.0 in
+          let there : binary run b.1 ≡ Ok found = ap (λ (l : List ℕ). binary run (drop 1 l)) (sym b.2) ∙ is.1 in
+          subst (λ (l : List ℕ). StandsAt l found) (ap (λ (l : List ℕ). run ++ l) (sym b.2) ∙ take-append-drop width text) (binary_stands run b.1 b.0 found b.3 there)
+      | inr is ↦ subst (λ (l : List ℕ). StandsAt l found) (take-append-drop width text) (decimal_stands run rest found is.1)
     ]
 
-some_is : {A : Type 0} (x y : A) → Some x ≡ Some y → x ≡ y
-some_is x y e = cc
+-- ---- strings
 
--- the character is this sign's, or is one of the others
-sign_or : (c : ℕ) (this : Sign) (others : Option Sign) (s : Sign) → cond (eqb c (sign_character this)) (Some this) others ≡ Some s → (c ≡ sign_character s) ⊎ (others ≡ Some s)
-sign_or c this others s e = elim (chosen (eqb c (sign_character this)) (Some this) others (Some s) e) [
-  | inl h ↦ inl (eqb-true c (sign_character this) h.0 ∙ ap sign_character (some_is this s h.1))
-  | inr h ↦ inr h.1
+neither : (rest : List ℕ) → begins_with is_quote rest ≡ false → begins_with is_b rest ≡ false → begins_with (λ c. is_quote c || is_b c) rest ≡ false
+neither [] quote b = refl
+neither (c ∷ cs) quote b = rw (quote, b) refl
+
+-- a `B` with the digit behind it
+suffix_long : (b : ℕ) (rest : List ℕ) → length (take (suffix_width (b ∷ rest)) (b ∷ rest)) ≡ suffix_width (b ∷ rest)
+suffix_long b [] = refl
+suffix_long b (d ∷ rest) = elim (cases_Bool (is_width_digit d)) [ inl is ↦ rw is refl | inr is ↦ rw is refl ]
+
+bits_stand : (o : Option ℕ) (digits behind rest : List ℕ) (taken : ℕ) (found : Found) → width_of behind ≡ o → taken ≡ length (quoted digits ++ behind) → bits o digits rest taken ≡ Ok found → StandsAt (quoted digits ++ (behind ++ rest)) found
+bits_stand None digits behind rest taken found width long e = absurd (let e : Err BadBits ≡ Ok found = e in cc)
+bits_stand (Some n) digits behind rest taken found width long e =
+    let test = are_digits n digits && not (begins_with is_name_character rest) in
+    let there : Found = (texts.Bits (bits_in n digits), taken) in
+    elim (chosen test (Ok there) (Err BadBits) (Ok found) e) [
+      | inl is ↦
+          let parts = and_parts (are_digits n digits) (not (begins_with is_name_character rest)) is.0 in
+          subst (StandsAt (quoted digits ++ (behind ++ rest))) (ok_is there found is.1)
+          (quoted digits ++ behind, rest, sym (append_assoc (quoted digits) behind rest), long, (digits, behind, n, refl, width, parts.0, refl), not-true _ parts.1)
+      | inr is ↦ absurd (let e : Err BadBits ≡ Ok found = is.1 in cc)
+    ]
+
+string_stands_before : (characters rest : List ℕ) (found : Found) → on_one_line characters ≡ true → begins_with is_quote rest ≡ false → string characters (length (quoted characters)) rest ≡ Ok found → StandsAt (quoted characters ++ rest) found
+string_stands_before characters rest found line stops e =
+    let taken = length (quoted characters) in
+    let suffix = suffix_width rest in
+    elim (chosen (begins_with is_b rest) _ _ (Ok found) e) [
+      | inl is ↦
+          let b = begins_split is_b rest is.0 in
+          let long : length (take suffix rest) ≡ suffix = rw (b.2) (suffix_long b.0 b.1) in
+          subst (λ (l : List ℕ). StandsAt (quoted characters ++ l) found) (take-append-drop suffix rest)
+          (bits_stand (width_of (take suffix rest)) characters (take suffix rest) (drop suffix rest) (taken + suffix) found refl (omega (arith, length-append (quoted characters) (take suffix rest), long)) is.1)
+      | inr is ↦
+          subst (StandsAt (quoted characters ++ rest)) (ok_is (texts.Characters characters, taken) found is.1) (quoted characters, rest, refl, refl, (refl, line), neither rest stops is.0)
+    ]
+
+-- what follows the opening quote
+pub quoted_before : (characters rest : List ℕ) → quoted characters ++ rest ≡ 39 ∷ (doubled characters ++ 39 ∷ rest)
+quoted_before characters rest = ap (λ (l : List ℕ). 39 ∷ l) (append_assoc (doubled characters) (39 ∷ []) rest)
+
+pub quoted_long : (characters : List ℕ) → length (quoted characters) ≡ length (doubled characters) + 1 + 1
+quoted_long characters = omega (arith, length-append (doubled characters) (39 ∷ []))
+
+found_stands : (cs : List ℕ) (o : Option (List ℕ × ℕ)) (found : Found) → string_from false cs ≡ o → string_found (39 ∷ cs) o ≡ Ok found → StandsAt (39 ∷ cs) found
+found_stands cs None found is e = absurd (let e : Err UnendedString ≡ Ok found = e in cc)
+found_stands cs (Some there) found is e =
+    let closes = string_closes false cs there is (λ e. absurd cc) in
+    let characters = there.0 in
+    let rest = closes.0 in
+    let long : there.1 + 1 ≡ length (quoted characters) = omega (arith, closes.4, quoted_long characters) in
+    let whole : 39 ∷ cs ≡ quoted characters ++ rest = ap (λ (l : List ℕ). 39 ∷ l) closes.1 ∙ sym (quoted_before characters rest) in
+    let behind : drop (there.1 + 1) (39 ∷ cs) ≡ rest = ap (drop (there.1 + 1)) whole ∙ drop_at (quoted characters) rest (there.1 + 1) (sym long) in
+    let string_is : string characters (length (quoted characters)) rest ≡ Ok found = ap (λ (n : ℕ). string characters n rest) (sym long) ∙ ap (string characters (there.1 + 1)) (sym behind) ∙ e in
+    subst (λ (l : List ℕ). StandsAt l found) (sym whole) (string_stands_before characters rest found closes.2 closes.3 string_is)
+
+-- ---- signs
+
+signed : (o : Option Sign) (width : ℕ) (found : Found) → sign o width ≡ Ok found → (s : Sign) × (o ≡ Some s) × ((texts.Sign s, width) ≡ found)
+signed None width found e = absurd cc
+signed (Some s) width found e = (s, refl, ok_is (texts.Sign s, width) found e)
+
+no_third : (c d : ℕ) (rest : List ℕ) → begins_with (λ e. is_some (sign_of ((c ∷ d ∷ []) ++ e ∷ []))) rest ≡ false
+no_third c d [] = refl
+no_third c d (e ∷ rest) = refl
+
+sign_stands : (text : List ℕ) (found : Found) → sign_at text ≡ Ok found → StandsAt text found
+sign_stands [] found e = absurd cc
+sign_stands (c ∷ cs) found e = elim (cases_Bool (begins_with (λ d. is_some (sign_of (c ∷ d ∷ []))) cs)) [
+  | inl two ↦
+      let d = begins_split _ cs two in
+      let at_two : sign (sign_of (take 2 (c ∷ cs))) 2 ≡ Ok found = rw two at e in
+      let n = signed (sign_of (take 2 (c ∷ cs))) 2 found at_two in
+      let whole : c ∷ cs ≡ (c ∷ d.0 ∷ []) ++ d.1 = ap (λ (l : List ℕ). c ∷ l) d.2 in
+      let is : sign_of (c ∷ d.0 ∷ []) ≡ Some n.0 = ap (λ (l : List ℕ). sign_of (take 2 (c ∷ l))) (sym d.2) ∙ n.1 in
+      subst (StandsAt (c ∷ cs)) n.2 (c ∷ d.0 ∷ [], d.1, whole, refl, is, no_third c d.0 d.1)
+  | inr one ↦
+      let at_one : sign (sign_of (c ∷ [])) 1 ≡ Ok found = rw one at e in
+      let n = signed (sign_of (c ∷ [])) 1 found at_one in
+      subst (StandsAt (c ∷ cs)) n.2 (c ∷ [], cs, refl, refl, n.1, one)
 ]
 
--- a sign is its character
-sign_is : (c : ℕ) (s : Sign) → sign_of c ≡ Some s → c ≡ sign_character s
-sign_is c s e =
-    elim (sign_or c Colon _ s e) [
-      | inl h ↦ h
-      | inr e ↦
-          elim (sign_or c Semicolon _ s e) [
-            | inl h ↦ h
-            | inr e ↦
-                elim (sign_or c Comma _ s e) [
-                  | inl h ↦ h
-                  | inr e ↦
-                      elim (sign_or c OpenParenthesis _ s e) [
-                        | inl h ↦ h
-                        | inr e ↦
-                            elim (sign_or c CloseParenthesis _ s e) [
-                              | inl h ↦ h
-                              | inr e ↦
-                                  elim (sign_or c Equals _ s e) [
-                                    | inl h ↦ h
-                                    | inr e ↦
-                                        elim (sign_or c Plus None s e) [ inl h ↦ h | inr e ↦ absurd cc ]
-                                  ]
-                            ]
-                      ]
-                ]
-          ]
-    ]
+-- ---- tokens
 
-signed : (o : Option Sign) (p : Piece) → sign o ≡ Ok p → (s : Sign) × (o ≡ Some s) × ((Some (texts.Sign s), 1) ≡ p)
-signed None p e = absurd cc
-signed (Some s) p e = (s, refl, ok_is (Some (texts.Sign s), 1) p e)
-
-sign_stands : (text : List ℕ) (p : Piece) → sign_at text ≡ Ok p → PieceStands text p
-sign_stands [] p found = absurd cc
-sign_stands (c ∷ cs) p found =
-    let n = signed (sign_of c) p found in
-    subst (PieceStands (c ∷ cs)) n.2 ((ap (λ x. x ∷ []) (sign_is c n.0 n.1), tt), omega arith)
-
-pub piece_stands : (text : List ℕ) (p : Piece) → piece_at text ≡ Ok p → PieceStands text p
-unfolding piece_at
-piece_stands text p found =
-    elim (chosen (begins_with is_separator text) _ _ (Ok p) found) [
-      | inl gap ↦ subst (PieceStands text) (ok_is (None, 1) p gap.1) ((refl, gap.0), omega arith)
-      | inr a ↦ elim (chosen (begins_with is_letter text) _ _ (Ok p) a.1) [
-        | inl letter ↦ word_stands text p letter.0 letter.1
-        | inr b ↦ elim (chosen (begins_with is_digit text) _ _ (Ok p) b.1) [
-          | inl digit ↦ number_stands text p digit.0 digit.1
-          | inr d ↦ sign_stands text p d.1
+pub token_stands : (text : List ℕ) (found : Found) → token_at text ≡ Ok found → StandsAt text found
+unfolding token_at
+token_stands text found e =
+    elim (chosen (begins_with is_letter text) _ _ (Ok found) e) [
+      | inl letter ↦ word_stands text found letter.1
+      | inr b ↦ elim (chosen (begins_with is_digit text) _ _ (Ok found) b.1) [
+        | inl digit ↦ number_stands text found digit.1
+        | inr d ↦ elim (chosen (begins_with is_quote text) _ _ (Ok found) d.1) [
+          | inl quote ↦
+              let q = begins_split is_quote text quote.0 in
+              let whole : text ≡ 39 ∷ q.1 = q.2 ∙ ap (λ (c : ℕ). c ∷ q.1) (eqb-true q.0 39 q.3) in
+              let there : string_at (39 ∷ q.1) ≡ Ok found = ap string_at (sym whole) ∙ quote.1 in
+              subst (λ (l : List ℕ). StandsAt l found) (sym whole) (found_stands q.1 (string_from false q.1) found refl there)
+          | inr f ↦ sign_stands text found f.1
         ]
       ]
     ]
-
--- ---- a token is found where it stands
-
--- no token is empty
-pub token_some : (run : List ℕ) (t : TokenText) → IsToken run t → 0 < length run
-token_some [] (texts.Word name) is = absurd (let e : None ≡ Some name = is in cc)
-token_some [] (texts.Number value digits) is = absurd (let e : false ≡ true = is.0 in cc)
-token_some [] (texts.Sign s) is = absurd cc
-token_some (c ∷ cs) t is = omega arith
-
-piece_word : (c : ℕ) (cs : List ℕ) → is_letter c ≡ true → piece_at (c ∷ cs) ≡ word_at (c ∷ cs)
-unfolding piece_at
-piece_word c cs letter = rw (letter_no_separator c letter, letter) refl
-
-piece_number : (c : ℕ) (cs : List ℕ) → is_digit c ≡ true → piece_at (c ∷ cs) ≡ number_at (c ∷ cs)
-unfolding piece_at
-piece_number c cs digit = rw (digit_no_separator c digit, digit_no_letter c digit, digit) refl
-
--- what has a name is of the form
-name_form : (text : List ℕ) (name : Name) → name_of text ≡ Some name → has_form text ≡ true
-name_form text name is = elim (chosen (has_form text && leb (length text) 31) _ _ _ is) [
-  | inl h ↦ (and_parts (has_form text) (leb (length text) 31) h.0).0
-  | inr h ↦ absurd (let none : None ≡ Some name = h.1 in cc)
-]
-
-word_read : (run rest : List ℕ) (name : Name) → name_of run ≡ Some name → begins_with is_name_character rest ≡ false → piece_at (run ++ rest) ≡ Ok (Some (texts.Word name), length run)
-word_read [] rest name is ends = absurd (let e : None ≡ Some name = is in cc)
-word_read (c ∷ cs) rest name is ends =
-    let run = c ∷ cs in
-    let text = run ++ rest in
-    let form = and_parts (is_letter c) (list_all is_name_character cs) (name_form run name is) in
-    let all : list_all is_name_character run ≡ true = and_from (is_name_character c) (list_all is_name_character cs) (letter_in_name c form.0) form.1 in
-    let width : prefix_len is_name_character text ≡ length run = run_again is_name_character run rest all ends in
-    piece_word c (cs ++ rest) form.0
-    ∙ ap (λ (n : ℕ). word (name_of (take n text)) n) width
-    ∙ ap (λ (l : List ℕ). word (name_of l) (length run)) (take_at run rest (length run) refl)
-    ∙ ap (λ (o : Option Name). word o (length run)) is
-
--- a number of this run and this width, before this rest
-abbrev number_of : List ℕ → List ℕ → ℕ → Result Piece Code
-number_of run rest width = cond (is_constant run && not (begins_with continues_number rest)) (Ok (Some (texts.Number (decimal_value run) width), width)) (Err BadNumber)
-
-number_read : (run rest : List ℕ) → is_constant run ≡ true → begins_with continues_number rest ≡ false → piece_at (run ++ rest) ≡ Ok (Some (texts.Number (decimal_value run) (length run)), length run)
-number_read [] rest is ends = absurd cc
-number_read (c ∷ cs) rest is ends =
-    let run = c ∷ cs in
-    let text = run ++ rest in
-    let all : list_all is_digit run ≡ true = (and_parts _ (list_all is_digit run) (and_parts _ (leb (decimal_value run) 2147483647) is).0).1 in
-    let digit = (and_parts (is_digit c) (list_all is_digit cs) all).0 in
-    let width : prefix_len is_digit text ≡ length run = run_again is_digit run rest all (digit_continues rest ends) in
-    let test : (is_constant run && not (begins_with continues_number rest)) ≡ true = and_from (is_constant run) (not (begins_with continues_number rest)) is (ap not ends) in
-    piece_number c (cs ++ rest) digit
-    ∙ ap (λ (n : ℕ). number_of (take n text) (drop n text) n) width
-    ∙ ap (λ (l : List ℕ). number_of l (drop (length run) text) (length run)) (take_at run rest (length run) refl)
-    ∙ ap (λ (l : List ℕ). number_of run l (length run)) (drop_at run rest (length run) refl)
-    ∙ ap (λ (b : Bool). cond b (Ok (Some (texts.Number (decimal_value run) (length run)), length run)) (Err BadNumber)) test
-
-sign_read : (s : Sign) (rest : List ℕ) → piece_at (sign_character s ∷ rest) ≡ Ok (Some (texts.Sign s), 1)
-unfolding piece_at
-sign_read Colon rest = refl
-sign_read Semicolon rest = refl
-sign_read Comma rest = refl
-sign_read OpenParenthesis rest = refl
-sign_read CloseParenthesis rest = refl
-sign_read Equals rest = refl
-sign_read Plus rest = refl
-
-pub token_read : (run rest : List ℕ) (t : TokenText) → IsToken run t → EndsAt t rest → piece_at (run ++ rest) ≡ Ok (Some t, length run)
-token_read run rest (texts.Word name) is ends = word_read run rest name is ends
-token_read run rest (texts.Number value digits) is ends = rw (is.1, is.2) (number_read run rest is.0 ends)
-token_read run rest (texts.Sign s) is ends = rw is (sign_read s rest)

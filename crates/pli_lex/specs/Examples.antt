@@ -1,61 +1,123 @@
 -- Worked examples: what lines spell, and the first faults of lines.
-use Rattle.std.specs.Prelude.{◌≡◌, [], ◌∷◌, Ok, Err, codes}
-use Rattle.pli_base.specs.declared.code.Code.TheVariants.{BadCharacter, BadNumber, NameTooLong}
-use Rattle.pli_base.specs.declared.token.Sign.TheVariants.{Colon, Semicolon, Comma, OpenParenthesis, CloseParenthesis, Equals, Plus}
-use Rattle.pli_base.specs.declared.token.TokenText.TheVariants.{Word, Number, Sign}
-use Rattle.pli_lex.specs.Tokens.{on_line}
-use Rattle.pli_lex.specs.Reading.{tokens_of, lexed}
+use Rattle.std.specs.Prelude.{◌≡◌, ℕ, true, false, List, [], ◌∷◌, map, Ok, Err, codes}
+use Rattle.pli_base.specs.declared.code.Code.{Code}
+use Rattle.pli_base.specs.declared.code.Code.TheVariants.{UnendedComment, UnendedString, BadCharacter, BadNumber, NameTooLong, BadBits}
+use Rattle.pli_base.specs.declared.token.Sign.TheVariants as signs
+use Rattle.pli_base.specs.declared.token.TokenText.{TokenText}
+use Rattle.pli_base.specs.declared.token.TokenText.TheVariants.{Word, Decimal, Binary, Characters, Bits, Sign}
+use Rattle.pli_base.specs.declared.token.Token.{Token}
+use Rattle.pli_lex.specs.Reading.{lexed}
+
+abbrev on_line : ℕ → TokenText → Token
+on_line number t = record { text = t; line = number }
+
+-- one line spells these tokens
+abbrev Says : List ℕ → List TokenText → Type 0
+Says text tokens = lexed (text ∷ []) ≡ Ok (map (on_line 1) tokens)
+
+-- lines have this fault on this line
+abbrev HaveFault : List (List ℕ) → Code → ℕ → Type 0
+HaveFault lines code number = lexed lines ≡ Err (record { code = code; line = number })
+
+-- one line has this fault
+abbrev Fails : List ℕ → Code → Type 0
+Fails text code = HaveFault (text ∷ []) code 1
 
 -- a procedure's first line
 abbrev pub ProcedureLine : Type 0
-ProcedureLine = tokens_of (codes "M: PROC OPTIONS(MAIN);")
-    ≡ Ok (Word (codes "M") ∷ Sign Colon ∷ Word (codes "PROC") ∷ Word (codes "OPTIONS") ∷ Sign OpenParenthesis ∷ Word (codes "MAIN") ∷ Sign CloseParenthesis ∷ Sign Semicolon ∷ [])
-
--- a declaration, an assignment and a PUT on one line
-abbrev pub StatementsLine : Type 0
-StatementsLine = tokens_of (codes "DCL X FIXED BIN(31); X = 2 + 3; PUT LIST(X);")
-    ≡ Ok (Word (codes "DCL") ∷ Word (codes "X") ∷ Word (codes "FIXED") ∷ Word (codes "BIN") ∷ Sign OpenParenthesis ∷ Number 31 2 ∷ Sign CloseParenthesis ∷ Sign Semicolon
-    ∷ Word (codes "X") ∷ Sign Equals ∷ Number 2 1 ∷ Sign Plus ∷ Number 3 1 ∷ Sign Semicolon
-    ∷ Word (codes "PUT") ∷ Word (codes "LIST") ∷ Sign OpenParenthesis ∷ Word (codes "X") ∷ Sign CloseParenthesis ∷ Sign Semicolon ∷ [])
+ProcedureLine =
+    Says (codes "M: PROC OPTIONS(MAIN);")
+    (Word (codes "M") ∷ Sign signs.Colon ∷ Word (codes "PROC") ∷ Word (codes "OPTIONS")
+    ∷ Sign signs.OpenParenthesis ∷ Word (codes "MAIN") ∷ Sign signs.CloseParenthesis ∷ Sign signs.Semicolon ∷ [])
 
 -- lower case equals upper case, and leading zeros count as digits
 abbrev pub LowerCaseLine : Type 0
-LowerCaseLine = tokens_of (codes "x_1$=007,y") ≡ Ok (Word (codes "X_1$") ∷ Sign Equals ∷ Number 7 3 ∷ Sign Comma ∷ Word (codes "Y") ∷ [])
+LowerCaseLine = Says (codes "x_1$=007,y") (Word (codes "X_1$") ∷ Sign signs.Equals ∷ Decimal 7 3 ∷ Sign signs.Comma ∷ Word (codes "Y") ∷ [])
 
 -- a tab separates, and separators alone say nothing
 abbrev pub TabLine : Type 0
-TabLine = tokens_of (65 ∷ 9 ∷ 66 ∷ 9 ∷ 32 ∷ []) ≡ Ok (Word (codes "A") ∷ Word (codes "B") ∷ [])
+TabLine = Says (65 ∷ 9 ∷ 66 ∷ 9 ∷ 32 ∷ []) (Word (codes "A") ∷ Word (codes "B") ∷ [])
 
--- a name directly behind a number is a bad number
-abbrev pub NumberThenName : Type 0
-NumberThenName = tokens_of (codes "1A") ≡ Err BadNumber
+-- a binary constant has its number of digits, and `b` equals `B`
+abbrev pub BinaryConstants : Type 0
+BinaryConstants = Says (codes "101B 0101b") (Binary 5 3 ∷ Binary 5 4 ∷ [])
 
--- eleven digits are too many
-abbrev pub ElevenDigits : Type 0
-ElevenDigits = tokens_of (codes "00000000001") ≡ Err BadNumber
+-- a doubled quote is one, and lower case stays
+abbrev pub CharacterConstants : Type 0
+CharacterConstants = Says (codes "'It''s' ''") (Characters (codes "It's") ∷ Characters [] ∷ [])
 
--- the greatest constant, and the next
-abbrev pub GreatestNumber : Type 0
-GreatestNumber = tokens_of (codes "2147483647") ≡ Ok (Number 2147483647 10 ∷ [])
+-- digits of one, two, three and four bits
+abbrev pub BitConstants : Type 0
+BitConstants =
+    Says (codes "'10'B '1'b1 '2'B2 '5'B3 'aF'B4 ''B")
+    (Bits (true ∷ false ∷ []) ∷ Bits (true ∷ []) ∷ Bits (true ∷ false ∷ []) ∷ Bits (true ∷ false ∷ true ∷ [])
+    ∷ Bits (true ∷ false ∷ true ∷ false ∷ true ∷ true ∷ true ∷ true ∷ []) ∷ Bits [] ∷ [])
 
-abbrev pub TooGreatNumber : Type 0
-TooGreatNumber = tokens_of (codes "2147483648") ≡ Err BadNumber
+-- the longest sign is taken, and the signs for "not" and for the comparisons have synonyms
+abbrev pub Signs : Type 0
+Signs =
+    Says (codes "->->=^=~=^<~>||| - >")
+    (Sign signs.Arrow ∷ Sign signs.Arrow ∷ Sign signs.Equals ∷ Sign signs.NotEqual ∷ Sign signs.NotEqual
+    ∷ Sign signs.GreaterOrEqual ∷ Sign signs.LessOrEqual ∷ Sign signs.Concatenate ∷ Sign signs.Or ∷ Sign signs.Minus ∷ Sign signs.Greater ∷ [])
+
+-- a comment separates, ends at its first `*/`, and begins in no string
+abbrev pub CommentLine : Type 0
+CommentLine = Says (codes "A/* /* ' */B/**/'/*'") (Word (codes "A") ∷ Word (codes "B") ∷ Characters (codes "/*") ∷ [])
+
+-- a comment over lines, and tokens with the numbers of their lines
+abbrev pub CommentLines : Type 0
+CommentLines =
+    lexed (codes "A /* B" ∷ codes "C" ∷ codes "*/ D" ∷ []) ≡ Ok (on_line 1 (Word (codes "A")) ∷ on_line 3 (Word (codes "D")) ∷ [])
+
+-- the two characters of a comment's beginning or end stand on one line
+abbrev pub CommentOnOneLine : Type 0
+CommentOnOneLine =
+    HaveFault (codes "/" ∷ codes "* A */" ∷ []) BadCharacter 1 × HaveFault (codes "A /* *" ∷ codes "/" ∷ []) UnendedComment 1
+
+-- the line's end separates
+abbrev pub TwoLines : Type 0
+TwoLines =
+    lexed (codes "PR" ∷ [] ∷ codes "OC /*" ∷ codes "*/ ;" ∷ [])
+    ≡ Ok (on_line 1 (Word (codes "PR")) ∷ on_line 3 (Word (codes "OC")) ∷ on_line 4 (Sign signs.Semicolon) ∷ [])
+
+-- a comment that does not end is a fault where it begins
+abbrev pub UnendedComments : Type 0
+UnendedComments = HaveFault (codes "A" ∷ codes "/*/ B /*" ∷ codes "C" ∷ []) UnendedComment 2
+
+-- a string that does not end on its line, also where a quote at its end is doubled
+abbrev pub UnendedStrings : Type 0
+UnendedStrings = HaveFault (codes "A" ∷ codes "'B" ∷ codes "C'" ∷ []) UnendedString 2 × Fails (codes "'A''") UnendedString
+
+-- a name character or `.` directly behind a number
+abbrev pub BadNumbers : Type 0
+BadNumbers =
+    Fails (codes "12B") BadNumber × Fails (codes "1A") BadNumber × Fails (codes "12.5") BadNumber
+    × Fails (codes "101B2") BadNumber × Fails (codes "101B.") BadNumber
+
+-- eleven digits are too many, and so are 32 binary ones
+abbrev pub TooManyDigits : Type 0
+TooManyDigits = Fails (codes "00000000001") BadNumber × Fails (codes "00000000000000000000000000000001B") BadNumber
+
+-- the greatest constants, and the next
+abbrev pub GreatestNumbers : Type 0
+GreatestNumbers =
+    Says (codes "2147483647 1111111111111111111111111111111B") (Decimal 2147483647 10 ∷ Binary 2147483647 31 ∷ [])
+    × Fails (codes "2147483648") BadNumber
+
+-- digits that are too great, a width that is none, and a name character directly behind
+abbrev pub BadBitConstants : Type 0
+BadBitConstants = Fails (codes "'12'B") BadBits × Fails (codes "'8'B3") BadBits × Fails (codes "'1'B5") BadBits × Fails (codes "'1'B4X") BadBits
+
+-- another letter begins a name
+abbrev pub CharactersThenName : Type 0
+CharactersThenName = Says (codes "'A'C") (Characters (codes "A") ∷ Word (codes "C") ∷ [])
 
 -- a character of no token
-abbrev pub BadCharacterBehindName : Type 0
-BadCharacterBehindName = tokens_of (codes "X?") ≡ Err BadCharacter
+abbrev pub BadCharacters : Type 0
+BadCharacters = Fails (codes "X?") BadCharacter × Fails (codes "*/") BadCharacter
 
 -- 31 characters are a name, 32 are none
 abbrev pub LongestName : Type 0
-LongestName = tokens_of (codes "ABCDEFGHIJKLMNOPQRSTUVWXYZ12345") ≡ Ok (Word (codes "ABCDEFGHIJKLMNOPQRSTUVWXYZ12345") ∷ [])
-
-abbrev pub TooLongName : Type 0
-TooLongName = tokens_of (codes "ABCDEFGHIJKLMNOPQRSTUVWXYZ123456") ≡ Err NameTooLong
-
--- tokens have the numbers of their lines, from 1
-abbrev pub TwoLines : Type 0
-TwoLines = lexed (codes "END" ∷ [] ∷ codes ";" ∷ []) ≡ Ok (on_line 1 (Word (codes "END")) ∷ on_line 3 (Sign Semicolon) ∷ [])
-
--- the first fault is that of the first faulty line
-abbrev pub FaultOnSecondLine : Type 0
-FaultOnSecondLine = lexed (codes "X" ∷ codes "Y 1.5 ?" ∷ codes "?" ∷ []) ≡ Err (record { code = BadNumber; line = 2 })
+LongestName =
+    Says (codes "ABCDEFGHIJKLMNOPQRSTUVWXYZ12345") (Word (codes "ABCDEFGHIJKLMNOPQRSTUVWXYZ12345") ∷ [])
+    × Fails (codes "ABCDEFGHIJKLMNOPQRSTUVWXYZ123456") NameTooLong

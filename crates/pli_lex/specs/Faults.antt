@@ -1,44 +1,43 @@
--- The first place where no token can stand, apart from how a text is read (own).
-use Rattle.std.specs.Prelude.{◌≡◌, ◌≢◌, ◌⊎◌, ℕ, ◌+◌, IsTrue, IsFalse, List, [], ◌∷◌, ◌++◌, if◌then◌else◌}
-use Rattle.std.specs.List.{list_all}
+-- The first place where neither a separator nor a token can stand, apart from how a text is read (own).
+use Rattle.std.specs.Prelude.{◌≡◌, ℕ, IsTrue, IsFalse, ◌||◌, List, ◌∷◌, ◌++◌}
 use Rattle.pli_base.specs.Name.{is_letter, is_digit}
 use Rattle.pli_base.specs.declared.code.Code.{Code}
-use Rattle.pli_base.specs.declared.code.Code.TheVariants.{BadCharacter, BadNumber, NameTooLong}
+use Rattle.pli_base.specs.declared.code.Code.TheVariants.{UnendedComment, UnendedString, BadCharacter, BadNumber, NameTooLong, BadBits}
 use Rattle.pli_base.specs.declared.token.TokenText.{TokenText}
+use Rattle.pli_base.specs.declared.token.Token.{Token}
 use Rattle.pli_lex.specs.declared.answer.LexFault.{LexFault}
-use Rattle.pli_lex.specs.Tokens.{is_separator, begins_with, IsToken, EndsAt, Spells}
+use Rattle.pli_lex.specs.Characters.{text_of, on_one_line, is_quote, begins_with, begins_comment}
+use Rattle.pli_lex.specs.Tokens.{IsSeparator, quoted, IsToken, EndsAt, SpellsUpTo}
 
--- the text is separators and these tokens in turn, then separators, and then the rest
-abbrev pub SpellsBefore : List ℕ → List TokenText → List ℕ → Type 0
-SpellsBefore text [] rest = (gap : List ℕ) × (text ≡ gap ++ rest) × IsTrue (list_all is_separator gap)
-SpellsBefore text (t ∷ ts) rest =
-    (gap run after : List ℕ) × (text ≡ gap ++ (run ++ after))
-    × IsTrue (list_all is_separator gap) × IsToken run t × EndsAt t after × SpellsBefore after ts rest
+-- neither a separator nor a token stands at the front of the text
+abbrev pub NothingStands : List ℕ → Type 0
+NothingStands text =
+    (run rest : List ℕ) → text ≡ run ++ rest
+    → (IsSeparator run → ⊥) × ((t : TokenText) → IsToken run t → EndsAt run t rest → ⊥)
 
--- no token stands at the front of the text
-abbrev pub NoneStands : List ℕ → Type 0
-NoneStands text = (run rest : List ℕ) (t : TokenText) → text ≡ run ++ rest → IsToken run t → EndsAt t rest → ⊥
+-- a string in quotes stands at the front of the text: no quote follows the one that closes it
+abbrev pub IsQuoted : List ℕ → Type 0
+IsQuoted text =
+    (characters rest : List ℕ) × (text ≡ quoted characters ++ rest)
+    × IsTrue (on_one_line characters) × IsFalse (begins_with is_quote rest)
 
--- where no token stands, a letter begins a name that is too long, a digit a bad number, and any other character is bad
-abbrev pub code_at : List ℕ → Code
-code_at text =
-    if begins_with is_letter text then NameTooLong
-    else (if begins_with is_digit text then BadNumber
-    else BadCharacter)
+-- Where nothing stands, the text there tells the code: a comment or a string that does not end, a string that is no bit constant, digits that are no
+-- number, a name that is too long, or any other character.
+abbrev pub IsCodeOf : List ℕ → Code → Type 0
+IsCodeOf text UnendedComment = IsTrue (begins_comment text)
+IsCodeOf text UnendedString = IsTrue (begins_with is_quote text) × (IsQuoted text → ⊥)
+IsCodeOf text BadBits = IsQuoted text
+IsCodeOf text BadNumber = IsTrue (begins_with is_digit text)
+IsCodeOf text NameTooLong = IsTrue (begins_with is_letter text)
+IsCodeOf text BadCharacter =
+    (c : ℕ) × (cs : List ℕ) × (text ≡ c ∷ cs) × IsFalse (begins_comment text) × IsFalse (is_letter c || is_digit c || is_quote c)
+IsCodeOf text others = ⊥
 
--- behind some tokens and separators comes a character that is no separator and at which no token stands
-abbrev pub HasFault : List ℕ → Code → Type 0
-HasFault text code =
-    (ts : List TokenText) × (rest : List ℕ) × SpellsBefore text ts rest
-    × (rest ≢ []) × IsFalse (begins_with is_separator rest) × NoneStands rest × (code ≡ code_at rest)
+-- separators and tokens lead to a place on the fault's line where nothing stands
+abbrev pub HasFault : List ℕ → LexFault → Type 0
+HasFault text fault =
+    (tokens : List Token) × (rest : List ℕ) × SpellsUpTo 1 text tokens fault.line rest × NothingStands rest × IsCodeOf rest fault.code
 
--- of lines that are numbered from this number on, the first that spells no tokens has the fault
-abbrev pub HasFaultFrom : ℕ → List (List ℕ) → LexFault → Type 0
-HasFaultFrom number [] fault = ⊥
-HasFaultFrom number (line ∷ lines) fault =
-    (HasFault line fault.code × (fault.line ≡ number))
-    ⊎ ((ts : List TokenText) × Spells line ts × HasFaultFrom (number + 1) lines fault)
-
--- lines are numbered from 1
+-- the fault of lines is that of their text
 abbrev pub HasLineFault : List (List ℕ) → LexFault → Type 0
-HasLineFault lines fault = HasFaultFrom 1 lines fault
+HasLineFault lines fault = HasFault (text_of lines) fault

@@ -1,75 +1,119 @@
--- What a text spells, apart from how it is read (X3.74; the limits of names and constants, and `$`, are own).
-use Rattle.std.specs.Prelude.{◌≡◌, ℕ, ◌+◌, ◌-◌, ◌*◌, nat_eq, nat_le, IsTrue, IsFalse, Bool, false, ◌&&◌, ◌||◌, List, [], ◌∷◌, ◌++◌, map, length, fold, Some}
-use Rattle.std.specs.List.{list_all}
+-- What a text spells, apart from how it is read (X3.74; the limits of names and constants are own).
+use Rattle.std.specs.Prelude.{◌≡◌, ◌⊎◌, ℕ, ◌+◌, ◌-◌, ◌*◌, ◌/◌, ◌%◌, ◌^◌, nat_eq, nat_le, nat_lt, IsTrue, IsFalse, Bool, ◌&&◌, ◌||◌, List, [], ◌∷◌, ◌++◌, map, drop, length, fold, Option, Some, None, codes, if◌then◌else◌}
+use Rattle.std.specs.List.{concat, list_all}
+use Rattle.std.specs.Option.{is_some}
 use Rattle.pli_base.specs.Name.{is_digit, is_name_character, name_of}
-use Rattle.pli_base.specs.declared.token.Sign.{Sign}
-use Rattle.pli_base.specs.declared.token.Sign.TheVariants.{Colon, Semicolon, Comma, OpenParenthesis, CloseParenthesis, Equals, Plus}
 use Rattle.pli_base.specs.declared.token.TokenText.{TokenText}
 use Rattle.pli_base.specs.declared.token.TokenText.TheVariants as texts
 use Rattle.pli_base.specs.declared.token.Token.{Token}
+use Rattle.pli_lex.specs.Characters.{text_of, line_ends, on_one_line, is_blank, is_quote, is_b, is_binary_digit, is_width_digit, digit_value, continues_number, begins_with}
+use Rattle.pli_lex.specs.Signs.{sign_of}
 
--- blanks and tabs stand between tokens
-abbrev pub is_separator : ℕ → Bool
-is_separator c = nat_eq c 32 || nat_eq c 9
+-- ---- separators
 
--- the one character of a sign: `:`, `;`, `,`, `(`, `)`, `=`, `+`
-abbrev pub sign_character : Sign → ℕ
-sign_character Colon = 58
-sign_character Semicolon = 59
-sign_character Comma = 44
-sign_character OpenParenthesis = 40
-sign_character CloseParenthesis = 41
-sign_character Equals = 61
-sign_character Plus = 43
+-- a comment ends at its first `*/`: comments do not nest
+abbrev pub IsComment : List ℕ → Type 0
+IsComment run =
+    (body : List ℕ) × (run ≡ codes "/*" ++ (body ++ codes "*/"))
+    × ((before after : List ℕ) → body ≡ before ++ (codes "*/" ++ after) → ⊥)
 
--- the value of decimal digits
-abbrev pub decimal_value : List ℕ → ℕ
-decimal_value digits = fold (λ value digit. value * 10 + (digit - 48)) 0 digits
+-- blanks, tabs, line ends and comments separate tokens
+abbrev pub IsSeparator : List ℕ → Type 0
+IsSeparator run = ((c : ℕ) × IsTrue (is_blank c) × (run ≡ c ∷ [])) ⊎ IsComment run
+
+-- each of them separates
+abbrev pub AreSeparators : List (List ℕ) → Type 0
+AreSeparators [] = Unit {0}
+AreSeparators (run ∷ runs) = IsSeparator run × AreSeparators runs
+
+-- separators one behind another, or none
+abbrev pub IsGap : List ℕ → Type 0
+IsGap gap = (runs : List (List ℕ)) × (gap ≡ concat runs) × AreSeparators runs
+
+-- ---- numbers
+
+-- the value of digits in this base
+abbrev pub value_in : ℕ → List ℕ → ℕ
+value_in base digits = fold (λ value digit. value * base + (digit - 48)) 0 digits
 
 -- one to ten digits, leading zeros counted, with a value of at most 2147483647
 abbrev pub is_constant : List ℕ → Bool
 is_constant run =
-    nat_le 1 (length run) && nat_le (length run) 10 && list_all is_digit run && nat_le (decimal_value run) 2147483647
+    nat_le 1 (length run) && nat_le (length run) 10 && list_all is_digit run && nat_le (value_in 10 run) 2147483647
+
+-- one to 31 binary digits
+abbrev pub is_binary_constant : List ℕ → Bool
+is_binary_constant run = nat_le 1 (length run) && nat_le (length run) 31 && list_all is_binary_digit run
+
+-- ---- strings
+
+-- characters with each quote doubled
+abbrev pub doubled : List ℕ → List ℕ
+doubled [] = []
+doubled (c ∷ cs) = (if is_quote c then c ∷ c ∷ [] else c ∷ []) ++ doubled cs
+
+-- characters in quotes
+abbrev pub quoted : List ℕ → List ℕ
+quoted characters = 39 ∷ (doubled characters ++ 39 ∷ [])
+
+-- how many bits a digit has before `B`, `B1`, `B2`, `B3` or `B4`
+abbrev pub width_of : List ℕ → Option ℕ
+width_of (b ∷ []) = if is_b b then Some 1 else None
+width_of (b ∷ d ∷ []) = if is_b b && is_width_digit d then Some (d - 48) else None
+width_of others = None
+
+-- digits of so many bits
+abbrev pub are_digits : ℕ → List ℕ → Bool
+are_digits width digits = list_all (λ digit. nat_lt (digit_value digit) (2 ^ width)) digits
+
+-- the bits of a digit's value, from left to right
+abbrev pub bits_of : (width value : ℕ) → List Bool
+bits_of width value = map (λ place. nat_eq (value / place % 2) 1) (drop (4 - width) (8 ∷ 4 ∷ 2 ∷ 1 ∷ []))
+
+-- the bits of digits
+abbrev pub bits_in : ℕ → List ℕ → List Bool
+bits_in width [] = []
+bits_in width (digit ∷ digits) = bits_of width (digit_value digit) ++ bits_in width digits
+
+-- ---- tokens
 
 -- the run of characters is the token
 abbrev pub IsToken : List ℕ → TokenText → Type 0
 IsToken run (texts.Word name) = name_of run ≡ Some name
-IsToken run (texts.Number value digits) = IsTrue (is_constant run) × (value ≡ decimal_value run) × (digits ≡ length run)
-IsToken run (texts.Sign sign) = run ≡ sign_character sign ∷ []
+IsToken run (texts.Decimal value digits) = IsTrue (is_constant run) × (value ≡ value_in 10 run) × (digits ≡ length run)
+IsToken run (texts.Binary value digits) =
+    (front : List ℕ) × (b : ℕ) × (run ≡ front ++ b ∷ []) × IsTrue (is_b b)
+    × IsTrue (is_binary_constant front) × (value ≡ value_in 2 front) × (digits ≡ length front)
+IsToken run (texts.Characters characters) = (run ≡ quoted characters) × IsTrue (on_one_line characters)
+IsToken run (texts.Bits bits) =
+    (digits behind : List ℕ) × (width : ℕ) × (run ≡ quoted digits ++ behind) × (width_of behind ≡ Some width)
+    × IsTrue (are_digits width digits) × (bits ≡ bits_in width digits)
+IsToken run (texts.Sign sign) = sign_of run ≡ Some sign
 
--- a name character or `.` (46): what no decimal constant has directly after it
-abbrev pub continues_number : ℕ → Bool
-continues_number c = is_name_character c || nat_eq c 46
+-- the text after a token does not go on with it, so that the token is the longest that can stand there (a law says so), and what must not stand
+-- directly behind a constant does not
+abbrev pub EndsAt : List ℕ → TokenText → List ℕ → Type 0
+EndsAt run (texts.Word name) rest = IsFalse (begins_with is_name_character rest)
+EndsAt run (texts.Decimal value digits) rest = IsFalse (begins_with continues_number rest)
+EndsAt run (texts.Binary value digits) rest = IsFalse (begins_with continues_number rest)
+EndsAt run (texts.Characters characters) rest = IsFalse (begins_with (λ c. is_quote c || is_b c) rest)
+EndsAt run (texts.Bits bits) rest = IsFalse (begins_with is_name_character rest)
+EndsAt run (texts.Sign sign) rest = IsFalse (begins_with (λ c. is_some (sign_of (run ++ c ∷ []))) rest)
 
--- the text's first character, if it has one, is of this kind
-abbrev pub begins_with : (ℕ → Bool) → List ℕ → Bool
-begins_with kind [] = false
-begins_with kind (c ∷ cs) = kind c
+-- ---- texts
 
--- the text after a token does not go on with it, so that the token is the longest that can stand there
-abbrev pub EndsAt : TokenText → List ℕ → Type 0
-EndsAt (texts.Word name) rest = IsFalse (begins_with is_name_character rest)
-EndsAt (texts.Number value digits) rest = IsFalse (begins_with continues_number rest)
-EndsAt (texts.Sign sign) rest = Unit {0}
+-- A text that begins on the line with this number is separators and these tokens in turn, then separators, up to the rest, which begins on the line
+-- with the number `last`; each token has the number of its line. (No token has a line's end in it.)
+abbrev pub SpellsUpTo : (number : ℕ) → List ℕ → List Token → (last : ℕ) → List ℕ → Type 0
+SpellsUpTo number text [] last rest = (gap : List ℕ) × (text ≡ gap ++ rest) × IsGap gap × (last ≡ number + line_ends gap)
+SpellsUpTo number text (token ∷ tokens) last rest =
+    (gap run after : List ℕ) × (text ≡ gap ++ (run ++ after)) × IsGap gap × (token.line ≡ number + line_ends gap)
+    × IsToken run token.text × EndsAt run token.text after × SpellsUpTo (token.line + line_ends run) after tokens last rest
 
--- the text is separators alone, or separators, then the first token, then a text that spells the others
-abbrev pub Spells : List ℕ → List TokenText → Type 0
-Spells text [] = IsTrue (list_all is_separator text)
-Spells text (t ∷ ts) =
-    (gap run rest : List ℕ) × (text ≡ gap ++ (run ++ rest))
-    × IsTrue (list_all is_separator gap) × IsToken run t × EndsAt t rest × Spells rest ts
+-- the whole text, its lines being numbered from 1
+abbrev pub Spells : List ℕ → List Token → Type 0
+Spells text tokens = (last : ℕ) × SpellsUpTo 1 text tokens last []
 
--- a token text on a line
-abbrev pub on_line : ℕ → TokenText → Token
-on_line number t = record { text = t; line = number }
-
--- the lines, numbered from this number on, spell the tokens: each line spells those that have its number
-abbrev pub SpellsFrom : ℕ → List (List ℕ) → List Token → Type 0
-SpellsFrom number [] tokens = tokens ≡ []
-SpellsFrom number (line ∷ lines) tokens =
-    (ts : List TokenText) × (others : List Token) × (tokens ≡ map (on_line number) ts ++ others)
-    × Spells line ts × SpellsFrom (number + 1) lines others
-
--- lines are numbered from 1
+-- lines spell what their text spells
 abbrev pub SpellsLines : List (List ℕ) → List Token → Type 0
-SpellsLines lines tokens = SpellsFrom 1 lines tokens
+SpellsLines lines tokens = Spells (text_of lines) tokens

@@ -5,8 +5,8 @@ ghost use Rattle.pli_lex.specs.declared.answer.LexError.TheVariants.{OutOfMemory
 use pli_base::Code;
 use std::alloc::{AllocError, AllocFailed};
 
-/// A fault in lexing: X3 BAD CHARACTER, X4 BAD NUMBER or X5 NAME TOO LONG, and the number of the line, from 1, where the
-/// token that cannot stand begins.
+/// A fault in lexing: X1 UNENDED COMMENT, X2 UNENDED STRING, X3 BAD CHARACTER, X4 BAD NUMBER, X5 NAME TOO LONG or X6 BAD BITS,
+/// and the number of the line, from 1, where the comment or the token that cannot stand begins.
 #[derive(Clone, Copy, Debug, PartialEq, Eq)]
 pub struct LexFault {
     pub code: Code,

@@ -4,19 +4,34 @@ use std::alloc::{AllocError, Global};
 use std::fmt::Write;
 use std::test::*;
 
-fn character(sign: Sign) -> char {
+fn spelling(sign: Sign) -> &'static str {
     match sign {
-        Sign::Colon => ':',
-        Sign::Semicolon => ';',
-        Sign::Comma => ',',
-        Sign::OpenParenthesis => '(',
-        Sign::CloseParenthesis => ')',
-        Sign::Equals => '=',
-        Sign::Plus => '+',
+        Sign::Colon => ":",
+        Sign::Semicolon => ";",
+        Sign::Comma => ",",
+        Sign::Period => ".",
+        Sign::OpenParenthesis => "(",
+        Sign::CloseParenthesis => ")",
+        Sign::Equals => "=",
+        Sign::NotEqual => "^=",
+        Sign::Less => "<",
+        Sign::LessOrEqual => "<=",
+        Sign::Greater => ">",
+        Sign::GreaterOrEqual => ">=",
+        Sign::Plus => "+",
+        Sign::Minus => "-",
+        Sign::Times => "*",
+        Sign::Concatenate => "||",
+        Sign::And => "&",
+        Sign::Or => "|",
+        Sign::Not => "^",
+        Sign::Arrow => "->",
+        Sign::Percent => "%",
     }
 }
 
-/// The tokens with a `/` behind each and a line's number before its first; a constant is its value and its digits.
+/// The tokens with a `/` behind each and a line's number before its first. A decimal constant is its value, `#` and its digits, a binary one its value,
+/// `B` and its digits; a character constant stands in double quotes, and the bits of a bit constant stand behind `!`.
 fn shown(alloc: Global, tokens: &[Token]) -> Result<String, AllocError> {
     let mut shown = String::new(alloc);
     let mut line = 0;
@@ -31,8 +46,22 @@ fn shown(alloc: Global, tokens: &[Token]) -> Result<String, AllocError> {
                     shown.push(char::from(*byte))?;
                 }
             }
-            TokenText::Number { value, digits } => write!(shown, "{value}#{digits}")?,
-            TokenText::Sign(sign) => shown.push(character(*sign))?,
+            TokenText::Decimal { value, digits } => write!(shown, "{value}#{digits}")?,
+            TokenText::Binary { value, digits } => write!(shown, "{value}B{digits}")?,
+            TokenText::Characters(string) => {
+                shown.push('"')?;
+                for byte in string.bytes() {
+                    shown.push(char::from(*byte))?;
+                }
+                shown.push('"')?;
+            }
+            TokenText::Bits(string) => {
+                shown.push('!')?;
+                for bit in string.bits() {
+                    shown.push(if *bit { '1' } else { '0' })?;
+                }
+            }
+            TokenText::Sign(sign) => shown.push_str(spelling(*sign))?,
         }
         shown.push('/')?;
     }
@@ -60,18 +89,69 @@ fn answered(alloc: Global, texts: &[&str]) -> Result<String, AllocError> {
 }
 
 #[test]
-fn lines_and_their_tokens(rt: HostRuntime) -> Result<(), Fail> {
+fn numbers(rt: HostRuntime) -> Result<(), Fail> {
     let table = [
         ("", ""),
         (" \t ", ""),
-        ("M: PROC OPTIONS(MAIN);", "1>M/:/PROC/OPTIONS/(/MAIN/)/;/"),
-        ("X=2+3;", "1>X/=/2#1/+/3#1/;/"),
-        ("put\tlist ( a , b )", "1>PUT/LIST/(/A/,/B/)/"),
-        ("a_$1 z$", "1>A_$1/Z$/"),
         ("0 00 007", "1>0#1/0#2/7#3/"),
         ("0000000001", "1>1#10/"),
         ("2147483647", "1>2147483647#10/"),
         ("1+1(2)", "1>1#1/+/1#1/(/2#1/)/"),
+        ("1B 0B", "1>1B1/0B1/"),
+        ("101b", "1>5B3/"),
+        ("0101B", "1>5B4/"),
+        ("1111111111111111111111111111111B", "1>2147483647B31/"),
+        ("0000000000000000000000000000000B", "1>0B31/"),
+        ("1B;", "1>1B1/;/"),
+        ("10 B", "1>10#2/B/"),
+        ("1'1'B", "1>1#1/!1/"),
+        ("101B'1'", "1>5B3/\"1\"/"),
+        ("1/**/2", "1>1#1/2#1/"),
+    ];
+    for (text, wanted) in table {
+        let found = answered(rt.alloc(), &[text])?;
+        assert_eq!(rt; found.as_str(), wanted, "at {text}");
+    }
+    Ok(())
+}
+
+#[test]
+fn bad_numbers(rt: HostRuntime) -> Result<(), Fail> {
+    let table = [
+        ("00000000001", "X4 at 1"),
+        ("12345678901", "X4 at 1"),
+        ("2147483648", "X4 at 1"),
+        ("9999999999", "X4 at 1"),
+        ("11111111111111111111111111111111B", "X4 at 1"),
+        ("00000000000000000000000000000001B", "X4 at 1"),
+        ("12B", "X4 at 1"),
+        ("2B", "X4 at 1"),
+        ("1BB", "X4 at 1"),
+        ("101B2", "X4 at 1"),
+        ("101B.", "X4 at 1"),
+        ("101B_", "X4 at 1"),
+        ("12.5", "X4 at 1"),
+        ("1_", "X4 at 1"),
+        ("1$ ?", "X4 at 1"),
+        ("7.", "X4 at 1"),
+        ("1A", "X4 at 1"),
+        ("1E5", "X4 at 1"),
+        ("99999999999A", "X4 at 1"),
+    ];
+    for (text, wanted) in table {
+        let found = answered(rt.alloc(), &[text])?;
+        assert_eq!(rt; found.as_str(), wanted, "at {text}");
+    }
+    Ok(())
+}
+
+#[test]
+fn names(rt: HostRuntime) -> Result<(), Fail> {
+    let table = [
+        ("M: PROC OPTIONS(MAIN);", "1>M/:/PROC/OPTIONS/(/MAIN/)/;/"),
+        ("put\tlist ( a , b )", "1>PUT/LIST/(/A/,/B/)/"),
+        ("a_$1 z$", "1>A_$1/Z$/"),
+        ("A.B", "1>A/./B/"),
         (
             "abcdefghijklmnopqrstuvwxyz_$345",
             "1>ABCDEFGHIJKLMNOPQRSTUVWXYZ_$345/",
@@ -86,24 +166,15 @@ fn lines_and_their_tokens(rt: HostRuntime) -> Result<(), Fail> {
 }
 
 #[test]
-fn lines_and_their_faults(rt: HostRuntime) -> Result<(), Fail> {
+fn bad_names_and_characters(rt: HostRuntime) -> Result<(), Fail> {
     let table = [
-        ("1A", "X4 at 1"),
-        ("101B", "X4 at 1"),
-        ("1_", "X4 at 1"),
-        ("1$ ?", "X4 at 1"),
-        ("X = 1.5;", "X4 at 1"),
-        ("7.", "X4 at 1"),
-        ("00000000001", "X4 at 1"),
-        ("2147483648", "X4 at 1"),
-        ("99999999999A", "X4 at 1"),
-        ("X?", "X3 at 1"),
-        ("_X", "X3 at 1"),
-        ("A .5", "X3 at 1"),
-        ("A-B", "X3 at 1"),
-        ("'A'", "X3 at 1"),
         ("abcdefghijklmnopqrstuvwxyz_$3456", "X5 at 1"),
         ("abcdefghijklmnopqrstuvwxyz_$3456? 1A", "X5 at 1"),
+        ("X?", "X3 at 1"),
+        ("_X", "X3 at 1"),
+        ("$X", "X3 at 1"),
+        ("A#", "X3 at 1"),
+        ("A \"B\"", "X3 at 1"),
     ];
     for (text, wanted) in table {
         let found = answered(rt.alloc(), &[text])?;
@@ -113,14 +184,189 @@ fn lines_and_their_faults(rt: HostRuntime) -> Result<(), Fail> {
 }
 
 #[test]
-fn numbers_of_lines(rt: HostRuntime) -> Result<(), Fail> {
+fn character_constants(rt: HostRuntime) -> Result<(), Fail> {
+    let table = [
+        ("''", "1>\"\"/"),
+        ("''''", "1>\"'\"/"),
+        ("'It''s'", "1>\"It's\"/"),
+        ("'a''''b'", "1>\"a''b\"/"),
+        ("'A'''", "1>\"A'\"/"),
+        ("'A''B'", "1>\"A'B\"/"),
+        ("X='a b\tc'", "1>X/=/\"a b\tc\"/"),
+        ("'A'C", "1>\"A\"/C/"),
+        ("'A'1", "1>\"A\"/1#1/"),
+        ("'A' B", "1>\"A\"/B/"),
+        ("'A'.", "1>\"A\"/./"),
+        ("'/* */'", "1>\"/* */\"/"),
+        ("'A'||'B'", "1>\"A\"/||/\"B\"/"),
+    ];
+    for (text, wanted) in table {
+        let found = answered(rt.alloc(), &[text])?;
+        assert_eq!(rt; found.as_str(), wanted, "at {text}");
+    }
+    Ok(())
+}
+
+#[test]
+fn unended_strings(rt: HostRuntime) -> Result<(), Fail> {
+    let table = [
+        ("'", "X2 at 1"),
+        ("X = 'AB", "X2 at 1"),
+        ("'''", "X2 at 1"),
+        ("'A''", "X2 at 1"),
+        ("'A''B", "X2 at 1"),
+        ("'1'' B", "X2 at 1"),
+    ];
+    for (text, wanted) in table {
+        let found = answered(rt.alloc(), &[text])?;
+        assert_eq!(rt; found.as_str(), wanted, "at {text}");
+    }
+    Ok(())
+}
+
+#[test]
+fn bit_constants(rt: HostRuntime) -> Result<(), Fail> {
+    let table = [
+        ("'101'B", "1>!101/"),
+        ("'101'b", "1>!101/"),
+        ("''B ''B4", "1>!/!/"),
+        ("'10'B1", "1>!10/"),
+        ("'0123'B2", "1>!00011011/"),
+        ("'07'b3", "1>!000111/"),
+        ("'9aF'B4", "1>!100110101111/"),
+        ("'1'B.", "1>!1/./"),
+        ("'1'B 5", "1>!1/5#1/"),
+        ("'1'B'0'B", "1>!1/!0/"),
+        ("'101'B='5'B3", "1>!101/=/!101/"),
+    ];
+    for (text, wanted) in table {
+        let found = answered(rt.alloc(), &[text])?;
+        assert_eq!(rt; found.as_str(), wanted, "at {text}");
+    }
+    Ok(())
+}
+
+#[test]
+fn bad_bit_constants(rt: HostRuntime) -> Result<(), Fail> {
+    let table = [
+        ("'12'B", "X6 at 1"),
+        ("'A'B", "X6 at 1"),
+        ("'2'B1", "X6 at 1"),
+        ("'4'B2", "X6 at 1"),
+        ("'8'B3", "X6 at 1"),
+        ("'G'B4", "X6 at 1"),
+        ("'1'B5", "X6 at 1"),
+        ("'1'B0", "X6 at 1"),
+        ("'1'BX", "X6 at 1"),
+        ("'1'B4X", "X6 at 1"),
+        ("'1'B10", "X6 at 1"),
+        ("'1'B_", "X6 at 1"),
+        ("'1 0'B", "X6 at 1"),
+        ("'1''0'B", "X6 at 1"),
+    ];
+    for (text, wanted) in table {
+        let found = answered(rt.alloc(), &[text])?;
+        assert_eq!(rt; found.as_str(), wanted, "at {text}");
+    }
+    Ok(())
+}
+
+#[test]
+fn signs(rt: HostRuntime) -> Result<(), Fail> {
+    let table = [
+        ("+-*(),.;:=<>&|^%", "1>+/-/*/(/)/,/./;/:/=/</>/&/|/^/%/"),
+        ("<=>=^=", "1><=/>=/^=/"),
+        ("^<^>", "1>>=/<=/"),
+        ("~~=~<~>", "1>^/^=/>=/<=/"),
+        ("->", "1>->/"),
+        ("- >", "1>-/>/"),
+        ("->>", "1>->/>/"),
+        ("-->", "1>-/->/"),
+        ("||", "1>||/"),
+        ("|||", "1>||/|/"),
+        ("| |", "1>|/|/"),
+        ("<<=", "1></<=/"),
+        ("==", "1>=/=/"),
+        (">==", "1>>=/=/"),
+        ("^^=", "1>^/^=/"),
+        ("=>", "1>=/>/"),
+        ("<>", "1></>/"),
+    ];
+    for (text, wanted) in table {
+        let found = answered(rt.alloc(), &[text])?;
+        assert_eq!(rt; found.as_str(), wanted, "at {text}");
+    }
+    Ok(())
+}
+
+#[test]
+fn no_signs(rt: HostRuntime) -> Result<(), Fail> {
+    let table = [
+        ("*/", "X3 at 1"),
+        ("/", "X3 at 1"),
+        ("A/B", "X3 at 1"),
+        ("/ * A */", "X3 at 1"),
+        ("!", "X3 at 1"),
+        ("A @", "X3 at 1"),
+    ];
+    for (text, wanted) in table {
+        let found = answered(rt.alloc(), &[text])?;
+        assert_eq!(rt; found.as_str(), wanted, "at {text}");
+    }
+    Ok(())
+}
+
+#[test]
+fn comments(rt: HostRuntime) -> Result<(), Fail> {
+    let table = [
+        ("A/**/B", "1>A/B/"),
+        ("A/* /* */B", "1>A/B/"),
+        ("/*/*/", ""),
+        ("/***/X", "1>X/"),
+        ("/* ' */X", "1>X/"),
+        ("A /* B", "X1 at 1"),
+        ("/*/", "X1 at 1"),
+        ("/*", "X1 at 1"),
+        ("/**", "X1 at 1"),
+        ("A /* */ */", "X3 at 1"),
+        ("/* 1A ? */ 1A", "X4 at 1"),
+        ("? /*", "X3 at 1"),
+    ];
+    for (text, wanted) in table {
+        let found = answered(rt.alloc(), &[text])?;
+        assert_eq!(rt; found.as_str(), wanted, "at {text}");
+    }
+    Ok(())
+}
+
+#[test]
+fn lines(rt: HostRuntime) -> Result<(), Fail> {
     let none = answered(rt.alloc(), &[])?;
     assert_eq!(rt; none.as_str(), "");
-    let tokens = answered(rt.alloc(), &["M: PROC", "", " ;X", "END"])?;
-    assert_eq!(rt; tokens.as_str(), "1>M/:/PROC/3>;/X/4>END/");
-    let fault = answered(rt.alloc(), &["M: PROC", "", "X #", "?"])?;
-    assert_eq!(rt; fault.as_str(), "X3 at 3");
-    let broken_name = answered(rt.alloc(), &["PR", "OC"])?;
-    assert_eq!(rt; broken_name.as_str(), "1>PR/2>OC/");
+    let table: [(&[&str], &str); 19] = [
+        (&["M: PROC", "", " ;X", "END"], "1>M/:/PROC/3>;/X/4>END/"),
+        (&["M: PROC", "", "X #", "?"], "X3 at 3"),
+        (&["PR", "OC"], "1>PR/2>OC/"),
+        (&["-", ">"], "1>-/2>>/"),
+        (&["12", "B"], "1>12#2/2>B/"),
+        (&["'1'", "B"], "1>\"1\"/2>B/"),
+        (&["A /* B", "C", "*/ D"], "1>A/3>D/"),
+        (&["/*", "*/"], ""),
+        (&["/*", "/*", "*/", "*/"], "X3 at 4"),
+        (&["/*", "", "*", "/"], "X1 at 1"),
+        (&["A", "/* x", "y"], "X1 at 2"),
+        (&["/* a */ /* b", "c */ 1A"], "X4 at 2"),
+        (&["X /*", "*/ Y /*", "*/ Z ?"], "X3 at 3"),
+        (&["A", "B /* */ /*", "", "C"], "X1 at 2"),
+        (&["A *", "/ B"], "X3 at 2"),
+        (&["/", "* A"], "X3 at 1"),
+        (&["'A", "B'"], "X2 at 1"),
+        (&["A", "B 'C"], "X2 at 2"),
+        (&["A /*", "' */ 'B'"], "1>A/2>\"B\"/"),
+    ];
+    for (texts, wanted) in table {
+        let found = answered(rt.alloc(), texts)?;
+        assert_eq!(rt; found.as_str(), wanted);
+    }
     Ok(())
 }

@@ -7,6 +7,7 @@ pub mod Placed
 pub mod Ready
 pub mod Runs
 pub mod Simulation
+pub mod SoundExpansion
 pub mod SoundLines
 pub mod SoundTexts
 pub mod Stands

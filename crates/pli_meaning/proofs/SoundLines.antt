@@ -1,15 +1,16 @@
 -- The tokens of lines are sound.
-use Rattle.std.specs.Prelude.{◌≡◌, ℕ, ◌+◌, ◌*◌, ◌-◌, ◌^◌, ◌<◌, ◌≤◌, nat_le, List, [], ◌∷◌, ◌++◌, map, length, fold, Bool, true, false, IsTrue, ◌&&◌}
+use Rattle.std.specs.Prelude.{ℕ, ◌+◌, ◌*◌, ◌-◌, ◌^◌, ◌<◌, ◌≤◌, nat_le, List, [], ◌∷◌, map, length, fold, Bool, true, false, IsTrue, ◌&&◌}
 use Rattle.std.specs.List.{list_all}
-use Rattle.std.proofs.Common.{subst, sym, arith, ap, ◌∙◌, refl}
+use Rattle.std.proofs.Common.{arith, refl}
 use Rattle.std.proofs.Math.Nat.{pow-succ', mul_assoc, one-mul}
 use Rattle.std.proofs.lemmas.Bool.Decides.{nat_tests}
 use Rattle.pli_base.specs.Name.{is_digit}
 use Rattle.pli_base.specs.declared.token.Token.{Token}
 use Rattle.pli_base.specs.declared.token.TokenText.{TokenText}
 use Rattle.pli_base.specs.declared.token.TokenText.TheVariants as texts
-use Rattle.pli_lex.specs.Tokens.{IsToken, Spells, SpellsFrom, SpellsLines, decimal_value, is_constant, on_line}
-use Rattle.pli_meaning.proofs.SoundTexts.{IsSoundText, AreSoundTexts, joined_sound}
+use Rattle.pli_lex.specs.Characters.{text_of, line_ends}
+use Rattle.pli_lex.specs.Tokens.{IsToken, SpellsUpTo, SpellsLines, value_in, is_constant}
+use Rattle.pli_meaning.proofs.SoundTexts.{IsSoundText, AreSoundTexts}
 
 both : (a b : Bool) → IsTrue (a && b) → IsTrue a × IsTrue b
 both true b h = (refl, h)
@@ -34,32 +35,21 @@ digits_below (d ∷ ds) value bound h lt =
 bounded : (n : ℕ) → n ≤ 2147483647 → n < 2 ^ 31
 bounded n le = omega arith
 
-constant_below : (run : List ℕ) → IsTrue (is_constant run) → (decimal_value run < 2 ^ 31) × (decimal_value run < 10 ^ length run)
+constant_below : (run : List ℕ) → IsTrue (is_constant run) → (value_in 10 run < 2 ^ 31) × (value_in 10 run < 10 ^ length run)
 constant_below run h =
-    let le : decimal_value run ≤ 2147483647 = at_most (decimal_value run) 2147483647 (both _ _ h).1 in
+    let le : value_in 10 run ≤ 2147483647 = at_most (value_in 10 run) 2147483647 (both _ _ h).1 in
     let zero_below : 0 < 1 = omega arith in
     let below = digits_below run 0 1 (both _ _ (both _ _ h).0).1 zero_below in
-    (bounded (decimal_value run) le, rw one-mul at below)
+    (bounded (value_in 10 run) le, rw one-mul at below)
 
 token_sound : (run : List ℕ) (t : TokenText) → IsToken run t → IsSoundText t
-token_sound run (texts.Word name) h = tt
-token_sound run (texts.Number v d) h = let below = constant_below run h.0 in rw (h.1, h.2) below
-token_sound run (texts.Sign s) h = tt
+token_sound run (texts.Decimal v d) h = let below = constant_below run h.0 in rw (h.1, h.2) below
+token_sound run others h = tt
 
-line_sound : (ts : List TokenText) (text : List ℕ) → Spells text ts → AreSoundTexts ts
-line_sound [] text s = tt
-line_sound (t ∷ ts) text s = (token_sound s.1 t s.5, line_sound ts s.2 s.7)
-
-said_on : (number : ℕ) (ts : List TokenText) (others : List Token) → map (λ t. t.text) (map (on_line number) ts ++ others) ≡ ts ++ map (λ t. t.text) others
-said_on number [] others = refl
-said_on number (t ∷ ts) others = ap (λ xs. t ∷ xs) (said_on number ts others)
-
-lines_sound_from : (lines : List (List ℕ)) (number : ℕ) (tokens : List Token) → SpellsFrom number lines tokens → AreSoundTexts (map (λ t. t.text) tokens)
-lines_sound_from [] number tokens s = rw s tt
-lines_sound_from (line ∷ lines) number tokens s =
-    subst AreSoundTexts (sym (ap (map (λ t. t.text)) s.2 ∙ said_on number s.0 s.1))
-    (joined_sound s.0 _ (line_sound s.0 line s.3) (lines_sound_from lines _ s.1 s.4))
+up_to_sound : (tokens : List Token) (number : ℕ) (text : List ℕ) (last : ℕ) (rest : List ℕ) → SpellsUpTo number text tokens last rest → AreSoundTexts (map (λ t. t.text) tokens)
+up_to_sound [] number text last rest s = tt
+up_to_sound (token ∷ tokens) number text last rest s = (token_sound s.1 token.text s.6, up_to_sound tokens (token.line + line_ends s.1) s.2 last rest s.8)
 
 -- what lines spell is sound
 pub lines_sound : (lines : List (List ℕ)) (tokens : List Token) → SpellsLines lines tokens → AreSoundTexts (map (λ t. t.text) tokens)
-lines_sound lines tokens s = lines_sound_from lines 1 tokens s
+lines_sound lines tokens s = up_to_sound tokens 1 (text_of lines) s.0 [] s.1

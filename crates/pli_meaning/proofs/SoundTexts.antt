@@ -5,14 +5,13 @@ use Rattle.pli_base.specs.Words.{Tokens}
 use Rattle.pli_base.specs.Tree.{Expression, Variable, Constant, Sum, Body, Null, Declare, Assign, Put, Statement, Procedure}
 use Rattle.pli_base.specs.Grammar.{SpellsExpression, SpellsLimited, SpellsListed, SpellsBody, SpellsStatements, SpellsProcedure}
 use Rattle.pli_base.specs.declared.token.TokenText.{TokenText}
-use Rattle.pli_base.specs.declared.token.TokenText.TheVariants.{Word, Number, Sign}
+use Rattle.pli_base.specs.declared.token.TokenText.TheVariants.{Decimal}
 use Rattle.pli_meaning.specs.Sound.{IsSoundConstant, IsSoundExpression, AreSoundItems, IsSoundBody, AreSoundStatements, IsSound}
 
--- a constant of the language, or no constant
+-- a decimal constant of the language, or no decimal constant
 abbrev pub IsSoundText : TokenText → Type 0
-IsSoundText (Word n) = Unit {0}
-IsSoundText (Number v d) = IsSoundConstant v d
-IsSoundText (Sign s) = Unit {0}
+IsSoundText (Decimal v d) = IsSoundConstant v d
+IsSoundText others = Unit {0}
 
 abbrev pub AreSoundTexts : Tokens → Type 0
 AreSoundTexts [] = Unit {0}

@@ -7,7 +7,7 @@ use Rattle.pli_base.specs.Reading.{◌>>=◌, Front, limited, at_fault, variable
 use Rattle.pli_base.specs.declared.code.Code.TheVariants.{NestedTooDeep}
 use Rattle.pli_base.specs.declared.token.Fault.{Fault}
 use Rattle.pli_base.specs.declared.token.Sign.TheVariants.{Plus}
-use Rattle.pli_base.specs.declared.token.TokenText.TheVariants.{Word, Number, Sign}
+use Rattle.pli_base.specs.declared.token.TokenText.TheVariants.{Word, Decimal, Sign}
 use Rattle.pli_parse.specs.declared.procedure.ParseError.{ParseError}
 use Rattle.pli_parse.specs.declared.procedure.ParseError.TheVariants as errors
 use Rattle.pli_parse.specs.Answers.{Fails, behind, behind_term}
@@ -21,8 +21,8 @@ pub at_plus : (count : ℕ) (left : Expression) (p : ℕ) (us : Tokens) → sum_
 unfolding sum_from operand_at
 at_plus count left p [] = refl
 at_plus count left p (Word n ∷ us) = let e : p + 2 ≡ p + 1 + 1 = omega arith in ap (λ q. limited count p (sum_from (count + 1) (Sum left (variable_at n (p + 1))) q us)) e
-at_plus count left p (Number v d ∷ us) = let e : p + 2 ≡ p + 1 + 1 = omega arith in ap (λ q. limited count p (sum_from (count + 1) (Sum left (Constant v d)) q us)) e
-at_plus count left p (Sign s ∷ us) = refl
+at_plus count left p (Decimal v d ∷ us) = let e : p + 2 ≡ p + 1 + 1 = omega arith in ap (λ q. limited count p (sum_from (count + 1) (Sum left (Constant v d)) q us)) e
+at_plus count left p (t ∷ us) = refl
 
 pub not_at_plus : (count : ℕ) (left : Expression) (p : ℕ) (ts : Tokens) → behind is_plus ts ≡ None → sum_from count left p ts ≡ Ok (record { value = left; next = p; rest = ts })
 unfolding sum_from behind
@@ -53,7 +53,7 @@ tail_of_term (Sign Plus ∷ Word n ∷ ts) us h = ap is_sum_tail (some_same h)
   where
     some_same : Some ts ≡ Some us → ts ≡ us
     some_same e = cc
-tail_of_term (Sign Plus ∷ Number v d ∷ ts) us h = ap is_sum_tail (some_same h)
+tail_of_term (Sign Plus ∷ Decimal v d ∷ ts) us h = ap is_sum_tail (some_same h)
   where
     some_same : Some ts ≡ Some us → ts ≡ us
     some_same e = cc
@@ -63,5 +63,5 @@ pub tail_of_none : (ts : Tokens) → behind_term ts ≡ None → (length ts == 0
 unfolding is_sum_tail behind_term
 tail_of_none [] h = refl
 tail_of_none (Sign Plus ∷ Word n ∷ ts) h = cc
-tail_of_none (Sign Plus ∷ Number v d ∷ ts) h = cc
+tail_of_none (Sign Plus ∷ Decimal v d ∷ ts) h = cc
 tail_of_none (t ∷ ts) h = ne_eqb (suc (length ts)) 0 (λ e. omega (arith, e))

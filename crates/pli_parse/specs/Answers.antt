@@ -2,7 +2,7 @@
 use Rattle.std.specs.Prelude.{◌≡◌, ◌+◌, ◌<◌, ℕ, Bool, List, [], ◌∷◌, Option, Some, None, Result, Ok, Err, length, if◌then◌else◌}
 use Rattle.pli_base.specs.declared.token.Sign.TheVariants.{Plus}
 use Rattle.pli_base.specs.declared.token.TokenText.{TokenText}
-use Rattle.pli_base.specs.declared.token.TokenText.TheVariants.{Word, Number, Sign}
+use Rattle.pli_base.specs.declared.token.TokenText.TheVariants.{Word, Decimal, Sign}
 use Rattle.pli_base.specs.Name.{Name}
 use Rattle.pli_base.specs.Tree.{Statement}
 use Rattle.pli_base.specs.Words.{Tokens, is_semicolon}
@@ -45,7 +45,7 @@ behind fits (t ∷ ts) = if fits t then Some ts else None
 -- the tokens behind `+` and an operand, if they begin so
 unfoldable pub behind_term : Tokens → Option Tokens
 behind_term (Sign Plus ∷ Word n ∷ ts) = Some ts
-behind_term (Sign Plus ∷ Number v d ∷ ts) = Some ts
+behind_term (Sign Plus ∷ Decimal v d ∷ ts) = Some ts
 behind_term _ = None
 
 -- the name that the tokens begin with, and those behind it

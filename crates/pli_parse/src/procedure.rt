@@ -75,7 +75,7 @@ fn is_binary(text: &TokenText) -> bool
 fn is_precision(text: &TokenText) -> bool
     ensures { result ≡ is_number declared_precision text.now }
 {
-    matches!(text, TokenText::Number { value: 31, .. })
+    matches!(text, TokenText::Decimal { value: 31, .. })
 }
 
 /// Whether the token is `(`.
@@ -196,7 +196,7 @@ fn behind_term(texts: &[TokenText]) -> Option<&[TokenText]>
     match texts {
         [
             TokenText::Sign(Sign::Plus),
-            TokenText::Word(_) | TokenText::Number { .. },
+            TokenText::Word(_) | TokenText::Decimal { .. },
             rest @ ..,
         ] => Some(rest),
         _ => None,
@@ -227,7 +227,7 @@ fn operand_at(at: u32, texts: &[TokenText]) -> Result<Front<'_, Expression>, Par
             next: at + 1,
             rest,
         }),
-        [TokenText::Number { value, digits }, rest @ ..] => Ok(Front {
+        [TokenText::Decimal { value, digits }, rest @ ..] => Ok(Front {
             value: Expression::Constant {
                 value: *value,
                 digits: *digits,
@@ -423,7 +423,7 @@ fn is_expression(texts: &[TokenText]) -> bool
     ensures { result ≡ is_expression texts.now }
 {
     match texts {
-        [TokenText::Word(_) | TokenText::Number { .. }, rest @ ..] => is_sum_tail(rest),
+        [TokenText::Word(_) | TokenText::Decimal { .. }, rest @ ..] => is_sum_tail(rest),
         _ => false,
     }
 }

@@ -23,7 +23,7 @@ fn token_of(word: &str) -> Option<TokenText> {
         return Some(TokenText::Sign(sign));
     }
     if let Ok(value) = word.parse::<u32>() {
-        return Some(TokenText::Number {
+        return Some(TokenText::Decimal {
             value,
             digits: u8::try_from(word.len()).ok()?,
         });

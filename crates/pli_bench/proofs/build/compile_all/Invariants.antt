@@ -6,6 +6,6 @@ use Rattle.pli_bench.proofs.build.compile_all.Given as goal
 -- the units and the text so far, and those of the members that are left, are those of all
 abbrev pub invariant-loop-entry : goal.invariant-loop-entry
 invariant-loop-entry l = record {
-  units : map compiled_view l.units.items ++ all_units (drop l.entry-index l.entry-items) ≡ all_units l.entry-items;
-  text : l.text.items ++ all_text (drop l.entry-index l.entry-items) ≡ l.initial.text.items ++ all_text l.entry-items;
+  units : map compiled_view l.units.items ++ all_units l.members.entries (drop l.entry-index l.entry-items) ≡ all_units l.members.entries l.entry-items;
+  text : l.text.items ++ all_text l.members.entries (drop l.entry-index l.entry-items) ≡ l.initial.text.items ++ all_text l.members.entries l.entry-items;
 }

@@ -1,0 +1,5 @@
+use Rattle.pli_include.proofs.Levels.{level_is_never_met}
+use Rattle.pli_include.proofs.laws.level_is_never_met.Goals as goal
+
+pub returns : goal.returns
+returns c = level_is_never_met

@@ -1,0 +1,38 @@
+-- The expansion of a member of a store, with its trace.
+use Rattle.std.specs.Prelude.{List, [], map, Option, None, Some, Ok, Err}
+use Rattle.std.specs.Map.{lookup}
+use Rattle.std.specs.Option.{option_map}
+use Rattle.pli_base.specs.Name.{Name}
+use Rattle.pli_base.specs.declared.token.Origin.{Origin}
+use Rattle.pli_base.specs.declared.token.TokenText.{TokenText}
+use Rattle.pli_lex.specs.Reading.{lexed}
+use Rattle.pli_members.specs.Members.{Store, Member, is_named, version_of}
+use Rattle.pli_include.specs.declared.expansion.ExpansionFault.{ExpansionFault}
+use Rattle.pli_include.specs.declared.expansion.Looked.{Looked}
+use Rattle.pli_include.specs.Expansion.{Look, Outcome, expanded_within, token_limit}
+
+-- the names that were looked up, each with its version or its absence, and either texts, each with its origin, or a fault
+pub record Expanded : Type 0 where
+  pub trace : List Looked
+  pub texts : List TokenText
+  pub origins : List Origin
+  pub fault : Option ExpansionFault
+
+-- what members have under a name
+abbrev pub look_in : List (Name × Member) → Look
+look_in entries name = option_map lexed (option_map (λ m. m.lines) (lookup (is_named name) entries))
+
+-- the expansion of one of the members, or its first fault
+abbrev pub outcome_of : List (Name × Member) → Name → Outcome
+outcome_of entries u = expanded_within token_limit (look_in entries) u
+
+-- the version of a name, or its absence
+abbrev pub answered : Store → Name → Looked
+answered s name = record { name = name; version = version_of s name }
+
+abbrev pub told : Store → Outcome → Expanded
+told s (Ok p) = record { trace = map (answered s) p.looked; texts = p.texts; origins = p.origins; fault = None }
+told s (Err stop) = record { trace = map (answered s) stop.looked; texts = []; origins = []; fault = Some stop.fault }
+
+unfoldable pub expansion_of : Store → Name → Expanded
+expansion_of s u = told s (outcome_of s.entries u)

@@ -1,0 +1,18 @@
+//! Inclusion: the tokens of a member with its directives replaced by the members that they name.
+#![tactic(auto)]
+
+mod directive;
+mod expander;
+mod expansion;
+mod laws;
+mod library;
+mod progress;
+mod reading;
+mod walk;
+
+pub use expander::Expander;
+pub use expansion::{Expansion, ExpansionFault, Looked};
+pub use laws::{level_is_never_met, texts_have_origins, trace_decides, worked_examples};
+
+#[cfg(test)]
+mod tests;

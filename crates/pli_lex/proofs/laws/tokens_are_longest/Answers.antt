@@ -1,0 +1,5 @@
+use Rattle.pli_lex.proofs.Tokens.{longest}
+use Rattle.pli_lex.proofs.laws.tokens_are_longest.Goals as goal
+
+pub returns : goal.returns
+returns c = longest

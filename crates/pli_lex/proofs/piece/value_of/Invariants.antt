@@ -1,6 +1,0 @@
-use Rattle.std.proofs.Common.{◌≡◌, ◌<◌, ◌^◌, take}
-use Rattle.pli_lex.specs.Tokens.{decimal_value}
-use Rattle.pli_lex.proofs.piece.value_of.Given as goal
-
-abbrev pub invariant-loop-digit : goal.invariant-loop-digit
-invariant-loop-digit l = record { value : l.value ≡ decimal_value (take l.digit-index l.digits); below : l.value < 10 ^ l.digit-index }

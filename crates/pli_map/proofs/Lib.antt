@@ -1,0 +1,9 @@
+pub mod Alignments
+pub mod Counts
+pub mod Elements
+pub mod Equality
+pub mod Members
+pub mod Multiples
+pub mod Paths
+pub mod PlaceLaws
+pub mod Places

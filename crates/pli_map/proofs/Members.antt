@@ -1,0 +1,49 @@
+-- Members one behind the other.
+use Rattle.std.proofs.Common.{◌≡◌, ℕ, zero, suc, ◌+◌, ◌<◌, ◌≤◌, List, [], ◌∷◌, length, get_or, take, drop, Some, None, refl, ap, sym, ◌∙◌, arith}
+use Rattle.std.specs.Int.{next_multiple_of}
+use Rattle.std.proofs.lemmas.List.{at_drop_more}
+use Rattle.pli_map.specs.Description as tree
+use Rattle.pli_map.specs.DescriptionView.{description_view, members_view}
+use Rattle.pli_map.specs.Parts.{Part, member_behind}
+use Rattle.pli_map.specs.Sizes.{alignment_of, size_of, end_behind}
+use Rattle.pli_map.specs.declared.description.Description.{Description}
+
+-- members end no earlier than they begin
+pub later : (at : ℕ) (ds : tree.Members) → at ≤ end_behind at ds
+later at tree.NoMembers = omega arith
+later at (tree.MemberThen d ds) = omega (arith, later (next_multiple_of at (alignment_of d) + size_of d) ds)
+
+-- the first members end no later than all
+pub end_of_first : (at : ℕ) (xs : List Description) (i : ℕ) → end_behind at (members_view (take i xs)) ≤ end_behind at (members_view xs)
+end_of_first at [] zero = omega arith
+end_of_first at [] (suc i) = omega arith
+end_of_first at (x ∷ xs) zero = later at (members_view (x ∷ xs))
+end_of_first at (x ∷ xs) (suc i) = end_of_first (next_multiple_of at (alignment_of (description_view x)) + size_of (description_view x)) xs i
+
+abbrev pub standing : ℕ → tree.Description → Part
+standing at d = record { offset = next_multiple_of at (alignment_of d); description = d }
+
+-- a member stands behind those before it
+pub member_within : (at : ℕ) (xs : List Description) (i : ℕ) (x : Description) → i < length xs → x ≡ get_or xs i x
+    → member_behind at (members_view xs) i ≡ Some (standing (end_behind at (members_view (take i xs))) (description_view x))
+member_within at [] i x within is = absurd (omega arith)
+member_within at (y ∷ xs) zero x within is = ap (λ z. Some (standing at (description_view z))) (sym is)
+member_within at (y ∷ xs) (suc i) x within is =
+    member_within (next_multiple_of at (alignment_of (description_view y)) + size_of (description_view y)) xs i x (omega arith) is
+
+pub member_past : (at : ℕ) (xs : List Description) (i : ℕ) → length xs ≤ i → member_behind at (members_view xs) i ≡ None
+member_past at [] i past = refl
+member_past at (y ∷ xs) zero past = absurd (omega arith)
+member_past at (y ∷ xs) (suc i) past = member_past (next_multiple_of at (alignment_of (description_view y)) + size_of (description_view y)) xs i (omega arith)
+
+-- members are measured up to one whose size alone is over the limit, or whose end is
+pub over_by_member : (at : ℕ) (left : tree.Members) (d : tree.Description) (ds : tree.Members) (whole : ℕ) → left ≡ tree.MemberThen d ds
+    → end_behind at left ≡ whole → 1000000 < next_multiple_of at (alignment_of d) + size_of d → 1000000 < whole
+over_by_member at left d ds whole left_is end over =
+    let e : end_behind (next_multiple_of at (alignment_of d) + size_of d) ds ≡ whole = sym (ap (end_behind at) left_is) ∙ end in
+    omega (arith, later (next_multiple_of at (alignment_of d) + size_of d) ds, e)
+
+-- what is left of members begins with the one at hand
+pub next_member : (xs : List Description) (i : ℕ) (x : Description) → i < length xs → x ≡ get_or xs i x
+    → members_view (drop i xs) ≡ tree.MemberThen (description_view x) (members_view (drop (i + 1) xs))
+next_member xs i x within is = at_drop_more members_view xs i x within ∙ ap (λ y. members_view (y ∷ drop (i + 1) xs)) (sym is)

@@ -1,0 +1,25 @@
+-- Descriptions, as definitions speak of them: without where they lie in memory. Names do not stand in them, so two descriptions are
+-- equal where types, bounds and structure agree.
+use Rattle.std.specs.Prelude.{ℕ, List}
+use Rattle.std.specs.Int.{next_multiple_of}
+use Rattle.pli_map.specs.declared.description.Bounds.{Bounds}
+
+mutual
+  pub data Description : Type 0 where
+    FixedBinary : (precision : ℕ) → Description
+    Character : (length : ℕ) → Description
+    Varying : (length : ℕ) → Description
+    Bit : (length : ℕ) → Description
+    Pointer : Description
+    Offset : Description
+    Area : (bytes : ℕ) → Description
+    Array : (bounds : List Bounds) (element : Description) → Description
+    Structure : (members : Members) → Description
+
+  pub data Members : Type 0 where
+    NoMembers : Members
+    MemberThen : (first : Description) (others : Members) → Members
+
+-- the description of AREA(n): an area's size is a multiple of 8 bytes
+abbrev pub area : ℕ → Description
+area n = Area (next_multiple_of n 8)

@@ -1,0 +1,15 @@
+-- What paths and parts of the program say.
+use Rattle.pli_map.specs.DescriptionView.{description_view}
+use Rattle.pli_map.specs.Parts as parts
+use Rattle.pli_map.specs.declared.parts.Part.{Part}
+use Rattle.pli_map.specs.declared.parts.Step.{Step}
+use Rattle.pli_map.specs.declared.parts.Step.TheVariants.{Member, Element}
+
+-- a step
+abbrev pub step_view : Step → parts.Step
+step_view (Member number) = parts.Member number
+step_view (Element subscripts) = parts.Element subscripts.items
+
+-- a part, by what its description says
+abbrev pub part_view : Part → parts.Part
+part_view p = record { offset = p.offset; description = description_view p.description.now }

@@ -1,0 +1,21 @@
+//! Descriptions of storage, and what they take: sizes, alignments, and where the parts of an array or a structure stand.
+#![tactic(auto)]
+
+mod description;
+mod laws;
+mod layout;
+mod parts;
+mod sizes;
+
+pub use description::{Bounds, Description};
+pub use laws::{
+    areas_are_rounded, elements_are_in_row_major_order, elements_are_within_bounds,
+    four_alignments, parts_do_not_meet, parts_lie_within, parts_stand_aligned, same_is_equal,
+    worked_examples,
+};
+pub use layout::{Layout, SIZE_LIMIT};
+pub use parts::{Part, Step, place};
+pub use sizes::{alignment, measure, size};
+
+#[cfg(test)]
+mod tests;

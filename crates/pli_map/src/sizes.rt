@@ -1,0 +1,114 @@
+//! How many bytes a description takes, and on which bytes it may stand (own).
+ghost use Rattle.std.specs.Prelude.{◌≡◌, ◌<◌, ◌≤◌, ◌+◌, ◌*◌, min, max, nat_le, if◌then◌else◌, SomeIff};
+ghost use Rattle.std.specs.Int.{next_multiple_of};
+ghost use Rattle.pli_map.specs.Sizes.{count_of, alignment_of, greatest_alignment, size_of, end_behind, stride_of};
+ghost use Rattle.pli_map.specs.DescriptionView.{description_view, members_view};
+ghost use Rattle.pli_map.specs.Layouts.{IsLayout};
+
+use crate::description::{Bounds, Description};
+use crate::layout::{Layout, OVER_LIMIT};
+
+/// The size in bytes, or `None` where it is over SIZE_LIMIT.
+pub fn size(description: &Description) -> Option<u32>
+    ensures { SomeIff result (size_of (description_view description.now) ≤ 1000000) (size_of (description_view description.now)) }
+{
+    Some(measure(description)?.bytes)
+}
+
+/// The alignment in bytes: 1, 2, 4 or 8. A description stands on a byte whose number is a multiple of it.
+#[cycle(alignment)]
+#[tactic(auto, using(crate::proofs::Alignments::alignment_positive, crate::proofs::Alignments::alignment_small))]
+pub fn alignment(description: &Description) -> u32
+    ensures value { result ≡ alignment_of (description_view description.now) }
+    ensures positive { 0 < result }
+    ensures small { result ≤ 8 }
+{
+    match description {
+        Description::FixedBinary(precision) => fixed_binary_size(*precision),
+        Description::Character(_) | Description::Bit(_) => 1,
+        Description::Varying(_) => 2,
+        Description::Pointer | Description::Offset => 4,
+        Description::Area(_) => 8,
+        Description::Array { bounds: _, element } => alignment(element),
+        Description::Structure(members) => members_alignment(members),
+    }
+}
+
+#[cycle(alignment)]
+fn members_alignment(members: &[Description]) -> u32
+    ensures value { result ≡ greatest_alignment (members_view members.now) }
+    ensures positive { 0 < result }
+    ensures small { result ≤ 8 }
+{
+    let mut greatest = 1;
+    for member in members {
+        greatest = alignment(member).max(greatest);
+    }
+    greatest
+}
+
+fn fixed_binary_size(precision: u8) -> u32
+    ensures { result ≡ (if nat_le precision 15 then 2 else 4) }
+{
+    if precision <= 15 { 2 } else { 4 }
+}
+
+/// What a description takes, or `None` where its size is over SIZE_LIMIT.
+#[cycle(measure)]
+pub fn measure(description: &Description) -> Option<Layout>
+    ensures { let d = description_view description.now in IsLayout result (size_of d) (alignment_of d) }
+{
+    match description {
+        Description::FixedBinary(precision) => {
+            let bytes = fixed_binary_size(*precision);
+            Layout::of(u64::from(bytes), bytes)
+        }
+        Description::Character(length) => Layout::of(u64::from(*length), 1),
+        Description::Varying(length) => Layout::of(2 + u64::from(*length), 2),
+        Description::Bit(length) => Layout::of(u64::from(length.div_ceil(8)), 1),
+        Description::Pointer => Layout::of(8, 4),
+        Description::Offset => Layout::of(4, 4),
+        Description::Area(bytes) => Layout::of(u64::from(*bytes).next_multiple_of(8), 8),
+        Description::Array { bounds, element } => measure_array(bounds, element),
+        Description::Structure(members) => measure_members(members),
+    }
+}
+
+#[cycle(measure)]
+fn measure_array(bounds: &[Bounds], element: &Description) -> Option<Layout>
+    ensures { let d = description_view element.now in
+        IsLayout result (count_of bounds.now * stride_of d) (alignment_of d) }
+{
+    let count = element_count(bounds);
+    if count == 0 {
+        return Layout::of(0, alignment(element));
+    }
+    let one = measure(element)?;
+    Layout::of(count * u64::from(one.stride()), one.alignment)
+}
+
+/// What members take one behind the other.
+#[cycle(measure)]
+pub fn measure_members(members: &[Description]) -> Option<Layout>
+    ensures { let ds = members_view members.now in IsLayout result (end_behind 0 ds) (greatest_alignment ds) }
+{
+    let mut whole = Layout {
+        bytes: 0,
+        alignment: 1,
+    };
+    for member in members {
+        whole = whole.and(measure(member)?)?;
+    }
+    Some(whole)
+}
+
+/// How many elements an array of these bounds has; a number over the limit stands for every greater one.
+fn element_count(dimensions: &[Bounds]) -> u64
+    ensures { result ≡ min (count_of dimensions.now) 1000001 }
+{
+    let mut count = 1;
+    for bounds in dimensions {
+        count = (count * u64::from(bounds.extent())).min(OVER_LIMIT);
+    }
+    count
+}
