@@ -112,11 +112,7 @@ fn link_text(alloc: Global, faults: &[LinkFault]) -> Result<Vec<u8>, AllocError>
 
 /// Builds all source members anew.
 #[tactic(auto, unfolding(pli_meaning::specs::Scratch::scratch))]
-pub fn build(
-    alloc: Global,
-    expander: &mut Expander,
-    members: &Members,
-) -> Result<Built, AllocError>
+pub fn build(alloc: Global, expander: &mut Expander, members: &Members) -> Result<Built, AllocError>
     ensures { IfOk result (λ built. built_view built ≡ scratch members.now.entries) }
 {
     let mut text = Vec::new(alloc);
