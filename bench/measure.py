@@ -17,6 +17,24 @@ def member(name, lines):
         yield f"INSERT {name} {number} {line}"
 
 
+def included(name, lines):
+    """The commands that type an INCLUDE member of these lines."""
+    yield f"ADD {name} INCLUDE"
+    for number, line in enumerate(lines):
+        yield f"INSERT {name} {number} {line}"
+
+
+def including(name, member):
+    """A unit whose statements are those of an included member."""
+    return [f"{name}: PROC OPTIONS(MAIN);", "DCL X FIXED BIN(31), Y FIXED BIN(31);", f"%INCLUDE {member};", f"END {name};"]
+
+
+def wide(count):
+    """Lines of 115 bytes with every kind of token that the lexer knows and a comment; as text they are one fault at their first statement."""
+    for _ in range(count):
+        yield "ABCDEFGHIJ = 'a string''s text' || '10110'B | '7F'B4 & 1234567890 - 101B ^= (K->L.M <= N_1$); /* comment */ Y = 1; Z = 2;"[:120]
+
+
 def procedure(name, count):
     """A procedure of so many lines: it declares two variables, assigns one to the other, and prints."""
     yield f"{name}: PROC OPTIONS(MAIN);"
@@ -33,6 +51,12 @@ def sessions():
     yield "the same, built ten times", one + ["BUILD"] * 10
     many = [command for k in range(30) for command in member(f"M{k}", procedure(f"M{k}", 2000))]
     yield "thirty members of 2,000 lines, built", many + ["BUILD"]
+    common = list(included("K", ["X = Y;"] * 1000))
+    units = [command for k in range(100) for command in member(f"U{k}", including(f"U{k}", "K"))]
+    yield "100 units that include one member of 1,000 lines", common + units + ["BUILD"]
+    lexed = [command for k in range(9) for command in member(f"L{k}", wide(9300))]
+    yield "ten megabytes of tokens, typed", lexed
+    yield "the same, built: each text is lexed", lexed + ["BUILD"]
     printing = ["M: PROC OPTIONS(MAIN);", "DCL X FIXED BIN(31);"] + ["PUT LIST(X, X, X, X, X, X, X, X, X, X);"] * 1500 + ["END;"]
     yield "15,000 items printed, ten times", list(member("M", printing)) + ["BUILD"] + ["RUN"] * 10
 

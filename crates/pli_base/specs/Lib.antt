@@ -10,3 +10,6 @@ pub mod ReadingExamples
 pub mod Tree
 pub mod TreeView
 pub mod Words
+pub mod Syntax
+pub mod SyntaxView
+pub mod SyntaxLaws

@@ -7,6 +7,7 @@ mod laws;
 mod line;
 mod name;
 mod string;
+pub mod syntax;
 mod token;
 mod tree;
 

@@ -9,6 +9,7 @@ ghost use Rattle.pli_bench.specs.declared.serving.ServeFault.TheVariants.{TooMan
 
 use crate::pending::Pending;
 use pli_base::{Failed, Sink, Source};
+use thiserror::Error;
 
 /// How many bytes are taken in one piece (own).
 const PIECE: usize = 4096;
@@ -25,17 +26,21 @@ pub enum Next {
 }
 
 /// The writer failed.
-#[derive(Clone, Copy, Debug, PartialEq, Eq)]
+#[derive(Clone, Copy, Debug, PartialEq, Eq, Error)]
+#[error("a write failed")]
 pub struct WriteFailed;
 
 /// Why the commands of a reader were not all answered.
-#[derive(Clone, Copy, Debug, PartialEq, Eq)]
+#[derive(Clone, Copy, Debug, PartialEq, Eq, Error)]
 pub enum ServeFault {
     /// The reader failed.
+    #[error("a read failed")]
     ReadFailed,
     /// So many reads were not enough to come to the end.
+    #[error("too many reads")]
     TooManyReads,
     /// The writer failed.
+    #[error("a write failed")]
     WriteFailed,
 }
 

@@ -26,7 +26,7 @@ fn answers(alloc: Global, session: &[u8]) -> Result<Vec<u8>, ServeFault> {
 }
 
 /// Sessions with their answers.
-const SESSIONS: [Row; 26] = [
+const SESSIONS: [Row; 33] = [
     FIRST_RUN,
     (
         b"BUILD\nRUN\nFOO\nADD E SOURCE\nADD E SOURCE\nINSERT E 1 X\nBUILD\n",
@@ -132,6 +132,41 @@ const SESSIONS: [Row; 26] = [
         b"LIST\nLIST \nLIST 1M\nLIST M X\nMEMBERS \nMEMBERS X\nREPLACE M\nREPLACE M 1234567890 X\nREPLACE M X Y\nREMOVE M 1\nREMOVE M 1 2 3\nREMOVE M 1  2\nREMOVE M 1 1234567890\nREMOVE M 1 2 \nADD M OTHER\nADD M INCLUDE \nADD M\n",
         b"B1 BAD COMMAND\nB1 BAD COMMAND\nB1 BAD COMMAND\nB1 BAD COMMAND\nB1 BAD COMMAND\nB1 BAD COMMAND\nB1 BAD COMMAND\nB1 BAD COMMAND\nB1 BAD COMMAND\nB1 BAD COMMAND\nB1 BAD COMMAND\nB1 BAD COMMAND\nB1 BAD COMMAND\nB1 BAD COMMAND\nB1 BAD COMMAND\nB1 BAD COMMAND\nB1 BAD COMMAND\n",
     ),
+    // an included member that is deleted and added again with another text
+    (
+        b"ADD M SOURCE\nINSERT M 0 M: PROC OPTIONS(MAIN); DCL X FIXED BIN(31);\nINSERT M 1 %INCLUDE K;\nINSERT M 2 PUT LIST(X); END M;\nADD K INCLUDE\nINSERT K 0 X = 1;\nBUILD\nRUN\nDELETE K\nADD K INCLUDE\nINSERT K 0 X = 2;\nBUILD\nRUN\nMEMBERS\nLIST K\n",
+        b"OK\nOK\nOK\nOK\nOK\nOK\nBUILT\n             1 \nENDED\nOK\nOK\nOK\nBUILT\n             2 \nENDED\nK INCLUDE 1\nM SOURCE 3\nOK\n1 X = 2;\nOK\n",
+    ),
+    // an included member that comes later
+    (
+        b"ADD M SOURCE\nINSERT M 0 M: PROC OPTIONS(MAIN); DCL X FIXED BIN(31);\nINSERT M 1 %INCLUDE K;\nINSERT M 2 PUT LIST(X); END M;\nBUILD\nADD K INCLUDE\nINSERT K 0 X = 1;\nBUILD\nBUILD\nRUN\n",
+        b"OK\nOK\nOK\nOK\nM M:2 I1 NO SUCH MEMBER\nNOT BUILT\nOK\nOK\nBUILT\nBUILT\n             1 \nENDED\n",
+    ),
+    // a member that includes itself by another
+    (
+        b"ADD A SOURCE\nINSERT A 0 A: PROC OPTIONS(MAIN);\nINSERT A 1 %INCLUDE B;\nINSERT A 2 END A;\nADD B INCLUDE\nINSERT B 0 %INCLUDE A;\nBUILD\nREMOVE B 1 1\nBUILD\n",
+        b"OK\nOK\nOK\nOK\nOK\nOK\nA B:1 I2 RECURSIVE INCLUDE\nNOT BUILT\nOK\nBUILT\n",
+    ),
+    // a percent sign that begins no directive
+    (
+        b"ADD M SOURCE\nINSERT M 0 M: PROC OPTIONS(MAIN);\nINSERT M 1 %INCLUD K;\nINSERT M 2 END M;\nBUILD\n",
+        b"OK\nOK\nOK\nOK\nM M:2 I4 BAD INCLUDE\nNOT BUILT\n",
+    ),
+    // a diagnostic follows its line; then an unended string
+    (
+        b"ADD M SOURCE\nINSERT M 0 M: PROC OPTIONS(MAIN);\nINSERT M 1 Y = 1;\nINSERT M 2 END M;\nBUILD\nINSERT M 1 /* NOTE */\nBUILD\nREPLACE M 3 Y = 'AB;\nBUILD\n",
+        b"OK\nOK\nOK\nOK\nM M:2 A1 NOT DECLARED\nNOT BUILT\nOK\nM M:3 A1 NOT DECLARED\nNOT BUILT\nOK\nM M:3 X2 UNENDED STRING\nNOT BUILT\n",
+    ),
+    // a SOURCE member that is included, a fault in a member that is included twice, and one behind it
+    (
+        b"ADD M SOURCE\nINSERT M 0 %INCLUDE N;\nADD N SOURCE\nINSERT N 0 N: PROC OPTIONS(MAIN);\nINSERT N 1 %include 'k'; %INCLUDE K;\nINSERT N 2 END N;\nADD K INCLUDE\nINSERT K 0\nINSERT K 1 X = 1;\nBUILD\nREPLACE K 2 X\nBUILD\nREPLACE K 2 ;\nDELETE M\nBUILD\nRUN\n",
+        b"OK\nOK\nOK\nOK\nOK\nOK\nOK\nOK\nOK\nM K:2 A1 NOT DECLARED\nM K:2 A1 NOT DECLARED\nN K:2 A1 NOT DECLARED\nN K:2 A1 NOT DECLARED\nNOT BUILT\nOK\nM K:2 P2 NOT A STATEMENT\nN K:2 P2 NOT A STATEMENT\nNOT BUILT\nOK\nOK\nBUILT\nENDED\n",
+    ),
+    // an expansion without tokens
+    (
+        b"ADD M SOURCE\nINSERT M 0\nINSERT M 1 %INCLUDE K;\nADD K INCLUDE\nINSERT K 0 /* NOTHING */\nBUILD\n",
+        b"OK\nOK\nOK\nOK\nOK\nM M:1 P1 NO PROCEDURE\nNOT BUILT\n",
+    ),
     (b"RUN\n", b"B2 NOT BUILT\n"),
     (b"", b""),
 ];
@@ -148,7 +183,7 @@ fn sessions(rt: HostRuntime) -> Result<(), Fail> {
 /// The one line of a member, with what a build says of it.
 const DIAGNOSTICS: [Row; 10] = [
     (
-        b"M: PROC OPTIONS(MAIN); X = 2 - 1; END;",
+        b"M: PROC OPTIONS(MAIN); X = 2 ? 1; END;",
         b"M M:1 X3 BAD CHARACTER\n",
     ),
     (
@@ -375,6 +410,42 @@ fn long_listings(rt: HostRuntime) -> Result<(), Fail> {
     wanted.extend_from_slice(b"OK\n")?;
     let found = answers(rt.alloc(), &session).ok().ok_or("answers")?;
     assert!(rt; found.as_slice() == wanted.as_slice());
+    Ok(())
+}
+
+/// The answers where a member that is included twice has a thousand lines of a hundred null statements, the last of them
+/// as many as given.
+fn of_included_statements(alloc: Global, last: &[u8]) -> Result<Vec<u8>, Fail> {
+    let mut session = Vec::from_slice(
+        alloc,
+        b"ADD M SOURCE\nINSERT M 0 M: PROC OPTIONS(MAIN);\nINSERT M 1 %INCLUDE K; %INCLUDE K;\nINSERT M 2 END;\nADD K INCLUDE\nINSERT K 0 ",
+    )?;
+    session.extend_from_slice(last)?;
+    session.push(b'\n')?;
+    for _ in 1..1000 {
+        session.extend_from_slice(b"INSERT K 0 ")?;
+        session.extend_from_slice(&[b';'; 100])?;
+        session.push(b'\n')?;
+    }
+    session.extend_from_slice(b"BUILD\n")?;
+    Ok(answers(alloc, &session).ok().ok_or("answers")?)
+}
+
+#[test]
+fn included_limits(rt: HostRuntime) -> Result<(), Fail> {
+    for (last, wanted) in [
+        (
+            [b';'; 91].as_slice(),
+            b"M M:1 G1 CODE TOO LONG\nNOT BUILT\n".as_slice(),
+        ),
+        (
+            [b';'; 100].as_slice(),
+            b"M K:1000 I3 TOO MANY TOKENS\nNOT BUILT\n".as_slice(),
+        ),
+    ] {
+        let found = of_included_statements(rt.alloc(), last)?;
+        assert!(rt; found.as_slice().ends_with(wanted));
+    }
     Ok(())
 }
 

@@ -12,16 +12,19 @@ use indexmap::IndexSet;
 use pli_base::{Body, Expression, Name, Reference, Statement, Unit};
 use pli_code::{Code, Description, Instruction};
 use std::alloc::{AllocError, AllocFailed, Global};
+use thiserror::Error;
 
 /// The greatest number of entries of a table of a unit (own).
 const TABLE_LIMIT: usize = 65_535;
 
 /// Why a tree has no code.
-#[derive(Clone, Copy, Debug, PartialEq, Eq)]
+#[derive(Clone, Copy, Debug, PartialEq, Eq, Error)]
 pub enum GenerateError {
     /// G1: a table would have more than 65,535 entries, or a value more than 31 binary digits.
+    #[error("code too long")]
     TooLong,
     /// Memory ran out.
+    #[error("out of memory")]
     OutOfMemory,
 }
 

@@ -4,11 +4,16 @@ ghost use Rattle.pli_machine.specs.declared.fault.RunFault.TheVariants.{OutOfMem
 
 use pli_base::Failed;
 use std::alloc::AllocError;
+use thiserror::Error;
 
 /// Why a run gives no ending.
-#[derive(Clone, Copy, Debug, PartialEq, Eq)]
+#[derive(Clone, Copy, Debug, PartialEq, Eq, Error)]
 pub enum RunFault {
+    /// Memory was refused.
+    #[error("out of memory")]
     OutOfMemory,
+    /// The sink failed.
+    #[error("a write failed")]
     WriteFailed,
 }
 

@@ -1,5 +1,9 @@
 //! The words of the command line.
-ghost use Rattle.std.specs.Prelude.{◌≡◌, ◌≤◌, IfOk};
+ghost use Rattle.std.specs.Prelude.{◌≡◌, map};
+ghost use Rattle.std.specs.String.{string_bytes};
+ghost use Rattle.clap.specs.Words.{HasKind, Kinds};
+ghost use Rattle.pliwb.specs.CommandLine.{Reads, Refuses};
+ghost use Rattle.pliwb.specs.declared.arguments.ArgumentsError.TheVariants.{OutOfMemory};
 
 use clap::error::ErrorKind;
 use clap::{Arg, ArgAction, Command, Error, value_parser};
@@ -19,19 +23,25 @@ pub struct Arguments {
 }
 
 /// Why words say nothing: the text for the user, or want of memory.
-#[derive(Drop)]
+#[derive(Debug, Drop, thiserror::Error)]
 pub enum ArgumentsError {
+    #[error("{0}")]
     Usage(String),
+    #[error("out of memory")]
     OutOfMemory,
 }
 
 impl From<AllocError> for ArgumentsError {
+    ghost from_gives = { λ _ e. e ≡ OutOfMemory };
+
     fn from(_error: AllocError) -> ArgumentsError {
         ArgumentsError::OutOfMemory
     }
 }
 
-fn usage(alloc: Global, error: Error) -> ArgumentsError {
+fn usage(alloc: Global, error: Error) -> ArgumentsError
+    ensures { (kinds : Kinds) → HasKind kinds error → Refuses kinds result }
+{
     if error.kind() == ErrorKind::OutOfMemory {
         return ArgumentsError::OutOfMemory;
     }
@@ -42,13 +52,15 @@ fn usage(alloc: Global, error: Error) -> ArgumentsError {
 }
 
 /// Reads the words behind the program's name: `--steps N`, or none.
-pub fn read_arguments(alloc: Global, words: &[String]) -> Result<Arguments, ArgumentsError> {
+pub fn read_arguments(alloc: Global, words: &[String]) -> Result<Arguments, ArgumentsError>
+    ensures { Reads (map string_bytes words.now) result }
+{
     let steps = Arg::new(alloc, "steps")
         .long("steps")
         .value_name("N")
         .help("The steps of a bare RUN")
         .action(ArgAction::Set)
-        .value_parser(value_parser!(u64).range(0..=STEPS_LIMIT))
+        .value_parser(value_parser!(u64).range(..=STEPS_LIMIT))
         .default_value("1000000");
     let command = Command::new(alloc, "pliwb")
         .about("The workbench: commands from standard input, answers to standard output")

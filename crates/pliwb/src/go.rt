@@ -1,5 +1,8 @@
 //! The program over any reader and writers.
-ghost use Rattle.std.specs.Prelude.{◌≤◌};
+ghost use Rattle.std.specs.Prelude.{◌≡◌, ◌≢◌, ◌≤◌, ◌<◌, ℕ, length, map};
+ghost use Rattle.std.specs.String.{string_bytes};
+ghost use Rattle.pliwb.specs.CommandLine.{Gives, faults};
+ghost use Rattle.pliwb.specs.Statuses.{Answers, Breaks, status_of, reads_limit};
 
 use crate::arguments::{ArgumentsError, read_arguments};
 use pli_base::{Sink, Source, put_all};
@@ -18,6 +21,38 @@ const USAGE: u8 = 2;
 /// The status where memory was refused while the command line was read.
 const OUT_OF_MEMORY: u8 = 3;
 
+/// Serves `reader` to `writer` with a new workbench, and answers the status.
+pub fn serve<R: Source, W: Sink>(
+    alloc: Global,
+    steps: u64,
+    reader: &mut R,
+    writer: &mut W,
+    reads: u64,
+) -> u8
+    ensures answered { result ≡ 0 → Answers steps reads (R.remaining reader.old) (R.remaining reader.new) (W.contents writer.old) (W.contents writer.new) }
+    ensures broke { result ≡ 1 → Breaks steps reads (R.remaining reader.old) (R.remaining reader.new) (W.contents writer.old) (W.contents writer.new) (R.failed reader.new) (W.failed writer.new) }
+    ensures range { result ≤ 1 }
+{
+    match Bench::new(alloc, steps).serve(reader, writer, reads) {
+        Ok(_) => SERVED,
+        Err(_) => DEVICE_FAILED,
+    }
+}
+
+/// The status where the words say nothing. The text for the user goes to `errors`, whose failure changes no status.
+pub fn refuse<F: Sink>(error: ArgumentsError, errors: &mut F) -> u8
+    ensures status { result ≡ status_of error }
+    ensures silent { result ≢ 2 → errors.new ≡ errors.old }
+{
+    match error {
+        ArgumentsError::Usage(text) => {
+            let _ = put_all(errors, text.as_bytes());
+            USAGE
+        }
+        ArgumentsError::OutOfMemory => OUT_OF_MEMORY,
+    }
+}
+
 /// Reads the words behind the program's name, serves `reader` to `writer`, and answers the status (own). `errors` takes
 /// the text of status 2 alone, and its failure changes no status.
 pub fn go<R: Source, W: Sink, F: Sink>(
@@ -27,18 +62,15 @@ pub fn go<R: Source, W: Sink, F: Sink>(
     writer: &mut W,
     errors: &mut F,
 ) -> u8
-    ensures { result ≤ 3 }
+    ensures answered { result ≡ 0 → (steps : ℕ) × Gives (map string_bytes words.now) steps × Answers steps reads_limit (R.remaining reader.old) (R.remaining reader.new) (W.contents writer.old) (W.contents writer.new) }
+    ensures broke { result ≡ 1 → (steps : ℕ) × Gives (map string_bytes words.now) steps × Breaks steps reads_limit (R.remaining reader.old) (R.remaining reader.new) (W.contents writer.old) (W.contents writer.new) (R.failed reader.new) (W.failed writer.new) }
+    ensures refused { result ≡ 2 → 0 < length (faults (map string_bytes words.now)) }
+    ensures unserved { 1 < result → (reader.new ≡ reader.old) × (writer.new ≡ writer.old) }
+    ensures silent { result ≢ 2 → errors.new ≡ errors.old }
+    ensures range { result ≤ 3 }
 {
-    let arguments = match read_arguments(alloc, words) {
-        Ok(arguments) => arguments,
-        Err(ArgumentsError::Usage(text)) => {
-            let _ = put_all(errors, text.as_bytes());
-            return USAGE;
-        }
-        Err(ArgumentsError::OutOfMemory) => return OUT_OF_MEMORY,
-    };
-    match Bench::new(alloc, arguments.steps).serve(reader, writer, READS) {
-        Ok(_) => SERVED,
-        Err(_) => DEVICE_FAILED,
+    match read_arguments(alloc, words) {
+        Ok(arguments) => serve(alloc, arguments.steps, reader, writer, READS),
+        Err(error) => refuse(error, errors),
     }
 }

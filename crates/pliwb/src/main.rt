@@ -3,6 +3,7 @@
 
 mod arguments;
 mod go;
+mod laws;
 
 use pli_base::Device;
 use std::process::ExitCode;

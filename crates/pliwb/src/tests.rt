@@ -1,16 +1,32 @@
 //! The program over memory.
-use crate::go::go;
-use pli_base::Device;
+ghost use Rattle.std.specs.Prelude.{None};
+
+use crate::arguments::ArgumentsError;
+use crate::go::{go, refuse, serve};
+use pli_base::{Device, Failed, Sink, Source};
+use std::alloc::Global;
 use std::io::Cursor;
 use std::test::Fail;
 
-/// What `go` answers for words and an input: its status, what it writes, and whether it tells an error.
-fn ran(rt: &HostRuntime, words: &[&str], input: &str) -> Result<(u8, Vec<u8>, bool), Fail> {
-    let alloc = rt.alloc();
+/// A member typed, built and run.
+const PROGRAM: &str = "ADD M SOURCE\nINSERT M 0 M: PROC OPTIONS(MAIN); ; END;\nBUILD\nRUN\n";
+
+/// What the program is answered.
+const ANSWERS: &[u8] = b"OK\nOK\nBUILT\nENDED\n";
+
+/// Words of the command line.
+fn words_of(alloc: Global, words: &[&str]) -> Result<Vec<String>, Fail> {
     let mut given = Vec::new(alloc);
     for word in words {
         given.push(String::from_str(alloc, word)?)?;
     }
+    Ok(given)
+}
+
+/// What `go` answers for words and an input: its status, what it writes, and whether it tells an error.
+fn ran(rt: &HostRuntime, words: &[&str], input: &str) -> Result<(u8, Vec<u8>, bool), Fail> {
+    let alloc = rt.alloc();
+    let given = words_of(alloc, words)?;
     let mut reader = Device::over(Cursor::new(input.as_bytes()));
     let mut writer = Device::over(Vec::new(alloc));
     let mut errors = Device::over(Vec::new(alloc));
@@ -20,12 +36,11 @@ fn ran(rt: &HostRuntime, words: &[&str], input: &str) -> Result<(u8, Vec<u8>, bo
 
 #[test]
 fn statuses(rt: HostRuntime) -> Result<(), Fail> {
-    let program = "ADD M SOURCE\nINSERT M 0 M: PROC OPTIONS(MAIN); ; END;\nBUILD\nRUN\n";
-    let (status, text, told) = ran(&rt, &[], program)?;
+    let (status, text, told) = ran(&rt, &[], PROGRAM)?;
     assert_eq!(rt; status, 0);
-    assert!(rt; text.as_slice() == b"OK\nOK\nBUILT\nENDED\n".as_slice());
+    assert!(rt; text.as_slice() == ANSWERS);
     assert!(rt; !told);
-    let (status, text, _) = ran(&rt, &["--steps", "1"], program)?;
+    let (status, text, _) = ran(&rt, &["--steps", "1"], PROGRAM)?;
     assert_eq!(rt; status, 0);
     assert!(rt; text.as_slice() == b"OK\nOK\nBUILT\nOUT OF STEPS\n".as_slice());
     for words in [
@@ -35,10 +50,119 @@ fn statuses(rt: HostRuntime) -> Result<(), Fail> {
         ["FILE", "FILE"],
         ["--help", "--help"],
     ] {
-        let (status, text, told) = ran(&rt, &words, program)?;
+        let (status, text, told) = ran(&rt, &words, PROGRAM)?;
         assert_eq!(rt; status, 2);
         assert!(rt; text.is_empty());
         assert!(rt; told);
     }
     Ok(())
+}
+
+/// A device that moves bytes a few at a time, and fails after so many calls.
+#[derive(Drop)]
+struct Failing<'a> {
+    left: &'a [u8],
+    kept: Vec<u8>,
+    calls: u32,
+    failed: bool,
+}
+
+impl<'a> Source for Failing<'a> {
+    ghost remaining = { λ _. None };
+
+    ghost failed = { λ d. d.failed };
+
+    fn take(&mut self, buffer: &mut [u8]) -> Result<usize, Failed> {
+        self.failed = self.failed || self.calls == 0;
+        if self.failed {
+            return Err(Failed);
+        }
+        self.calls -= 1;
+        let count = self.left.len().min(buffer.len()).min(30);
+        let (front, left) = self.left.split_at(count);
+        for (place, byte) in front.iter().enumerate() {
+            buffer[place] = *byte;
+        }
+        self.left = left;
+        Ok(count)
+    }
+}
+
+impl<'a> Sink for Failing<'a> {
+    ghost contents = { λ _. None };
+
+    ghost failed = { λ d. d.failed };
+
+    fn put(&mut self, bytes: &[u8]) -> Result<usize, Failed> {
+        self.failed = self.failed || self.calls == 0 || self.kept.extend_from_slice(bytes).is_err();
+        if self.failed {
+            return Err(Failed);
+        }
+        self.calls -= 1;
+        Ok(bytes.len())
+    }
+}
+
+/// A device over the program, which moves bytes so many times.
+fn device(alloc: Global, calls: u32) -> Failing<'static> {
+    Failing {
+        left: PROGRAM.as_bytes(),
+        kept: Vec::new(alloc),
+        calls,
+        failed: false,
+    }
+}
+
+/// The status where the devices fail after so many calls, and what was written.
+fn served_by(rt: &HostRuntime, takes: u32, puts: u32) -> (u8, Vec<u8>, bool) {
+    let alloc = rt.alloc();
+    let mut reader = device(alloc, takes);
+    let mut writer = device(alloc, puts);
+    let mut errors = device(alloc, 99);
+    let words: Vec<String> = Vec::new(alloc);
+    let status = go(alloc, &words, &mut reader, &mut writer, &mut errors);
+    let Failing { kept, .. } = writer;
+    (status, kept, errors.kept.is_empty())
+}
+
+#[test]
+fn failing_devices(rt: HostRuntime) {
+    for calls in 0..4u32 {
+        let (status, text, is_silent) = served_by(&rt, calls, 99);
+        assert_eq!(rt; status, 1, "take {calls}");
+        assert!(rt; ANSWERS.starts_with(text.as_slice()), "take {calls}");
+        assert!(rt; is_silent, "take {calls}");
+        let (status, text, is_silent) = served_by(&rt, 99, calls);
+        assert_eq!(rt; status, 1, "put {calls}");
+        assert!(rt; ANSWERS.starts_with(text.as_slice()), "put {calls}");
+        assert!(rt; is_silent, "put {calls}");
+    }
+    let (status, text, is_silent) = served_by(&rt, 4, 9);
+    assert_eq!(rt; status, 0);
+    assert!(rt; text.as_slice() == ANSWERS);
+    assert!(rt; is_silent);
+}
+
+#[test]
+fn too_many_reads(rt: HostRuntime) {
+    let alloc = rt.alloc();
+    for (reads, wanted) in [(0, 1), (1, 1), (3, 1), (4, 0)] {
+        let mut reader = device(alloc, 99);
+        let mut writer = device(alloc, 99);
+        assert_eq!(rt;
+            serve(alloc, 9, &mut reader, &mut writer, reads),
+            wanted,
+            "{reads} reads"
+        );
+    }
+}
+
+#[test]
+fn want_of_memory(rt: HostRuntime) {
+    let mut errors = device(rt.alloc(), 9);
+    assert_eq!(rt; refuse(ArgumentsError::OutOfMemory, &mut errors), 3);
+    assert!(rt; errors.kept.is_empty());
+    let usage = ArgumentsError::Usage(String::new(rt.alloc()));
+    let mut broken = device(rt.alloc(), 0);
+    assert_eq!(rt; refuse(usage, &mut broken), 2);
 }

@@ -1,0 +1,5 @@
+pub mod ReadingTools
+pub mod ReadIsSpelled
+pub mod SpelledIsRead
+pub mod SpelledIsAccepted
+pub mod AcceptedIsSpelled

@@ -1,0 +1,6 @@
+pub mod Examples
+pub mod Operators
+pub mod Expressions
+pub mod Reading
+pub mod Laws
+pub mod Assignments

@@ -1,0 +1,11 @@
+pub mod DeclarationExamples
+pub mod DeclarationItemsAgain
+pub mod DeclarationItemsRead
+pub mod DeclarationLists
+pub mod DeclarationNames
+pub mod DeclarationNests
+pub mod DeclarationNestsAgain
+pub mod DeclarationNestsRead
+pub mod DeclarationRead
+pub mod DeclarationReadAgain
+pub mod DeclarationSteps

@@ -1,0 +1,91 @@
+//! The trees of what stands behind DECLARE, and in the parentheses of a procedure's RETURNS.
+//! None of the types leads back to itself. An ENTRY or RETURNS in the description of a parameter or of a result is a fault of
+//! the declaration whatever its parentheses hold, so that nothing is kept of them, and a text may nest them as deep as it likes.
+use pli_base::syntax::Identifier;
+use pli_base::{BitString, CharacterString, Name};
+
+/// A constant with its sign, if it has one: `-0` is negative.
+#[derive(Clone, Copy)]
+pub struct Integer {
+    pub negative: bool,
+    pub value: u32,
+}
+
+/// The bounds of a dimension. Where there is no lower bound, it is 1 (X3.74).
+#[derive(Clone, Copy)]
+pub struct Bounds {
+    pub low: Option<Integer>,
+    pub high: Integer,
+}
+
+/// A value in INITIAL. A factor says how many elements have it (X3.74).
+#[derive(Drop)]
+pub enum InitialValue {
+    Integer { factor: Option<u32>, value: Integer },
+    Characters(CharacterString),
+    Bits(BitString),
+    Null,
+}
+
+/// An attribute other than ENTRY and RETURNS, with the number, names or values in its parentheses, if it has any.
+#[derive(Drop)]
+pub enum SimpleAttribute {
+    /// With a precision. Its scale is 0, and leaves no trace.
+    Fixed(Option<u32>),
+    /// With a precision. Its scale is 0, and leaves no trace.
+    Binary(Option<u32>),
+    /// With a length.
+    Character(Option<u32>),
+    /// With a length.
+    Bit(Option<u32>),
+    Varying,
+    Pointer,
+    /// With the name of an area.
+    Offset(Option<Name>),
+    /// With a size.
+    Area(Option<u32>),
+    /// With a locator, a name qualified by those before it.
+    Based(Option<Vec<Name>>),
+    Controlled,
+    Static,
+    Automatic,
+    External,
+    Internal,
+    Builtin,
+    Initial(Vec<InitialValue>),
+}
+
+/// An attribute in the description of a parameter or of a result. Nothing is kept of what the parentheses of ENTRY and
+/// RETURNS hold: neither may stand there, whatever it is.
+#[derive(Drop)]
+pub enum DescribedAttribute {
+    Simple(SimpleAttribute),
+    Entry,
+    Returns,
+}
+
+/// The description of a parameter of an entry.
+#[derive(Drop)]
+pub struct ParameterDescription {
+    pub dimensions: Vec<Bounds>,
+    pub attributes: Vec<DescribedAttribute>,
+}
+
+/// An attribute of an item. It has the simple ones in common with a description, so that each is defined and read once.
+#[derive(Drop)]
+pub enum Attribute {
+    Simple(SimpleAttribute),
+    /// With descriptions of its parameters.
+    Entry(Option<Vec<ParameterDescription>>),
+    /// With the attributes of the result.
+    Returns(Vec<DescribedAttribute>),
+}
+
+/// An item of DECLARE: one name, or names in parentheses that have the rest in common.
+#[derive(Drop)]
+pub struct Item {
+    pub level: Option<u32>,
+    pub names: Vec<Identifier>,
+    pub dimensions: Vec<Bounds>,
+    pub attributes: Vec<Attribute>,
+}

@@ -1,0 +1,27 @@
+//! What stands behind DECLARE: items with dimensions and attributes, from their trees to their parser.
+#![tactic(auto)]
+
+mod answer;
+mod declaration;
+mod described;
+mod extent;
+mod front;
+mod item;
+mod laws;
+mod nest;
+mod simple;
+mod word;
+
+pub use answer::{Front, ParseError};
+pub use declaration::{
+    Attribute, Bounds, DescribedAttribute, InitialValue, Integer, Item, ParameterDescription,
+    SimpleAttribute,
+};
+pub use described::returned_at;
+pub use item::{declaration_at, items_at};
+pub use laws::{
+    declarations_read_are_spelled, declarations_spelled_are_read, one_declaration, worked_examples,
+};
+
+#[cfg(test)]
+mod tests;

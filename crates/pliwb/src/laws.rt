@@ -1,0 +1,11 @@
+//! Worked examples of the words of the command line.
+ghost use Rattle.pliwb.specs.Examples.{NoWords, FiveSteps, StepsAreNoNumber, FileIsNoWord, HelpIsAsked};
+
+/// Worked examples: no words, steps, and what is no command line.
+pub fn worked_examples()
+    ensures no_words { NoWords }
+    ensures five_steps { FiveSteps }
+    ensures no_number { StepsAreNoNumber }
+    ensures file { FileIsNoWord }
+    ensures help { HelpIsAsked }
+{}
