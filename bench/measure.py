@@ -54,6 +54,12 @@ def sessions():
     common = list(included("K", ["X = Y;"] * 1000))
     units = [command for k in range(100) for command in member(f"U{k}", including(f"U{k}", "K"))]
     yield "100 units that include one member of 1,000 lines", common + units + ["BUILD"]
+    nested = [command for k in range(1, 998) for command in included(f"K{k}", [f"%INCLUDE K{k + 1};"])]
+    chain = nested + list(included("K998", ["END;"])) + list(member("M", ["M: PROC OPTIONS(MAIN); %INCLUDE K1;"]))
+    yield "a chain of 999 members, built ten times", chain + ["BUILD"] * 10
+    comments = list(included("K", ["/* NOTHING */"] * 9999))
+    hollow = list(member("M", ["M: PROC OPTIONS(MAIN);"] + ["%INCLUDE K; " * 10] * 4990 + ["END;"]))
+    yield "9,999 lines of comments included 49,900 times", comments + hollow + ["BUILD"]
     lexed = [command for k in range(9) for command in member(f"L{k}", wide(9300))]
     yield "ten megabytes of tokens, typed", lexed
     yield "the same, built: each text is lexed", lexed + ["BUILD"]
