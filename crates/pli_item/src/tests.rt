@@ -1,4 +1,5 @@
 use super::*;
+use pli_base::syntax::Identifier;
 use pli_base::{BitString, CharacterString, Name, Sign, TokenText};
 use std::alloc::{AllocError, Global};
 use std::fmt::Write;
