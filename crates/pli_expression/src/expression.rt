@@ -1,6 +1,6 @@
 //! Reading expressions and references.
 ghost use Rattle.std.specs.Option.{option_copied};
-ghost use Rattle.std.specs.Prelude.{◌≡◌, ℕ, ◌+◌, ◌<◌, ◌≤◌, length, option_map, IfOk, IfSome, false};
+ghost use Rattle.std.specs.Prelude.{◌≡◌, ℕ, ◌+◌, ◌<◌, ◌≤◌, length, option_map, IfOk, IfSome, false, true};
 ghost use Rattle.pli_base.specs.SyntaxView.{expression_view, reference_view};
 ghost use Rattle.pli_grammar.specs.Operators.{infix_of, level_of, operator_at, joining_at, name_at, comma_at, begins_expression};
 ghost use Rattle.pli_grammar.specs.Reading.{behind_close, infix_from, operand_at, inside, expression_at, expression_of, argument_of, further_from, listed_at, list_at, arguments_at, joined_from, reference_of, reference_at, prefix_of, parenthesis_of, constant_at};
@@ -604,4 +604,20 @@ pub fn reference_at<'a>(
     ensures place { IfOk result (Advances at texts.now) }
 {
     reference_of(alloc, true, levels, 0, at, texts)
+}
+
+/// What stands in parentheses behind a name that is no part of an expression, if there are some: each argument is an outermost
+/// expression. `F()` has an empty list, `F` has none.
+#[tactic(auto)]
+pub fn outermost_arguments_at<'a>(
+    alloc: Global,
+    levels: u32,
+    at: u32,
+    texts: &'a [TokenText],
+) -> Result<Front<'a, Option<Vec<Expression>>>, ParseError>
+    requires { at + length texts.now ≤ 200000 }
+    ensures value { Gives (front_view arguments_view) result (arguments_at (option_map (argument_of true) (inside levels)) 0 at texts.now) }
+    ensures place { IfOk result (Stays at texts.now) }
+{
+    arguments_at(alloc, true, levels, 0, at, texts)
 }

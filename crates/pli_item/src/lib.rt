@@ -18,6 +18,9 @@ pub use declaration::{
     SimpleAttribute,
 };
 pub use described::returned_at;
+pub use front::{
+    behind_comma, behind_open, close_taken, fault_at, name_first, open_taken, semicolon_taken,
+};
 pub use item::{declaration_at, items_at};
 pub use laws::{
     declarations_read_are_spelled, declarations_spelled_are_read, one_declaration, worked_examples,

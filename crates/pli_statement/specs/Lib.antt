@@ -1,3 +1,4 @@
+pub mod StatementAnswers
 pub mod StatementExamples
 pub mod StatementGrammar
 pub mod StatementLaws

@@ -1,7 +1,8 @@
 //! The keywords with which statements begin, and where statements stand.
-ghost use Rattle.std.specs.Prelude.{◌≡◌};
+ghost use Rattle.std.specs.Prelude.{◌≡◌, IfSome};
 ghost use Rattle.pli_item.specs.DeclarationWords.{is_either};
 ghost use Rattle.pli_statement.specs.StatementWords.{keyword_of, condition_of};
+ghost use Rattle.pli_statement.specs.StatementAnswers.{words};
 
 use crate::statement::Condition;
 use pli_base::Name;
@@ -52,7 +53,8 @@ fn is_either(name: &Name, long: &[u8], short: &[u8]) -> bool
 /// The keyword of one word that a name is where a statement begins (X3.74). GO is none without TO behind it.
 #[tactic(auto, unfolding(crate::specs::StatementWords::keyword_of))]
 pub fn statement_keyword(name: &Name) -> Option<Keyword>
-    ensures { result ≡ keyword_of name.now }
+    ensures value { result ≡ keyword_of name.now }
+    ensures word { IfSome result (λ keyword. words keyword ≡ 1) }
 {
     if is_either(name, b"PROCEDURE", b"PROC") {
         Some(Keyword::Procedure)

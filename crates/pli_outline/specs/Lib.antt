@@ -1,0 +1,3 @@
+pub mod Outlines
+pub mod OutlineView
+pub mod OutlineExamples

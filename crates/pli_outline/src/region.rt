@@ -1,0 +1,55 @@
+//! Outlines: what a unit declares and uses, apart from how its statements nest.
+use pli_base::syntax::Identifier;
+use pli_item::Item;
+use pli_statement::Procedure;
+
+/// What a region is (own).
+#[derive(Clone, Copy, Debug, PartialEq, Eq)]
+pub enum RegionKind {
+    Procedure,
+    /// A BEGIN block.
+    Begin,
+    /// A DO group.
+    Group,
+    /// The statement of ON.
+    Unit,
+}
+
+/// A region, and the number of the one that it stands in; the external procedure stands in none.
+#[derive(Clone, Copy)]
+pub struct Region {
+    pub kind: RegionKind,
+    pub outer: Option<usize>,
+}
+
+/// What the text declares or uses.
+#[derive(Drop)]
+pub enum Mark<'a> {
+    /// The items of a DECLARE.
+    Declared(&'a [Item]),
+    /// A label of a statement that is no procedure.
+    Labelled(Identifier),
+    /// A procedure, and the number of its own region.
+    Entered {
+        procedure: &'a Procedure,
+        region: usize,
+    },
+    /// The names of a reference between its arrows, as they are joined by `.`; each locator is a reference of its own.
+    Used(Vec<Identifier>),
+    /// The label of GOTO.
+    Jumped(Identifier),
+}
+
+/// A mark, and the number of the region that it stands in.
+#[derive(Drop)]
+pub struct Placed<'a> {
+    pub region: usize,
+    pub mark: Mark<'a>,
+}
+
+/// The outline of a unit: its regions, numbered from 0 in the order in which they begin, and its marks in the order of the text.
+#[derive(Drop)]
+pub struct Outline<'a> {
+    pub regions: Vec<Region>,
+    pub marks: Vec<Placed<'a>>,
+}
