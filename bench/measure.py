@@ -45,6 +45,30 @@ def procedure(name, count):
     yield f"END {name};"
 
 
+def unit(name, statements):
+    """A procedure of these statements, as many on a line as there is room for."""
+    yield f"{name}: PROC OPTIONS(MAIN);"
+    line = ""
+    for statement in statements:
+        if len(line) + len(statement) > 120:
+            yield line
+            line = ""
+        line += statement
+    yield line
+    yield f"END {name};"
+
+
+def forms(count):
+    """Statements of every kind, of about so many tokens."""
+    group = (
+        "DO I=1 TO N BY 2 WHILE(B(I));A(I)=P->S.X(I,J)*2+LENGTH(C||'AB');IF A(I)^=0&B(J)THEN CALL F(A,(X),-Y);ELSE GOTO L;END;",
+        "BEGIN;DCL 1 S BASED(P),2 X(10)FIXED BIN(31),2 C CHAR(8)VAR;ALLOCATE S IN(A)SET(Q);FREE P->S;END;",
+        "ON ZDIV PUT SKIP LIST(X,Y+1);SIGNAL ZDIV;REVERT ZDIV;",
+    )
+    for _ in range(count // (73 + 47 + 19)):
+        yield from group
+
+
 def sessions():
     one = list(member("M", procedure("M", 9999)))
     yield "one member of 9,999 lines, built and run", one + ["BUILD", "RUN"]
@@ -63,6 +87,10 @@ def sessions():
     lexed = [command for k in range(9) for command in member(f"L{k}", wide(9300))]
     yield "ten megabytes of tokens, typed", lexed
     yield "the same, built: each text is lexed", lexed + ["BUILD"]
+    yield "a unit of 65,000 statements, built ten times", list(member("M", unit("M", [";"] * 65000))) + ["BUILD"] * 10
+    yield "a unit of 190,000 tokens in every form, built ten times", list(member("M", unit("M", forms(190000)))) + ["BUILD"] * 10
+    chained = ["X=" + "+".join(["Y"] * 58)] + ["+" + "+".join(["Y"] * 59)] * 1650 + [";"]
+    yield "one statement of 195,000 tokens, built ten times", list(member("M", ["M: PROC;"] + chained + ["END;"])) + ["BUILD"] * 10
     printing = ["M: PROC OPTIONS(MAIN);", "DCL X FIXED BIN(31);"] + ["PUT LIST(X, X, X, X, X, X, X, X, X, X);"] * 1500 + ["END;"]
     yield "15,000 items printed, ten times", list(member("M", printing)) + ["BUILD"] + ["RUN"] * 10
 

@@ -4,10 +4,10 @@ use Rattle.std.proofs.Common.{sym, ap, ◌∙◌}
 use Rattle.std.specs.Cmp.Lexicographic.{pointwise}
 use Rattle.pli_base.specs.Codes.{code_label, code_text}
 use Rattle.pli_base.specs.declared.code.Code.{Code}
-use Rattle.pli_base.specs.declared.code.Code.TheVariants.{UnendedComment, UnendedString, BadCharacter, BadNumber, NameTooLong, BadBits, NoSuchMember, RecursiveInclude, TooManyTokens, BadInclude, NoProcedure, NotAStatement, ExpressionExpected, ParenthesisExpected, SemicolonExpected, NameExpected, ThenExpected, WrongEndName, EndMissing, TextAfterEnd, BadDo, BadAttribute, ConstantExpected, BadLabel, BadCondition, NestedTooDeep, MisplacedStatement, BadOption, NotDeclared, DeclaredTwice, AttributesConflict, AttributesMissing, BadPrecision, BadLength, BadBounds, BadLevel, BadInitial, Ambiguous, BadGoto, BadLocatorOrAreaName, AreaNotAllowedHere, TooManyParameters, GenerationTooLarge, NotAVariable, AggregateNotAllowedHere, WrongNumberOfSubscripts, WrongOperandType, CannotAssign, WrongNumberOfArguments, WrongArgument, NotCallableHere, WrongReturn, LocatorMissingOrNotAllowed, CannotAllocateOrFree, BadControlVariable, WrongBuiltInArgument, CannotPrint, CodeTooLong, NoMainProcedure, TwoMainProcedures, Unresolved, DefinedTwice, Mismatch, ModuleTooLarge}
+use Rattle.pli_base.specs.declared.code.Code.TheVariants.{UnendedComment, UnendedString, BadCharacter, BadNumber, NameTooLong, BadBits, NoSuchMember, RecursiveInclude, TooManyTokens, BadInclude, NoProcedure, NotAStatement, ExpressionExpected, ParenthesisExpected, SemicolonExpected, NameExpected, ThenExpected, WrongEndName, EndMissing, TextAfterEnd, BadDo, BadAttribute, ConstantExpected, BadLabel, BadCondition, NestedTooDeep, MisplacedStatement, BadOption, NotDeclared, DeclaredTwice, AttributesConflict, AttributesMissing, BadPrecision, BadLength, BadBounds, BadLevel, BadInitial, Ambiguous, BadGoto, BadLocatorOrAreaName, AreaNotAllowedHere, TooManyParameters, GenerationTooLarge, NotYetBuilt, NotAVariable, AggregateNotAllowedHere, WrongNumberOfSubscripts, WrongOperandType, CannotAssign, WrongNumberOfArguments, WrongArgument, NotCallableHere, WrongReturn, LocatorMissingOrNotAllowed, CannotAllocateOrFree, BadControlVariable, WrongBuiltInArgument, CannotPrint, CodeTooLong, NoMainProcedure, TwoMainProcedures, Unresolved, DefinedTwice, Mismatch, ModuleTooLarge}
 
 abbrev all_codes : List Code
-all_codes = UnendedComment ∷ UnendedString ∷ BadCharacter ∷ BadNumber ∷ NameTooLong ∷ BadBits ∷ NoSuchMember ∷ RecursiveInclude ∷ TooManyTokens ∷ BadInclude ∷ NoProcedure ∷ NotAStatement ∷ ExpressionExpected ∷ ParenthesisExpected ∷ SemicolonExpected ∷ NameExpected ∷ ThenExpected ∷ WrongEndName ∷ EndMissing ∷ TextAfterEnd ∷ BadDo ∷ BadAttribute ∷ ConstantExpected ∷ BadLabel ∷ BadCondition ∷ NestedTooDeep ∷ MisplacedStatement ∷ BadOption ∷ NotDeclared ∷ DeclaredTwice ∷ AttributesConflict ∷ AttributesMissing ∷ BadPrecision ∷ BadLength ∷ BadBounds ∷ BadLevel ∷ BadInitial ∷ Ambiguous ∷ BadGoto ∷ BadLocatorOrAreaName ∷ AreaNotAllowedHere ∷ TooManyParameters ∷ GenerationTooLarge ∷ NotAVariable ∷ AggregateNotAllowedHere ∷ WrongNumberOfSubscripts ∷ WrongOperandType ∷ CannotAssign ∷ WrongNumberOfArguments ∷ WrongArgument ∷ NotCallableHere ∷ WrongReturn ∷ LocatorMissingOrNotAllowed ∷ CannotAllocateOrFree ∷ BadControlVariable ∷ WrongBuiltInArgument ∷ CannotPrint ∷ CodeTooLong ∷ NoMainProcedure ∷ TwoMainProcedures ∷ Unresolved ∷ DefinedTwice ∷ Mismatch ∷ ModuleTooLarge ∷ []
+all_codes = UnendedComment ∷ UnendedString ∷ BadCharacter ∷ BadNumber ∷ NameTooLong ∷ BadBits ∷ NoSuchMember ∷ RecursiveInclude ∷ TooManyTokens ∷ BadInclude ∷ NoProcedure ∷ NotAStatement ∷ ExpressionExpected ∷ ParenthesisExpected ∷ SemicolonExpected ∷ NameExpected ∷ ThenExpected ∷ WrongEndName ∷ EndMissing ∷ TextAfterEnd ∷ BadDo ∷ BadAttribute ∷ ConstantExpected ∷ BadLabel ∷ BadCondition ∷ NestedTooDeep ∷ MisplacedStatement ∷ BadOption ∷ NotDeclared ∷ DeclaredTwice ∷ AttributesConflict ∷ AttributesMissing ∷ BadPrecision ∷ BadLength ∷ BadBounds ∷ BadLevel ∷ BadInitial ∷ Ambiguous ∷ BadGoto ∷ BadLocatorOrAreaName ∷ AreaNotAllowedHere ∷ TooManyParameters ∷ GenerationTooLarge ∷ NotYetBuilt ∷ NotAVariable ∷ AggregateNotAllowedHere ∷ WrongNumberOfSubscripts ∷ WrongOperandType ∷ CannotAssign ∷ WrongNumberOfArguments ∷ WrongArgument ∷ NotCallableHere ∷ WrongReturn ∷ LocatorMissingOrNotAllowed ∷ CannotAllocateOrFree ∷ BadControlVariable ∷ WrongBuiltInArgument ∷ CannotPrint ∷ CodeTooLong ∷ NoMainProcedure ∷ TwoMainProcedures ∷ Unresolved ∷ DefinedTwice ∷ Mismatch ∷ ModuleTooLarge ∷ []
 
 abbrev by_label : List ℕ → Option Code
 by_label label = find (λ c. pointwise nat_eq (code_label c) label) all_codes
@@ -59,6 +59,7 @@ found_by_label BadLocatorOrAreaName = refl
 found_by_label AreaNotAllowedHere = refl
 found_by_label TooManyParameters = refl
 found_by_label GenerationTooLarge = refl
+found_by_label NotYetBuilt = refl
 found_by_label NotAVariable = refl
 found_by_label AggregateNotAllowedHere = refl
 found_by_label WrongNumberOfSubscripts = refl
@@ -125,6 +126,7 @@ found_by_text BadLocatorOrAreaName = refl
 found_by_text AreaNotAllowedHere = refl
 found_by_text TooManyParameters = refl
 found_by_text GenerationTooLarge = refl
+found_by_text NotYetBuilt = refl
 found_by_text NotAVariable = refl
 found_by_text AggregateNotAllowedHere = refl
 found_by_text WrongNumberOfSubscripts = refl

@@ -1,5 +1,2 @@
 pub mod CodeOrder
 pub mod CodeTable
-pub mod ReadIsSpelled
-pub mod ReadingTools
-pub mod SpelledIsRead

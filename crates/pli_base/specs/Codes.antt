@@ -1,7 +1,7 @@
 -- The table of diagnostics: each code once, with its label and its text (own).
 use Rattle.std.specs.Prelude.{◌≡◌, ℕ, List, codes}
 use Rattle.pli_base.specs.declared.code.Code.{Code}
-use Rattle.pli_base.specs.declared.code.Code.TheVariants.{UnendedComment, UnendedString, BadCharacter, BadNumber, NameTooLong, BadBits, NoSuchMember, RecursiveInclude, TooManyTokens, BadInclude, NoProcedure, NotAStatement, ExpressionExpected, ParenthesisExpected, SemicolonExpected, NameExpected, ThenExpected, WrongEndName, EndMissing, TextAfterEnd, BadDo, BadAttribute, ConstantExpected, BadLabel, BadCondition, NestedTooDeep, MisplacedStatement, BadOption, NotDeclared, DeclaredTwice, AttributesConflict, AttributesMissing, BadPrecision, BadLength, BadBounds, BadLevel, BadInitial, Ambiguous, BadGoto, BadLocatorOrAreaName, AreaNotAllowedHere, TooManyParameters, GenerationTooLarge, NotAVariable, AggregateNotAllowedHere, WrongNumberOfSubscripts, WrongOperandType, CannotAssign, WrongNumberOfArguments, WrongArgument, NotCallableHere, WrongReturn, LocatorMissingOrNotAllowed, CannotAllocateOrFree, BadControlVariable, WrongBuiltInArgument, CannotPrint, CodeTooLong, NoMainProcedure, TwoMainProcedures, Unresolved, DefinedTwice, Mismatch, ModuleTooLarge}
+use Rattle.pli_base.specs.declared.code.Code.TheVariants.{UnendedComment, UnendedString, BadCharacter, BadNumber, NameTooLong, BadBits, NoSuchMember, RecursiveInclude, TooManyTokens, BadInclude, NoProcedure, NotAStatement, ExpressionExpected, ParenthesisExpected, SemicolonExpected, NameExpected, ThenExpected, WrongEndName, EndMissing, TextAfterEnd, BadDo, BadAttribute, ConstantExpected, BadLabel, BadCondition, NestedTooDeep, MisplacedStatement, BadOption, NotDeclared, DeclaredTwice, AttributesConflict, AttributesMissing, BadPrecision, BadLength, BadBounds, BadLevel, BadInitial, Ambiguous, BadGoto, BadLocatorOrAreaName, AreaNotAllowedHere, TooManyParameters, GenerationTooLarge, NotYetBuilt, NotAVariable, AggregateNotAllowedHere, WrongNumberOfSubscripts, WrongOperandType, CannotAssign, WrongNumberOfArguments, WrongArgument, NotCallableHere, WrongReturn, LocatorMissingOrNotAllowed, CannotAllocateOrFree, BadControlVariable, WrongBuiltInArgument, CannotPrint, CodeTooLong, NoMainProcedure, TwoMainProcedures, Unresolved, DefinedTwice, Mismatch, ModuleTooLarge}
 
 -- no two codes have one label, or one text
 abbrev pub OneCode : (Code → List ℕ) → Type 0
@@ -52,6 +52,7 @@ code_label BadLocatorOrAreaName = codes "A12"
 code_label AreaNotAllowedHere = codes "A13"
 code_label TooManyParameters = codes "A14"
 code_label GenerationTooLarge = codes "A15"
+code_label NotYetBuilt = codes "Z1"
 code_label NotAVariable = codes "T1"
 code_label AggregateNotAllowedHere = codes "T2"
 code_label WrongNumberOfSubscripts = codes "T3"
@@ -119,6 +120,7 @@ code_text BadLocatorOrAreaName = codes "BAD LOCATOR OR AREA NAME"
 code_text AreaNotAllowedHere = codes "AREA NOT ALLOWED HERE"
 code_text TooManyParameters = codes "TOO MANY PARAMETERS"
 code_text GenerationTooLarge = codes "GENERATION TOO LARGE"
+code_text NotYetBuilt = codes "NOT YET BUILT"
 code_text NotAVariable = codes "NOT A VARIABLE"
 code_text AggregateNotAllowedHere = codes "AGGREGATE NOT ALLOWED HERE"
 code_text WrongNumberOfSubscripts = codes "WRONG NUMBER OF SUBSCRIPTS"
@@ -186,24 +188,25 @@ code_place BadLocatorOrAreaName = 39
 code_place AreaNotAllowedHere = 40
 code_place TooManyParameters = 41
 code_place GenerationTooLarge = 42
-code_place NotAVariable = 43
-code_place AggregateNotAllowedHere = 44
-code_place WrongNumberOfSubscripts = 45
-code_place WrongOperandType = 46
-code_place CannotAssign = 47
-code_place WrongNumberOfArguments = 48
-code_place WrongArgument = 49
-code_place NotCallableHere = 50
-code_place WrongReturn = 51
-code_place LocatorMissingOrNotAllowed = 52
-code_place CannotAllocateOrFree = 53
-code_place BadControlVariable = 54
-code_place WrongBuiltInArgument = 55
-code_place CannotPrint = 56
-code_place CodeTooLong = 57
-code_place NoMainProcedure = 58
-code_place TwoMainProcedures = 59
-code_place Unresolved = 60
-code_place DefinedTwice = 61
-code_place Mismatch = 62
-code_place ModuleTooLarge = 63
+code_place NotYetBuilt = 43
+code_place NotAVariable = 44
+code_place AggregateNotAllowedHere = 45
+code_place WrongNumberOfSubscripts = 46
+code_place WrongOperandType = 47
+code_place CannotAssign = 48
+code_place WrongNumberOfArguments = 49
+code_place WrongArgument = 50
+code_place NotCallableHere = 51
+code_place WrongReturn = 52
+code_place LocatorMissingOrNotAllowed = 53
+code_place CannotAllocateOrFree = 54
+code_place BadControlVariable = 55
+code_place WrongBuiltInArgument = 56
+code_place CannotPrint = 57
+code_place CodeTooLong = 58
+code_place NoMainProcedure = 59
+code_place TwoMainProcedures = 60
+code_place Unresolved = 61
+code_place DefinedTwice = 62
+code_place Mismatch = 63
+code_place ModuleTooLarge = 64

@@ -1,12 +1,10 @@
 pub mod Codes
 pub mod DeviceLaws
 pub mod Devices
-pub mod Grammar
 pub mod Name
 pub mod NameFields
 pub mod NameLaws
 pub mod Reading
-pub mod ReadingExamples
 pub mod Tree
 pub mod TreeView
 pub mod Words

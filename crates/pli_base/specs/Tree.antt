@@ -1,5 +1,5 @@
 -- Trees, as definitions speak of them: without where they lie in memory.
-use Rattle.std.specs.Prelude.{ℕ, ◌+◌, List}
+use Rattle.std.specs.Prelude.{ℕ, Bool, List}
 use Rattle.pli_base.specs.Name.{Name}
 
 -- a use of a variable's name at a token; tokens are counted from 0
@@ -7,7 +7,6 @@ pub record Reference : Type 0 where
   pub name : Name
   pub at : ℕ
 
--- a sum's right operand is never a sum: infix operators associate to the left
 pub data Expression : Type 0 where
   Variable : (reference : Reference) → Expression
   Constant : (value digits : ℕ) → Expression
@@ -23,13 +22,8 @@ pub record Statement : Type 0 where
   pub number : ℕ
   pub body : Body
 
--- an external procedure: its name, and the statements between PROCEDURE and END
+-- an external procedure: its name, whether it is a main procedure, and the statements between PROCEDURE and END
 pub record Procedure : Type 0 where
   pub name : Name
+  pub is_main : Bool
   pub statements : List Statement
-
--- how many operators an expression has
-abbrev pub operators : Expression → ℕ
-operators (Variable r) = 0
-operators (Constant v d) = 0
-operators (Sum l r) = operators l + operators r + 1

@@ -26,4 +26,4 @@ abbrev pub statement_view : Statement → tree.Statement
 statement_view s = record { number = s.number; body = body_view s.body }
 
 abbrev pub unit_view : Unit → tree.Procedure
-unit_view u = record { name = u.name; statements = map statement_view u.statements.items }
+unit_view u = record { name = u.name; is_main = u.is_main; statements = map statement_view u.statements.items }

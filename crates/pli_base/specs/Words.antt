@@ -2,9 +2,9 @@
 use Rattle.std.specs.Prelude.{ℕ, Bool, true, false, ◌||◌, nat_eq, List, codes}
 use Rattle.std.specs.Cmp.Lexicographic.{pointwise}
 use Rattle.pli_base.specs.Name.{Name}
-use Rattle.pli_base.specs.declared.token.Sign.TheVariants.{Semicolon, Comma, OpenParenthesis, CloseParenthesis, Plus}
+use Rattle.pli_base.specs.declared.token.Sign.TheVariants.{Semicolon, Comma, OpenParenthesis, CloseParenthesis}
 use Rattle.pli_base.specs.declared.token.TokenText.{TokenText}
-use Rattle.pli_base.specs.declared.token.TokenText.TheVariants.{Word, Decimal, Sign}
+use Rattle.pli_base.specs.declared.token.TokenText.TheVariants.{Word, Sign}
 
 abbrev pub Tokens : Type 0
 Tokens = List TokenText
@@ -16,25 +16,10 @@ same_name = pointwise nat_eq
 abbrev pub is_procedure : Name → Bool
 is_procedure n = same_name n (codes "PROCEDURE") || same_name n (codes "PROC")
 
-abbrev pub is_declare : Name → Bool
-is_declare n = same_name n (codes "DECLARE") || same_name n (codes "DCL")
-
-abbrev pub is_binary : Name → Bool
-is_binary n = same_name n (codes "BINARY") || same_name n (codes "BIN")
-
 -- the token is this name
 abbrev pub is_word : Name → TokenText → Bool
 is_word w (Word n) = same_name n w
 is_word w _ = false
-
-abbrev pub is_binary_word : TokenText → Bool
-is_binary_word (Word n) = is_binary n
-is_binary_word _ = false
-
--- the token is a decimal constant of this value
-abbrev pub is_number : ℕ → TokenText → Bool
-is_number value (Decimal v d) = nat_eq v value
-is_number value _ = false
 
 abbrev pub is_semicolon : TokenText → Bool
 is_semicolon (Sign Semicolon) = true
@@ -51,14 +36,6 @@ is_close _ = false
 abbrev pub is_comma : TokenText → Bool
 is_comma (Sign Comma) = true
 is_comma _ = false
-
-abbrev pub is_plus : TokenText → Bool
-is_plus (Sign Plus) = true
-is_plus _ = false
-
--- the greatest number of operators in an expression (own)
-abbrev pub operator_limit : ℕ
-operator_limit = 1000
 
 -- the precision of the FIXED BINARY variables that can be declared
 abbrev pub declared_precision : ℕ

@@ -3,7 +3,6 @@
 
 mod code;
 mod device;
-mod laws;
 mod line;
 mod name;
 mod string;
@@ -13,7 +12,6 @@ mod tree;
 
 pub use code::{Code, code_order, one_code};
 pub use device::{Device, Failed, Sink, Source, put_all, take_all};
-pub use laws::{one_tree, read_is_spelled, spelled_is_read};
 pub use line::Line;
 pub use name::{NAME_LIMIT, Name};
 pub use string::{BitString, CharacterString};

@@ -42,6 +42,8 @@ fn codes(rt: HostRuntime) {
     assert_eq!(rt; Code::EndMissing.label(), "P9");
     assert_eq!(rt; Code::EndMissing.text(), "END MISSING");
     assert!(rt; Code::BadInclude < Code::NoProcedure && Code::BadOption < Code::NotDeclared);
+    assert_eq!(rt; Code::NotYetBuilt.label(), "Z1");
+    assert!(rt; Code::NotYetBuilt < Code::NotAVariable);
 }
 
 #[test]

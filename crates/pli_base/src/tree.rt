@@ -37,9 +37,10 @@ pub struct Statement {
     pub body: Body,
 }
 
-/// An external procedure: its name, and the statements between PROCEDURE and END.
+/// An external procedure: its name, whether it is a main procedure (`OPTIONS(MAIN)`), and the statements between PROCEDURE and END.
 #[derive(Drop)]
 pub struct Unit {
     pub name: Name,
+    pub is_main: bool,
     pub statements: Vec<Statement>,
 }

@@ -3,9 +3,17 @@ use Rattle.std.specs.Prelude.{◌≡◌, ℕ, List, ◌++◌, Option, Result, Ok
 use Rattle.std.specs.List.{flat_map}
 use Rattle.std.specs.Result.{result_ok}
 use Rattle.pli_base.specs.Name.{Name}
+use Rattle.pli_base.specs.Tree as tree
 use Rattle.pli_base.specs.TreeView.{unit_view}
+use Rattle.pli_base.specs.declared.token.Fault.{Fault}
+use Rattle.pli_base.specs.declared.tree.Unit.{Unit}
 use Rattle.pli_meaning.specs.Scratch as scratch
 use Rattle.pli_bench.specs.declared.compile.Parsed.{Parsed}
+
+-- a tree or a fault, apart from where the tree lies in memory
+abbrev pub tree_view : Result Unit Fault → Result tree.Procedure Fault
+tree_view (Ok u) = Ok (unit_view u)
+tree_view (Err fault) = Err fault
 
 abbrev pub parsed_view : Parsed → scratch.Parsed
 parsed_view p = record { origins = p.expansion.origins; tree = unit_view p.tree }

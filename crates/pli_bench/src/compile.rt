@@ -1,18 +1,18 @@
 //! A unit compiled from its expansion, or its diagnostics as they are answered.
 ghost use Rattle.std.specs.Prelude.{◌≡◌, ◌≤◌, ◌++◌, Ok, length, map, option_map, slice_get, IfOk, OnOk};
 ghost use Rattle.std.specs.List.{flat_map};
-ghost use Rattle.pli_meaning.specs.Scratch.{diagnostic_line, located, origin_of, parsed_as, parsed_of, compiled_from, compiled_of};
-ghost use Rattle.pli_base.specs.Reading.{procedure_of};
-ghost use Rattle.pli_bench.specs.Compiling.{Tells, parsed_view};
+ghost use Rattle.pli_meaning.specs.Scratch.{diagnostic_line, located, origin_of, program_of, parsed_as, parsed_of, compiled_from, compiled_of};
+ghost use Rattle.pli_bench.specs.Compiling.{Tells, parsed_view, tree_view};
 ghost use Rattle.pli_link.specs.Answers.{compiled_view};
 
 use crate::answer::append_parts;
 use itoa::Buffer;
-use pli_base::{Code, Fault, Name, Origin, Unit};
+use pli_base::{Code, Fault, Name, Origin, TokenText, Unit};
 use pli_declare::{DeclareError, resolve};
 use pli_gen::{GenerateError, generate};
 use pli_include::{Expander, Expansion};
 use pli_link::Compiled;
+use pli_lower::{LowerError, lower};
 use pli_members::Members;
 use pli_parse::{ParseError, parse};
 use std::alloc::{AllocError, Global};
@@ -64,6 +64,23 @@ fn origin_at(unit: Name, origins: &[Origin], place: usize) -> Origin
     }
 }
 
+/// The tree of a unit's tokens, or the one fault: of the grammar, or of the first form that cannot be compiled yet.
+fn tree_of(alloc: Global, texts: &[TokenText]) -> Result<Result<Unit, Fault>, AllocError>
+    requires { length texts.now ≤ 200000 }
+    ensures { IfOk result (λ read. tree_view read ≡ program_of texts.now) }
+{
+    let procedure = match parse(alloc, texts) {
+        Ok(procedure) => procedure,
+        Err(ParseError::Fault(fault)) => return Ok(Err(fault)),
+        Err(ParseError::OutOfMemory) => return Err(AllocError),
+    };
+    match lower(alloc, &procedure) {
+        Ok(tree) => Ok(Ok(tree)),
+        Err(LowerError::NotYetBuilt(fault)) => Ok(Err(fault)),
+        Err(LowerError::OutOfMemory) => Err(AllocError),
+    }
+}
+
 /// The tree of an expansion without a fault, or its diagnostic.
 fn parse_expansion(
     alloc: Global,
@@ -71,16 +88,15 @@ fn parse_expansion(
     expansion: Expansion,
     text: &mut Vec<u8>,
 ) -> Result<Option<Parsed>, AllocError>
-    ensures { IfOk result (λ parsed. Tells unit (parsed_as unit expansion.origins (procedure_of expansion.texts)) (option_map parsed_view parsed) text.old.items text.new.items) }
+    ensures { IfOk result (λ parsed. Tells unit (parsed_as unit expansion.origins (program_of expansion.texts)) (option_map parsed_view parsed) text.old.items text.new.items) }
 {
-    match parse(alloc, expansion.texts()) {
+    match tree_of(alloc, expansion.texts())? {
         Ok(tree) => Ok(Some(Parsed { expansion, tree })),
-        Err(ParseError::Fault(fault)) => {
+        Err(fault) => {
             let origin = origin_at(unit, expansion.origins(), fault.at as usize);
             write_diagnostic(text, unit, origin, fault.code)?;
             Ok(None)
         }
-        Err(ParseError::OutOfMemory) => Err(AllocError),
     }
 }
 
@@ -143,6 +159,7 @@ fn code_tree(
         Ok(code) => Ok(Some(Compiled {
             unit,
             procedure: parsed.tree.name,
+            is_main: parsed.tree.is_main,
             code,
         })),
         Err(GenerateError::TooLong) => {

@@ -26,7 +26,7 @@ fn answers(alloc: Global, session: &[u8]) -> Result<Vec<u8>, ServeFault> {
 }
 
 /// Sessions with their answers.
-const SESSIONS: [Row; 33] = [
+const SESSIONS: [Row; 37] = [
     FIRST_RUN,
     (
         b"BUILD\nRUN\nFOO\nADD E SOURCE\nADD E SOURCE\nINSERT E 1 X\nBUILD\n",
@@ -44,7 +44,7 @@ const SESSIONS: [Row; 33] = [
     // units in the order of their names, whose procedures have other names
     (
         b"ADD Q SOURCE\nINSERT Q 0 A: PROC OPTIONS(MAIN); END;\nADD M SOURCE\nINSERT M 0 B: PROC OPTIONS(MAIN); END;\nBUILD\nINSERT Q 1 END;\nINSERT M 0 X\nBUILD\n",
-        b"OK\nOK\nOK\nOK\nN2 TWO MAIN PROCEDURES A Q\nNOT BUILT\nOK\nOK\nM M:2 P1 NO PROCEDURE\nQ Q:2 P2 NOT A STATEMENT\nNOT BUILT\n",
+        b"OK\nOK\nOK\nOK\nN2 TWO MAIN PROCEDURES A Q\nNOT BUILT\nOK\nOK\nM M:2 P1 NO PROCEDURE\nQ Q:2 P10 TEXT AFTER END\nNOT BUILT\n",
     ),
     // an edit after a build
     (
@@ -167,6 +167,26 @@ const SESSIONS: [Row; 33] = [
         b"ADD M SOURCE\nINSERT M 0\nINSERT M 1 %INCLUDE K;\nADD K INCLUDE\nINSERT K 0 /* NOTHING */\nBUILD\n",
         b"OK\nOK\nOK\nOK\nOK\nM M:1 P1 NO PROCEDURE\nNOT BUILT\n",
     ),
+    // the one unit of two that has a main procedure is run, and its name need not be the first; then it goes
+    (
+        b"ADD A SOURCE\nINSERT A 0 F: PROC; PUT LIST(1); END F;\nADD M SOURCE\nINSERT M 0 M: PROCEDURE OPTIONS(MAIN); PUT LIST(2); END M;\nBUILD\nRUN\nADD Q SOURCE\nINSERT Q 0 G: PROC RECURSIVE; END;\nBUILD\nRUN\nDELETE M\nRUN\nBUILD\n",
+        b"OK\nOK\nOK\nOK\nBUILT\n   2 \nENDED\nOK\nOK\nBUILT\n   2 \nENDED\nOK\nB2 NOT BUILT\nN1 NO MAIN PROCEDURE\nNOT BUILT\n",
+    ),
+    // no main procedure, and one name twice; then a name twice beside the main procedure, and a unit with a fault
+    (
+        b"ADD A SOURCE\nINSERT A 0 F: PROC; END;\nBUILD\nRUN\nADD B SOURCE\nINSERT B 0 F: PROC; END;\nBUILD\nADD M SOURCE\nINSERT M 0 M: PROC OPTIONS(MAIN); END;\nBUILD\nREPLACE B 1 F: PROC; Y = 1; END;\nBUILD\nREPLACE B 1 G: PROC; END;\nBUILD\nRUN\n",
+        b"OK\nOK\nN1 NO MAIN PROCEDURE\nNOT BUILT\nB2 NOT BUILT\nOK\nOK\nN1 NO MAIN PROCEDURE\nN4 DEFINED TWICE F B\nNOT BUILT\nOK\nOK\nN4 DEFINED TWICE F B\nNOT BUILT\nOK\nB B:1 A1 NOT DECLARED\nNOT BUILT\nOK\nBUILT\nENDED\n",
+    ),
+    // three main procedures
+    (
+        b"ADD A SOURCE\nINSERT A 0 Z: PROC OPTIONS(MAIN); END;\nADD B SOURCE\nINSERT B 0 Y: PROC OPTIONS(MAIN); END;\nADD C SOURCE\nINSERT C 0 X: PROC OPTIONS(MAIN); END;\nBUILD\n",
+        b"OK\nOK\nOK\nOK\nOK\nOK\nN2 TWO MAIN PROCEDURES X C\nN2 TWO MAIN PROCEDURES Y B\nNOT BUILT\n",
+    ),
+    // the first form of a unit that cannot be compiled yet is told, at its line, and nothing else of that unit
+    (
+        b"ADD M SOURCE\nINSERT M 0 M: PROC OPTIONS(MAIN);\nINSERT M 1 Y = 1;\nINSERT M 2 %INCLUDE K;\nINSERT M 3 IF Y THEN STOP; END M;\nADD K INCLUDE\nINSERT K 0 ;\nINSERT K 1 Y = Y - 1;\nADD N SOURCE\nINSERT N 0 N: PROC; Z = 1; END;\nBUILD\nREPLACE K 2 Y = Y + 1;\nBUILD\nREMOVE M 4 4\nINSERT M 3 END;\nBUILD\n",
+        b"OK\nOK\nOK\nOK\nOK\nOK\nOK\nOK\nOK\nOK\nM K:2 Z1 NOT YET BUILT\nN N:1 A1 NOT DECLARED\nNOT BUILT\nOK\nM M:4 Z1 NOT YET BUILT\nN N:1 A1 NOT DECLARED\nNOT BUILT\nOK\nOK\nM M:2 A1 NOT DECLARED\nM K:2 A1 NOT DECLARED\nM K:2 A1 NOT DECLARED\nN N:1 A1 NOT DECLARED\nNOT BUILT\n",
+    ),
     (b"RUN\n", b"B2 NOT BUILT\n"),
     (b"", b""),
 ];
@@ -181,7 +201,7 @@ fn sessions(rt: HostRuntime) -> Result<(), Fail> {
 }
 
 /// The one line of a member, with what a build says of it.
-const DIAGNOSTICS: [Row; 10] = [
+const DIAGNOSTICS: [Row; 31] = [
     (
         b"M: PROC OPTIONS(MAIN); X = 2 ? 1; END;",
         b"M M:1 X3 BAD CHARACTER\n",
@@ -212,6 +232,84 @@ const DIAGNOSTICS: [Row; 10] = [
     (
         b"M: PROC OPTIONS(MAIN); DCL X FIXED BIN(31), X FIXED BIN(31); END;",
         b"M M:1 A2 DECLARED TWICE\n",
+    ),
+    (
+        b"M: PROC OPTIONS(MAIN); PUT LIST(); END;",
+        b"M M:1 P3 EXPRESSION EXPECTED\n",
+    ),
+    (
+        b"M: PROC OPTIONS(MAIN); PUT LIST(1; END;",
+        b"M M:1 P4 PARENTHESIS EXPECTED\n",
+    ),
+    (
+        b"M: PROC OPTIONS(MAIN); DO 5; END; END;",
+        b"M M:1 P5 SEMICOLON EXPECTED\n",
+    ),
+    (
+        b"M: PROC OPTIONS(MAIN); GOTO 5; END;",
+        b"M M:1 P6 NAME EXPECTED\n",
+    ),
+    (
+        b"M: PROC OPTIONS(MAIN); IF X PUT LIST(1); END;",
+        b"M M:1 P7 THEN EXPECTED\n",
+    ),
+    (
+        b"M: PROC OPTIONS(MAIN); END; END;",
+        b"M M:1 P10 TEXT AFTER END\n",
+    ),
+    (
+        b"M: PROC OPTIONS(MAIN); DO I 1 TO 3; END; END;",
+        b"M M:1 P11 BAD DO\n",
+    ),
+    (
+        b"M: PROC OPTIONS(MAIN); F: PROC RETURNS(); END F; END;",
+        b"M M:1 P12 BAD ATTRIBUTE\n",
+    ),
+    (
+        b"M: PROC OPTIONS(MAIN); DCL X(A) BIT; END;",
+        b"M M:1 P13 CONSTANT EXPECTED\n",
+    ),
+    (b"M: PROC OPTIONS(MAIN); L: END;", b"M M:1 P14 BAD LABEL\n"),
+    (
+        b"M: PROC OPTIONS(MAIN); ON FOO; END;",
+        b"M M:1 P15 BAD CONDITION\n",
+    ),
+    (
+        b"M: PROC OPTIONS(MAIN); PUT LIST(((((((((((((((((((((((((((((((((((((((((((((((((((((((((((((((((((((((1; END;",
+        b"M M:1 P16 NESTED TOO DEEP\n",
+    ),
+    (
+        b"M: PROC OPTIONS(MAIN); IF X THEN DCL Y BIT; END;",
+        b"M M:1 P17 MISPLACED STATEMENT\n",
+    ),
+    (
+        b"M: PROC OPTIONS(MAIN); PUT FILE(F); END;",
+        b"M M:1 P18 BAD OPTION\n",
+    ),
+    (b"M: PROC OPTIONS(X); END;", b"M M:1 P18 BAD OPTION\n"),
+    (
+        b"M: PROC OPTIONS(MAIN); PUT LIST(1 - 2); END;",
+        b"M M:1 Z1 NOT YET BUILT\n",
+    ),
+    (
+        b"M: PROC OPTIONS(MAIN); PUT SKIP LIST(1); END;",
+        b"M M:1 Z1 NOT YET BUILT\n",
+    ),
+    (
+        b"M: PROC OPTIONS(MAIN); DCL X CHAR(3); X = Y; END;",
+        b"M M:1 Z1 NOT YET BUILT\n",
+    ),
+    (
+        b"M: PROC OPTIONS(MAIN); L: ; END;",
+        b"M M:1 Z1 NOT YET BUILT\n",
+    ),
+    (
+        b"M: PROC OPTIONS(MAIN); BEGIN; END; END;",
+        b"M M:1 Z1 NOT YET BUILT\n",
+    ),
+    (
+        b"M: PROC(A) OPTIONS(MAIN); END;",
+        b"M M:1 Z1 NOT YET BUILT\n",
     ),
 ];
 

@@ -1,10 +1,10 @@
 -- Worked examples: the code of a first program, faults of declarations, printing at the end of a line, and linking.
-use Rattle.std.specs.Prelude.{◌≡◌, ℕ, pos, Err, List, [], ◌∷◌, ◌++◌, codes, replicate}
+use Rattle.std.specs.Prelude.{◌≡◌, ℕ, Bool, true, false, pos, Ok, Err, List, [], ◌∷◌, ◌++◌, codes, replicate}
 use Rattle.pli_base.specs.Name.{Name}
 use Rattle.pli_base.specs.Tree.{Reference, Variable, Constant, Sum, Declare, Assign, Put, Procedure}
 use Rattle.pli_base.specs.declared.code.Code.TheVariants.{NotDeclared, DeclaredTwice}
 use Rattle.pli_code.specs.Declarations.{declaration_faults}
-use Rattle.pli_code.specs.Link.{Compiled, link_of, TwoMainProcedures, DefinedTwice}
+use Rattle.pli_code.specs.Link.{Compiled, link_of, NoMainProcedure, TwoMainProcedures, DefinedTwice}
 use Rattle.pli_code.specs.Print.{print}
 use Rattle.pli_code.specs.Translation.{code_of}
 use Rattle.pli_code.specs.declared.instruction.Description.TheVariants.{FixedBinary}
@@ -17,6 +17,7 @@ reference n p = record { name = n; at = p }
 abbrev pub first : Procedure
 first = record {
   name = codes "M";
+  is_main = true;
   statements =
       record { number = 2; body = Declare (reference (codes "X") 9 ∷ []) }
       ∷ record { number = 3; body = Assign (reference (codes "X") 16) (Sum (Constant 2 1) (Constant 3 1)) }
@@ -38,6 +39,7 @@ FirstCode = code_of first ≡ record {
 abbrev pub doubtful : Procedure
 doubtful = record {
   name = codes "M";
+  is_main = true;
   statements =
       record { number = 2; body = Declare (reference (codes "X") 9 ∷ reference (codes "X") 16 ∷ []) }
       ∷ record { number = 3; body = Assign (reference (codes "Y") 23) (Variable (reference (codes "X") 25)) } ∷ [];
@@ -62,11 +64,23 @@ DoesNotFit = print 97 (replicate 25 65) ≡ record { bytes = 10 ∷ replicate 25
 abbrev pub AtTabStop : Type 0
 AtTabStop = print 16 (codes "7") ≡ record { bytes = replicate 9 32 ++ codes "7 "; column = 27 }
 
-abbrev pub unit : Name → Compiled
-unit n = record { unit = n; procedure = codes "M"; code = code_of first }
+abbrev pub unit : Name → (procedure : Name) → Bool → Compiled
+unit n procedure is_main = record { unit = n; procedure = procedure; is_main = is_main; code = code_of first }
 
 -- one text in two members
 abbrev pub TwoUnits : Type 0
 TwoUnits =
-    link_of (unit (codes "M") ∷ unit (codes "Q") ∷ [])
+    link_of (unit (codes "M") (codes "M") true ∷ unit (codes "Q") (codes "M") true ∷ [])
     ≡ Err (TwoMainProcedures (record { procedure = codes "M"; unit = codes "Q" }) ∷ DefinedTwice (record { procedure = codes "M"; unit = codes "Q" }) ∷ [])
+
+-- the main procedure stands in the second of three units
+abbrev pub OneOfThree : Type 0
+OneOfThree =
+    link_of (unit (codes "A") (codes "F") false ∷ unit (codes "M") (codes "M") true ∷ unit (codes "Q") (codes "G") false ∷ [])
+    ≡ Ok (record { unit = codes "M"; code = code_of first })
+
+-- no main procedure, and one name twice
+abbrev pub NoneOfTwo : Type 0
+NoneOfTwo =
+    link_of (unit (codes "A") (codes "F") false ∷ unit (codes "Q") (codes "F") false ∷ [])
+    ≡ Err (NoMainProcedure ∷ DefinedTwice (record { procedure = codes "F"; unit = codes "Q" }) ∷ [])

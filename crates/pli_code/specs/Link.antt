@@ -1,15 +1,17 @@
 -- Linking: a module of the units, or the faults.
 use Rattle.std.specs.Prelude.{ℕ, ◌+◌, Bool, true, false, Result, Ok, Err, List, [], ◌∷◌, ◌++◌, map, if◌then◌else◌}
 use Rattle.std.specs.Cmp.Lexicographic.{slice_cmp}
+use Rattle.std.specs.List.{filter}
 use Rattle.std.specs.Ordering.{nat_cmp, is_gt}
 use Rattle.pli_base.specs.Name.{Name}
 use Rattle.pli_code.specs.Declarations.{is_among}
 use Rattle.pli_code.specs.ModuleView.{Code, Module}
 
--- a unit that has been compiled: the member's name, the procedure's name, and its code
+-- a unit that has been compiled: the member's name, the procedure's name, whether that is a main procedure, and its code
 pub record Compiled : Type 0 where
   pub unit : Name
   pub procedure : Name
+  pub is_main : Bool
   pub code : Code
 
 -- the procedure of a unit
@@ -17,7 +19,7 @@ pub record Place : Type 0 where
   pub procedure : Name
   pub unit : Name
 
--- a fault of linking; in each unit after the first, a second main procedure, and a name that is defined already
+-- a fault of linking: no unit has a main procedure; a main procedure after the first; a name that a unit before has already
 pub data LinkFault : Type 0 where
   NoMainProcedure : LinkFault
   TwoMainProcedures : (place : Place) → LinkFault
@@ -45,9 +47,30 @@ defined_again before [] = []
 defined_again before (c ∷ cs) =
     (if is_among c.procedure before then place_of_unit c ∷ [] else []) ++ defined_again (before ++ c.procedure ∷ []) cs
 
--- from units in the order of their names, each with a main procedure: the module, or the faults by code, procedure and unit
+-- the units whose procedure is a main procedure
+abbrev pub mains : List Compiled → List Compiled
+mains = filter (λ c. c.is_main)
+
+-- every one but the first
+abbrev pub later : {A : Type 0} → List A → List A
+later [] = []
+later (x ∷ xs) = xs
+
+-- that there is none among the main procedures
+abbrev pub none_among : List Compiled → List LinkFault
+none_among [] = NoMainProcedure ∷ []
+none_among (c ∷ cs) = []
+
+-- the faults of units in the order of their names, by code, procedure and unit
+abbrev pub link_faults : List Compiled → List LinkFault
+link_faults cs =
+    none_among (mains cs) ++ map TwoMainProcedures (in_order (map place_of_unit (later (mains cs)))) ++ map DefinedTwice (in_order (defined_again [] cs))
+
+-- where there are no faults, the module of the first of the main procedures
+abbrev pub module_or : List LinkFault → List Compiled → Result Module (List LinkFault)
+module_or [] (c ∷ cs) = Ok (record { unit = c.unit; code = c.code })
+module_or faults cs = Err faults
+
+-- from units in the order of their names: the module of the one that has the main procedure, or the faults
 abbrev pub link_of : List Compiled → Result Module (List LinkFault)
-link_of [] = Err (NoMainProcedure ∷ [])
-link_of (c ∷ []) = Ok (record { unit = c.unit; code = c.code })
-link_of (c ∷ d ∷ cs) =
-    Err (map TwoMainProcedures (in_order (map place_of_unit (d ∷ cs))) ++ map DefinedTwice (in_order (defined_again [] (c ∷ d ∷ cs))))
+link_of cs = module_or (link_faults cs) (mains cs)

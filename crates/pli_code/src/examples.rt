@@ -1,5 +1,5 @@
 //! Worked examples of the definitions.
-ghost use Rattle.pli_code.specs.Examples.{FirstCode, DoubtfulFaults, EndsBefore, EndsFull, DoesNotFit, AtTabStop, TwoUnits};
+ghost use Rattle.pli_code.specs.Examples.{FirstCode, DoubtfulFaults, EndsBefore, EndsFull, DoesNotFit, AtTabStop, TwoUnits, OneOfThree, NoneOfTwo};
 
 /// Worked examples: the code of a first program, faults of declarations, printing at the end of a line, and linking.
 pub fn worked_examples()
@@ -10,4 +10,6 @@ pub fn worked_examples()
     ensures does_not_fit { DoesNotFit }
     ensures at_tab_stop { AtTabStop }
     ensures two_units { TwoUnits }
+    ensures one_of_three { OneOfThree }
+    ensures none_of_two { NoneOfTwo }
 {}

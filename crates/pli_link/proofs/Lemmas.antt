@@ -1,19 +1,20 @@
 -- Places in order, and the faults of units.
-use Rattle.std.proofs.Common.{◌≡◌, ℕ, suc, arith, Result, Ok, Err, IfOk, ◌-◌, ◌+◌, take, ◌<◌, ◌||◌, Bool, true, false, not, cond, if◌then◌else◌, List, [], ◌∷◌, ◌++◌, length, map, get_or, drop, refl, sym, ap, ◌∙◌}
+use Rattle.std.proofs.Common.{◌≡◌, ℕ, suc, arith, ◌+◌, ◌<◌, ◌||◌, nat_lt, Bool, true, false, not, cond, if◌then◌else◌, Option, Some, None, position, List, [], ◌∷◌, ◌++◌, append_assoc, append-nil, length, map, get_or, drop, refl, sym, ap, ◌∙◌}
+use Prim.Native.Nat.compare
+use Rattle.std.proofs.lemmas.Bool.Decides.{nat_tests}
+use lib.Dec.{is_le}
 use Rattle.std.specs.Prelude.{insert}
-use Rattle.std.specs.Global.{Vec}
 use Rattle.std.specs.List.{position_or_len, list_any}
 use Rattle.std.specs.Cmp.Lexicographic.{nat_list_eq_equiv}
-use Rattle.std.proofs.lemmas.List.{at_drop_more, map-append, take_rest}
+use Rattle.std.proofs.lemmas.List.{at_drop_more}
 use Rattle.pli_base.specs.Name.{Name}
 use Rattle.pli_base.specs.Words.{same_name}
 use Rattle.pli_code.specs.Declarations.{is_among}
 use Rattle.pli_code.specs.Link as link
-use Rattle.pli_link.specs.Answers.{compiled_view, place_view, fault_view, faults_of, later, is_past}
+use Rattle.pli_code.specs.ModuleView.{Module, code_view}
+use Rattle.pli_link.specs.Answers.{compiled_view, place_view, is_past, first_module}
 use Rattle.pli_link.specs.declared.linking.Compiled.{Compiled}
 use Rattle.pli_link.specs.declared.linking.Place.{Place}
-use Rattle.pli_link.specs.declared.linking.LinkFault.{LinkFault}
-use Rattle.pli_link.specs.declared.linking.LinkFault.TheVariants.{TwoMainProcedures, DefinedTwice}
 
 one_more : (k : ℕ) → 1 + k ≡ suc k
 one_more k = omega arith
@@ -37,64 +38,78 @@ pub among_turns : (n : Name) (ns : List Name) → list_any (λ m. same_name m n)
 among_turns n [] = refl
 among_turns n (m ∷ ms) = ap (λ b. b || list_any (λ k. same_name k n) ms) (nat_list_eq_equiv.symm m n) ∙ ap (λ b. same_name n m || b) (among_turns n ms)
 
--- what places come to where one is put in, and where it is left out
-pub put_in : (b : Bool) (p : link.Place) (ps next : List link.Place) → b ≡ true → next ≡ link.inserted p ps → next ≡ (if b then link.inserted p ps else ps)
+-- one more place sorted
+pub sorted_more : (xs : List Place) (i : ℕ) (x : Place) (sorted next whole : List link.Place) → i < length xs → x ≡ get_or xs i x
+    → next ≡ link.inserted (place_view x) sorted
+    → link.in_order_after sorted (map place_view (drop i xs)) ≡ whole → link.in_order_after next (map place_view (drop (i + 1) xs)) ≡ whole
+sorted_more xs i x sorted next whole lt read stepped all =
+    ap (λ ps. link.in_order_after ps (map place_view (drop (i + 1) xs))) stepped
+    ∙ sym (at_drop_more (λ ys. link.in_order_after sorted (map place_view ys)) xs i x lt
+    ∙ ap (λ (y : Place). link.in_order_after sorted (place_view y ∷ map place_view (drop (i + 1) xs))) (sym read)) ∙ all
+
+-- one more unit, which is defined again where its name is among those before
+pub again_more : (xs : List Compiled) (i : ℕ) (x : Compiled) (before : List Name) (places next whole : List link.Place) → i < length xs → x ≡ get_or xs i x
+    → next ≡ places ++ (if is_among x.procedure before then link.place_of_unit (compiled_view x) ∷ [] else [])
+    → places ++ link.defined_again before (map compiled_view (drop i xs)) ≡ whole
+    → next ++ link.defined_again (before ++ x.procedure ∷ []) (map compiled_view (drop (i + 1) xs)) ≡ whole
+again_more xs i x before places next whole lt read stepped all =
+    let rest : List link.Compiled = map compiled_view (drop (i + 1) xs) in
+    let again : List link.Place = if is_among x.procedure before then link.place_of_unit (compiled_view x) ∷ [] else [] in
+    let behind : List link.Place = link.defined_again (before ++ x.procedure ∷ []) rest in
+    let step : places ++ link.defined_again before (map compiled_view (drop i xs)) ≡ places ++ (again ++ behind) =
+    at_drop_more (λ ys. places ++ link.defined_again before (map compiled_view ys)) xs i x lt
+    ∙ ap (λ (y : Compiled). places ++ link.defined_again before (compiled_view y ∷ rest)) (sym read) in
+    ap (λ ps. ps ++ behind) stepped ∙ append_assoc places again behind ∙ sym step ∙ all
+
+-- what places come to where one is added, and where it is not
+pub put_in : (b : Bool) (p : link.Place) (ps next : List link.Place) → b ≡ true → next ≡ ps ++ p ∷ [] → next ≡ ps ++ (if b then p ∷ [] else [])
 put_in true p ps next e f = f
 put_in false p ps next e f = cc
 
-pub left_out : (b : Bool) (p : link.Place) (ps next : List link.Place) → b ≡ false → next ≡ ps → next ≡ (if b then link.inserted p ps else ps)
+pub left_out : (b : Bool) (p : link.Place) (ps next : List link.Place) → b ≡ false → next ≡ ps → next ≡ ps ++ (if b then p ∷ [] else [])
 left_out true p ps next e f = cc
-left_out false p ps next e f = f
+left_out false p ps next e f = f ∙ sym (append-nil ps)
 
--- one more unit
-pub again_more : (xs : List Compiled) (i : ℕ) (x : Compiled) (before : List Name) (sorted next whole : List link.Place) → i < length xs → x ≡ get_or xs i x
-    → next ≡ (if is_among x.procedure before then link.inserted (link.place_of_unit (compiled_view x)) sorted else sorted)
-    → link.in_order_after sorted (link.defined_again before (map compiled_view (drop i xs))) ≡ whole
-    → link.in_order_after next (link.defined_again (before ++ x.procedure ∷ []) (map compiled_view (drop (i + 1) xs))) ≡ whole
-again_more xs i x before sorted next whole lt read stepped all =
-    let c : link.Compiled = compiled_view x in
-    let rest : List link.Compiled = map compiled_view (drop (i + 1) xs) in
-    let step : link.in_order_after sorted (link.defined_again before (map compiled_view (drop i xs))) ≡ link.in_order_after sorted (link.defined_again before (c ∷ rest)) =
-    at_drop_more (λ ys. link.in_order_after sorted (link.defined_again before (map compiled_view ys))) xs i x lt
-    ∙ ap (λ (y : Compiled). link.in_order_after sorted (link.defined_again before (compiled_view y ∷ rest))) (sym read) in
-    ap (λ ps. link.in_order_after ps (link.defined_again (before ++ x.procedure ∷ []) rest)) stepped
-    ∙ by (is_among x.procedure before) (link.place_of_unit c) sorted (link.defined_again (before ++ x.procedure ∷ []) rest) ∙ sym step ∙ all
+-- the module of a unit
+abbrev pub unit_module : Compiled → Module
+unit_module u = record { unit = u.unit; code = code_view u.code }
+
+below_next : (k n : ℕ) → nat_lt k n ≡ nat_lt (suc k) (suc n)
+below_next k n = ap is_le (sym (compare.suc-suc (suc k) n))
+
+zero_below : (n : ℕ) → true ≡ nat_lt 0 (suc n)
+zero_below n = grind (arith, nat_tests)
+
+-- the first main procedure stands where the look-up says
+pub first_main : (xs : List Compiled) (d : Compiled)
+    → first_module (link.mains (map compiled_view xs))
+    ≡ cond (nat_lt (position_or_len (λ u. u.is_main) xs) (length xs)) (Some (unit_module (get_or xs (position_or_len (λ u. u.is_main) xs) d))) None
+first_main [] d = refl
+first_main (x ∷ xs) d = by x.is_main (position_or_len (λ u. u.is_main) xs) (first_main xs d)
   where
-    by : (b : Bool) (p : link.Place) (ps rest : List link.Place) → link.in_order_after (if b then link.inserted p ps else ps) rest ≡ link.in_order_after ps ((if b then p ∷ [] else []) ++ rest)
-    by true p ps rest = refl
-    by false p ps rest = refl
+    by : (b : Bool) (k : ℕ) → first_module (link.mains (map compiled_view xs)) ≡ cond (nat_lt k (length xs)) (Some (unit_module (get_or xs k d))) None
+        → first_module (if b then compiled_view x ∷ link.mains (map compiled_view xs) else link.mains (map compiled_view xs))
+        ≡ cond (nat_lt (cond (not b) (1 + k) 0) (length (x ∷ xs))) (Some (unit_module (get_or (x ∷ xs) (cond (not b) (1 + k) 0) d))) None
+    by true k e = ap (λ b. cond b (Some (unit_module x)) None) (zero_below (length xs))
+    by false k e = e ∙ ap (λ b. cond b (Some (unit_module (get_or xs k d))) None) (below_next k (length xs)) ∙ ap (λ n. cond (nat_lt n (length (x ∷ xs))) (Some (unit_module (get_or (x ∷ xs) n d))) None) (sym (one_more k))
 
--- every unit but the first, seen
-pub later_is : (xs : List Compiled) → map compiled_view (drop 1 xs) ≡ later (map compiled_view xs)
-later_is [] = refl
-later_is (x ∷ xs) = refl
+-- no main procedure is found
+pub none_found : (xs : List Compiled) → position (λ u. u.is_main) xs ≡ None → None ≡ first_module (link.mains (map compiled_view xs))
+none_found [] e = refl
+none_found (x ∷ xs) e = by (nat_lt (position_or_len (λ u. u.is_main) (x ∷ xs)) (length (x ∷ xs))) (position_or_len (λ u. u.is_main) (x ∷ xs)) e (first_main (x ∷ xs) x)
+  where
+    by : (b : Bool) (k : ℕ) → cond b (Some k) None ≡ None
+        → first_module (link.mains (map compiled_view (x ∷ xs))) ≡ cond b (Some (unit_module (get_or (x ∷ xs) k x))) None
+        → None ≡ first_module (link.mains (map compiled_view (x ∷ xs)))
+    by true k e f = cc
+    by false k e f = sym f
 
-mains_seen : (ps : List Place) → map fault_view (map (λ p. TwoMainProcedures p) ps) ≡ map link.TwoMainProcedures (map place_view ps)
-mains_seen [] = refl
-mains_seen (p ∷ ps) = ap (λ fs. link.TwoMainProcedures (place_view p) ∷ fs) (mains_seen ps)
-
-repeated_seen : (ps : List Place) → map fault_view (map (λ p. DefinedTwice p) ps) ≡ map link.DefinedTwice (map place_view ps)
-repeated_seen [] = refl
-repeated_seen (p ∷ ps) = ap (λ fs. link.DefinedTwice (place_view p) ∷ fs) (repeated_seen ps)
-
--- the faults, seen
-pub faults_seen : (mains repeated : List Place) (found : List LinkFault) → found ≡ map (λ p. TwoMainProcedures p) mains ++ map (λ p. DefinedTwice p) repeated
-    → map fault_view found ≡ map link.TwoMainProcedures (map place_view mains) ++ map link.DefinedTwice (map place_view repeated)
-faults_seen mains repeated found e =
-    ap (map fault_view) e ∙ map-append fault_view (map (λ p. TwoMainProcedures p) mains) (map (λ p. DefinedTwice p) repeated)
-    ∙ ap (λ fs. fs ++ map fault_view (map (λ p. DefinedTwice p) repeated)) (mains_seen mains)
-    ∙ ap (λ fs. map link.TwoMainProcedures (map place_view mains) ++ fs) (repeated_seen repeated)
-
--- the faults of units, from their places
-pub faults_given : {E : Type 0} (units : List Compiled) (mains repeated seen seen_again : List Place) (r : Result (Vec LinkFault) E)
-    → map place_view mains ≡ link.in_order (map link.place_of_unit (map compiled_view (take (length units - 1) (drop 1 units))))
-    → map place_view repeated ≡ link.in_order (link.defined_again [] (map compiled_view units))
-    → seen ≡ mains → seen_again ≡ repeated
-    → IfOk r (λ found. found.items ≡ map (λ p. TwoMainProcedures p) seen ++ map (λ p. DefinedTwice p) seen_again)
-    → IfOk r (λ found. map fault_view found.items ≡ faults_of (map compiled_view units))
-faults_given units mains repeated seen seen_again (Err e) m d a b h = h
-faults_given units mains repeated seen seen_again (Ok found) m d a b h =
-    faults_seen mains repeated found.items (h ∙ ap (λ ps. map (λ p. TwoMainProcedures p) ps ++ map (λ p. DefinedTwice p) seen_again) a ∙ ap (λ ps. map (λ p. TwoMainProcedures p) mains ++ map (λ p. DefinedTwice p) ps) b)
-    ∙ ap (λ ps. map link.TwoMainProcedures ps ++ map link.DefinedTwice (map place_view repeated))
-    (m ∙ ap (λ us. link.in_order (map link.place_of_unit (map compiled_view us))) (take_rest units 1) ∙ ap (λ us. link.in_order (map link.place_of_unit us)) (later_is units))
-    ∙ ap (λ ps. map link.TwoMainProcedures (link.in_order (map link.place_of_unit (later (map compiled_view units)))) ++ map link.DefinedTwice ps) d
+-- the main procedure that is found is the first
+pub one_found : (xs : List Compiled) (i : ℕ) (m : Compiled) → position (λ u. u.is_main) xs ≡ Some i → m ≡ get_or xs i m → Some (unit_module m) ≡ first_module (link.mains (map compiled_view xs))
+one_found xs i m e f = by (nat_lt (position_or_len (λ u. u.is_main) xs) (length xs)) (position_or_len (λ u. u.is_main) xs) e (first_main xs m)
+  where
+    by : (b : Bool) (k : ℕ) → cond b (Some k) None ≡ Some i
+        → first_module (link.mains (map compiled_view xs)) ≡ cond b (Some (unit_module (get_or xs k m))) None
+        → Some (unit_module m) ≡ first_module (link.mains (map compiled_view xs))
+    by true k e g = let same : k ≡ i = cc in ap (λ x. Some (unit_module x)) (f ∙ ap (λ n. get_or xs n m) (sym same)) ∙ sym g
+    by false k e g = cc

@@ -1,5 +1,5 @@
 -- What the linker answers, as callers see it.
-use Rattle.std.specs.Prelude.{◌≡◌, Bool, Result, Ok, Err, List, [], ◌∷◌, ◌++◌, map}
+use Rattle.std.specs.Prelude.{◌≡◌, Bool, Option, Some, None, Result, Ok, Err, List, [], ◌∷◌, map}
 use Rattle.std.specs.Cmp.Lexicographic.{slice_cmp}
 use Rattle.std.specs.Ordering.{nat_cmp, is_gt}
 use Rattle.pli_base.specs.Name.{Name}
@@ -15,7 +15,7 @@ use Rattle.pli_link.specs.declared.linking.LinkError.TheVariants.{Faults, OutOfM
 
 -- what units, places and faults say, apart from where they lie in memory
 abbrev pub compiled_view : Compiled → link.Compiled
-compiled_view c = record { unit = c.unit; procedure = c.procedure; code = code_view c.code }
+compiled_view c = record { unit = c.unit; procedure = c.procedure; is_main = c.is_main; code = code_view c.code }
 
 abbrev pub place_view : Place → link.Place
 place_view p = record { procedure = p.procedure; unit = p.unit }
@@ -31,16 +31,10 @@ Links (Ok m) given = given ≡ Ok (module_view m)
 Links (Err (Faults faults)) given = given ≡ Err (map fault_view faults.items)
 Links (Err OutOfMemory) given = Unit {0}
 
--- every unit but the first
-abbrev pub later : List link.Compiled → List link.Compiled
-later [] = []
-later (c ∷ cs) = cs
-
--- the faults of two units or more
-abbrev pub faults_of : List link.Compiled → List link.LinkFault
-faults_of cs =
-    map link.TwoMainProcedures (link.in_order (map link.place_of_unit (later cs)))
-    ++ map link.DefinedTwice (link.in_order (link.defined_again [] cs))
+-- the module of the first of these units
+abbrev pub first_module : List link.Compiled → Option Module
+first_module [] = None
+first_module (c ∷ cs) = Some (record { unit = c.unit; code = c.code })
 
 -- the place's procedure has a greater name
 abbrev pub is_past : Name → Place → Bool

@@ -4,3 +4,6 @@
 mod linking;
 
 pub use linking::{Compiled, LinkError, LinkFault, Place, link};
+
+#[cfg(test)]
+mod tests;

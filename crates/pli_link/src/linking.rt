@@ -1,22 +1,25 @@
 //! Modules from the code of units.
-ghost use Rattle.std.specs.Prelude.{◌≡◌, ◌<◌, ◌++◌, [], map, position, length, OnOk, IfOk};
-ghost use Rattle.pli_code.specs.Link.{inserted, in_order, place_of_unit, defined_again, link_of};
-ghost use Rattle.pli_link.specs.Answers.{Links, compiled_view, place_view, fault_view, faults_of, is_past};
+ghost use Rattle.std.specs.Prelude.{◌≡◌, ◌++◌, [], map, option_map, position, OnOk, IfOk};
+ghost use Rattle.pli_code.specs.Link as link;
+ghost use Rattle.pli_code.specs.ModuleView.{module_view};
+ghost use Rattle.pli_link.specs.Answers.{Links, compiled_view, place_view, fault_view, is_past, first_module};
 ghost use Rattle.pli_link.specs.declared.linking.LinkError.TheVariants.{OutOfMemory};
 
 use pli_base::Name;
 use pli_code::{Code, Module};
 use std::alloc::{AllocError, AllocFailed, Global};
 
-/// A unit that has been compiled: the member's name, and its main procedure with its code.
+/// A unit that has been compiled: the member's name, and its external procedure with its code.
 #[derive(Drop)]
 pub struct Compiled {
     pub unit: Name,
     pub procedure: Name,
+    /// Whether it is a main procedure.
+    pub is_main: bool,
     pub code: Code,
 }
 
-/// A procedure of a unit.
+/// An external procedure and its unit.
 #[derive(Clone, Copy)]
 pub struct Place {
     pub procedure: Name,
@@ -26,7 +29,7 @@ pub struct Place {
 /// A fault of linking.
 #[derive(Clone, Copy)]
 pub enum LinkFault {
-    /// N1, where there is no unit.
+    /// N1, where there is no main procedure.
     NoMainProcedure,
     /// N2, for each main procedure after the first.
     TwoMainProcedures(Place),
@@ -61,7 +64,7 @@ impl<T: Drop> From<AllocFailed<T>> for LinkError {
 
 /// The procedure of a unit.
 fn place_of(unit: &Compiled) -> Place
-    ensures { place_view result ≡ place_of_unit (compiled_view unit.now) }
+    ensures { place_view result ≡ link.place_of_unit (compiled_view unit.now) }
 {
     Place {
         procedure: unit.procedure,
@@ -78,79 +81,115 @@ fn place_after(places: &[Place], procedure: &Name) -> Option<usize>
 
 /// Puts a place before the first one whose procedure has a greater name.
 fn insert(places: &mut Vec<Place>, place: Place) -> Result<(), AllocError>
-    ensures { OnOk result (map place_view places.new.items ≡ inserted (place_view place) (map place_view places.old.items)) }
+    ensures { OnOk result (map place_view places.new.items ≡ link.inserted (place_view place) (map place_view places.old.items)) }
 {
     let at = place_after(places.as_slice(), &place.procedure).unwrap_or(places.len());
     places.insert(at, place)?;
     Ok(())
 }
 
-/// The procedures of units, by name.
-fn places_in_order(alloc: Global, units: &[Compiled]) -> Result<Vec<Place>, AllocError>
-    ensures { IfOk result (λ places. map place_view places.items ≡ in_order (map place_of_unit (map compiled_view units.now))) }
+/// Places by the names of their procedures; those of one procedure stay as they stand.
+fn in_order(alloc: Global, places: &[Place]) -> Result<Vec<Place>, AllocError>
+    ensures { IfOk result (λ sorted. map place_view sorted.items ≡ link.in_order (map place_view places.now)) }
+{
+    let mut sorted = Vec::new(alloc);
+    for place in places {
+        insert(&mut sorted, *place)?;
+    }
+    Ok(sorted)
+}
+
+/// The main procedures, in the order of their units.
+fn main_places(alloc: Global, units: &[Compiled]) -> Result<Vec<Place>, AllocError>
+    ensures { IfOk result (λ places. map place_view places.items ≡ map link.place_of_unit (link.mains (map compiled_view units.now))) }
 {
     let mut places = Vec::new(alloc);
     for unit in units {
-        insert(&mut places, place_of(unit))?;
+        if unit.is_main {
+            places.push(place_of(unit))?;
+        }
     }
     Ok(places)
 }
 
-/// The procedures that have the name of an earlier one, by name.
-fn repeated_in_order(alloc: Global, units: &[Compiled]) -> Result<Vec<Place>, AllocError>
-    ensures { IfOk result (λ places. map place_view places.items ≡ in_order (defined_again [] (map compiled_view units.now))) }
+/// The procedures that have the name of an earlier one, in the order of their units.
+fn repeated_places(alloc: Global, units: &[Compiled]) -> Result<Vec<Place>, AllocError>
+    ensures { IfOk result (λ places. map place_view places.items ≡ link.defined_again [] (map compiled_view units.now)) }
 {
     let mut before = Vec::new(alloc);
     let mut places = Vec::new(alloc);
     for unit in units {
-        let is_repeated = before.contains(&unit.procedure);
-        if is_repeated {
-            insert(&mut places, place_of(unit))?;
+        if before.contains(&unit.procedure) {
+            places.push(place_of(unit))?;
         }
         before.push(unit.procedure)?;
     }
     Ok(places)
 }
 
-/// The faults at places, by code.
-fn faults_at(
-    alloc: Global,
-    mains: &[Place],
-    repeated: &[Place],
-) -> Result<Vec<LinkFault>, AllocError>
-    ensures { IfOk result
-        (λ found. found.items ≡ map LinkFault.TwoMainProcedures mains.now ++ map LinkFault.DefinedTwice repeated.now) }
+/// Appends N2 for each place.
+fn add_mains(faults: &mut Vec<LinkFault>, places: &[Place]) -> Result<(), AllocError>
+    ensures { OnOk result (map fault_view faults.new.items ≡ map fault_view faults.old.items ++ map link.TwoMainProcedures (map place_view places.now)) }
 {
-    mains
-        .iter()
-        .map(|place| LinkFault::TwoMainProcedures(*place))
-        .chain(repeated.iter().map(|place| LinkFault::DefinedTwice(*place)))
-        .collect(alloc)
+    for place in places {
+        faults.push(LinkFault::TwoMainProcedures(*place))?;
+    }
+    Ok(())
 }
 
-/// The faults of two units or more.
-fn faults(alloc: Global, units: &[Compiled]) -> Result<Vec<LinkFault>, AllocError>
-    requires { 1 < length units.now }
-    ensures { IfOk result (λ found. map fault_view found.items ≡ faults_of (map compiled_view units.now)) }
+/// Appends N4 for each place.
+fn add_repeated(faults: &mut Vec<LinkFault>, places: &[Place]) -> Result<(), AllocError>
+    ensures { OnOk result (map fault_view faults.new.items ≡ map fault_view faults.old.items ++ map link.DefinedTwice (map place_view places.now)) }
 {
-    let mains = places_in_order(alloc, &units[1..])?;
-    let repeated = repeated_in_order(alloc, units)?;
-    faults_at(alloc, mains.as_slice(), repeated.as_slice())
+    for place in places {
+        faults.push(LinkFault::DefinedTwice(*place))?;
+    }
+    Ok(())
 }
 
-/// The module of units, which come in the order of their names, at most 999, each with a main procedure; or all faults.
-pub fn link(alloc: Global, units: Vec<Compiled>) -> Result<Module, LinkError>
-    ensures { Links result (link_of (map compiled_view units.items)) }
+/// The faults of units, by code, procedure and unit.
+fn faults_of(alloc: Global, units: &[Compiled]) -> Result<Vec<LinkFault>, AllocError>
+    ensures { IfOk result (λ found. map fault_view found.items ≡ link.link_faults (map compiled_view units.now)) }
+{
+    let mut faults = Vec::new(alloc);
+    match main_places(alloc, units)?.split_first() {
+        None => faults.push(LinkFault::NoMainProcedure)?,
+        Some((_, later)) => add_mains(&mut faults, &in_order(alloc, later)?)?,
+    }
+    add_repeated(
+        &mut faults,
+        &in_order(alloc, &repeated_places(alloc, units)?)?,
+    )?;
+    Ok(faults)
+}
+
+/// Where the first main procedure stands.
+fn main_at(units: &[Compiled]) -> Option<usize>
+    ensures { result ≡ position (λ u. u.is_main) units.now }
+{
+    units.iter().position(|unit| unit.is_main)
+}
+
+/// The module of the first main procedure.
+fn main_module(units: Vec<Compiled>) -> Option<Module>
+    ensures { option_map module_view result ≡ first_module (link.mains (map compiled_view units.items)) }
 {
     let mut units = units;
-    if units.len() > 1 {
-        return Err(LinkError::Faults(faults(alloc, units.as_slice())?));
+    let at = main_at(&units)?;
+    let main = units.swap_remove(at);
+    Some(Module {
+        unit: main.unit,
+        code: main.code,
+    })
+}
+
+/// The module of units, which come in the order of their names, at most 999; or all faults.
+pub fn link(alloc: Global, units: Vec<Compiled>) -> Result<Module, LinkError>
+    ensures { Links result (link.link_of (map compiled_view units.items)) }
+{
+    let faults = faults_of(alloc, &units)?;
+    if !faults.is_empty() {
+        return Err(LinkError::Faults(faults));
     }
-    match units.pop() {
-        None => Err(LinkError::Faults(vec![in alloc; LinkFault::NoMainProcedure]?)),
-        Some(only) => Ok(Module {
-            unit: only.unit,
-            code: only.code,
-        }),
-    }
+    main_module(units).ok_or(LinkError::Faults(faults))
 }

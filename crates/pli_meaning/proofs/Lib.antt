@@ -7,9 +7,6 @@ pub mod Placed
 pub mod Ready
 pub mod Runs
 pub mod Simulation
-pub mod SoundExpansion
-pub mod SoundLines
-pub mod SoundTexts
 pub mod Stands
 pub mod Tables
 pub mod Whole

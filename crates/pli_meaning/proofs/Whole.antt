@@ -1,6 +1,8 @@
--- Members that have a module have one source member, whose tree has no faults and is sound.
-use Rattle.std.specs.Prelude.{◌≡◌, ℕ, Bool, true, false, Result, Ok, Err, List, [], ◌∷◌, ◌++◌, refl, if◌then◌else◌}
-use Rattle.std.specs.List.{flat_map}
+-- Members that have a module have one main unit, whose tree has no faults.
+use Rattle.std.specs.Prelude.{◌≡◌, ℕ, Bool, true, false, Result, Ok, Err, List, [], ◌∷◌, ◌++◌, map, refl, if◌then◌else◌}
+use Rattle.std.specs.Cmp.Lexicographic.{slice_cmp}
+use Rattle.std.specs.List.{filter, flat_map}
+use Rattle.std.specs.Ordering.{nat_cmp, is_gt}
 use Rattle.std.proofs.Common.{sym, ◌∙◌, ap, subst}
 use Rattle.pli_base.specs.Name.{Name}
 use Rattle.pli_base.specs.Tree.{Procedure}
@@ -12,10 +14,10 @@ use Rattle.pli_members.specs.Members.{Member}
 use Rattle.pli_members.specs.declared.kind.Kind.{Kind}
 use Rattle.pli_members.specs.declared.kind.Kind.TheVariants.{Source, Include}
 use Rattle.pli_code.specs.Declarations.{declaration_faults}
-use Rattle.pli_code.specs.Link.{Compiled, link_of}
+use Rattle.pli_code.specs.Link.{Compiled, Place, LinkFault, TwoMainProcedures, inserted, in_order_after, in_order, place_of_unit, mains, later, none_among, link_faults, module_or, link_of}
 use Rattle.pli_code.specs.ModuleView.{Module}
 use Rattle.pli_code.specs.Translation.{code_of, is_too_long}
-use Rattle.pli_meaning.specs.Scratch.{Diagnostic, Parsed, units_of, parsed_as, parsed_from, parsed_of, coded, compiled_from, compiled_of, diagnostics_in, diagnostic_line, one, Made, built, linked, scratch, all_text, all_units, text_in, units_in, sources, source_in}
+use Rattle.pli_meaning.specs.Scratch.{Diagnostic, Parsed, units_of, parsed_as, parsed_from, parsed_of, coded, compiled_from, compiled_of, diagnostics_in, diagnostic_line, one, Made, built, linked, scratch, all_text, all_units, text_in, units_in, sources, source_in, has_main, main_units}
 
 -- a list with an element is not empty
 filled : {A : Type 0} (xs ys : List A) (y : A) → xs ++ y ∷ ys ≡ [] → ⊥
@@ -50,7 +52,7 @@ parsed_has unit (Err stop) = tt
 parsed_has unit (Ok p) = parsed_as_has unit p.origins _
 
 abbrev unit_code : Name → Parsed → Compiled
-unit_code name p = record { unit = name; procedure = p.tree.name; code = code_of p.tree }
+unit_code name p = record { unit = name; procedure = p.tree.name; is_main = p.tree.is_main; code = code_of p.tree }
 
 -- a unit without diagnostics: its tree has no faults, and this is its code
 record IsClean (name : Name) (r : Result Parsed (List Diagnostic)) (c : Result Compiled (List Diagnostic)) : Type 0 where
@@ -83,105 +85,131 @@ unfolding parsed_of compiled_of
 unit_clean entries name e = compiled_clean name (parsed_from name (outcome_of entries name)) (parsed_has name (outcome_of entries name)) e
 
 module _ (entries : List (Name × Member)) where
-  -- one source member, and what it compiles to
-  record HasOne (units : List Name) (c : Compiled) : Type 0 where
-    unit : Name
-    only : units ≡ unit ∷ []
-    clean : IsClean unit (parsed_of entries unit) (compiled_of entries unit)
-    gives : compiled_of entries unit ≡ Ok c
+  -- a unit's code is that of its tree, which has no faults
+  record IsOfTree (c : Compiled) : Type 0 where
+    parsed : Parsed
+    spelled : parsed_of entries c.unit ≡ Ok parsed
+    faultless : declaration_faults parsed.tree ≡ []
+    code : c ≡ unit_code c.unit parsed
 
-  none_in : (name : Name) (kind : Kind) (names : List Name) (units : List Compiled)
-      → text_in entries name kind ≡ [] → units_in entries name kind ++ units ≡ [] → names ≡ [] → source_in name kind ++ names ≡ []
-  none_in name Source names units h e k =
+  -- so is each of these
+  abbrev AreOfTrees : List Compiled → Type 0
+  AreOfTrees [] = Unit {0}
+  AreOfTrees (c ∷ cs) = IsOfTree c × AreOfTrees cs
+
+  -- a source member is a main unit
+  abbrev is_main_unit : Name → Bool
+  is_main_unit unit = has_main (parsed_of entries unit)
+
+  trees_in : (name : Name) (kind : Kind) (units : List Compiled) → text_in entries name kind ≡ [] → AreOfTrees units → AreOfTrees (units_in entries name kind ++ units)
+  trees_in name Source units h all =
       let clean = unit_clean entries name h in
-      let bad : unit_code name clean.parsed ∷ units ≡ [] = subst (λ r. units_of r ++ units ≡ []) clean.code e in cc
-  none_in name Include names units h e k = k
+      subst (λ r. AreOfTrees (units_of r ++ units)) (sym clean.code) (record { parsed = clean.parsed; spelled = clean.spelled; faultless = clean.faultless; code = refl }, all)
+  trees_in name Include units h all = all
 
-  -- where nothing is compiled and there is no diagnostic, there is no source member
-  none_of : (some : List (Name × Member)) → all_text entries some ≡ [] → all_units entries some ≡ [] → sources some ≡ []
-  none_of [] h e = refl
-  none_of (x ∷ xs) h e =
-      none_in x.0 x.1.kind (sources xs) (all_units entries xs) (front_empty _ _ h) e
-      (none_of xs (back_empty (text_in entries x.0 x.1.kind) _ h) (back_empty (units_in entries x.0 x.1.kind) _ e))
+  -- where there is no diagnostic, each unit is of a tree
+  all_of_trees : (some : List (Name × Member)) → all_text entries some ≡ [] → AreOfTrees (all_units entries some)
+  all_of_trees [] h = tt
+  all_of_trees (x ∷ xs) h = trees_in x.0 x.1.kind (all_units entries xs) (front_empty _ _ h) (all_of_trees xs (back_empty (text_in entries x.0 x.1.kind) _ h))
 
-head_is : {A : Type 0} (x y : A) (xs ys : List A) → x ∷ xs ≡ y ∷ ys → x ≡ y
-head_is x y xs ys e = cc
+  mains_of_trees : (cs : List Compiled) → AreOfTrees cs → AreOfTrees (mains cs)
+  mains_of_trees [] all = tt
+  mains_of_trees (c ∷ cs) all = by c.is_main (mains_of_trees cs all.1)
+    where
+      by : (b : Bool) → AreOfTrees (mains cs) → AreOfTrees (if b then c ∷ mains cs else mains cs)
+      by true rest = (all.0, rest)
+      by false rest = rest
 
-tail_is : {A : Type 0} (x y : A) (xs ys : List A) → x ∷ xs ≡ y ∷ ys → xs ≡ ys
-tail_is x y xs ys e = cc
-
-module _ (entries : List (Name × Member)) where
-  one_in : (name : Name) (kind : Kind) (names : List Name) (units : List Compiled) (c : Compiled)
-      → text_in entries name kind ≡ [] → units_in entries name kind ++ units ≡ c ∷ [] → (units ≡ [] → names ≡ []) → (units ≡ c ∷ [] → HasOne entries names c)
-      → HasOne entries (source_in name kind ++ names) c
-  one_in name Source names units c h e none more =
+  mains_in : (name : Name) (kind : Kind) (names : List Name) (units : List Compiled) → text_in entries name kind ≡ []
+      → map (λ c. c.unit) (mains units) ≡ filter is_main_unit names
+      → map (λ c. c.unit) (mains (units_in entries name kind ++ units)) ≡ filter is_main_unit (source_in name kind ++ names)
+  mains_in name Source names units h e =
       let clean = unit_clean entries name h in
-      let both : unit_code name clean.parsed ∷ units ≡ c ∷ [] = subst (λ r. units_of r ++ units ≡ c ∷ []) clean.code e in
-      record {
-        unit = name;
-        only = ap (λ ns. name ∷ ns) (none (tail_is _ _ _ _ both));
-        clean = clean;
-        gives = clean.code ∙ ap (λ x. Ok x) (head_is _ _ _ _ both);
-      }
-  one_in name Include names units c h e none more = more e
+      ap (λ r. map (λ c. c.unit) (mains (units_of r ++ units))) clean.code
+      ∙ by clean.parsed.tree.is_main (unit_code name clean.parsed) (mains units) (filter is_main_unit names) e refl
+      ∙ ap (λ r. if has_main r then name ∷ filter is_main_unit names else filter is_main_unit names) (sym clean.spelled)
+    where
+      by : (b : Bool) (c : Compiled) (cs : List Compiled) (ns : List Name) → map (λ c. c.unit) cs ≡ ns → c.unit ≡ name
+          → map (λ c. c.unit) (if b then c ∷ cs else cs) ≡ (if b then name ∷ ns else ns)
+      by true c cs ns e is = ap (λ n. n ∷ map (λ c. c.unit) cs) is ∙ ap (λ ms. name ∷ ms) e
+      by false c cs ns e is = e
+  mains_in name Include names units h e = e
 
-  one_of : (some : List (Name × Member)) (c : Compiled) → all_text entries some ≡ [] → all_units entries some ≡ c ∷ [] → HasOne entries (sources some) c
-  one_of [] c h e = let bad : ⊥ = cc in absurd bad
-  one_of (x ∷ xs) c h e =
-      let clear : all_text entries xs ≡ [] = back_empty (text_in entries x.0 x.1.kind) _ h in
-      one_in x.0 x.1.kind (sources xs) (all_units entries xs) c (front_empty _ _ h) e (none_of entries xs clear) (one_of xs c clear)
+  -- where there is no diagnostic, the main procedures are those of the main units
+  mains_are : (some : List (Name × Member)) → all_text entries some ≡ [] → map (λ c. c.unit) (mains (all_units entries some)) ≡ filter is_main_unit (sources some)
+  mains_are [] h = refl
+  mains_are (x ∷ xs) h =
+      mains_in x.0 x.1.kind (sources xs) (all_units entries xs) (front_empty _ _ h) (mains_are xs (back_empty (text_in entries x.0 x.1.kind) _ h))
 
--- a module of units is that of one
-record IsOfOne (units : List Compiled) (m : Module) : Type 0 where
+-- places in order are as many as they were
+order_filled : (ps : List Place) (p : Place) (sorted : List Place) → in_order_after (p ∷ sorted) ps ≡ [] → ⊥
+order_filled [] p sorted e = cc
+order_filled (q ∷ ps) p sorted e = by (is_gt (slice_cmp nat_cmp p.procedure q.procedure)) (λ r rs. order_filled ps r rs) e
+  where
+    by : (b : Bool) → ((r : Place) (rs : List Place) → in_order_after (r ∷ rs) ps ≡ [] → ⊥) → in_order_after (if b then q ∷ p ∷ sorted else p ∷ inserted q sorted) ps ≡ [] → ⊥
+    by true rest e = rest q (p ∷ sorted) e
+    by false rest e = rest p (inserted q sorted) e
+
+map_empty : {A B : Type 0} (f : A → B) (xs : List A) → map f xs ≡ [] → xs ≡ []
+map_empty f [] e = refl
+map_empty f (x ∷ xs) e = let bad : ⊥ = cc in absurd bad
+
+-- where no second main procedure is told, there is none
+none_later : (cs : List Compiled) → map TwoMainProcedures (in_order (map place_of_unit cs)) ≡ [] → cs ≡ []
+none_later [] e = refl
+none_later (c ∷ cs) e = absurd (order_filled (map place_of_unit cs) (place_of_unit c) [] (map_empty TwoMainProcedures _ e))
+
+-- a module of units is that of their one main procedure
+record IsOfMain (cs : List Compiled) (m : Module) : Type 0 where
   compiled : Compiled
-  only : units ≡ compiled ∷ []
+  only : cs ≡ compiled ∷ []
   module_is : m ≡ record { unit = compiled.unit; code = compiled.code }
 
 made_is : (a b : Module) → Made a ≡ Made b → a ≡ b
 made_is a b e = cc
 
-linked_one : (units : List Compiled) (m : Module) → linked (link_of units) ≡ Made m → IsOfOne units m
-linked_one [] m e = let bad : ⊥ = cc in absurd bad
-linked_one (c ∷ []) m e = record { compiled = c; only = refl; module_is = sym (made_is _ m e) }
-linked_one (c ∷ d ∷ cs) m e = let bad : ⊥ = cc in absurd bad
+main_of : (faults : List LinkFault) (cs : List Compiled) (m : Module) → (faults ≡ [] → later cs ≡ []) → linked (module_or faults cs) ≡ Made m → IsOfMain cs m
+main_of [] [] m one e = let bad : ⊥ = cc in absurd bad
+main_of [] (c ∷ cs) m one e = record { compiled = c; only = ap (λ ds. c ∷ ds) (one refl); module_is = sym (made_is _ m e) }
+main_of (fault ∷ faults) cs m one e = let bad : ⊥ = cc in absurd bad
+
+linked_main : (units : List Compiled) (m : Module) → linked (link_of units) ≡ Made m → IsOfMain (mains units) m
+linked_main units m e =
+    main_of (link_faults units) (mains units) m
+    (λ none. none_later (later (mains units)) (back_empty (none_among (mains units)) _ (front_empty (none_among (mains units) ++ map TwoMainProcedures (in_order (map place_of_unit (later (mains units))))) _ none))) e
 
 record IsBuilt (text : List ℕ) (units : List Compiled) (m : Module) : Type 0 where
   clear : text ≡ []
-  one : IsOfOne units m
+  main : IsOfMain (mains units) m
 
-built_one : (text : List ℕ) (units : List Compiled) (m : Module) → built text units ≡ Made m → IsBuilt text units m
-built_one [] units m e = record { clear = refl; one = linked_one units m e }
-built_one (b ∷ text) units m e = let bad : ⊥ = cc in absurd bad
+built_main : (text : List ℕ) (units : List Compiled) (m : Module) → built text units ≡ Made m → IsBuilt text units m
+built_main [] units m e = record { clear = refl; main = linked_main units m e }
+built_main (b ∷ text) units m e = let bad : ⊥ = cc in absurd bad
 
--- members with a module: one source member, its tree, without faults, and the module of its code
+-- members with a module: their one main unit, its tree, without faults, and the module of its code
 pub record HasProgram (entries : List (Name × Member)) (m : Module) : Type 0 where
   pub unit : Name
   pub parsed : Parsed
-  pub only : sources entries ≡ unit ∷ []
+  pub only : main_units entries ≡ unit ∷ []
   pub spelled : parsed_of entries unit ≡ Ok parsed
   pub faultless : declaration_faults parsed.tree ≡ []
   pub module_is : m ≡ record { unit = unit; code = code_of parsed.tree }
 
-abbrev fine : Compiled → Result Compiled (List Diagnostic)
-fine c = Ok c
-
-ok_is : (a b : Compiled) → fine a ≡ fine b → a ≡ b
-ok_is a b e = cc
-
-program_of_one : (entries : List (Name × Member)) (m : Module) (c : Compiled) → HasOne entries (sources entries) c → m ≡ record { unit = c.unit; code = c.code } → HasProgram entries m
-program_of_one entries m c one e =
-    let same : unit_code one.unit one.clean.parsed ≡ c = ok_is _ c (sym one.clean.code ∙ one.gives) in
+program_of_tree : (entries : List (Name × Member)) (m : Module) (c : Compiled) → main_units entries ≡ c.unit ∷ [] → IsOfTree entries c → m ≡ record { unit = c.unit; code = c.code } → HasProgram entries m
+program_of_tree entries m c only tree e =
     record {
-      unit = one.unit;
-      parsed = one.clean.parsed;
-      only = one.only;
-      spelled = one.clean.spelled;
-      faultless = one.clean.faultless;
-      module_is = e ∙ ap (λ x. record { unit = x.unit; code = x.code }) (sym same);
+      unit = c.unit;
+      parsed = tree.parsed;
+      only = only;
+      spelled = tree.spelled;
+      faultless = tree.faultless;
+      module_is = e ∙ ap (λ x. record { unit = c.unit; code = x.code }) tree.code;
     }
 
-pub program_of : (entries : List (Name × Member)) (m : Module) → scratch entries ≡ Made m → HasProgram entries m
+pub program_made : (entries : List (Name × Member)) (m : Module) → scratch entries ≡ Made m → HasProgram entries m
 unfolding scratch
-program_of entries m e =
-    let whole = built_one (all_text entries entries) (all_units entries entries) m e in
-    program_of_one entries m whole.one.compiled (one_of entries entries whole.one.compiled whole.clear whole.one.only) whole.one.module_is
+program_made entries m e =
+    let whole = built_main (all_text entries entries) (all_units entries entries) m e in
+    let c = whole.main.compiled in
+    let trees : AreOfTrees entries (c ∷ []) = subst (AreOfTrees entries) whole.main.only (mains_of_trees entries _ (all_of_trees entries entries whole.clear)) in
+    program_of_tree entries m c (sym (mains_are entries entries whole.clear) ∙ ap (map (λ c. c.unit)) whole.main.only) trees.0 whole.main.module_is

@@ -1,5 +1,5 @@
 -- Worked examples of the meaning, in a unit M whose statement 1 is PROCEDURE and whose statement 2 declares X.
-use Rattle.std.specs.Prelude.{◌≡◌, ℕ, List, [], ◌∷◌, ◌++◌, replicate, codes}
+use Rattle.std.specs.Prelude.{◌≡◌, ℕ, true, List, [], ◌∷◌, ◌++◌, replicate, codes}
 use Rattle.pli_base.specs.Tree.{Reference, Expression, Variable, Constant, Sum, Body, Null, Declare, Assign, Put, Statement, Procedure}
 use Rattle.pli_code.specs.Declarations.{declaration_faults}
 use Rattle.pli_code.specs.declared.ending.Ending.{Ending}
@@ -18,7 +18,7 @@ numbered n body = record { number = n; body = body }
 
 -- `M: PROC OPTIONS(MAIN); DCL X FIXED BIN(31);`, statements 3 and 4, and `END;`
 abbrev pub procedure : (third fourth : Body) → Procedure
-procedure third fourth = record { name = codes "M"; statements = numbered 2 (Declare (x_at 10 ∷ [])) ∷ numbered 3 third ∷ numbered 4 fourth ∷ [] }
+procedure third fourth = record { name = codes "M"; is_main = true; statements = numbered 2 (Declare (x_at 10 ∷ [])) ∷ numbered 3 third ∷ numbered 4 fourth ∷ [] }
 
 -- `X = 2 + 3;`
 abbrev pub five_into_x : Body
@@ -70,4 +70,4 @@ NullIsAStep = Gives (procedure Null (Put (Variable (x_at 21) ∷ []))) 3 (replic
 
 -- a name that is declared nowhere has no meaning
 abbrev pub UndeclaredIsLost : Type 0
-UndeclaredIsLost = run_effect (codes "M") (record { name = codes "M"; statements = numbered 2 (Put (Variable (x_at 9) ∷ [])) ∷ [] }) 2 ≡ Lost
+UndeclaredIsLost = run_effect (codes "M") (record { name = codes "M"; is_main = true; statements = numbered 2 (Put (Variable (x_at 9) ∷ [])) ∷ [] }) 2 ≡ Lost

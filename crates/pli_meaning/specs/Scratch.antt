@@ -1,19 +1,22 @@
 -- A build from scratch: the diagnostics or the module that members give, and what their program means.
-use Rattle.std.specs.Prelude.{◌≡◌, ℕ, Option, Some, None, Result, Ok, Err, List, [], ◌∷◌, ◌++◌, map, decimal, slice_get, if◌then◌else◌}
-use Rattle.std.specs.List.{flat_map}
+use Rattle.std.specs.Prelude.{◌≡◌, ℕ, Bool, false, Option, Some, None, Result, Ok, Err, List, [], ◌∷◌, ◌++◌, map, decimal, slice_get, if◌then◌else◌}
+use Rattle.std.specs.List.{filter, flat_map}
 use Rattle.pli_base.specs.Name.{Name}
 use Rattle.pli_base.specs.Codes.{code_label, code_text}
-use Rattle.pli_base.specs.Reading.{procedure_of}
+use Rattle.pli_base.specs.Reading.{◌>>=◌}
 use Rattle.pli_base.specs.Tree.{Procedure}
+use Rattle.pli_base.specs.Words.{Tokens}
 use Rattle.pli_base.specs.declared.code.Code.{Code}
 use Rattle.pli_base.specs.declared.code.Code.TheVariants as code
 use Rattle.pli_base.specs.declared.token.Fault.{Fault}
 use Rattle.pli_base.specs.declared.token.Origin.{Origin}
 use Rattle.pli_include.specs.Expanded.{outcome_of}
 use Rattle.pli_include.specs.Expansion.{Outcome as Expansion}
+use Rattle.pli_lower.specs.Lowering.{lowered}
 use Rattle.pli_members.specs.Members.{Member}
 use Rattle.pli_members.specs.declared.kind.Kind.{Kind}
 use Rattle.pli_members.specs.declared.kind.Kind.TheVariants.{Source, Include}
+use Rattle.pli_parse.specs.StatementReading.{unit_of}
 use Rattle.pli_code.specs.Declarations.{declaration_faults}
 use Rattle.pli_code.specs.Link.{Compiled, Place, LinkFault, NoMainProcedure, TwoMainProcedures, DefinedTwice, link_of}
 use Rattle.pli_code.specs.Machine.{Outcome}
@@ -38,7 +41,11 @@ located unit origins fault = record { origin = origin_of unit (slice_get origins
 abbrev pub one : Code → Origin → List Diagnostic
 one code origin = record { origin = origin; code = code } ∷ []
 
--- a tree and the places of the tokens that spell it
+-- the tree of a unit's tokens, in the language that is compiled today; or the one fault of the tokens, or of the first form that cannot be compiled yet
+abbrev pub program_of : Tokens → Result Procedure Fault
+program_of texts = unit_of texts >>= lowered
+
+-- a tree and the places of the tokens that it was read from
 pub record Parsed : Type 0 where
   pub origins : List Origin
   pub tree : Procedure
@@ -49,7 +56,7 @@ parsed_as unit origins (Err fault) = Err (located unit origins fault ∷ [])
 
 abbrev pub parsed_from : Name → Expansion → Result Parsed (List Diagnostic)
 parsed_from unit (Err stop) = Err (one stop.fault.code stop.fault.origin)
-parsed_from unit (Ok p) = parsed_as unit p.origins (procedure_of p.texts)
+parsed_from unit (Ok p) = parsed_as unit p.origins (program_of p.texts)
 
 -- the tree of a unit's expansion, or the first fault
 unfoldable pub parsed_of : List (Name × Member) → Name → Result Parsed (List Diagnostic)
@@ -59,7 +66,7 @@ parsed_of entries unit = parsed_from unit (outcome_of entries unit)
 abbrev pub coded : Name → Parsed → List Fault → Result Compiled (List Diagnostic)
 coded unit p [] =
     if is_too_long (code_of p.tree) then Err (one code.CodeTooLong (origin_of unit (slice_get p.origins 0)))
-    else Ok (record { unit = unit; procedure = p.tree.name; code = code_of p.tree })
+    else Ok (record { unit = unit; procedure = p.tree.name; is_main = p.tree.is_main; code = code_of p.tree })
 coded unit p (fault ∷ faults) = Err (map (located unit p.origins) (fault ∷ faults))
 
 abbrev pub compiled_from : Name → Result Parsed (List Diagnostic) → Result Compiled (List Diagnostic)
@@ -137,10 +144,19 @@ all_units entries (e ∷ es) = units_in entries e.0 e.1.kind ++ all_units entrie
 unfoldable pub scratch : List (Name × Member) → Built
 scratch entries = built (all_text entries entries) (all_units entries entries)
 
--- what the members' program does with so many steps: the one source member, which is the main unit, has a tree, and this is its whole run
+-- a main unit has a tree, and its procedure is a main procedure
+abbrev pub has_main : Result Parsed (List Diagnostic) → Bool
+has_main (Ok p) = p.tree.is_main
+has_main (Err diagnostics) = false
+
+-- the main units among the source members
+abbrev pub main_units : List (Name × Member) → List Name
+main_units entries = filter (λ unit. has_main (parsed_of entries unit)) (sources entries)
+
+-- what the members' program does with so many steps: just one source member is a main unit, and this is its whole run
 pub record Means (entries : List (Name × Member)) (steps : ℕ) (outcome : Outcome) : Type 0 where
   pub unit : Name
   pub parsed : Parsed
-  pub only : sources entries ≡ unit ∷ []
+  pub only : main_units entries ≡ unit ∷ []
   pub spelled : parsed_of entries unit ≡ Ok parsed
   pub run : outcome ≡ whole_run unit parsed.tree steps

@@ -1,7 +1,7 @@
 use super::*;
 use pli_base::syntax::Identifier;
 use pli_base::{Name, Sign, TokenText};
-use pli_statement::parse;
+use pli_parse::parse;
 use std::alloc::{AllocError, Global};
 use std::fmt::Write;
 use std::test::*;

@@ -1,1 +1,8 @@
-pub mod Answers
+pub mod StatementAnswers
+pub mod StatementExamples
+pub mod StatementGrammar
+pub mod StatementLaws
+pub mod StatementReading
+pub mod StatementView
+pub mod StatementWords
+pub mod Statements

@@ -1,9 +1,34 @@
-//! The parser: the tree of an external procedure from its tokens.
+//! Statements, blocks, groups and the unit: trees, their grammar and their parser.
 #![tactic(auto)]
 
-mod procedure;
+mod control;
+mod copying;
+mod cursor;
+mod first;
+mod heading;
+mod keyword;
+mod laws;
+mod reader;
+mod reading;
+mod simple;
+mod spelling;
+mod statement;
+mod unit;
+mod word;
 
-pub use procedure::{ParseError, parse};
+pub use keyword::{Keyword, Standing, named_condition, statement_keyword};
+pub use laws::worked_examples;
+pub use pli_item::ParseError;
+pub use reading::units_read_are_spelled;
+pub use spelling::{one_unit, units_spelled_are_read};
+pub use statement::{
+    Allocation, Body, Condition, Control, Procedure, ProcedureOption, Range, Statement,
+};
+pub use unit::parse;
 
 #[cfg(test)]
 mod tests;
+#[cfg(test)]
+mod texts_table;
+#[cfg(test)]
+mod texts_tests;

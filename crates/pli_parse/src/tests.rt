@@ -1,5 +1,8 @@
-use crate::{ParseError, parse};
-use pli_base::{Body, Expression, Name, Sign, TokenText, Unit};
+use super::*;
+use pli_base::syntax::{
+    ConstantValue, Expression, Identifier, InfixOperator, Joining, Part, PrefixOperator, Reference,
+};
+use pli_base::{Name, Sign, TokenText};
 use std::alloc::{AllocError, Global};
 use std::fmt::Write;
 use std::test::*;
@@ -9,258 +12,727 @@ fn sign_of(word: &str) -> Option<Sign> {
         ":" => Some(Sign::Colon),
         ";" => Some(Sign::Semicolon),
         "," => Some(Sign::Comma),
+        "." => Some(Sign::Period),
         "(" => Some(Sign::OpenParenthesis),
         ")" => Some(Sign::CloseParenthesis),
         "=" => Some(Sign::Equals),
         "+" => Some(Sign::Plus),
+        "-" => Some(Sign::Minus),
+        "->" => Some(Sign::Arrow),
         _ => None,
     }
 }
 
-/// The token that a word of a test's text stands for.
+/// The token that a word of a test's text stands for: a sign, a number or a name.
 fn token_of(word: &str) -> Option<TokenText> {
     if let Some(sign) = sign_of(word) {
         return Some(TokenText::Sign(sign));
     }
     if let Ok(value) = word.parse::<u32>() {
-        return Some(TokenText::Decimal {
-            value,
-            digits: u8::try_from(word.len()).ok()?,
-        });
+        return match u8::try_from(word.len()) {
+            Ok(digits) => Some(TokenText::Decimal { value, digits }),
+            Err(_) => None,
+        };
     }
-    Some(TokenText::Word(Name::read(word.as_bytes())?))
+    match Name::read(word.as_bytes()) {
+        Some(name) => Some(TokenText::Word(name)),
+        None => None,
+    }
 }
 
-/// Adds the tokens of a text, whose words stand apart.
-fn push_tokens(tokens: &mut Vec<TokenText>, text: &str) -> Result<(), AllocError> {
+/// The tokens of a text, whose words stand apart.
+pub fn tokens_of(alloc: Global, text: &str) -> Result<Vec<TokenText>, AllocError> {
+    let mut tokens = Vec::new(alloc);
     for word in text.split(' ') {
         if let Some(token) = token_of(word) {
             tokens.push(token)?;
         }
     }
+    Ok(tokens)
+}
+
+fn show_name(shown: &mut String, identifier: &Identifier) -> Result<(), AllocError> {
+    for byte in identifier.name.bytes() {
+        shown.push(char::from(*byte))?;
+    }
+    let at = identifier.at;
+    write!(shown, "@{at}")?;
     Ok(())
 }
 
-/// `X@9` for a name at token 9, `7#2` for `07`, and sums in parentheses.
-fn expression_text(alloc: Global, expression: &Expression) -> Result<String, AllocError> {
+#[cycle(show_value)]
+fn show_expression(shown: &mut String, expression: &Expression) -> Result<(), AllocError> {
     match expression {
-        Expression::Variable(reference) => {
-            let name = reference.name;
-            let at = reference.at;
-            format!(in alloc; "{name:?}@{at}")
+        Expression::Reference(reference) => show_reference(shown, reference)?,
+        Expression::Constant { value, .. } => match value {
+            ConstantValue::Decimal { value, .. } => {
+                let value = *value;
+                write!(shown, "{value}")?;
+            }
+            _ => shown.push('?')?,
+        },
+        Expression::Parenthesized { inner, .. } => {
+            shown.push('(')?;
+            show_expression(shown, inner)?;
+            shown.push(')')?;
         }
-        Expression::Constant { value, digits } => format!(in alloc; "{value}#{digits}"),
-        Expression::Sum(left, right) => {
-            let left = expression_text(alloc, left)?;
-            let right = expression_text(alloc, right)?;
-            format!(in alloc; "({left}+{right})")
+        Expression::Prefix {
+            operator,
+            operand,
+            ..
+        } => {
+            shown.push(match operator {
+                PrefixOperator::Plus => '+',
+                PrefixOperator::Minus => '-',
+                PrefixOperator::Not => '^',
+            })?;
+            show_expression(shown, operand)?;
+        }
+        Expression::Infix {
+            operator,
+            left,
+            right,
+            ..
+        } => {
+            shown.push('[')?;
+            show_expression(shown, left)?;
+            shown.push(match operator {
+                InfixOperator::Equal => '=',
+                InfixOperator::Add => '+',
+                InfixOperator::Subtract => '-',
+                _ => '?',
+            })?;
+            show_expression(shown, right)?;
+            shown.push(']')?;
+        }
+    }
+    Ok(())
+}
+
+#[cycle(show_value)]
+fn show_reference(shown: &mut String, reference: &Reference) -> Result<(), AllocError> {
+    show_part(shown, &reference.first)?;
+    for joined in &reference.joined {
+        shown.push_str(match joined.joining {
+            Joining::Member => ".",
+            Joining::Located => "->",
+        })?;
+        show_part(shown, &joined.part)?;
+    }
+    Ok(())
+}
+
+#[cycle(show_value)]
+fn show_part(shown: &mut String, part: &Part) -> Result<(), AllocError> {
+    show_name(shown, &part.name)?;
+    if let Some(list) = &part.arguments {
+        shown.push('(')?;
+        for argument in list {
+            show_expression(shown, argument)?;
+            shown.push(';')?;
+        }
+        shown.push(')')?;
+    }
+    Ok(())
+}
+
+/// ` WORD expression`, if it is there.
+fn show_optional(
+    shown: &mut String,
+    word: &str,
+    value: &Option<Expression>,
+) -> Result<(), AllocError> {
+    if let Some(value) = value {
+        shown.push_str(word)?;
+        show_expression(shown, value)?;
+    }
+    Ok(())
+}
+
+fn show_range(shown: &mut String, range: &Range) -> Result<(), AllocError> {
+    match range {
+        Range::To { to, by } => {
+            shown.push_str(" TO ")?;
+            show_expression(shown, to)?;
+            show_optional(shown, " BY ", by)
+        }
+        Range::By { by, to } => {
+            shown.push_str(" BY ")?;
+            show_expression(shown, by)?;
+            show_optional(shown, " TO ", to)
+        }
+        Range::Repeat(next) => {
+            shown.push_str(" REPEAT ")?;
+            show_expression(shown, next)
         }
     }
 }
 
-fn body_text(alloc: Global, body: &Body) -> Result<String, AllocError> {
-    let mut text = String::new(alloc);
+fn show_control(shown: &mut String, control: &Control) -> Result<(), AllocError> {
+    match control {
+        Control::While(condition) => {
+            shown.push_str(" WHILE ")?;
+            show_expression(shown, condition)
+        }
+        Control::Iterate {
+            variable,
+            equals,
+            first,
+            range,
+            condition,
+        } => {
+            shown.push(' ')?;
+            show_reference(shown, variable)?;
+            let equals = *equals;
+            write!(shown, " ={equals} ")?;
+            show_expression(shown, first)?;
+            if let Some(range) = range {
+                show_range(shown, range)?;
+            }
+            show_optional(shown, " WHILE ", condition)
+        }
+    }
+}
+
+fn word_of(condition: Condition) -> &'static str {
+    match condition {
+        Condition::FixedOverflow => "FOFL",
+        Condition::ZeroDivide => "ZDIV",
+        Condition::Area => "AREA",
+    }
+}
+
+fn show_allocation(shown: &mut String, allocation: &Allocation) -> Result<(), AllocError> {
+    shown.push(' ')?;
+    show_name(shown, &allocation.name)?;
+    if let Some(area) = &allocation.area {
+        shown.push_str(" IN ")?;
+        show_reference(shown, area)?;
+    }
+    if let Some(target) = &allocation.target {
+        shown.push_str(" SET ")?;
+        show_reference(shown, target)?;
+    }
+    Ok(())
+}
+
+fn show_list(shown: &mut String, list: &[Expression]) -> Result<(), AllocError> {
+    shown.push('(')?;
+    for value in list {
+        show_expression(shown, value)?;
+        shown.push(';')?;
+    }
+    shown.push(')')?;
+    Ok(())
+}
+
+fn show_heading(
+    shown: &mut String,
+    parameters: &[Identifier],
+    options: &[ProcedureOption],
+) -> Result<(), AllocError> {
+    for parameter in parameters {
+        shown.push(' ')?;
+        show_name(shown, parameter)?;
+    }
+    for option in options {
+        shown.push_str(match option {
+            ProcedureOption::Main => " MAIN",
+            ProcedureOption::Returns(_) => " RETURNS",
+            ProcedureOption::Recursive => " RECURSIVE",
+        })?;
+    }
+    Ok(())
+}
+
+/// A statement with none inside.
+fn show_simple(shown: &mut String, body: &Body) -> Result<(), AllocError> {
     match body {
-        Body::Null => text.push_str("NULL")?,
+        Body::Null => shown.push(';'),
+        Body::Assign {
+            target,
+            equals,
+            value,
+        } => {
+            show_reference(shown, target)?;
+            let equals = *equals;
+            write!(shown, " ={equals} ")?;
+            show_expression(shown, value)
+        }
         Body::Declare(items) => {
-            text.push_str("DCL")?;
-            for item in items {
-                let name = item.name;
-                let at = item.at;
-                write!(text, " {name:?}@{at}")?;
+            let count = items.len();
+            write!(shown, "DECLARE {count}")?;
+            Ok(())
+        }
+        Body::Revert(condition) => {
+            shown.push_str("REVERT ")?;
+            shown.push_str(word_of(*condition))
+        }
+        Body::Signal(condition) => {
+            shown.push_str("SIGNAL ")?;
+            shown.push_str(word_of(*condition))
+        }
+        Body::Stop => shown.push_str("STOP"),
+        Body::Allocate(allocations) => {
+            shown.push_str("ALLOCATE")?;
+            for allocation in allocations {
+                show_allocation(shown, allocation)?;
+            }
+            Ok(())
+        }
+        Body::Free(references) => {
+            shown.push_str("FREE")?;
+            for reference in references {
+                shown.push(' ')?;
+                show_reference(shown, reference)?;
+            }
+            Ok(())
+        }
+        Body::Call { name, arguments } => {
+            shown.push_str("CALL ")?;
+            show_name(shown, name)?;
+            match arguments {
+                Some(list) => show_list(shown, list),
+                None => Ok(()),
             }
         }
-        Body::Assign { target, value } => {
-            let name = target.name;
-            let at = target.at;
-            let value = expression_text(alloc, value)?;
-            write!(text, "{name:?}@{at}={value}")?;
+        Body::Goto(label) => {
+            shown.push_str("GOTO ")?;
+            show_name(shown, label)
         }
-        Body::Put(items) => {
-            text.push_str("PUT")?;
-            for item in items {
-                let item = expression_text(alloc, item)?;
-                write!(text, " {item}")?;
+        Body::Return(value) => {
+            shown.push_str("RETURN")?;
+            show_optional(shown, " ", value)
+        }
+        Body::Put { skip, items } => {
+            shown.push_str(if *skip { "PUT SKIP" } else { "PUT" })?;
+            show_list(shown, items)
+        }
+        _ => Ok(()),
+    }
+}
+
+/// ` {..} 9`: the statements, and the number of their END.
+#[cycle(show_tree)]
+fn show_ended(shown: &mut String, statements: &[Statement], end: u32) -> Result<(), AllocError> {
+    shown.push_str(" {")?;
+    for statement in statements {
+        shown.push(' ')?;
+        show_statement(shown, statement)?;
+    }
+    write!(shown, " }}{end}")?;
+    Ok(())
+}
+
+#[cycle(show_tree)]
+fn show_body(shown: &mut String, body: &Body) -> Result<(), AllocError> {
+    match body {
+        Body::Procedure(procedure) => {
+            shown.push_str("PROC ")?;
+            show_name(shown, &procedure.name)?;
+            let number = procedure.number;
+            write!(shown, " #{number}")?;
+            show_heading(shown, &procedure.parameters, &procedure.options)?;
+            show_ended(shown, &procedure.statements, procedure.end)
+        }
+        Body::Begin { statements, end } => {
+            shown.push_str("BEGIN")?;
+            show_ended(shown, statements, *end)
+        }
+        Body::Do {
+            control,
+            statements,
+            end,
+        } => {
+            shown.push_str("DO")?;
+            if let Some(control) = control {
+                show_control(shown, control)?;
             }
+            show_ended(shown, statements, *end)
         }
+        Body::If {
+            condition,
+            consequence,
+            alternative,
+        } => {
+            shown.push_str("IF ")?;
+            show_expression(shown, condition)?;
+            shown.push_str(" THEN ")?;
+            show_statement(shown, consequence)?;
+            if let Some(alternative) = alternative {
+                shown.push_str(" ELSE ")?;
+                show_statement(shown, alternative)?;
+            }
+            shown.push_str(" FI")
+        }
+        Body::On { condition, unit } => {
+            shown.push_str("ON ")?;
+            shown.push_str(word_of(*condition))?;
+            shown.push(' ')?;
+            show_statement(shown, unit)
+        }
+        _ => show_simple(shown, body),
     }
-    Ok(text)
 }
 
-/// The procedure's name, and each statement's number and body.
-fn unit_text(alloc: Global, unit: &Unit) -> Result<String, AllocError> {
-    let name = unit.name;
-    let mut text = format!(in alloc; "{name:?}")?;
-    for statement in &unit.statements {
-        let number = statement.number;
-        let body = body_text(alloc, &statement.body)?;
-        write!(text, " {number}:{body}")?;
+/// `L@4: 2@6 ..`: the label, the number, the first token behind the label, and what the statement says.
+#[cycle(show_tree)]
+pub fn show_statement(shown: &mut String, statement: &Statement) -> Result<(), AllocError> {
+    if let Some(label) = &statement.label {
+        show_name(shown, label)?;
+        shown.push_str(": ")?;
     }
-    Ok(text)
+    let number = statement.number;
+    let at = statement.at;
+    write!(shown, "{number}@{at} ")?;
+    show_body(shown, &statement.body)
 }
 
-/// The tree as a text, or the fault as `P2 at 8`.
-fn answered(alloc: Global, tokens: &[TokenText]) -> Result<String, AllocError> {
-    if tokens.len() > 200_000 {
+pub fn show_unit(alloc: Global, unit: &Procedure) -> Result<String, AllocError> {
+    let mut shown = String::new(alloc);
+    show_name(&mut shown, &unit.name)?;
+    let number = unit.number;
+    write!(shown, " #{number}")?;
+    show_heading(&mut shown, &unit.parameters, &unit.options)?;
+    show_ended(&mut shown, &unit.statements, unit.end)?;
+    Ok(shown)
+}
+
+/// What parsing the tokens gives.
+fn shown(alloc: Global, tokens: &[TokenText]) -> Result<String, AllocError> {
+    if tokens.len() > 200000 {
         return String::from_str(alloc, "TOO MANY TOKENS");
     }
     match parse(alloc, tokens) {
-        Ok(unit) => unit_text(alloc, &unit),
+        Ok(unit) => show_unit(alloc, &unit),
         Err(ParseError::Fault(fault)) => {
             let label = fault.code.label();
             let at = fault.at;
             format!(in alloc; "{label} at {at}")
         }
-        Err(ParseError::OutOfMemory) => Err(AllocError),
+        Err(ParseError::OutOfMemory) => String::from_str(alloc, "OUT OF MEMORY"),
     }
 }
 
-const HEADING: &str = "M : PROC OPTIONS ( MAIN ) ;";
+/// What parsing a text gives.
+fn parsed(alloc: Global, text: &str) -> Result<String, AllocError> {
+    let tokens = tokens_of(alloc, text)?;
+    shown(alloc, &tokens)
+}
+
+/// What parsing a unit gives that has these statements, of which the first begins at token 4.
+fn inside(alloc: Global, text: &str) -> Result<String, AllocError> {
+    let whole = format!(in alloc; "M : PROC ; {text} END ;")?;
+    parsed(alloc, &whole)
+}
 
 #[test]
-fn whole_texts(rt: HostRuntime) -> Result<(), Fail> {
+fn keywords(rt: HostRuntime) -> Result<(), Fail> {
+    worked_examples();
+    for word in [b"proc".as_slice(), b"PROCEDURE"] {
+        let name = Name::read(word).ok_or("a name")?;
+        assert!(rt; matches!(statement_keyword(&name), Some(Keyword::Procedure)));
+    }
+    for word in [b"dcl".as_slice(), b"DECLARE"] {
+        let name = Name::read(word).ok_or("a name")?;
+        assert!(rt; matches!(statement_keyword(&name), Some(Keyword::Declare)));
+    }
+    for word in [b"GO".as_slice(), b"THEN", b"ELSE", b"WHILE", b"X"] {
+        let name = Name::read(word).ok_or("a name")?;
+        assert!(rt; statement_keyword(&name).is_none());
+    }
+    Ok(())
+}
+
+#[test]
+fn conditions(rt: HostRuntime) -> Result<(), Fail> {
+    for word in [b"ZERODIVIDE".as_slice(), b"ZDIV"] {
+        let name = Name::read(word).ok_or("a name")?;
+        assert!(rt; matches!(named_condition(&name), Some(Condition::ZeroDivide)));
+    }
+    let other = Name::read(b"CONVERSION").ok_or("a name")?;
+    assert!(rt; named_condition(&other).is_none());
+    Ok(())
+}
+
+/// No word is reserved.
+#[test]
+fn keywords_are_names(rt: HostRuntime) -> Result<(), Fail> {
     for (text, want) in [
+        (
+            "IF IF = THEN THEN THEN = ELSE ; ELSE ELSE = IF ;",
+            "M@0 #1 { 2@4 IF [IF@5=THEN@7] THEN 3@9 THEN@9 =10 ELSE@11 ELSE 4@14 ELSE@14 =15 IF@16 FI }5",
+        ),
+        (
+            "DO DO = 1 TO TO ; END ;",
+            "M@0 #1 { 2@4 DO DO@5 =6 1 TO TO@9 { }3 }4",
+        ),
+        ("PUT LIST ( LIST ) ;", "M@0 #1 { 2@4 PUT(LIST@7;) }3"),
+        ("END : ;", "M@0 #1 { END@4: 2@6 ; }3"),
+        ("DECLARE ( 1 ) = 2 ;", "M@0 #1 { 2@4 DECLARE@4(1;) =8 2 }3"),
+        ("CALL = 1 ;", "M@0 #1 { 2@4 CALL@4 =5 1 }3"),
+        ("GO = 1 ;", "M@0 #1 { 2@4 GO@4 =5 1 }3"),
+        ("END = 1 ;", "M@0 #1 { 2@4 END@4 =5 1 }3"),
+        ("RETURN ( 1 ) = 2 ;", "M@0 #1 { 2@4 RETURN@4(1;) =8 2 }3"),
+        (
+            "PROC = 1 ; BEGIN = 2 ; ON = 3 ;",
+            "M@0 #1 { 2@4 PROC@4 =5 1 3@8 BEGIN@8 =9 2 4@12 ON@12 =13 3 }5",
+        ),
+        ("IF : IF = 1 ;", "M@0 #1 { IF@4: 2@6 IF@6 =7 1 }3"),
+        (
+            "S . IF = P -> THEN ;",
+            "M@0 #1 { 2@4 S@4.IF@6 =7 P@8->THEN@10 }3",
+        ),
+        (
+            "DO WHILE = 1 BY 2 TO 3 WHILE ( B ) ; END ;",
+            "M@0 #1 { 2@4 DO WHILE@5 =6 1 BY 2 TO 3 WHILE B@14 { }3 }4",
+        ),
+        (
+            "ALLOCATE IN IN ( SET ) SET ( IN ) ;",
+            "M@0 #1 { 2@4 ALLOCATE IN@5 IN SET@8 SET IN@12 }3",
+        ),
+    ] {
+        let answer = inside(rt.alloc(), text)?;
+        assert_eq!(rt; answer.as_str(), want, "{text}");
+    }
+    Ok(())
+}
+
+/// Each form of statement.
+#[test]
+fn statements_are_read(rt: HostRuntime) -> Result<(), Fail> {
+    for (text, want) in [
+        (
+            "X = ( A + 1 ) - - B ;",
+            "M@0 #1 { 2@4 X@4 =5 [([A@7+1])--B@13] }3",
+        ),
+        (
+            "GO TO L ; GOTO L ;",
+            "M@0 #1 { 2@4 GOTO L@6 3@8 GOTO L@9 }4",
+        ),
+        (
+            "RETURN ; RETURN ( A ) ;",
+            "M@0 #1 { 2@4 RETURN 3@6 RETURN A@8 }4",
+        ),
+        ("ON ZDIV GO TO L ;", "M@0 #1 { 2@4 ON ZDIV 3@6 GOTO L@8 }4"),
+        (
+            "ON AREA ; REVERT FOFL ; SIGNAL AREA ;",
+            "M@0 #1 { 2@4 ON AREA 3@6 ; 4@7 REVERT FOFL 5@10 SIGNAL AREA }6",
+        ),
+        (
+            "ALLOCATE X IN ( A ) SET ( P ) , Y ;",
+            "M@0 #1 { 2@4 ALLOCATE X@5 IN A@8 SET P@12 Y@15 }3",
+        ),
+        ("FREE P -> X , Y ;", "M@0 #1 { 2@4 FREE P@5->X@7 Y@9 }3"),
+        (
+            "CALL F ; CALL F ( ) ; CALL F ( 1 , A ) ;",
+            "M@0 #1 { 2@4 CALL F@5 3@7 CALL F@8() 4@12 CALL F@13(1;A@17;) }5",
+        ),
+        (
+            "PUT SKIP ; PUT SKIP LIST ( 1 ) ; PUT LIST ( 1 , 2 ) SKIP ;",
+            "M@0 #1 { 2@4 PUT SKIP() 3@7 PUT SKIP(1;) 4@14 PUT SKIP(1;2;) }5",
+        ),
+        (
+            "L : BEGIN ; DCL X BIT , Y BIT ; STOP ; END L ;",
+            "M@0 #1 { L@4: 2@6 BEGIN { 3@8 DECLARE 2 4@15 STOP }5 }6",
+        ),
+        (
+            "DO WHILE ( A ) ; END ;",
+            "M@0 #1 { 2@4 DO WHILE A@7 { }3 }4",
+        ),
+        (
+            "DO I = 1 REPEAT I + 1 ; END ;",
+            "M@0 #1 { 2@4 DO I@5 =6 1 REPEAT [I@9+1] { }3 }4",
+        ),
+        (
+            "DO ; END ; BEGIN ; END ;",
+            "M@0 #1 { 2@4 DO { }3 4@8 BEGIN { }5 }6",
+        ),
+        (
+            "DO ; BEGIN ; END ; END ;",
+            "M@0 #1 { 2@4 DO { 3@6 BEGIN { }4 }5 }6",
+        ),
+        (
+            "F : PROC ( A , B ) RETURNS ( BIT ) RECURSIVE ; RETURN ( A ) ; END F ;",
+            "M@0 #1 { F@4: 2@6 PROC F@4 #2 A@8 B@10 RETURNS RECURSIVE { 3@18 RETURN A@20 }4 }5",
+        ),
+        (
+            "ON AREA BEGIN ; F : PROC ; RETURN ; END ; END ;",
+            "M@0 #1 { 2@4 ON AREA 3@6 BEGIN { F@8: 4@10 PROC F@8 #4 { 5@12 RETURN }6 }7 }8",
+        ),
+    ] {
+        let answer = inside(rt.alloc(), text)?;
+        assert_eq!(rt; answer.as_str(), want, "{text}");
+    }
+    Ok(())
+}
+
+/// To which IF an ELSE belongs, and where it is none.
+#[test]
+fn else_is_of_the_nearest_if(rt: HostRuntime) -> Result<(), Fail> {
+    for (text, want) in [
+        (
+            "IF A THEN IF B THEN ; ELSE ;",
+            "M@0 #1 { 2@4 IF A@5 THEN 3@7 IF B@8 THEN 4@10 ; ELSE 5@12 ; FI FI }6",
+        ),
+        (
+            "IF A THEN IF B THEN ; ELSE ; ELSE STOP ;",
+            "M@0 #1 { 2@4 IF A@5 THEN 3@7 IF B@8 THEN 4@10 ; ELSE 5@12 ; FI ELSE 6@14 STOP FI }7",
+        ),
+        (
+            "IF A THEN ; ELSE = 1 ;",
+            "M@0 #1 { 2@4 IF A@5 THEN 3@7 ; FI 4@8 ELSE@8 =9 1 }5",
+        ),
+        (
+            "IF A THEN ; ELSE : ;",
+            "M@0 #1 { 2@4 IF A@5 THEN 3@7 ; FI ELSE@8: 4@10 ; }5",
+        ),
+    ] {
+        let answer = inside(rt.alloc(), text)?;
+        assert_eq!(rt; answer.as_str(), want, "{text}");
+    }
+    Ok(())
+}
+
+/// Each code of a statement, at its token.
+#[test]
+fn statements_are_at_fault(rt: HostRuntime) -> Result<(), Fail> {
+    for (text, want) in [
+        ("X = ;", "P2 at 4"),
+        ("GO L ;", "P2 at 4"),
+        ("ELSE ;", "P2 at 4"),
+        ("1 ;", "P2 at 4"),
+        ("PUT LIST ( ) ;", "P3 at 7"),
+        ("RETURN ( ) ;", "P3 at 6"),
+        ("PUT LIST ( 1 ;", "P4 at 8"),
+        ("PUT LIST 1 ;", "P4 at 6"),
+        ("CALL F ( ;", "P4 at 7"),
+        ("DO 5 ;", "P5 at 5"),
+        ("STOP 1 ;", "P5 at 5"),
+        ("DO WHILE ( A ) = 1 ; END ;", "P5 at 9"),
+        ("GOTO 5 ;", "P6 at 5"),
+        ("GO TO = 1 ;", "P6 at 6"),
+        ("CALL ;", "P6 at 5"),
+        ("IF X PUT LIST ( 1 ) ;", "P7 at 6"),
+        ("IF THEN ;", "P7 at 6"),
+        ("BEGIN ; END Q ;", "P8 at 7"),
+        ("L : DO ; BEGIN ; END L ; END L ;", "P8 at 11"),
+        ("DO I 1 TO 3 ; END ;", "P11 at 6"),
+        ("F : PROC RETURNS ( ) ; END F ;", "P12 at 9"),
+        ("DCL X ( A ) BIT ;", "P13 at 7"),
+        ("A : B : ;", "P14 at 6"),
+        ("L : END ;", "P14 at 4"),
+        ("PROC ;", "P14 at 4"),
+        ("L : DCL X BIT ;", "P14 at 4"),
+        ("IF A THEN L : ;", "P14 at 7"),
+        ("ON AREA L : ;", "P14 at 6"),
+        ("ON FOO ;", "P15 at 5"),
+        ("IF X THEN DCL Y BIT ;", "P17 at 7"),
+        ("IF A THEN END ;", "P17 at 7"),
+        ("ON AREA BEGIN ; RETURN ; END ;", "P17 at 8"),
+        ("ON AREA IF A THEN ;", "P17 at 6"),
+        ("DO ; F : PROC ; END ; END ;", "P17 at 6"),
+        ("DO ; PROC ; END ; END ;", "P17 at 6"),
+        ("PUT ;", "P18 at 5"),
+        ("PUT FILE ( F ) ;", "P18 at 5"),
+        ("PUT SKIP SKIP ;", "P18 at 6"),
+        ("IF = ;", "P3 at 5"),
+        ("DO WHILE ;", "P11 at 6"),
+        ("DO I ;", "P11 at 6"),
+        ("DO ; A : B : PROC ; END ; END ;", "P14 at 8"),
+        ("ALLOCATE X IN ( A ) IN ( B ) ;", "P18 at 10"),
+    ] {
+        let answer = inside(rt.alloc(), text)?;
+        assert_eq!(rt; answer.as_str(), want, "{text}");
+    }
+    Ok(())
+}
+
+/// Units, and the codes of what no statement is.
+#[test]
+fn units_are_parsed(rt: HostRuntime) -> Result<(), Fail> {
+    for (text, want) in [
+        ("M : PROC ; END ;", "M@0 #1 { }2"),
+        (
+            "M : PROCEDURE OPTIONS ( MAIN ) ; END M ;",
+            "M@0 #1 MAIN { }2",
+        ),
+        (
+            "M : PROC ( A ) RETURNS ( BIT ) ; RETURN ( A ) ; END M ;",
+            "M@0 #1 A@4 RETURNS { 2@11 RETURN A@13 }3",
+        ),
         ("", "P1 at 0"),
-        (";", "P1 at 0"),
-        ("5", "P1 at 0"),
+        ("1 : PROC ; END ;", "P1 at 0"),
+        ("M ; END ;", "P1 at 1"),
+        ("M : FOO", "P1 at 2"),
+        ("M : PROC FOO ;", "P5 at 3"),
+        ("M : PROC OPTIONS MAIN ;", "P4 at 4"),
+        ("M : PROC OPTIONS ( X ) ;", "P18 at 5"),
+        ("M : PROC ; END M 5 ;", "P5 at 6"),
         ("M", "P9 at 0"),
-        ("M :", "P9 at 1"),
         ("M : PROC FOO", "P9 at 3"),
-        ("M ;", "P1 at 1"),
-        ("M : ;", "P1 at 2"),
-        ("M : BEGIN ; END ;", "P1 at 2"),
-        ("M : PROC ; END ;", "P2 at 3"),
-        ("M : PROC OPTIONS ( MAIN ; END ;", "P2 at 6"),
-        ("M : PROC OPTIONS ( REAL ) ; END ;", "P2 at 5"),
-        ("M : PROC OPTIONS ( MAIN ) RECURSIVE ; END ;", "P2 at 7"),
-        ("M : PROC OPTIONS ( MAIN ) END ;", "P2 at 7"),
-        ("PROC : PROCEDURE OPTIONS ( MAIN ) ; END PROC ;", "PROC"),
+        ("M : PROC ; X = 1", "P9 at 6"),
+        ("M : PROC ; END M", "P9 at 5"),
+        ("M : PROC ; BEGIN ; END ;", "P9 at 7"),
+        ("M : PROC ; END ; X", "P10 at 6"),
     ] {
-        let mut tokens = Vec::new(rt.alloc());
-        push_tokens(&mut tokens, text)?;
-        let answer = answered(rt.alloc(), &tokens)?;
+        let answer = parsed(rt.alloc(), text)?;
         assert_eq!(rt; answer.as_str(), want, "{text}");
     }
     Ok(())
 }
 
-#[test]
-fn statements(rt: HostRuntime) -> Result<(), Fail> {
-    for (text, want) in [
-        ("END ;", "M"),
-        ("END M ;", "M"),
-        ("END N ;", "P8 at 9"),
-        ("END 5 ;", "P2 at 9"),
-        ("END M 5 ;", "P2 at 10"),
-        ("END ; X", "P2 at 10"),
-        ("END ; END ;", "P2 at 10"),
-        ("; END ;", "M 2:NULL"),
-        ("; ; END M ;", "M 2:NULL 3:NULL"),
-        ("X = 2 + 3 ; END ;", "M 2:X@8=(2#1+3#1)"),
-        ("X = 1 + Y + 007 ; END ;", "M 2:X@8=((1#1+Y@12)+7#3)"),
-        ("PUT = PUT + LIST ; END ;", "M 2:PUT@8=(PUT@10+LIST@12)"),
-        ("END = 5 ; END ;", "M 2:END@8=5#1"),
-        ("DCL = DCL ; END ;", "M 2:DCL@8=DCL@10"),
-        ("IF = IF + 1 ; END ;", "M 2:IF@8=(IF@10+1#1)"),
-        ("DCL X FIXED BIN ( 31 ) ; END ;", "M 2:DCL X@9"),
-        (
-            "DECLARE PUT FIXED BINARY ( 31 ) , END FIXED BIN ( 31 ) ; END ;",
-            "M 2:DCL PUT@9 END@16",
-        ),
-        ("DCL FIXED FIXED BIN ( 31 ) ; END ;", "M 2:DCL FIXED@9"),
-        ("PUT LIST ( LIST ) ; END ;", "M 2:PUT LIST@11"),
-        (
-            "PUT LIST ( X , Y + 1 , 2 ) ; END ;",
-            "M 2:PUT X@11 (Y@13+1#1) 2#1",
-        ),
-    ] {
-        let mut tokens = Vec::new(rt.alloc());
-        push_tokens(&mut tokens, HEADING)?;
-        push_tokens(&mut tokens, text)?;
-        let answer = answered(rt.alloc(), &tokens)?;
-        assert_eq!(rt; answer.as_str(), want, "{text}");
+/// Appends a piece so many times.
+fn push_times(text: &mut String, piece: &str, times: u32) -> Result<(), AllocError> {
+    for _ in 0..times {
+        text.push_str(piece)?;
     }
     Ok(())
 }
 
+/// A unit of so many groups, each inside the one before it.
+fn nested(alloc: Global, depth: u32) -> Result<String, AllocError> {
+    let mut text = String::from_str(alloc, "M : PROC ;")?;
+    push_times(&mut text, " DO ;", depth)?;
+    push_times(&mut text, " END ;", depth)?;
+    text.push_str(" END ;")?;
+    parsed(alloc, &text)
+}
+
+/// A unit of an assignment whose value stands in so many parentheses.
+fn enclosed(alloc: Global, depth: u32) -> Result<String, AllocError> {
+    let mut text = String::from_str(alloc, "M : PROC ; X =")?;
+    push_times(&mut text, " (", depth)?;
+    text.push_str(" A")?;
+    push_times(&mut text, " )", depth)?;
+    text.push_str(" ; END ;")?;
+    parsed(alloc, &text)
+}
+
+/// The unit is the first of 64 levels.
 #[test]
-fn faults(rt: HostRuntime) -> Result<(), Fail> {
-    for (text, want) in [
-        ("LIST ( 1 ) ; END ;", "P2 at 8"),
-        ("X = ; END ;", "P2 at 8"),
-        ("X = 1 + ; END ;", "P2 at 8"),
-        ("X = 1 2 ; END ;", "P2 at 8"),
-        ("X + 1 ; END ;", "P2 at 8"),
-        ("5 = X ; END ;", "P2 at 8"),
-        ("PUT = 1 + ; END ;", "P2 at 9"),
-        ("PUT ; END ;", "P2 at 9"),
-        ("PUT LIST ; END ;", "P2 at 10"),
-        ("PUT LIST ( ) ; END ;", "P2 at 11"),
-        ("PUT LIST ( 1 ; END ;", "P2 at 12"),
-        ("PUT LIST ( 1 , ) ; END ;", "P2 at 13"),
-        ("PUT LIST ( 1 ) 2 ; END ;", "P2 at 13"),
-        ("PUT LIST ( 1 + ) ; END ;", "P2 at 13"),
-        ("DCL ; END ;", "P2 at 9"),
-        ("DCL X ; END ;", "P2 at 10"),
-        ("DCL X FIXED BIN ( 15 ) ; END ;", "P2 at 13"),
-        ("DCL X FIXED BIN ( 31 ) , ; END ;", "P2 at 16"),
-        ("DCL X FIXED BIN ( 31 ) Y ; END ;", "P2 at 15"),
-        ("DCL 5 FIXED BIN ( 31 ) ; END ;", "P2 at 9"),
-        // a `;` that is missing
-        ("X = 1 END ;", "P2 at 8"),
-        ("PUT LIST ( 1 ) END ;", "P2 at 13"),
-        ("DCL X FIXED BIN ( 31 ) END ;", "P2 at 15"),
-        ("X = 1 ; END", "P9 at 12"),
-        ("X = 1 ;", "P9 at 11"),
-        ("PUT LIST ( 1", "P9 at 11"),
-        ("", "P9 at 7"),
-    ] {
-        let mut tokens = Vec::new(rt.alloc());
-        push_tokens(&mut tokens, HEADING)?;
-        push_tokens(&mut tokens, text)?;
-        let answer = answered(rt.alloc(), &tokens)?;
-        assert_eq!(rt; answer.as_str(), want, "{text}");
-    }
+fn levels_are_limited(rt: HostRuntime) -> Result<(), Fail> {
+    let answer = nested(rt.alloc(), 63)?;
+    assert!(rt; answer.ends_with(" }126 }127 }128"));
+    let answer = nested(rt.alloc(), 64)?;
+    assert_eq!(rt; answer.as_str(), "P16 at 130");
+    let answer = enclosed(rt.alloc(), 63)?;
+    assert!(rt; answer.ends_with(" }3"));
+    let answer = enclosed(rt.alloc(), 64)?;
+    assert_eq!(rt; answer.as_str(), "P16 at 69");
     Ok(())
 }
 
-/// How often the left operand is a sum in turn.
-fn depth(expression: &Expression) -> u32 {
-    let mut count = 0u32;
-    let mut left = expression;
-    while let Expression::Sum(next, _) = left {
-        count = count.saturating_add(1);
-        left = next;
-    }
-    count
-}
-
+/// Many statements in one list.
 #[test]
-fn long_sums(rt: HostRuntime) -> Result<(), Fail> {
-    for (operators, want) in [(1000, "1000"), (1001, "P16 at 2011")] {
-        let mut tokens = Vec::new(rt.alloc());
-        push_tokens(&mut tokens, HEADING)?;
-        push_tokens(&mut tokens, "X = 1")?;
-        for _ in 0..operators {
-            push_tokens(&mut tokens, "+ 1")?;
-        }
-        push_tokens(&mut tokens, "; END ;")?;
-        if tokens.len() > 200_000 {
-            continue;
-        }
-        let mut answer = String::new(rt.alloc());
-        match parse(rt.alloc(), &tokens) {
-            Ok(unit) => {
-                for statement in &unit.statements {
-                    if let Body::Assign { value, .. } = &statement.body {
-                        let deep = depth(value);
-                        write!(answer, "{deep}")?;
-                    }
-                }
-            }
-            Err(_) => answer = answered(rt.alloc(), &tokens)?,
-        }
-        assert_eq!(rt; answer.as_str(), want);
-    }
+fn lists_are_long(rt: HostRuntime) -> Result<(), Fail> {
+    let mut text = String::from_str(rt.alloc(), "M : PROC ;")?;
+    push_times(&mut text, " ;", 50000)?;
+    text.push_str(" END")?;
+    let answer = parsed(rt.alloc(), &text)?;
+    assert_eq!(rt; answer.as_str(), "P9 at 50004");
+    text.push_str(" ;")?;
+    let answer = parsed(rt.alloc(), &text)?;
+    assert!(rt; answer.ends_with(" 50001@50003 ; }50002"));
     Ok(())
 }

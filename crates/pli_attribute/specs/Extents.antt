@@ -1,0 +1,31 @@
+-- The bounds of dimensions.
+use Rattle.std.specs.Prelude.{Bool, not, ◌&&◌, ◌||◌, nat_lt, int_le, ℤ, pos, negsuc, ◌-ℤ◌, if◌then◌else◌, Option, Some, None, List, length, map}
+use Rattle.std.specs.List.{list_all}
+use Rattle.pli_item.specs.declared.declaration.Bounds.{Bounds}
+use Rattle.pli_item.specs.declared.declaration.Integer.{Integer}
+use Rattle.pli_map.specs.declared.description.Bounds as described
+
+abbrev pub integer_of : Integer → ℤ
+integer_of i = if i.negative then pos 0 -ℤ pos i.value else pos i.value
+
+-- a lower bound, 1 by default
+abbrev pub low_of : Option Integer → ℤ
+low_of None = pos 1
+low_of (Some i) = integer_of i
+
+abbrev pub bounds_of : Bounds → described.Bounds
+bounds_of b = record { low = low_of b.low; high = integer_of b.high }
+
+-- each bound is one of -32,767 to 32,767, and the lower one is not above the other
+abbrev pub are_good : Bounds → Bool
+are_good b = int_le (negsuc 32766) (low_of b.low) && int_le (low_of b.low) (integer_of b.high) && int_le (integer_of b.high) (pos 32767)
+
+-- at most 8 dimensions of its own, each with good bounds
+unfoldable pub are_bad_bounds : List Bounds → Bool
+are_bad_bounds dimensions = nat_lt 8 (length dimensions) || not (list_all are_good dimensions)
+
+abbrev pub all_bounds : List Bounds → List described.Bounds
+all_bounds dimensions = map bounds_of dimensions
+
+abbrev pub is_array : List Bounds → Bool
+is_array dimensions = nat_lt 0 (length dimensions)

@@ -1,0 +1,29 @@
+//! Where a declared name stands.
+
+/// Which rules on storage, scope and initial values hold for a name.
+#[derive(Clone, Copy, Debug, PartialEq, Eq)]
+pub enum Position {
+    /// A name without a level number or with level 1, which is no parameter.
+    AtLevelOne,
+    /// A name with any other level number, 0 too.
+    Member,
+    /// A parameter of the procedure, or the description of a parameter in ENTRY.
+    Parameter,
+    /// What RETURNS describes.
+    Result,
+}
+
+/// What has to be known about a name to judge its attributes.
+#[derive(Clone, Copy)]
+pub struct Place {
+    pub position: Position,
+    /// Whether items of a greater level number belong to it.
+    pub has_members: bool,
+    /// Whether a level above it has dimensions.
+    pub in_array: bool,
+    /// How many elements the dimensions of the levels above make together, 1 without any; `None` where one of them has bad bounds.
+    /// `u64::MAX` may stand for every greater number, since no text gives as many values.
+    pub elements_above: Option<u64>,
+    /// Whether the name is that of a built-in function.
+    pub built_in_name: bool,
+}

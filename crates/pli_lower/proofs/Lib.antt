@@ -1,0 +1,4 @@
+pub mod LoweringConstants
+pub mod LoweringFaults
+pub mod LoweringLists
+pub mod LoweringParts

@@ -1,0 +1,137 @@
+-- Lists, lowered by loops: what is done, in front of what the rest gives, is what the whole gives.
+use Rattle.std.proofs.Common.{◌≡◌, ℕ, ◌+◌, ◌<◌, Bool, true, false, if◌then◌else◌, List, [], ◌∷◌, ◌++◌, map, drop, get_or, length, ◌≤◌, Option, Some, None, option_map, Result, Ok, Err, refl, ap, sym, ◌∙◌, append_assoc, append-nil}
+use Rattle.std.proofs.lemmas.List.{at_drop_more, at_drop_all, map-append}
+use Rattle.pli_base.specs.Tree as small
+use Rattle.pli_base.specs.Reading.{◌>>=◌}
+use Rattle.pli_base.specs.SyntaxView.{expression_view}
+use Rattle.pli_base.specs.TreeView as lowered
+use Rattle.pli_base.specs.declared.tree.Expression.{Expression as LoweredExpression}
+use Rattle.pli_base.specs.declared.tree.Statement.{Statement as LoweredStatement}
+use Rattle.pli_base.specs.declared.syntax.Expression.{Expression}
+use Rattle.pli_base.specs.declared.token.Fault.{Fault}
+use Rattle.pli_item.specs.DeclarationView.{item_view}
+use Rattle.pli_item.specs.declared.declaration.Item.{Item}
+use Rattle.pli_parse.specs.StatementView.{statement_view, statements_view}
+use Rattle.pli_parse.specs.declared.statement.Statement.{Statement}
+use Rattle.pli_lower.specs.Lowering.{both, lowered_expression, lowered_expressions, is_variables, variable_named, lowered_item, lowered_items, lowered_statement, lowered_statements}
+use Rattle.pli_lower.specs.LoweringAnswers.{Fails, Refuses}
+use Rattle.pli_lower.specs.declared.answer.LowerError.{LowerError}
+use Rattle.pli_lower.specs.declared.answer.LowerError.TheVariants as errors
+use Rattle.pli_lower.specs.declared.answer.Refusal.{Refusal}
+use Rattle.pli_lower.specs.declared.answer.Refusal.TheVariants as refusals
+
+-- what is done, in front of what the rest gives
+abbrev pub in_front : {A : Type 0} → List A → Option (List A) → Option (List A)
+in_front done rest = option_map (λ xs. done ++ xs) rest
+
+none_in_front : {A B : Type 0} (make : B → List A → List A) (done : List A) (rest : Option (List A)) → in_front done (both make None rest) ≡ None
+none_in_front make done rest = refl
+
+some_in_front : {A : Type 0} (done : List A) (y : A) (rest : Option (List A)) → in_front done (both (λ x xs. x ∷ xs) (Some y) rest) ≡ in_front (done ++ y ∷ []) rest
+some_in_front done y None = refl
+some_in_front done y (Some xs) = ap Some (sym (append_assoc done (y ∷ []) xs))
+
+more_in_front : {A : Type 0} (done ys : List A) (rest : Option (List A)) → in_front done (both (λ xs ys. xs ++ ys) (Some ys) rest) ≡ in_front (done ++ ys) rest
+more_in_front done ys None = refl
+more_in_front done ys (Some xs) = ap Some (sym (append_assoc done ys xs))
+
+-- one more expression
+module _ (xs : List Expression) (i : ℕ) (x : Expression) (lt : i < length xs) (read : x ≡ get_or xs i x) (done : List small.Expression) (total : Option (List small.Expression))
+    (so_far : in_front done (lowered_expressions (map expression_view (drop i xs))) ≡ total) where
+  abbrev further : Option (List small.Expression)
+  further = lowered_expressions (map expression_view (drop (i + 1) xs))
+
+  at_expression : total ≡ in_front done (both (λ y ys. y ∷ ys) (lowered_expression (expression_view x)) further)
+  unfolding lowered_expressions
+  at_expression =
+      sym so_far ∙ at_drop_more (λ ys. in_front done (lowered_expressions (map expression_view ys))) xs i x lt
+      ∙ ap (λ y. in_front done (both (λ y ys. y ∷ ys) (lowered_expression (expression_view y)) further)) (sym read)
+
+  pub expression_fails : (e : Refusal) → Refuses e (lowered_expression (expression_view x)) → Refuses e total
+  expression_fails refusals.OutOfMemory h = tt
+  expression_fails refusals.NotBuilt h = at_expression ∙ ap (λ y. in_front done (both (λ y ys. y ∷ ys) y further)) h
+
+  one_done : (y : small.Expression) → lowered_expression (expression_view x) ≡ Some y → in_front (done ++ y ∷ []) further ≡ total
+  one_done y h = sym (at_expression ∙ ap (λ y. in_front done (both (λ y ys. y ∷ ys) y further)) h ∙ some_in_front done y further)
+
+pub expressions_go_on : (xs : List Expression) (i : ℕ) (x : Expression) → i < length xs → x ≡ get_or xs i x → (done : List LoweredExpression) (total : Option (List small.Expression))
+    → in_front (map lowered.expression_view done) (lowered_expressions (map expression_view (drop i xs))) ≡ total
+    → (y : LoweredExpression) → lowered_expression (expression_view x) ≡ Some (lowered.expression_view y)
+    → in_front (map lowered.expression_view (done ++ y ∷ [])) (lowered_expressions (map expression_view (drop (i + 1) xs))) ≡ total
+expressions_go_on xs i x lt read done total so_far y h =
+    ap (λ ys. in_front ys (lowered_expressions (map expression_view (drop (i + 1) xs)))) (map-append lowered.expression_view done (y ∷ []))
+    ∙ one_done xs i x lt read (map lowered.expression_view done) total so_far (lowered.expression_view y) h
+
+pub expressions_end : (xs : List Expression) (i : ℕ) (done : List small.Expression) (total : Option (List small.Expression)) → length xs ≤ i
+    → in_front done (lowered_expressions (map expression_view (drop i xs))) ≡ total → total ≡ Some done
+unfolding lowered_expressions
+expressions_end xs i done total all so_far = sym so_far ∙ at_drop_all (λ ys. in_front done (lowered_expressions (map expression_view ys))) xs i all ∙ ap Some (append-nil done)
+
+-- one more item
+module _ (xs : List Item) (i : ℕ) (x : Item) (lt : i < length xs) (read : x ≡ get_or xs i x) (done : List small.Reference) (total : Option (List small.Reference))
+    (so_far : in_front done (lowered_items (map item_view (drop i xs))) ≡ total) where
+  abbrev later : Option (List small.Reference)
+  later = lowered_items (map item_view (drop (i + 1) xs))
+
+  at_item : total ≡ in_front done (both (λ ys zs. ys ++ zs) (lowered_item (item_view x)) later)
+  unfolding lowered_items
+  at_item =
+      sym so_far ∙ at_drop_more (λ ys. in_front done (lowered_items (map item_view ys))) xs i x lt
+      ∙ ap (λ y. in_front done (both (λ ys zs. ys ++ zs) (lowered_item (item_view y)) later)) (sym read)
+
+  abbrev chosen : Bool → Option (List small.Reference)
+  chosen b = if b then Some (map variable_named x.names.items) else None
+
+  pub item_fails : is_variables (item_view x) ≡ false → total ≡ None
+  item_fails h = at_item ∙ ap (λ b. in_front done (both (λ ys zs. ys ++ zs) (chosen b) later)) h
+
+  pub items_go_on : is_variables (item_view x) ≡ true → in_front (done ++ map variable_named x.names.items) later ≡ total
+  items_go_on h = sym (at_item ∙ ap (λ b. in_front done (both (λ ys zs. ys ++ zs) (chosen b) later)) h ∙ more_in_front done (map variable_named x.names.items) later)
+
+pub items_end : (xs : List Item) (i : ℕ) (done : List small.Reference) (total : Option (List small.Reference)) → length xs ≤ i
+    → in_front done (lowered_items (map item_view (drop i xs))) ≡ total → total ≡ Some done
+unfolding lowered_items
+items_end xs i done total all so_far = sym so_far ∙ at_drop_all (λ ys. in_front done (lowered_items (map item_view ys))) xs i all ∙ ap Some (append-nil done)
+
+-- statements, which have a fault
+abbrev pub with_done : List small.Statement → Result (List small.Statement) Fault → Result (List small.Statement) Fault
+with_done done rest = rest >>= λ xs. Ok (done ++ xs)
+
+one_with_done : (done : List small.Statement) (y : small.Statement) (rest : Result (List small.Statement) Fault) → with_done done (rest >>= λ ys. Ok (y ∷ ys)) ≡ with_done (done ++ y ∷ []) rest
+one_with_done done y (Ok ys) = ap Ok (sym (append_assoc done (y ∷ []) ys))
+one_with_done done y (Err f) = refl
+
+-- one more statement
+module _ (xs : List Statement) (i : ℕ) (x : Statement) (lt : i < length xs) (read : x ≡ get_or xs i x) (done : List small.Statement) (total : Result (List small.Statement) Fault)
+    (so_far : with_done done (lowered_statements (statements_view (drop i xs))) ≡ total) where
+  abbrev behind : Result (List small.Statement) Fault
+  behind = lowered_statements (statements_view (drop (i + 1) xs))
+
+  abbrev led : Result small.Statement Fault → Result (List small.Statement) Fault
+  led first = with_done done (first >>= λ y. behind >>= λ ys. Ok (y ∷ ys))
+
+  at_statement : total ≡ led (lowered_statement (statement_view x))
+  unfolding lowered_statements
+  at_statement =
+      sym so_far ∙ at_drop_more (λ ys. with_done done (lowered_statements (statements_view ys))) xs i x lt
+      ∙ ap (λ y. led (lowered_statement (statement_view y))) (sym read)
+
+  pub statement_fails : (e : LowerError) → Fails e (lowered_statement (statement_view x)) → Fails e total
+  statement_fails errors.OutOfMemory h = tt
+  statement_fails (errors.NotYetBuilt f) h = at_statement ∙ ap led h
+
+  one_behind : (y : small.Statement) → lowered_statement (statement_view x) ≡ Ok y → with_done (done ++ y ∷ []) behind ≡ total
+  one_behind y h = sym (at_statement ∙ ap led h ∙ one_with_done done y behind)
+
+pub statements_go_on : (xs : List Statement) (i : ℕ) (x : Statement) → i < length xs → x ≡ get_or xs i x → (done : List LoweredStatement) (total : Result (List small.Statement) Fault)
+    → with_done (map lowered.statement_view done) (lowered_statements (statements_view (drop i xs))) ≡ total
+    → (y : LoweredStatement) → lowered_statement (statement_view x) ≡ Ok (lowered.statement_view y)
+    → with_done (map lowered.statement_view (done ++ y ∷ [])) (lowered_statements (statements_view (drop (i + 1) xs))) ≡ total
+statements_go_on xs i x lt read done total so_far y h =
+    ap (λ ys. with_done ys (lowered_statements (statements_view (drop (i + 1) xs)))) (map-append lowered.statement_view done (y ∷ []))
+    ∙ one_behind xs i x lt read (map lowered.statement_view done) total so_far (lowered.statement_view y) h
+
+pub statements_end : (xs : List Statement) (i : ℕ) (done : List small.Statement) (total : Result (List small.Statement) Fault) → length xs ≤ i
+    → with_done done (lowered_statements (statements_view (drop i xs))) ≡ total → total ≡ Ok done
+unfolding lowered_statements
+statements_end xs i done total all so_far = sym so_far ∙ at_drop_all (λ ys. with_done done (lowered_statements (statements_view ys))) xs i all ∙ ap Ok (append-nil done)

@@ -1,0 +1,7 @@
+use Rattle.std.proofs.Common.{◌≡◌, ◌++◌, map, take}
+use Rattle.pli_base.specs.TreeView.{reference_view}
+use Rattle.pli_lower.specs.Lowering.{variable_named}
+use Rattle.pli_lower.proofs.declaration.add_variables.Given as goal
+
+abbrev pub invariant-loop-name : goal.invariant-loop-name
+invariant-loop-name l = map reference_view l.variables.items ≡ map reference_view l.initial.variables.items ++ map variable_named (take l.name-index l.names)

@@ -1,0 +1,4 @@
+pub mod Lowering
+pub mod LoweringAnswers
+pub mod LoweringExamples
+pub mod LoweringLaws

@@ -1,0 +1,16 @@
+//! Lowering: units of the whole grammar, in the language that is compiled today.
+#![tactic(auto)]
+
+mod answer;
+mod declaration;
+mod expression;
+mod laws;
+mod statement;
+mod unit;
+
+pub use answer::LowerError;
+pub use laws::{constants_are_of_language, faults_are_not_yet_built, worked_examples};
+pub use unit::lower;
+
+#[cfg(test)]
+mod tests;

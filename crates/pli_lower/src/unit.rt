@@ -1,0 +1,61 @@
+//! Lowering of units.
+ghost use Rattle.std.specs.Prelude.{◌≡◌};
+ghost use Rattle.std.specs.List.{list_any};
+ghost use Rattle.pli_base.specs.TreeView as small;
+ghost use Rattle.pli_parse.specs.StatementView.{option_view, unit_view};
+ghost use Rattle.pli_lower.specs.Lowering.{lowered, is_main, is_returns};
+ghost use Rattle.pli_lower.specs.LoweringAnswers.{Gives};
+
+use crate::answer::{LowerError, not_yet_built};
+use crate::statement::lower_statements;
+use pli_base::Unit;
+use pli_parse::{Procedure, ProcedureOption};
+use std::alloc::Global;
+
+/// Whether the option is OPTIONS(MAIN).
+fn is_main(option: &ProcedureOption) -> bool
+    ensures { result ≡ is_main (option_view option.now) }
+{
+    matches!(option, ProcedureOption::Main)
+}
+
+/// Whether the option is RETURNS.
+fn is_returns(option: &ProcedureOption) -> bool
+    ensures { result ≡ is_returns (option_view option.now) }
+{
+    matches!(option, ProcedureOption::Returns(_))
+}
+
+/// Whether the options make a main procedure.
+fn has_main(options: &[ProcedureOption]) -> bool
+    ensures { result ≡ list_any (λ option. is_main (option_view option)) options.now }
+{
+    options.iter().any(|option| is_main(option))
+}
+
+/// Whether the options give the procedure a result.
+fn has_result(options: &[ProcedureOption]) -> bool
+    ensures { result ≡ list_any (λ option. is_returns (option_view option)) options.now }
+{
+    options.iter().any(|option| is_returns(option))
+}
+
+/// The unit in the language that is compiled today: a procedure without parameters and RETURNS, with null statements, DECLARE of
+/// FIXED BINARY(31) variables, assignments and PUT LIST of sums of names and decimal constants, none of them labelled (own).
+/// The fault of a unit with another form stands at the first token of the first such statement, which is its label if it has one;
+/// statements inside others are not looked at.
+#[tactic(auto, using(crate::proofs::LoweringParts::unit_parts))]
+pub fn lower(alloc: Global, procedure: &Procedure) -> Result<Unit, LowerError>
+    ensures { Gives small.unit_view result (lowered (unit_view procedure.now)) }
+{
+    let options = procedure.options.as_slice();
+    if !procedure.parameters.is_empty() || has_result(options) {
+        return Err(not_yet_built(procedure.name.at));
+    }
+    let statements = lower_statements(alloc, procedure.statements.as_slice())?;
+    Ok(Unit {
+        name: procedure.name.name,
+        is_main: has_main(options),
+        statements,
+    })
+}

@@ -1,0 +1,110 @@
+-- Steps of reading statements, taken apart.
+use Rattle.std.proofs.Common.{◌≡◌, ◌+◌, ℕ, Bool, true, false, cond, [], ◌∷◌, Option, Some, None, Result, Ok, Err, length, refl, ap, ◌∙◌, sym, subst, arith}
+use Rattle.pli_base.specs.Name.{Name}
+use Rattle.pli_base.specs.NameLaws.{equal_from_pointwise}
+use Rattle.pli_base.specs.Words.{Tokens, same_name, is_semicolon, is_open, is_word}
+use Rattle.pli_base.specs.Reading.{Front}
+use Rattle.pli_base.specs.declared.code.Code.TheVariants.{SemicolonExpected, ParenthesisExpected}
+use Rattle.pli_base.specs.declared.token.Fault.{Fault}
+use Rattle.pli_base.specs.declared.token.Sign.TheVariants.{Semicolon, Equals}
+use Rattle.pli_base.specs.declared.token.TokenText.{TokenText}
+use Rattle.pli_base.specs.declared.token.TokenText.TheVariants.{Word, Sign}
+use Rattle.pli_grammar.specs.Reading as expressions
+use Rattle.pli_grammar.specs.Expressions.{SpellsOutermost, SpellsReferenceAlone}
+use Rattle.pli_grammar.proofs.ReadIsSpelled.{expression_spelled, reference_spelled}
+use Rattle.pli_item.specs.DeclarationWords.{behind}
+use Rattle.pli_item.specs.DeclarationReading.{taken, Commas, list_at}
+use Rattle.pli_item.specs.DeclarationGrammar.{SpellsFront, SpellsListed}
+use Rattle.pli_item.proofs.DeclarationSteps.{same_ok, some_same, bind_ok, mapped_ok, first_is, open_first, semicolon_first, taken_ok}
+use Rattle.pli_item.proofs.DeclarationRead.{Reads, enclosed_spelled, listed_reads}
+use Rattle.pli_parse.specs.StatementWords.{behind_word}
+use Rattle.pli_parse.specs.StatementReading.{uncounted, expression_in, reference_in, stopped, parenthesized, identifier_at, is_equals, if_word, optional_at, paired}
+use Rattle.pli_parse.specs.StatementGrammar.{SpellsIdentifier, SpellsEnclosed, SpellsOptional}
+
+-- the count of operators is dropped
+pub uncounted_ok : {A : Type 0} (r : Result (expressions.Front A) Fault) (y : Front A) → uncounted r ≡ Ok y → (x : expressions.Front A) × (r ≡ Ok x) × (record { value = x.value; next = x.next; rest = x.rest } ≡ y)
+uncounted_ok (Ok x) y h = (x, refl, same_ok h)
+uncounted_ok (Err e) y h = cc
+
+pub expression_reads : (levels : ℕ) → Reads (expression_in levels) (SpellsOutermost levels)
+unfolding expression_in
+expression_reads levels p ts y h =
+    let u = uncounted_ok (expressions.expression_at levels 0 p ts) y h in
+    let f = expression_spelled levels p ts u.0 u.1 in
+    subst (SpellsFront (SpellsOutermost levels) p ts) u.2 (f.0, f.1, f.2, f.3)
+
+pub reference_reads : (levels : ℕ) → Reads (reference_in levels) (SpellsReferenceAlone levels)
+unfolding reference_in
+reference_reads levels p ts y h =
+    let u = uncounted_ok (expressions.reference_at levels p ts) y h in
+    let f = reference_spelled levels p ts u.0 u.1 in
+    subst (SpellsFront (SpellsReferenceAlone levels) p ts) u.2 (f.0, f.1, f.2, f.3)
+
+pub identifier_reads : Reads identifier_at SpellsIdentifier
+unfolding identifier_at
+identifier_reads p [] y h = cc
+identifier_reads p (Word n ∷ us) y h = subst (SpellsFront SpellsIdentifier p (Word n ∷ us)) (same_ok h) (Word n ∷ [], refl, refl, (refl, refl))
+identifier_reads p (t ∷ us) y h = cc
+
+-- a `;` stood behind the value
+pub stopped_ok : {A : Type 0} (value : A) (p : ℕ) (ts : Tokens) (y : Front A) → stopped value p ts ≡ Ok y → (ts ≡ Sign Semicolon ∷ y.rest) × (record { value = value; next = p + 1; rest = y.rest } ≡ y)
+unfolding stopped
+stopped_ok value p ts y h =
+    let g = bind_ok (taken is_semicolon SemicolonExpected p ts) _ y h in
+    let e = same_ok g.2 in
+    let rest : g.0 ≡ y.rest = ap (λ (z : Front _). z.rest) e in
+    (semicolon_first ts y.rest (taken_ok is_semicolon SemicolonExpected p ts g.0 g.1 ∙ ap Some rest), ap (λ (us : Tokens). record { value = value; next = p + 1; rest = us }) (sym rest) ∙ e)
+
+-- in parentheses
+pub parenthesized_reads : {A : Type 0} (one : ℕ → Tokens → Result (Front A) Fault) (Spells : ℕ → Tokens → A → Type 0) → Reads one Spells → Reads (parenthesized one) (SpellsEnclosed Spells)
+unfolding parenthesized
+parenthesized_reads one Spells reads p ts y h =
+    let g = bind_ok (taken is_open ParenthesisExpected p ts) _ y h in
+    let f = enclosed_spelled one Spells reads p ts g.0 (open_first ts g.0 (taken_ok is_open ParenthesisExpected p ts g.0 g.1)) y g.2 in
+    (f.0, f.1, f.2, f.3)
+
+-- the word stood there
+pub behind_is : (w : Name) (ts us : Tokens) → behind_word w ts ≡ Some us → ts ≡ Word w ∷ us
+unfolding behind_word
+behind_is w [] us h = cc
+behind_is w (Word n ∷ ts) us h = by (same_name n w) refl h
+  where
+    by : (b : Bool) → same_name n w ≡ b → cond b (Some ts) None ≡ Some us → Word n ∷ ts ≡ Word w ∷ us
+    by true e g = ap (λ m. Word m ∷ ts) (equal_from_pointwise n w e) ∙ ap (λ vs. Word w ∷ vs) (some_same g)
+    by false e g = cc
+behind_is w (t ∷ ts) us h = cc
+
+pub optional_reads : {A : Type 0} (w : Name) (one : ℕ → Tokens → Result (Front A) Fault) (Spells : ℕ → Tokens → A → Type 0) → Reads one Spells → Reads (optional_at w one) (SpellsOptional w Spells)
+unfolding optional_at
+optional_reads w one Spells reads p ts y h = by (behind_word w ts) refl h
+  where
+    by : (o : Option Tokens) → behind_word w ts ≡ o → if_word one p ts o ≡ Ok y → SpellsFront (SpellsOptional w Spells) p ts y
+    by None e g = subst (SpellsFront (SpellsOptional w Spells) p ts) (same_ok g) ([], refl, omega arith, refl)
+    by (Some us) e g =
+        let m = mapped_ok Some (one (p + 1) us) y g in
+        let f = reads (p + 1) us m.0 m.1 in
+        subst (SpellsFront (SpellsOptional w Spells) p ts) m.2 (Word w ∷ f.0, behind_is w ts us e ∙ ap (λ vs. Word w ∷ vs) f.1, omega (arith, f.2), (f.0, refl, f.3))
+
+pub list_reads : {A : Type 0} (one : ℕ → Tokens → Result (Front A) Fault) (Spells : ℕ → Tokens → A → Type 0) → Reads one Spells → Reads (list_at Commas one) (SpellsListed Commas Spells)
+list_reads one Spells reads p ts y h = listed_reads Commas one Spells reads (length ts + 1) p ts y h
+
+pub paired_is : {A : Type 0} (o : Option A) (ts us : Tokens) (w : A) → paired ts o ≡ Some (w, us) → (o ≡ Some w) × (ts ≡ us)
+paired_is {A = A} (Some v) ts us w h =
+    let pair : ◌≡◌ {A = A × Tokens} (v, ts) (w, us) = some_same h in
+    (ap (λ (x : A × Tokens). Some x.0) pair, ap (λ (x : A × Tokens). x.1) pair)
+paired_is None ts us w h = cc
+
+-- a token that must stand
+pub equals_first : (ts us : Tokens) → behind is_equals ts ≡ Some us → ts ≡ Sign Equals ∷ us
+equals_first ts us h = let f = first_is is_equals ts us h in f.2 ∙ ap (λ t. t ∷ us) (by f.0 f.1)
+  where
+    by : (t : TokenText) → is_equals t ≡ true → t ≡ Sign Equals
+    by (Sign Equals) h = refl
+    by t h = cc
+
+pub word_first : (w : Name) (ts us : Tokens) → behind (is_word w) ts ≡ Some us → ts ≡ Word w ∷ us
+word_first w ts us h = let f = first_is (is_word w) ts us h in f.2 ∙ ap (λ t. t ∷ us) (by f.0 f.1)
+  where
+    by : (t : TokenText) → is_word w t ≡ true → t ≡ Word w
+    by (Word n) h = ap Word (equal_from_pointwise n w h)
+    by t h = cc

@@ -1,0 +1,183 @@
+-- What is spelled so is read: the range and the control of a DO group.
+use Rattle.std.proofs.Common.{⊎_elim, ◌⊎◌, inl, inr, ◌≡◌, ◌+◌, ℕ, Bool, true, false, cond, [], ◌∷◌, ◌++◌, Option, Some, None, Result, Ok, length, codes, refl, ap, ◌∙◌, sym, subst, arith, append_assoc, length-append}
+use Rattle.pli_base.specs.Name.{Name}
+use Rattle.pli_base.specs.Words.{Tokens, same_name}
+use Rattle.pli_base.specs.Reading.{◌>>=◌, Front}
+use Rattle.pli_base.specs.Syntax.{Expression, Reference, Named}
+use Rattle.pli_base.specs.declared.code.Code.TheVariants.{BadDo}
+use Rattle.pli_base.specs.declared.token.Fault.{Fault}
+use Rattle.pli_base.specs.declared.token.Sign.TheVariants.{Semicolon, Equals, OpenParenthesis, CloseParenthesis}
+use Rattle.pli_base.specs.declared.token.TokenText.TheVariants.{Word, Sign}
+use Rattle.pli_grammar.specs.Expressions.{SpellsOutermost, SpellsReferenceAlone, EndsExpression}
+use Rattle.pli_item.specs.DeclarationWords.{behind}
+use Rattle.pli_item.specs.DeclarationReading.{read_as, mapped, taken}
+use Rattle.pli_item.proofs.DeclarationReadAgain.{Anyhow, placed}
+use Rattle.pli_parse.specs.Statements.{Range, To, By, Repeat, Control, While, Iterate}
+use Rattle.pli_parse.specs.StatementGrammar.{SpellsOptional, SpellsEnclosed, SpellsRange, BeginsWithWhile, SpellsControl}
+use Rattle.pli_parse.specs.StatementReading.{expression_in, parenthesized, is_equals, optional_at, ToWord, ByWord, RepeatWord, range_word, range_first, range_from, range_at, Conditioned, Iterated, specified, control_from, control_at}
+use Rattle.pli_parse.specs.StatementWords.{behind_word}
+use Rattle.pli_parse.proofs.StatementSpelledTools.{name_is}
+use Rattle.pli_parse.proofs.StatementSpelledParts.{expression_again, reference_again, optional_again, enclosed_expression}
+
+-- where a range ends: at a `;`, or at WHILE
+abbrev pub EndsRange : Tokens → Type 0
+EndsRange more = ((zs : Tokens) × (more ≡ Sign Semicolon ∷ zs)) ⊎ ((zs : Tokens) × (more ≡ Word (codes "WHILE") ∷ zs))
+
+ends_both : (Holds : Tokens → Type 0) → ((zs : Tokens) → Holds (Sign Semicolon ∷ zs)) → ((zs : Tokens) → Holds (Word (codes "WHILE") ∷ zs)) → (more : Tokens) → EndsRange more → Holds more
+ends_both Holds stop while more ends = ⊎_elim (λ e. subst Holds (sym e.1) (stop e.0)) (λ e. subst Holds (sym e.1) (while e.0)) ends
+
+range_ends_expression : (more : Tokens) → EndsRange more → EndsExpression more
+range_ends_expression = ends_both EndsExpression (λ zs. (refl, refl)) (λ zs. (refl, refl))
+
+no_range : (more : Tokens) → EndsRange more → range_first more ≡ None
+unfolding range_first range_word
+no_range = ends_both (λ more. range_first more ≡ None) (λ zs. refl) (λ zs. refl)
+
+no_by : (more : Tokens) → EndsRange more → behind_word (codes "BY") more ≡ None
+unfolding behind_word
+no_by = ends_both (λ more. behind_word (codes "BY") more ≡ None) (λ zs. refl) (λ zs. refl)
+
+no_to : (more : Tokens) → EndsRange more → behind_word (codes "TO") more ≡ None
+unfolding behind_word
+no_to = ends_both (λ more. behind_word (codes "TO") more ≡ None) (λ zs. refl) (λ zs. refl)
+
+to_first : (us : Tokens) → range_first (Word (codes "TO") ∷ us) ≡ Some (ToWord, us)
+unfolding range_first range_word
+to_first us = refl
+
+by_first : (us : Tokens) → range_first (Word (codes "BY") ∷ us) ≡ Some (ByWord, us)
+unfolding range_first range_word
+by_first us = refl
+
+repeat_first : (us : Tokens) → range_first (Word (codes "REPEAT") ∷ us) ≡ Some (RepeatWord, us)
+unfolding range_first range_word
+repeat_first us = refl
+
+-- an optional part ends an expression, as what stands behind it does
+optional_ends : {A : Type 0} (word : Name) (Spells : ℕ → Tokens → A → Type 0) (p : ℕ) (ts more : Tokens) (o : Option A) → SpellsOptional word Spells p ts o → EndsExpression more → EndsExpression (ts ++ more)
+optional_ends word Spells p ts more None shape ends = subst (λ us. EndsExpression (us ++ more)) (sym shape) ends
+optional_ends word Spells p ts more (Some x) (us, shape, spelled) ends = subst (λ us. EndsExpression (us ++ more)) (sym shape) (refl, refl)
+
+pub range_again : (levels p : ℕ) (ts more : Tokens) (r : Option Range) → SpellsRange levels p ts r → EndsRange more → range_at levels p (ts ++ more) ≡ read_as r (p + length ts) more
+unfolding range_at
+range_again levels p ts more None shape ends =
+    ap (λ us. range_at levels p (us ++ more)) shape ∙ ap (range_from levels p more) (no_range more ends) ∙ placed None p (p + length ts) more (omega (arith, ap length shape))
+range_again levels p ts more (Some (To to by)) (front, rest, shape, first, second) ends =
+    let whole : ts ++ more ≡ Word (codes "TO") ∷ front ++ (rest ++ more) = ap (λ us. us ++ more) shape ∙ ap (λ us. Word (codes "TO") ∷ us) (append_assoc front rest more) in
+    let stops = range_ends_expression more ends in
+    ap (range_at levels p) whole
+    ∙ ap (range_from levels p (Word (codes "TO") ∷ front ++ (rest ++ more))) (to_first (front ++ (rest ++ more)))
+    ∙ ap (λ r. r >>= λ x. optional_at (codes "BY") (expression_in levels) x.next x.rest >>= λ y. read_as (Some (To x.value y.value)) y.next y.rest)
+    (expression_again levels (p + 1) front (rest ++ more) to first (optional_ends (codes "BY") (SpellsOutermost levels) (p + 1 + length front) rest more by second stops))
+    ∙ ap (λ r. r >>= λ y. read_as (Some (To to y.value)) y.next y.rest)
+    (optional_again (codes "BY") (expression_in levels) (SpellsOutermost levels) EndsExpression (expression_again levels) (p + 1 + length front) rest more by second (no_by more ends, stops))
+    ∙ placed (Some (To to by)) (p + 1 + length front + length rest) (p + length ts) more (omega (arith, ap length shape, length-append front rest))
+range_again levels p ts more (Some (By by to)) (front, rest, shape, first, second) ends =
+    let whole : ts ++ more ≡ Word (codes "BY") ∷ front ++ (rest ++ more) = ap (λ us. us ++ more) shape ∙ ap (λ us. Word (codes "BY") ∷ us) (append_assoc front rest more) in
+    let stops = range_ends_expression more ends in
+    ap (range_at levels p) whole
+    ∙ ap (range_from levels p (Word (codes "BY") ∷ front ++ (rest ++ more))) (by_first (front ++ (rest ++ more)))
+    ∙ ap (λ r. r >>= λ x. optional_at (codes "TO") (expression_in levels) x.next x.rest >>= λ y. read_as (Some (By x.value y.value)) y.next y.rest)
+    (expression_again levels (p + 1) front (rest ++ more) by first (optional_ends (codes "TO") (SpellsOutermost levels) (p + 1 + length front) rest more to second stops))
+    ∙ ap (λ r. r >>= λ y. read_as (Some (By by y.value)) y.next y.rest)
+    (optional_again (codes "TO") (expression_in levels) (SpellsOutermost levels) EndsExpression (expression_again levels) (p + 1 + length front) rest more to second (no_to more ends, stops))
+    ∙ placed (Some (By by to)) (p + 1 + length front + length rest) (p + length ts) more (omega (arith, ap length shape, length-append front rest))
+range_again levels p ts more (Some (Repeat next)) (us, shape, spelled) ends =
+    ap (λ vs. range_at levels p (vs ++ more)) shape
+    ∙ ap (range_from levels p (Word (codes "REPEAT") ∷ (us ++ more))) (repeat_first (us ++ more))
+    ∙ ap (mapped (λ next. Some (Repeat next))) (expression_again levels (p + 1) us more next spelled (range_ends_expression more ends))
+    ∙ placed (Some (Repeat next)) (p + 1 + length us) (p + length ts) more (omega (arith, ap length shape))
+
+-- a range ends an expression before it
+range_ends : (levels p : ℕ) (ts more : Tokens) (r : Option Range) → SpellsRange levels p ts r → EndsExpression more → EndsExpression (ts ++ more)
+range_ends levels p ts more None shape ends = subst (λ us. EndsExpression (us ++ more)) (sym shape) ends
+range_ends levels p ts more (Some (To to by)) spelled ends = subst (λ us. EndsExpression (us ++ more)) (sym spelled.2) (refl, refl)
+range_ends levels p ts more (Some (By by to)) spelled ends = subst (λ us. EndsExpression (us ++ more)) (sym spelled.2) (refl, refl)
+range_ends levels p ts more (Some (Repeat next)) spelled ends = subst (λ us. EndsExpression (us ++ more)) (sym spelled.1) (refl, refl)
+
+-- a WHILE part or a `;` ends a range
+while_ends_range : {A : Type 0} (Spells : ℕ → Tokens → A → Type 0) (p : ℕ) (ts more : Tokens) (o : Option A) → SpellsOptional (codes "WHILE") Spells p ts o → EndsRange (ts ++ Sign Semicolon ∷ more)
+while_ends_range Spells p ts more None shape = inl (more, ap (λ us. us ++ Sign Semicolon ∷ more) shape)
+while_ends_range Spells p ts more (Some x) (us, shape, spelled) = inr (us ++ Sign Semicolon ∷ more, ap (λ vs. vs ++ Sign Semicolon ∷ more) shape)
+
+no_while : (more : Tokens) → behind_word (codes "WHILE") (Sign Semicolon ∷ more) ≡ None
+unfolding behind_word
+no_while more = refl
+
+-- a variable's name that is no WHILE before a `(`
+iterated : (n : Name) (us : Tokens) → (BeginsWithWhile (Word n ∷ us) → ⊥) → specified (Word n ∷ us) ≡ Iterated
+unfolding specified
+iterated n (Sign OpenParenthesis ∷ us) never = by (same_name n (codes "WHILE")) refl
+  where
+    by : (b : Bool) → same_name n (codes "WHILE") ≡ b → cond b (Conditioned (Sign OpenParenthesis ∷ us)) Iterated ≡ Iterated
+    by true e = absurd (never (us, ap (λ (m : Name). Word m ∷ Sign OpenParenthesis ∷ us) (name_is n (codes "WHILE") e)))
+    by false e = refl
+iterated n [] never = refl
+iterated n (t ∷ us) never = refl
+
+-- what begins with WHILE and `(` does so whatever stands behind
+while_shorter : (ts more : Tokens) → BeginsWithWhile (ts ++ Sign Semicolon ∷ more) → BeginsWithWhile ts
+while_shorter [] more (us, e) = cc
+while_shorter (u ∷ []) more (us, e) = cc
+while_shorter (u ∷ v ∷ ts) more (us, e) = (ts, cc)
+
+equals_taken : (p : ℕ) (zs : Tokens) → taken is_equals BadDo p (Sign Equals ∷ zs) ≡ Ok zs
+unfolding taken behind
+equals_taken p zs = refl
+
+while_specified : (us : Tokens) → specified (Word (codes "WHILE") ∷ Sign OpenParenthesis ∷ us) ≡ Conditioned (Sign OpenParenthesis ∷ us)
+unfolding specified
+while_specified us = refl
+
+reference_word : (levels p : ℕ) (ts : Tokens) (r : Reference) → SpellsReferenceAlone levels p ts r → (n : Name) × (us : Tokens) × (ts ≡ Word n ∷ us)
+reference_word levels p ts (Named name arguments parts) spelled = (name.name, spelled.0.0 ++ spelled.0.1, spelled.0.2)
+
+unspecified : (levels p : ℕ) (more : Tokens) → control_at levels p (Sign Semicolon ∷ more) ≡ read_as None p (Sign Semicolon ∷ more)
+unfolding control_at specified
+unspecified levels p more = refl
+
+-- an iteration, behind its variable and behind its first value
+abbrev behind_range : (levels : ℕ) → Reference → ℕ → Expression → Front (Option Range) → Result (Front (Option Control)) Fault
+behind_range levels variable equals first x = optional_at (codes "WHILE") (parenthesized (expression_in levels)) x.next x.rest >>= λ c. read_as (Some (Iterate variable equals first x.value c.value)) c.next c.rest
+
+abbrev behind_first : (levels : ℕ) → Reference → ℕ → Front Expression → Result (Front (Option Control)) Fault
+behind_first levels variable equals x = range_at levels x.next x.rest >>= behind_range levels variable equals x.value
+
+abbrev behind_equals : (levels : ℕ) → Reference → ℕ → Tokens → Result (Front (Option Control)) Fault
+behind_equals levels variable equals us = expression_in levels (equals + 1) us >>= behind_first levels variable equals
+
+abbrev behind_variable : (levels : ℕ) → Front Reference → Result (Front (Option Control)) Fault
+behind_variable levels x = taken is_equals BadDo x.next x.rest >>= behind_equals levels x.value x.next
+
+-- before a `;`
+pub control_again : (levels p : ℕ) (ts more : Tokens) (c : Option Control) → SpellsControl levels p ts c → control_at levels p (ts ++ Sign Semicolon ∷ more) ≡ read_as c (p + length ts) (Sign Semicolon ∷ more)
+unfolding control_at
+control_again levels p ts more None shape =
+    ap (λ us. control_at levels p (us ++ Sign Semicolon ∷ more)) shape ∙ unspecified levels p more ∙ placed None p (p + length ts) (Sign Semicolon ∷ more) (omega (arith, ap length shape))
+control_again levels p ts more (Some (While condition)) (us, shape, enclosed) =
+    let tail : Tokens = Sign Semicolon ∷ more in
+    ap (λ vs. control_at levels p (vs ++ tail)) shape
+    ∙ ap (control_from levels p (Word (codes "WHILE") ∷ (us ++ tail))) (ap (λ vs. specified (Word (codes "WHILE") ∷ (vs ++ tail))) enclosed.1 ∙ while_specified ((enclosed.0 ++ Sign CloseParenthesis ∷ []) ++ tail)
+    ∙ ap (λ vs. Conditioned (vs ++ tail)) (sym enclosed.1))
+    ∙ ap (mapped (λ c. Some (While c))) (enclosed_expression levels (p + 1) us tail condition enclosed tt)
+    ∙ placed (Some (While condition)) (p + 1 + length us) (p + length ts) tail (omega (arith, ap length shape))
+control_again levels p ts more (Some (Iterate variable equals first range condition)) (vs, fs, rs, cs, shape, never, at, target, value, limits, while) =
+    let tail : Tokens = Sign Semicolon ∷ more in
+    let whole : ts ++ tail ≡ vs ++ (Sign Equals ∷ (fs ++ (rs ++ (cs ++ tail)))) = ap (λ us. us ++ tail) shape ∙ simp append_assoc in
+    let word = reference_word levels p vs variable target in
+    let begins : ts ++ tail ≡ Word word.0 ∷ (word.1 ++ (Sign Equals ∷ (fs ++ (rs ++ (cs ++ tail))))) = whole ∙ ap (λ us. us ++ (Sign Equals ∷ (fs ++ (rs ++ (cs ++ tail))))) word.2 in
+    let is : specified (ts ++ tail) ≡ Iterated = ap specified begins ∙ iterated word.0 (word.1 ++ (Sign Equals ∷ (fs ++ (rs ++ (cs ++ tail))))) (λ w. never (while_shorter ts more (w.0, begins ∙ w.1))) in
+    let ends : EndsRange (cs ++ tail) = while_ends_range (SpellsEnclosed (SpellsOutermost levels)) (p + length vs + 1 + length fs + length rs) cs more condition while in
+    let q : ℕ = p + length vs in
+    let one : ℕ = q + 1 + length fs in
+    let made : Option Control = Some (Iterate variable equals first range condition) in
+    ap (control_from levels p (ts ++ tail)) is
+    ∙ ap (λ us. control_from levels p us Iterated) whole
+    ∙ ap (λ r. r >>= behind_variable levels) (reference_again levels p vs (Sign Equals ∷ (fs ++ (rs ++ (cs ++ tail)))) variable target refl)
+    ∙ ap (λ r. r >>= behind_equals levels variable q) (equals_taken q (fs ++ (rs ++ (cs ++ tail))))
+    ∙ ap (λ r. r >>= behind_first levels variable q) (expression_again levels (q + 1) fs (rs ++ (cs ++ tail)) first value (range_ends levels one rs (cs ++ tail) range limits (range_ends_expression (cs ++ tail) ends)))
+    ∙ ap (λ r. r >>= behind_range levels variable q first) (range_again levels one rs (cs ++ tail) range limits ends)
+    ∙ ap (λ r. r >>= λ c. read_as (Some (Iterate variable q first range c.value)) c.next c.rest)
+    (optional_again (codes "WHILE") (parenthesized (expression_in levels)) (SpellsEnclosed (SpellsOutermost levels)) Anyhow (enclosed_expression levels) (one + length rs) cs tail condition while (no_while more, tt))
+    ∙ ap (λ (e : ℕ). read_as (Some (Iterate variable e first range condition)) (one + length rs + length cs) tail) (sym at)
+    ∙ placed made (one + length rs + length cs) (p + length ts) tail (omega (arith, ap length shape, length-append vs (Sign Equals ∷ (fs ++ (rs ++ cs))), length-append fs (rs ++ cs), length-append rs cs))

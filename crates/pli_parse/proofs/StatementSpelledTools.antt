@@ -1,0 +1,146 @@
+-- Tests of tokens: what begins an assignment, and where the first `;` stands.
+use Rattle.std.proofs.Common.{⊎_elim, ◌⊎◌, inl, inr, ◌≡◌, ℕ, Bool, true, false, ◌||◌, List, [], ◌∷◌, ◌++◌, Some, option_map, refl, ap, ◌∙◌, sym, subst, append_assoc}
+use Rattle.pli_base.specs.Name.{Name}
+use Rattle.pli_base.specs.NameLaws.{equal_from_pointwise, pointwise-refl}
+use Rattle.pli_base.specs.Words.{Tokens, same_name, is_semicolon}
+use Rattle.pli_base.specs.declared.token.Sign.TheVariants as signs
+use Rattle.pli_base.specs.declared.token.TokenText.{TokenText}
+use Rattle.pli_base.specs.declared.token.TokenText.TheVariants as tokens
+use Rattle.pli_grammar.specs.Assignments.{IsAssignment, State, NameWanted, OperandWanted, ListBegun, BehindName, BehindList, BehindOperand, Frame, Target, Whole, Group, Arguments, Move, Stops, Goes, Enters, Leaves, Turns, kind_of, Kind, move, moved, behind_frame, accepts, is_assignment}
+use Rattle.pli_grammar.specs.Assignments as kinds
+use Rattle.pli_grammar.proofs.AcceptedIsSpelled.{accepted_is_assignment}
+use Rattle.pli_grammar.proofs.SpelledIsAccepted.{assignment_accepted}
+use Rattle.pli_parse.specs.StatementGrammar.{BeginsAssignment}
+use Rattle.pli_parse.specs.StatementReading.{has_semicolon}
+use Rattle.pli_parse.specs.StatementWords.{up_to_semicolon, is_assigned, begins_assignment}
+
+-- there is a `;` among the tokens
+abbrev pub HasSemicolon : Tokens → Type 0
+HasSemicolon ts = has_semicolon ts ≡ true
+
+or_left : (a b : Bool) → a ≡ true → (a || b) ≡ true
+or_left true b h = refl
+or_left false b h = cc
+
+or_right : (a b : Bool) → b ≡ true → (a || b) ≡ true
+or_right true b h = refl
+or_right false b h = h
+
+or_both : (a b : Bool) → (a || b) ≡ true → (a ≡ true) ⊎ (b ≡ true)
+or_both true b h = inl refl
+or_both false b h = inr h
+
+pub semicolon_first : (ts : Tokens) → HasSemicolon (tokens.Sign signs.Semicolon ∷ ts)
+unfolding has_semicolon
+semicolon_first ts = refl
+
+pub semicolon_later : (t : TokenText) (ts : Tokens) → HasSemicolon ts → HasSemicolon (t ∷ ts)
+unfolding has_semicolon
+semicolon_later t ts h = or_right (is_semicolon t) (has_semicolon ts) h
+
+pub semicolon_front : (ts more : Tokens) → HasSemicolon ts → HasSemicolon (ts ++ more)
+unfolding has_semicolon
+semicolon_front [] more h = cc
+semicolon_front (t ∷ ts) more h =
+    ⊎_elim (λ here. or_left (is_semicolon t) (has_semicolon (ts ++ more)) here) (λ later. or_right (is_semicolon t) (has_semicolon (ts ++ more)) (semicolon_front ts more later)) (or_both (is_semicolon t) (has_semicolon ts) h)
+
+pub semicolon_back : (ts more : Tokens) → HasSemicolon more → HasSemicolon (ts ++ more)
+semicolon_back [] more h = h
+semicolon_back (t ∷ ts) more h = semicolon_later t (ts ++ more) (semicolon_back ts more h)
+
+-- the first `;` of tokens, whatever stands behind them
+abbrev pub FirstSemicolon : Tokens → Tokens → Type 0
+FirstSemicolon ts more = (us : Tokens) × (vs : Tokens) × (ts ≡ us ++ tokens.Sign signs.Semicolon ∷ vs) × (up_to_semicolon (ts ++ more) ≡ Some us)
+
+first_here : (ts more : Tokens) → FirstSemicolon (tokens.Sign signs.Semicolon ∷ ts) more
+unfolding up_to_semicolon
+first_here ts more = ([], ts, refl, refl)
+
+other_first : (t : TokenText) (ts : Tokens) → is_semicolon t ≡ false → up_to_semicolon (t ∷ ts) ≡ option_map (λ us. t ∷ us) (up_to_semicolon ts)
+unfolding up_to_semicolon
+other_first (tokens.Sign signs.Semicolon) ts h = cc
+other_first t ts h = refl
+
+first_later : (t : TokenText) (ts more : Tokens) → is_semicolon t ≡ false → FirstSemicolon ts more → FirstSemicolon (t ∷ ts) more
+first_later t ts more other (us, vs, shape, found) = (t ∷ us, vs, ap (λ ws. t ∷ ws) shape, other_first t (ts ++ more) other ∙ ap (option_map (λ us. t ∷ us)) found)
+
+semicolon_is : (t : TokenText) → is_semicolon t ≡ true → t ≡ tokens.Sign signs.Semicolon
+semicolon_is (tokens.Sign signs.Semicolon) h = refl
+semicolon_is t h = cc
+
+pub first_semicolon : (ts more : Tokens) → HasSemicolon ts → FirstSemicolon ts more
+unfolding has_semicolon
+first_semicolon [] more h = cc
+first_semicolon (t ∷ ts) more h = by (is_semicolon t) refl h (first_semicolon ts more)
+  where
+    by : (b : Bool) → is_semicolon t ≡ b → (b || has_semicolon ts) ≡ true → (HasSemicolon ts → FirstSemicolon ts more) → FirstSemicolon (t ∷ ts) more
+    by true e g later = subst (λ u. FirstSemicolon (u ∷ ts) more) (sym (semicolon_is t e)) (first_here ts more)
+    by false e g later = first_later t ts more e (later g)
+
+-- no `;` is accepted in an assignment
+foreign_stops : (s : State) (f : Frame) → move s f kinds.Foreign ≡ Stops
+foreign_stops NameWanted f = refl
+foreign_stops OperandWanted f = refl
+foreign_stops ListBegun f = refl
+foreign_stops BehindName Target = refl
+foreign_stops BehindName Whole = refl
+foreign_stops BehindName Group = refl
+foreign_stops BehindName Arguments = refl
+foreign_stops BehindList Target = refl
+foreign_stops BehindList Whole = refl
+foreign_stops BehindList Group = refl
+foreign_stops BehindList Arguments = refl
+foreign_stops BehindOperand Target = refl
+foreign_stops BehindOperand Whole = refl
+foreign_stops BehindOperand Group = refl
+foreign_stops BehindOperand Arguments = refl
+
+later_accepted : (m : Move) (f : Frame) (fs : List Frame) (ts : Tokens) → moved m (λ s f fs. accepts s f fs ts) f fs ≡ true → (s : State) × (g : Frame) × (gs : List Frame) × (accepts s g gs ts ≡ true)
+later_accepted Stops f fs ts h = cc
+later_accepted (Goes s) f fs ts h = (s, f, fs, h)
+later_accepted (Enters g s) f fs ts h = (s, g, f ∷ fs, h)
+later_accepted Leaves f [] ts h = cc
+later_accepted Leaves f (g ∷ fs) ts h = (behind_frame f, g, fs, h)
+later_accepted Turns f fs ts h = (OperandWanted, Whole, fs, h)
+
+semicolon_refused : (s : State) (f : Frame) (fs : List Frame) (ts : Tokens) → accepts s f fs (tokens.Sign signs.Semicolon ∷ ts) ≡ true → ⊥
+unfolding accepts
+semicolon_refused s f fs ts h = let e = sym (ap (λ m. moved m (λ s f fs. accepts s f fs ts) f fs) (foreign_stops s f)) ∙ h in cc
+
+-- up to the first `;` stands what is accepted before it
+pub accepted_up_to : (s : State) (f : Frame) (fs : List Frame) (front rest : Tokens) → accepts s f fs front ≡ true → up_to_semicolon (front ++ tokens.Sign signs.Semicolon ∷ rest) ≡ Some front
+unfolding accepts up_to_semicolon
+accepted_up_to s f fs [] rest h = refl
+accepted_up_to s f fs (t ∷ front) rest h =
+    let l = later_accepted (move s f (kind_of t)) f fs front h in
+    by (is_semicolon t) refl (accepted_up_to l.0 l.1 l.2 front rest l.3)
+  where
+    by : (b : Bool) → is_semicolon t ≡ b → up_to_semicolon (front ++ tokens.Sign signs.Semicolon ∷ rest) ≡ Some front → up_to_semicolon (t ∷ front ++ tokens.Sign signs.Semicolon ∷ rest) ≡ Some (t ∷ front)
+    by true e later = absurd (semicolon_refused s f fs front (ap (λ u. accepts s f fs (u ∷ front)) (sym (semicolon_is t e)) ∙ h))
+    by false e later = other_first t (front ++ tokens.Sign signs.Semicolon ∷ rest) e ∙ ap (option_map (λ us. t ∷ us)) later
+
+-- what begins an assignment is found to, whatever stands behind
+pub assignment_begins : (p : ℕ) (ts more : Tokens) → BeginsAssignment p ts → begins_assignment (ts ++ more) ≡ true
+unfolding begins_assignment is_assignment
+assignment_begins p ts more (front, rest, shape, assigns) =
+    let accepted = assignment_accepted p front assigns in
+    ap (λ us. is_assigned (up_to_semicolon us)) (ap (λ us. us ++ more) shape ∙ append_assoc front (tokens.Sign signs.Semicolon ∷ rest) more)
+    ∙ ap is_assigned (accepted_up_to NameWanted Target [] front (rest ++ more) accepted) ∙ accepted
+
+-- what begins none is found to begin none
+pub no_assignment_begins : (p : ℕ) (ts more : Tokens) → HasSemicolon ts → (BeginsAssignment p ts → ⊥) → begins_assignment (ts ++ more) ≡ false
+unfolding begins_assignment
+no_assignment_begins p ts more has never =
+    let f = first_semicolon ts more has in
+    ap is_assigned f.3 ∙ by (is_assignment f.0) f.0 f.1 f.2 refl
+  where
+    by : (b : Bool) (us vs : Tokens) → ts ≡ us ++ tokens.Sign signs.Semicolon ∷ vs → is_assignment us ≡ b → is_assignment us ≡ false
+    by true us vs shape e = absurd (never (us, vs, shape, accepted_is_assignment p us e))
+    by false us vs shape e = e
+
+-- the names are the same
+pub name_is : (n m : Name) → same_name n m ≡ true → n ≡ m
+name_is n m h = equal_from_pointwise n m h
+
+pub same_again : (n : Name) → same_name n n ≡ true
+same_again n = pointwise-refl n

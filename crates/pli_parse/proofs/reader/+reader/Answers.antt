@@ -1,0 +1,77 @@
+use Rattle.std.proofs.Common.{◌≡◌, arith, ap, ◌∙◌, sym}
+use Rattle.std.proofs.lemmas.Result.{err_from_is_err_and}
+use Rattle.pli_parse.specs.StatementAnswers.{counted_view, inside_at, context_view, next_view}
+use Rattle.pli_parse.specs.StatementLaws.{list_made}
+use Rattle.pli_parse.specs.StatementReading.{begin_at, do_at, list_in, statement_at, next_of, EndsHere, Another}
+use Rattle.pli_parse.specs.StatementView.{statement_view}
+use Rattle.pli_parse.proofs.StatementClauses.{alternative_fails}
+use Rattle.pli_parse.proofs.StatementRows.{goes_on, statement_fails, end_fails, ends, one_more}
+use Rattle.pli_item.specs.DeclarationAnswers.{front_view}
+use Rattle.pli_base.specs.SyntaxView.{expression_view}
+use Rattle.pli_parse.proofs.reader.+reader.Goals as goal
+
+pub begin_at-returns-clause-value : goal.begin_at-returns-clause-value
+unfolding begin_at
+begin_at-returns-clause-value t c = rw (c.in_ok-rest.ensures.value, c.in_ok-list.ensures.value, list_made c.in_ok-list.list.value.statements)
+
+pub begin_at-returns-clause-numbers : goal.begin_at-returns-clause-numbers
+begin_at-returns-clause-numbers t c = rw (list_made c.in_ok-list.list.value.statements) (omega (arith, c.in_ok-list.ensures.numbers))
+
+pub do_at-returns-clause-value : goal.do_at-returns-clause-value
+unfolding do_at
+do_at-returns-clause-value t c = rw (c.in_ok-control.ensures.value, c.in_ok-rest.ensures.value, c.in_ok-list.ensures.value, list_made c.in_ok-list.list.value.statements)
+
+pub do_at-returns-clause-numbers : goal.do_at-returns-clause-numbers
+do_at-returns-clause-numbers t c = rw (list_made c.in_ok-list.list.value.statements) (omega (arith, c.in_ok-list.ensures.numbers))
+
+pub if_at-returns-in_err-second-clause-value : goal.if_at-returns-in_err-second-clause-value
+if_at-returns-in_err-second-clause-value t c =
+    let p = err_from_is_err_and c.from_residual-in_err-second.result c.from_residual-in_err-second.ensures.1 in
+    rw (p.1, p.2)
+    (alternative_fails (inside_at c.args.levels) (context_view c.args.context) c.args.at c.args.number c.in_ok-first.first.number c.args.texts.now c.in_ok-behind.behind.now
+    (front_view expression_view c.in_ok-condition.condition) (counted_view statement_view c.in_ok-first.first) c.in_err-second.field-0.0
+    c.in_ok-condition.ensures.value c.in_ok-behind.ensures.value c.in_ok-first.ensures.value c.in_ok-first.ensures.numbers c.in_err-second.ensures.value)
+
+pub list_in-returns-in_err-ended-in-EndsHere-clause-value : goal.list_in-returns-in_err-ended-in-EndsHere-clause-value
+list_in-returns-in_err-ended-in-EndsHere-clause-value t c =
+    let l = c.loop-statements in
+    let p = err_from_is_err_and c.from_residual-in_err-ended-in-EndsHere.result c.from_residual-in_err-ended-in-EndsHere.ensures.1 in
+    let next : next_of l.rest.now ≡ EndsHere c.in-EndsHere.behind.now = sym c.in_ok-behind.ensures.value ∙ ap next_view c.in-EndsHere.is in
+    rw (p.1, p.2)
+    (end_fails (statement_at c.args.levels) (context_view c.args.context) c.args.label.now l.statements.items l.next l.count l.rest.now
+    (list_in (inside_at c.args.levels) (context_view c.args.context) c.args.label.now c.args.at c.args.number c.args.texts.now)
+    c.in-EndsHere.behind.now c.in_err-ended-in-EndsHere.field-0.0 next c.in_err-ended-in-EndsHere.ensures.value l.invariant.value)
+
+pub list_in-returns-in-EndsHere-clause-value : goal.list_in-returns-in-EndsHere-clause-value
+list_in-returns-in-EndsHere-clause-value t c =
+    let l = c.loop-statements in
+    let next : next_of l.rest.now ≡ EndsHere c.in-EndsHere.behind.now = sym c.in_ok-behind.ensures.value ∙ ap next_view c.in-EndsHere.is in
+    ends (statement_at c.args.levels) (context_view c.args.context) c.args.label.now l.statements.items l.next l.count l.rest.now
+    (list_in (inside_at c.args.levels) (context_view c.args.context) c.args.label.now c.args.at c.args.number c.args.texts.now)
+    c.in-EndsHere.behind.now c.in_ok-ended-in-EndsHere.ended.next c.in_ok-ended-in-EndsHere.ended.rest.now next c.in_ok-ended-in-EndsHere.ensures.value l.invariant.value
+
+pub list_in-returns-in_err-read-in-Another-clause-value : goal.list_in-returns-in_err-read-in-Another-clause-value
+list_in-returns-in_err-read-in-Another-clause-value t c =
+    let l = c.loop-statements in
+    let p = err_from_is_err_and c.from_residual-in_err-read-in-Another.result c.from_residual-in_err-read-in-Another.ensures.1 in
+    let next : next_of l.rest.now ≡ Another = sym c.in_ok-behind.ensures.value ∙ ap next_view c.in-Another.is in
+    rw (p.1, p.2)
+    (statement_fails (statement_at c.args.levels) (context_view c.args.context) c.args.label.now l.statements.items l.next l.count l.rest.now
+    (list_in (inside_at c.args.levels) (context_view c.args.context) c.args.label.now c.args.at c.args.number c.args.texts.now)
+    c.in_err-read-in-Another.field-0.0 next c.in_err-read-in-Another.ensures.value l.invariant.value)
+
+pub list_in-loop-statements-preserved : goal.list_in-loop-statements-preserved
+list_in-loop-statements-preserved t c =
+    let l = c.loop-statements in
+    let read = c.in_ok-read-in-Another.read in
+    let next : next_of l.rest.now ≡ Another = sym c.in_ok-behind.ensures.value ∙ ap next_view c.in-Another.is in
+    record {
+      value = rw c.in_ok-push-in-Another.ensures.items
+          (goes_on (statement_at c.args.levels) (context_view c.args.context) c.args.label.now l.statements.items l.next l.count l.rest.now
+          (list_in (inside_at c.args.levels) (context_view c.args.context) c.args.label.now c.args.at c.args.number c.args.texts.now)
+          read.value read.next read.rest.now read.number next c.in_ok-read-in-Another.ensures.value c.in_ok-read-in-Another.ensures.numbers
+          (omega (arith, c.in_ok-read-in-Another.ensures.place)) l.invariant.value);
+      numbers = rw c.in_ok-push-in-Another.ensures.items
+          (omega (arith, one_more l.statements.items read.value, c.in_ok-read-in-Another.ensures.numbers, l.invariant.numbers));
+      place = (omega (arith, c.in_ok-read-in-Another.ensures.place), omega (arith, c.in_ok-read-in-Another.ensures.place), omega (arith, c.in_ok-read-in-Another.ensures.place));
+    }

@@ -1,0 +1,63 @@
+//! Laws of the grammar of statements: what it spells and what is read are one.
+ghost use Rattle.pli_parse.specs.StatementExamples.{KeywordsOfIf, KeywordsOfDo, KeywordsOfPut, LabelThatIsKeyword, DeclareAssigned, NearestIf, ElseOfBoth, ElseAssigned, ElseLabel, LabelledGroup, UnitOfGoTo, SetBeforeIn, WholeUnit, NoText, NoProcedureWord, NoSemicolon, NoSemicolonAhead, TextBehindEnd, NoValue, GoAlone, NoItem, ListNotClosed, NumberBehindDo, NumberBehindGoto, NoThen, NameOfNoLabel, BlockNotEnded, NoEquals, NoResult, NameAsBound, TwoLabels, LabelOfEnd, ProcedureWithoutLabel, NoCondition, ReturnInUnit, DeclareBehindThen, ProcedureInGroup, NoPutOption, TwoSkips, GroupTooDeep, ConditionTooDeep, ByBeforeTo, NumbersInBlock, DeepestGroup, WhileAssigned, NoProcedureOption, NoMain, TwoAreas, LabelBehindThen, EndBehindThen, StrayElse, IfBehindOn, LabelOfDeclare, NoReturnedValue, NameOfOuterLabel, EndNotEnded};
+
+/// Worked examples of what statements and units are read as, and of faults.
+#[tactic(auto, unfolding(crate::specs::StatementReading::expression_in, crate::specs::StatementReading::reference_in, crate::specs::StatementReading::stopped, crate::specs::StatementReading::parenthesized, crate::specs::StatementReading::identifier_at, crate::specs::StatementReading::assignment_at, crate::specs::StatementReading::condition_at, crate::specs::StatementReading::optional_at, crate::specs::StatementReading::range_word, crate::specs::StatementReading::range_first, crate::specs::StatementReading::range_at, crate::specs::StatementReading::specified, crate::specs::StatementReading::control_at, crate::specs::StatementReading::place_word, crate::specs::StatementReading::place_first, crate::specs::StatementReading::places_from, crate::specs::StatementReading::allocation_at, crate::specs::StatementReading::put_word, crate::specs::StatementReading::put_first, crate::specs::StatementReading::put_from, crate::specs::StatementReading::put_at, crate::specs::StatementReading::call_at, crate::specs::StatementReading::option_word, crate::specs::StatementReading::option_first, crate::specs::StatementReading::main_at, crate::specs::StatementReading::options_from, crate::specs::StatementReading::heading_at, crate::specs::StatementReading::has_semicolon, crate::specs::StatementReading::label_at, crate::specs::StatementReading::ending_at, crate::specs::StatementReading::next_of, crate::specs::StatementReading::list_from, crate::specs::StatementReading::else_first, crate::specs::StatementReading::if_at, crate::specs::StatementReading::on_at, crate::specs::StatementReading::do_at, crate::specs::StatementReading::begin_at, crate::specs::StatementReading::procedure_at, crate::specs::StatementReading::statement_of, crate::specs::StatementReading::inside_of, crate::specs::StatementReading::external_at, crate::specs::StatementReading::unit_of, crate::specs::StatementWords::keyword_of, crate::specs::StatementWords::condition_of, crate::specs::StatementWords::behind_word, crate::specs::StatementWords::first_kind, crate::specs::StatementWords::kind_of, pli_item::specs::DeclarationReading::fault_at, pli_item::specs::DeclarationReading::taken, pli_item::specs::DeclarationReading::listed_at, pli_item::specs::DeclarationReading::number_at, pli_item::specs::DeclarationReading::integer_at, pli_item::specs::DeclarationReading::bounds_at, pli_item::specs::DeclarationReading::dimensions_at, pli_item::specs::DeclarationReading::length_at, pli_item::specs::DeclarationReading::scaled_at, pli_item::specs::DeclarationReading::precision_at, pli_item::specs::DeclarationReading::name_at, pli_item::specs::DeclarationReading::identifier_at, pli_item::specs::DeclarationReading::area_at, pli_item::specs::DeclarationReading::locator_at, pli_item::specs::DeclarationReading::repeated_at, pli_item::specs::DeclarationReading::value_at, pli_item::specs::DeclarationReading::values_at, pli_item::specs::DeclarationReading::simple_of, pli_item::specs::DeclarationReading::description_walk, pli_item::specs::DeclarationReading::word_walk, pli_item::specs::DeclarationReading::behind_walk, pli_item::specs::DeclarationReading::step_at, pli_item::specs::DeclarationReading::walked, pli_item::specs::DeclarationReading::nest_at, pli_item::specs::DeclarationReading::described_at, pli_item::specs::DeclarationReading::parameter_at, pli_item::specs::DeclarationReading::parameters_at, pli_item::specs::DeclarationReading::entry_at, pli_item::specs::DeclarationReading::returned_at, pli_item::specs::DeclarationReading::attribute_at, pli_item::specs::DeclarationReading::attributes_at, pli_item::specs::DeclarationReading::level_at, pli_item::specs::DeclarationReading::names_at, pli_item::specs::DeclarationReading::item_at, pli_item::specs::DeclarationReading::declaration_at, pli_item::specs::DeclarationWords::data_word, pli_item::specs::DeclarationWords::storage_word, pli_item::specs::DeclarationWords::nesting_word, pli_item::specs::DeclarationWords::attribute_word, pli_item::specs::DeclarationWords::attribute_first, pli_item::specs::DeclarationWords::behind, pli_item::specs::DeclarationWords::name_first, pli_item::specs::DeclarationWords::begins_description, pli_grammar::specs::Reading::misfit, pli_grammar::specs::Reading::behind_close, pli_grammar::specs::Reading::infix_from, pli_grammar::specs::Reading::expression_of, pli_grammar::specs::Reading::further_from, pli_grammar::specs::Reading::listed_at, pli_grammar::specs::Reading::list_at, pli_grammar::specs::Reading::arguments_at, pli_grammar::specs::Reading::joined_from, pli_grammar::specs::Reading::reference_of, pli_grammar::specs::Reading::prefix_of, pli_grammar::specs::Reading::parenthesis_of, pli_grammar::specs::Reading::constant_at, pli_grammar::specs::Reading::operand_of, pli_grammar::specs::Reading::inside, pli_grammar::specs::Reading::expression_at, pli_grammar::specs::Reading::reference_at, pli_grammar::specs::Operators::operator_at, pli_grammar::specs::Operators::joining_at, pli_grammar::specs::Operators::name_at, pli_grammar::specs::Operators::comma_at, pli_grammar::specs::Operators::begins_expression, pli_base::specs::Reading::misplaced, crate::specs::StatementWords::up_to_semicolon, crate::specs::StatementWords::begins_assignment, pli_grammar::specs::Assignments::accepts, pli_grammar::specs::Assignments::is_assignment))]
+pub fn worked_examples()
+    ensures keywords_of_if { KeywordsOfIf }
+    ensures keywords_of_do { KeywordsOfDo }
+    ensures keywords_of_put { KeywordsOfPut }
+    ensures label_that_is_keyword { LabelThatIsKeyword }
+    ensures declare_assigned { DeclareAssigned }
+    ensures nearest_if { NearestIf }
+    ensures else_of_both { ElseOfBoth }
+    ensures else_assigned { ElseAssigned }
+    ensures else_label { ElseLabel }
+    ensures labelled_group { LabelledGroup }
+    ensures unit_of_go_to { UnitOfGoTo }
+    ensures set_before_in { SetBeforeIn }
+    ensures whole_unit { WholeUnit }
+    ensures no_text { NoText }
+    ensures no_procedure_word { NoProcedureWord }
+    ensures no_semicolon { NoSemicolon }
+    ensures no_semicolon_ahead { NoSemicolonAhead }
+    ensures text_behind_end { TextBehindEnd }
+    ensures no_value { NoValue }
+    ensures go_alone { GoAlone }
+    ensures no_item { NoItem }
+    ensures list_not_closed { ListNotClosed }
+    ensures number_behind_do { NumberBehindDo }
+    ensures number_behind_goto { NumberBehindGoto }
+    ensures no_then { NoThen }
+    ensures name_of_no_label { NameOfNoLabel }
+    ensures block_not_ended { BlockNotEnded }
+    ensures no_equals { NoEquals }
+    ensures no_result { NoResult }
+    ensures name_as_bound { NameAsBound }
+    ensures two_labels { TwoLabels }
+    ensures label_of_end { LabelOfEnd }
+    ensures procedure_without_label { ProcedureWithoutLabel }
+    ensures no_condition { NoCondition }
+    ensures return_in_unit { ReturnInUnit }
+    ensures declare_behind_then { DeclareBehindThen }
+    ensures procedure_in_group { ProcedureInGroup }
+    ensures no_put_option { NoPutOption }
+    ensures two_skips { TwoSkips }
+    ensures group_too_deep { GroupTooDeep }
+    ensures condition_too_deep { ConditionTooDeep }
+    ensures by_before_to { ByBeforeTo }
+    ensures numbers_in_block { NumbersInBlock }
+    ensures deepest_group { DeepestGroup }
+    ensures while_assigned { WhileAssigned }
+    ensures no_procedure_option { NoProcedureOption }
+    ensures no_main { NoMain }
+    ensures two_areas { TwoAreas }
+    ensures label_behind_then { LabelBehindThen }
+    ensures end_behind_then { EndBehindThen }
+    ensures stray_else { StrayElse }
+    ensures if_behind_on { IfBehindOn }
+    ensures label_of_declare { LabelOfDeclare }
+    ensures no_returned_value { NoReturnedValue }
+    ensures name_of_outer_label { NameOfOuterLabel }
+    ensures end_not_ended { EndNotEnded }
+{}

@@ -1,0 +1,505 @@
+//! Statements, with those inside them.
+ghost use Rattle.std.specs.Prelude.{◌≡◌, ◌≤◌, ◌<◌, ◌+◌, ◌-◌, length, codes, IfOk};
+ghost use Rattle.pli_item.specs.DeclarationAnswers.{Gives, Advances, front_view};
+ghost use Rattle.pli_parse.specs.Statements.{count, body_count, list_count, alternative_count};
+ghost use Rattle.pli_parse.specs.StatementLaws.{boxed_view};
+ghost use Rattle.pli_parse.specs.StatementView.{body_view, statement_view, statements_view};
+ghost use Rattle.pli_parse.specs.StatementReading.{is_label, ending_at, list_in, begin_at, do_at, procedure_at, alternative_from, if_at, on_at, keyed_at, body_from, statement_at, inside_of};
+ghost use Rattle.pli_parse.specs.StatementReading as reading;
+ghost use Rattle.pli_parse.specs.Statements as tree;
+ghost use Rattle.pli_parse.specs.StatementWords as grammar;
+ghost use Rattle.pli_parse.specs.StatementAnswers.{heading_view, counted_view, Counts, inside_at, listing_view, context_view, kind_view, words, BehindKind};
+
+use crate::control::control_at;
+use crate::cursor::{expression_in, fault};
+use crate::first::{
+    Context, Kind, Misplacement, Next, bad_label, else_first, has_semicolon, kind_of, label_at,
+    next_of, why_misplaced,
+};
+use crate::heading::{Heading, heading_at, word_taken};
+use crate::keyword::{Keyword, Standing};
+use crate::simple::{assignment_at, condition_at, simple_at};
+use crate::statement::{Body, Procedure, Statement};
+use pli_base::syntax::Identifier;
+use pli_base::{Code, Name, TokenText};
+use pli_item::{Front, ParseError, semicolon_taken};
+use std::alloc::Global;
+
+/// What was read, the number of the next statement, the place behind what was read, and the tokens from there.
+#[derive(Drop)]
+pub struct Counted<'a, T> {
+    pub value: T,
+    pub number: u32,
+    pub next: u32,
+    pub rest: &'a [TokenText],
+}
+
+/// The statements of a block or group, and the number of its END.
+#[derive(Drop)]
+pub struct Listing {
+    pub statements: Vec<Statement>,
+    pub end: u32,
+}
+
+/// What was read where no statement is inside: only the statement itself is counted.
+fn alone(read: Front<'_, Body>, number: u32) -> Counted<'_, Body>
+    requires { number ≤ 200000 }
+    ensures { result ≡ record { value = read.entry.value; number = number + 1; next = read.entry.next; rest = read.entry.rest } }
+{
+    Counted {
+        value: read.value,
+        number: number + 1,
+        next: read.next,
+        rest: read.rest,
+    }
+}
+
+/// The place of the last token of the text.
+pub fn last_place(at: u32, texts: &[TokenText]) -> u32
+    requires { at + length texts.now ≤ 200000 }
+    ensures { result ≡ at + length texts.now - 1 }
+{
+    (at + texts.len() as u32).saturating_sub(1)
+}
+
+/// Whether the name is the label.
+fn is_label(label: &Option<Identifier>, name: &Name) -> bool
+    ensures { result ≡ is_label label.now name.now }
+{
+    match label {
+        Some(label) => label.name.bytes() == name.bytes(),
+        None => false,
+    }
+}
+
+/// What stands behind END: nothing, or the label of the block or group; and `;`.
+#[tactic(auto, unfolding(crate::specs::StatementReading::ending_at, crate::specs::StatementReading::stopped))]
+fn ending_at<'a>(
+    label: &Option<Identifier>,
+    at: u32,
+    texts: &'a [TokenText],
+) -> Result<Front<'a, ()>, ParseError>
+    requires { at + length texts.now ≤ 200000 }
+    ensures value { Gives (front_view (λ u. tt)) result (ending_at label.now at texts.now) }
+    ensures place { IfOk result (Advances at texts.now) }
+{
+    let [TokenText::Word(name), behind @ ..] = texts else {
+        let rest = semicolon_taken(at, texts)?;
+        return Ok(Front {
+            value: (),
+            next: at + 1,
+            rest,
+        });
+    };
+    if !is_label(label, name) {
+        return Err(fault(Code::WrongEndName, at));
+    }
+    let rest = semicolon_taken(at + 1, behind)?;
+    Ok(Front {
+        value: (),
+        next: at + 2,
+        rest,
+    })
+}
+
+/// Statements up to an END, and that END.
+#[cycle(reader)]
+#[tactic(auto)]
+pub fn list_in<'a>(
+    alloc: Global,
+    levels: u32,
+    context: Context,
+    label: &Option<Identifier>,
+    at: u32,
+    number: u32,
+    texts: &'a [TokenText],
+) -> Result<Counted<'a, Listing>, ParseError>
+    requires place { at + length texts.now ≤ 200000 }
+    requires number { number ≤ at }
+    ensures value { Gives (counted_view listing_view) result (list_in (inside_at levels) (context_view context) label.now at number texts.now) }
+    ensures numbers { IfOk result (λ x. x.number ≡ number + list_count (statements_view x.value.statements.items) + 1) }
+    ensures place { IfOk result (Counts at number texts.now) }
+{
+    let mut statements = Vec::new(alloc);
+    let mut count = number;
+    let mut next = at;
+    let mut rest = texts;
+    loop {
+        match next_of(alloc, rest)? {
+            Next::EndsHere(behind) => {
+                let ended = ending_at(label, next + 1, behind)?;
+                return Ok(Counted {
+                    value: Listing {
+                        statements,
+                        end: count,
+                    },
+                    number: count + 1,
+                    next: ended.next,
+                    rest: ended.rest,
+                });
+            }
+            Next::Another => {
+                let read = statement_at(alloc, levels, context, next, count, rest)?;
+                statements.push(read.value)?;
+                count = read.number;
+                next = read.next;
+                rest = read.rest;
+            }
+        }
+    }
+}
+
+/// What stands behind BEGIN.
+#[cycle(reader)]
+#[tactic(auto, unfolding(crate::specs::StatementReading::begin_at), using(crate::specs::StatementLaws::begin_made))]
+fn begin_at<'a>(
+    alloc: Global,
+    levels: u32,
+    context: Context,
+    label: &Option<Identifier>,
+    at: u32,
+    number: u32,
+    texts: &'a [TokenText],
+) -> Result<Counted<'a, Body>, ParseError>
+    requires place { at + length texts.now ≤ 200000 }
+    requires number { number ≤ at }
+    ensures value { Gives (counted_view body_view) result (begin_at (inside_at levels) (context_view context) label.now at number texts.now) }
+    ensures numbers { IfOk result (λ x. x.number ≡ number + body_count (body_view x.value)) }
+    ensures place { IfOk result (Counts at number texts.now) }
+{
+    let rest = semicolon_taken(at, texts)?;
+    let inner = Context {
+        standing: Standing::InBlock,
+        in_unit: context.in_unit,
+    };
+    let list = list_in(alloc, levels, inner, label, at + 1, number, rest)?;
+    Ok(Counted {
+        value: Body::Begin {
+            statements: list.value.statements,
+            end: list.value.end,
+        },
+        number: list.number,
+        next: list.next,
+        rest: list.rest,
+    })
+}
+
+/// What stands behind DO.
+#[cycle(reader)]
+#[tactic(auto, unfolding(crate::specs::StatementReading::do_at), using(crate::specs::StatementLaws::do_made))]
+fn do_at<'a>(
+    alloc: Global,
+    levels: u32,
+    context: Context,
+    label: &Option<Identifier>,
+    at: u32,
+    number: u32,
+    texts: &'a [TokenText],
+) -> Result<Counted<'a, Body>, ParseError>
+    requires place { at + length texts.now ≤ 200000 }
+    requires number { number ≤ at }
+    ensures value { Gives (counted_view body_view) result (do_at (inside_at levels) (context_view context) label.now at number texts.now) }
+    ensures numbers { IfOk result (λ x. x.number ≡ number + body_count (body_view x.value)) }
+    ensures place { IfOk result (Counts at number texts.now) }
+{
+    let control = control_at(alloc, levels, at, texts)?;
+    let rest = semicolon_taken(control.next, control.rest)?;
+    let inner = Context {
+        standing: Standing::InGroup,
+        in_unit: context.in_unit,
+    };
+    let list = list_in(alloc, levels, inner, label, control.next + 1, number, rest)?;
+    Ok(Counted {
+        value: Body::Do {
+            control: control.value,
+            statements: list.value.statements,
+            end: list.value.end,
+        },
+        number: list.number,
+        next: list.next,
+        rest: list.rest,
+    })
+}
+
+/// A procedure inside a unit, of its parts.
+#[tactic(auto, using(crate::specs::StatementLaws::procedure_made))]
+fn procedure_of(name: Identifier, number: u32, heading: Heading, list: Listing) -> Body
+    ensures { body_view result ≡ tree.Procedure (heading_view name number heading) (statements_view list.statements.items) list.end }
+{
+    let procedure = Procedure {
+        name,
+        number,
+        parameters: heading.parameters,
+        options: heading.options,
+        statements: list.statements,
+        end: list.end,
+    };
+    Body::Procedure(procedure)
+}
+
+/// What stands behind PROCEDURE, inside a unit; `number` is the number of the PROCEDURE.
+#[cycle(reader)]
+#[tactic(auto, unfolding(crate::specs::StatementReading::procedure_at))]
+fn procedure_at<'a>(
+    alloc: Global,
+    levels: u32,
+    label: &Option<Identifier>,
+    at: u32,
+    number: u32,
+    texts: &'a [TokenText],
+) -> Result<Counted<'a, Body>, ParseError>
+    requires place { at + length texts.now ≤ 200000 }
+    requires number { number < at }
+    ensures value { Gives (counted_view body_view) result (procedure_at (inside_at levels) label.now number at texts.now) }
+    ensures numbers { IfOk result (λ x. x.number ≡ number + 1 + body_count (body_view x.value)) }
+    ensures place { IfOk result (Counts at (number + 1) texts.now) }
+{
+    let Some(name) = label else {
+        return Err(fault(Code::BadLabel, at));
+    };
+    let heading = heading_at(alloc, at, texts)?;
+    let context = Context {
+        standing: Standing::InBlock,
+        in_unit: false,
+    };
+    let list = list_in(
+        alloc,
+        levels,
+        context,
+        label,
+        heading.next,
+        number + 1,
+        heading.rest,
+    )?;
+    Ok(Counted {
+        value: procedure_of(*name, number, heading.value, list.value),
+        number: list.number,
+        next: list.next,
+        rest: list.rest,
+    })
+}
+
+/// ELSE and its statement, if it stands there.
+#[cycle(reader)]
+#[tactic(auto)]
+fn alternative_at<'a>(
+    alloc: Global,
+    levels: u32,
+    context: Context,
+    at: u32,
+    number: u32,
+    texts: &'a [TokenText],
+) -> Result<Counted<'a, Option<Box<Statement>>>, ParseError>
+    requires place { at + length texts.now ≤ 200000 }
+    requires number { number ≤ at }
+    ensures value { Gives (counted_view boxed_view) result (alternative_from (inside_at levels) (context_view context) at number texts.now (reading.else_first texts.now)) }
+    ensures numbers { IfOk result (λ x. x.number ≡ number + alternative_count (boxed_view x.value)) }
+    ensures place { IfOk result (λ x. (x.number + at ≤ x.next + number) × (x.next + length x.rest.now ≡ at + length texts.now)) }
+{
+    let Some(behind) = else_first(alloc, texts)? else {
+        return Ok(Counted {
+            value: None,
+            number,
+            next: at,
+            rest: texts,
+        });
+    };
+    let inner = Context {
+        standing: Standing::AsClause,
+        in_unit: context.in_unit,
+    };
+    let read = statement_at(alloc, levels, inner, at + 1, number, behind)?;
+    Ok(Counted {
+        value: Some(Box::new(alloc, read.value)?),
+        number: read.number,
+        next: read.next,
+        rest: read.rest,
+    })
+}
+
+/// What stands behind IF.
+#[cycle(reader)]
+#[tactic(auto, unfolding(crate::specs::StatementReading::if_at), using(crate::specs::StatementLaws::if_made))]
+fn if_at<'a>(
+    alloc: Global,
+    levels: u32,
+    context: Context,
+    at: u32,
+    number: u32,
+    texts: &'a [TokenText],
+) -> Result<Counted<'a, Body>, ParseError>
+    requires place { at + length texts.now ≤ 200000 }
+    requires number { number ≤ at }
+    ensures value { Gives (counted_view body_view) result (if_at (inside_at levels) (context_view context) at number texts.now) }
+    ensures numbers { IfOk result (λ x. x.number ≡ number + body_count (body_view x.value)) }
+    ensures place { IfOk result (Counts at number texts.now) }
+{
+    let condition = expression_in(alloc, levels, at, texts)?;
+    let behind = word_taken(b"THEN", Code::ThenExpected, condition.next, condition.rest)?;
+    let inner = Context {
+        standing: Standing::AsClause,
+        in_unit: context.in_unit,
+    };
+    let first = statement_at(alloc, levels, inner, condition.next + 1, number, behind)?;
+    let second = alternative_at(alloc, levels, context, first.next, first.number, first.rest)?;
+    Ok(Counted {
+        value: Body::If {
+            condition: condition.value,
+            consequence: Box::new(alloc, first.value)?,
+            alternative: second.value,
+        },
+        number: second.number,
+        next: second.next,
+        rest: second.rest,
+    })
+}
+
+/// What stands behind ON.
+#[cycle(reader)]
+#[tactic(auto, unfolding(crate::specs::StatementReading::on_at), using(crate::specs::StatementLaws::on_made))]
+fn on_at<'a>(
+    alloc: Global,
+    levels: u32,
+    at: u32,
+    number: u32,
+    texts: &'a [TokenText],
+) -> Result<Counted<'a, Body>, ParseError>
+    requires place { at + length texts.now ≤ 200000 }
+    requires number { number ≤ at }
+    ensures value { Gives (counted_view body_view) result (on_at (inside_at levels) at number texts.now) }
+    ensures numbers { IfOk result (λ x. x.number ≡ number + body_count (body_view x.value)) }
+    ensures place { IfOk result (Counts at number texts.now) }
+{
+    let condition = condition_at(at, texts)?;
+    let inner = Context {
+        standing: Standing::AsUnit,
+        in_unit: true,
+    };
+    let unit = statement_at(alloc, levels, inner, condition.next, number, condition.rest)?;
+    Ok(Counted {
+        value: Body::On {
+            condition: condition.value,
+            unit: Box::new(alloc, unit.value)?,
+        },
+        number: unit.number,
+        next: unit.next,
+        rest: unit.rest,
+    })
+}
+
+/// A statement behind its keyword at `at`.
+#[cycle(reader)]
+#[tactic(auto, unfolding(crate::specs::StatementReading::inside_of))]
+fn keyed_at<'a>(
+    alloc: Global,
+    levels: u32,
+    context: Context,
+    label: &Option<Identifier>,
+    keyword: Keyword,
+    at: u32,
+    number: u32,
+    rest: &'a [TokenText],
+) -> Result<Counted<'a, Body>, ParseError>
+    requires place { at + words keyword + length rest.now ≤ 200000 }
+    requires number { number ≤ at }
+    ensures value { Gives (counted_view body_view) result (keyed_at levels (inside_of levels) (context_view context) label.now at number rest.now keyword) }
+    ensures numbers { IfOk result (λ x. x.number ≡ number + 1 + body_count (body_view x.value)) }
+    ensures place { IfOk result (λ x. (x.number + at ≤ x.next + number) × (x.next + length x.rest.now ≡ at + words keyword + length rest.now)) }
+{
+    if levels == 0 {
+        return Ok(alone(simple_at(alloc, levels, keyword, at, rest)?, number));
+    }
+    let inner = levels - 1;
+    match keyword {
+        Keyword::Procedure => procedure_at(alloc, inner, label, at + 1, number, rest),
+        Keyword::Begin => begin_at(alloc, inner, context, label, at + 1, number + 1, rest),
+        Keyword::Do => do_at(alloc, inner, context, label, at + 1, number + 1, rest),
+        Keyword::If => if_at(alloc, inner, context, at + 1, number + 1, rest),
+        Keyword::On => on_at(alloc, inner, at + 1, number + 1, rest),
+        _ => Ok(alone(simple_at(alloc, levels, keyword, at, rest)?, number)),
+    }
+}
+
+/// A statement behind its label.
+#[cycle(reader)]
+#[tactic(auto)]
+fn body_at<'a>(
+    alloc: Global,
+    levels: u32,
+    context: Context,
+    label: &Option<Identifier>,
+    at: u32,
+    number: u32,
+    texts: &'a [TokenText],
+) -> Result<Counted<'a, Body>, ParseError>
+    requires place { at + length texts.now ≤ 200000 }
+    requires number { number ≤ at }
+    ensures value { Gives (counted_view body_view) result (body_from levels (inside_of levels) (context_view context) label.now at number texts.now (grammar.kind_of texts.now)) }
+    ensures numbers { IfOk result (λ x. x.number ≡ number + 1 + body_count (body_view x.value)) }
+    ensures place { IfOk result (λ x. (x.number + at ≤ x.next + number) × (x.next + length x.rest.now ≡ at + length texts.now)) }
+{
+    match kind_of(alloc, texts)? {
+        Kind::Assigns => Ok(alone(assignment_at(alloc, levels, at, texts)?, number)),
+        Kind::Empty(rest) => Ok(Counted {
+            value: Body::Null,
+            number: number + 1,
+            next: at + 1,
+            rest,
+        }),
+        Kind::Keyed(keyword, rest) => match why_misplaced(context, keyword, label.is_some()) {
+            Some(Misplacement::AtLabel(code)) => match label {
+                Some(label) => Err(fault(code, label.at)),
+                None => Err(fault(code, at)),
+            },
+            Some(Misplacement::AtStatement(code)) => Err(fault(code, at)),
+            None => keyed_at(alloc, levels, context, label, keyword, at, number, rest),
+        },
+        Kind::Unknown => Err(fault(Code::NotAStatement, at)),
+    }
+}
+
+/// A statement with its label, where so many levels may be opened. `number` is its number.
+#[cycle(reader)]
+#[tactic(auto, unfolding(crate::specs::StatementReading::statement_of))]
+pub fn statement_at<'a>(
+    alloc: Global,
+    levels: u32,
+    context: Context,
+    at: u32,
+    number: u32,
+    texts: &'a [TokenText],
+) -> Result<Counted<'a, Statement>, ParseError>
+    requires place { at + length texts.now ≤ 200000 }
+    requires number { number ≤ at }
+    ensures value { Gives (counted_view statement_view) result (statement_at levels (context_view context) at number texts.now) }
+    ensures numbers { IfOk result (λ x. x.number ≡ number + count (statement_view x.value)) }
+    ensures place { IfOk result (Counts at number texts.now) }
+{
+    if !has_semicolon(texts) {
+        return Err(fault(Code::EndMissing, last_place(at, texts)));
+    }
+    if let Some(place) = bad_label(context.standing, at, texts) {
+        return Err(fault(Code::BadLabel, place));
+    }
+    let label = label_at(at, texts);
+    let body = body_at(
+        alloc,
+        levels,
+        context,
+        &label.value,
+        label.next,
+        number,
+        label.rest,
+    )?;
+    Ok(Counted {
+        value: Statement {
+            number,
+            label: label.value,
+            at: label.next,
+            body: body.value,
+        },
+        number: body.number,
+        next: body.next,
+        rest: body.rest,
+    })
+}

@@ -1,0 +1,9 @@
+pub mod NearestItems
+pub mod OwnersFound
+pub mod IndexKept
+pub mod MeantMeans
+pub mod Chains
+pub mod Candidates
+pub mod Outwards
+pub mod Repeated
+pub mod Judged

@@ -1,0 +1,22 @@
+//! Which item a reference means: levels and members, blocks and qualification.
+#![tactic(auto)]
+
+mod block;
+mod found;
+mod laws;
+mod level;
+mod repeat;
+mod scope;
+
+pub use block::{Block, Declared};
+pub use found::{Found, Meant};
+pub use laws::{
+    bad_levels_are_found, examples_of_levels, examples_of_references, examples_of_repeats,
+    later_is_fault, meant_is_means, owners_are_nearest,
+};
+pub use level::{Numbered, Standing, standings};
+pub use repeat::{Verdict, Written, verdicts};
+pub use scope::Scope;
+
+#[cfg(test)]
+mod tests;
