@@ -69,6 +69,24 @@ def forms(count):
         yield from group
 
 
+def listed(parts):
+    """Parts with commas between them, as statements may be broken between tokens."""
+    return [part + "," for part in parts[:-1]] + parts[-1:]
+
+
+def names(count, uses):
+    """A declaration of so many names, and so many uses of them."""
+    yield from ["DCL ("] + listed([f"N{k}" for k in range(count)]) + [") FIXED BIN(31);"]
+    yield from ["PUT LIST("] + listed([f"N{k * 7 % count}" for k in range(uses)]) + [");"]
+
+
+def structure(count, uses):
+    """A structure of so many members, two levels deep, and so many qualified uses of them."""
+    members = [f"3 M{k} FIXED BIN" if k % 100 else f"2 G{k // 100}, 3 M{k} FIXED BIN" for k in range(count)]
+    yield from ["DCL "] + listed(["1 S"] + members) + [";"]
+    yield from ["PUT LIST("] + listed([f"G{k * 7 % count // 100}.M{k * 7 % count}" for k in range(uses)]) + [");"]
+
+
 def sessions():
     one = list(member("M", procedure("M", 9999)))
     yield "one member of 9,999 lines, built and run", one + ["BUILD", "RUN"]
@@ -91,6 +109,8 @@ def sessions():
     yield "a unit of 190,000 tokens in every form, built ten times", list(member("M", unit("M", forms(190000)))) + ["BUILD"] * 10
     chained = ["X=" + "+".join(["Y"] * 58)] + ["+" + "+".join(["Y"] * 59)] * 1650 + [";"]
     yield "one statement of 195,000 tokens, built ten times", list(member("M", ["M: PROC;"] + chained + ["END;"])) + ["BUILD"] * 10
+    yield "a unit of 60,000 names and 39,000 uses, built ten times", list(member("M", unit("M", names(60000, 39000)))) + ["BUILD"] * 10
+    yield "a structure of 25,000 members and 12,000 uses, built ten times", list(member("M", unit("M", structure(25000, 12000)))) + ["BUILD"] * 10
     printing = ["M: PROC OPTIONS(MAIN);", "DCL X FIXED BIN(31);"] + ["PUT LIST(X, X, X, X, X, X, X, X, X, X);"] * 1500 + ["END;"]
     yield "15,000 items printed, ten times", list(member("M", printing)) + ["BUILD"] + ["RUN"] * 10
 
@@ -98,7 +118,7 @@ def sessions():
 def main():
     program = sys.argv[1:] or [str(Path(__file__).resolve().parent.parent / "bin" / "pliwb")]
     subprocess.run(program, input=b"", stdout=subprocess.DEVNULL, check=True)
-    print(f"{'session':45} {'in':>10} {'out':>10} {'median':>9}")
+    print(f"{'session':65} {'in':>10} {'out':>10} {'median':>9}")
     for title, commands in sessions():
         text = "".join(command + "\n" for command in commands).encode()
         times, answers = [], b""
@@ -106,7 +126,7 @@ def main():
             begin = time.perf_counter()
             answers = subprocess.run(program, input=text, stdout=subprocess.PIPE, check=True).stdout
             times.append(time.perf_counter() - begin)
-        print(f"{title:45} {len(text):10,} {len(answers):10,} {statistics.median(times):8.3f}s")
+        print(f"{title:65} {len(text):10,} {len(answers):10,} {statistics.median(times):8.3f}s")
 
 
 main()

@@ -1,6 +1,9 @@
 -- Counts of elements that stop at a limit.
-use Rattle.std.proofs.Common.{◌≡◌, ℕ, zero, suc, ◌*◌, ◌≤◌, min, arith, ap, sym, ◌∙◌, inl, inr}
+use Rattle.std.proofs.Common.{◌≡◌, ℕ, zero, suc, ◌*◌, ◌≤◌, ◌<◌, min, arith, ap, sym, ◌∙◌, inl, inr, refl, subst}
+use Rattle.std.specs.Prelude.{Option, Some, None}
 use Rattle.std.proofs.lemmas.Bool.{cases_lt}
+use Rattle.pli_map.specs.Layouts.{IsLayout}
+use Rattle.pli_map.specs.declared.layout.Layout.{Layout}
 
 cut_below : (limit a m : ℕ) → a ≤ limit → min (min a limit * m) limit ≡ min (a * m) limit
 cut_below limit a m h =
@@ -25,3 +28,24 @@ count_left limit whole count extent others left next next_is left_is so_far =
     let same : count * extent * others ≡ count * left = rw left_is (omega arith) in
     let plain : min (count * extent) limit * others ≡ next * others = rw next_is (omega arith) in
     ap (λ n. min n limit) (sym plain) ∙ cut ∙ ap (λ n. min n limit) same ∙ so_far
+
+-- a count that is over the limit of bytes makes any size but 0 so
+over : (whole size : ℕ) → 1000001 ≤ whole → 0 < size → 1000000 < whole * size
+over whole zero far positive = absurd (omega arith)
+over whole (suc size) far positive = omega (arith, far)
+
+nothing : (whole cut size : ℕ) → size ≡ 0 → cut * size ≡ whole * size
+nothing whole cut size none = rw none (omega arith)
+
+is_over : (answer : Option Layout) (cut whole alignment : ℕ) → 1000000 < cut → 1000000 < whole → IsLayout answer cut alignment → IsLayout answer whole alignment
+is_over None cut whole alignment p q h = q
+is_over (Some l) cut whole alignment p q h = absurd (omega (arith, h.0, p))
+
+-- a layout of a count that was cut far over the limit is that of the whole count
+pub enough : (answer : Option Layout) (whole cut size alignment : ℕ) → cut ≡ min (min (1 * whole) 79228162514264337593543950336) 18446744073709551615
+    → IsLayout answer (cut * size) alignment → IsLayout answer (whole * size) alignment
+enough answer whole cut zero alignment is h = subst (λ n. IsLayout answer n alignment) (nothing whole cut zero refl) h
+enough answer whole cut (suc size) alignment is h = elim (cases_lt whole 1000001) [
+  | inl near ↦ subst (λ n. IsLayout answer (n * suc size) alignment) (omega (arith, is, near)) h
+  | inr far ↦ is_over answer (cut * suc size) (whole * suc size) alignment (over cut (suc size) (omega (arith, is, far)) (omega arith)) (over whole (suc size) far (omega arith)) h
+]

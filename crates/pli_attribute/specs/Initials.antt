@@ -1,5 +1,5 @@
 -- The values in INITIAL.
-use Rattle.std.specs.Prelude.{ℕ, Bool, true, false, not, ◌+◌, ◌*◌, ◌^◌, ◌&&◌, ◌||◌, nat_lt, Option, Some, None, option_map, List, [], ◌∷◌}
+use Rattle.std.specs.Prelude.{ℕ, Bool, true, false, not, ◌+◌, ◌*◌, ◌^◌, ◌-◌, min, ◌&&◌, ◌||◌, nat_lt, Option, Some, None, option_map, List, [], ◌∷◌, if◌then◌else◌}
 use Rattle.std.specs.List.{list_all}
 use Rattle.pli_item.specs.Declarations as tree
 use Rattle.pli_item.specs.declared.declaration.Bounds.{Bounds}
@@ -10,7 +10,7 @@ use Rattle.pli_map.specs.Sizes.{count_of}
 use Rattle.pli_attribute.specs.Sets.{area, has}
 use Rattle.pli_attribute.specs.Sets as sets
 use Rattle.pli_attribute.specs.Types.{scalar_of}
-use Rattle.pli_attribute.specs.Extents.{all_bounds}
+use Rattle.pli_attribute.specs.Extents.{all_bounds, are_bad_bounds}
 use Rattle.pli_attribute.specs.declared.place.Place.{Place}
 
 -- the values of an item's INITIAL
@@ -52,6 +52,11 @@ is_more_than (Some elements) given = nat_lt elements given
 -- how many elements there are: those that the levels above make, each with its own dimensions
 abbrev pub elements_of : Place → List Bounds → Option ℕ
 elements_of p dimensions = option_map (λ above. above * count_of (all_bounds dimensions)) p.elements_above
+
+-- how many elements levels above and these dimensions make together, where none of them has bad bounds; no text gives as many values as the limit
+abbrev pub elements_inside : Option ℕ → List Bounds → Option ℕ
+elements_inside above dimensions =
+    if are_bad_bounds dimensions then None else option_map (λ count. min (count * count_of (all_bounds dimensions)) (2 ^ 64 - 1)) above
 
 -- INITIAL with members or with AREA, with a value that does not fit, or with too many
 unfoldable pub is_bad_initial : Place → List Bounds → ℕ → Option ℕ → List InitialValue → Bool

@@ -197,6 +197,26 @@ fn variable(alloc: Global, place: Place, item: &Item) -> Result<Variable, AllocE
     })
 }
 
+/// The least of A3 to A7, A9 and A13 to A15 that holds of an item, apart from faults of the names and the level that stand in it
+/// (own). Memory is taken only for the parameters of an entry whose attributes have no fault.
+pub fn item_fault(alloc: Global, place: Place, item: &Item) -> Result<Option<Code>, AllocError>
+    ensures { IfOk result (λ fault. fault ≡ spec.item_fault place (item_view item.now)) }
+{
+    if let Some(code) = attributes_fault(place, item) {
+        return Ok(Some(code));
+    }
+    let attributes = item.attributes.as_slice();
+    let descriptions = parameters_of(attributes);
+    if descriptions.len() > PARAMETER_LIMIT {
+        return Ok(Some(Code::TooManyParameters));
+    }
+    let parameters = parameters(alloc, descriptions)?;
+    if any_too_large(parameters.as_slice()) {
+        return Ok(Some(Code::GenerationTooLarge));
+    }
+    Ok(None)
+}
+
 /// What an item is, by its attributes with their defaults; or the least of A3 to A7, A9 and A13 to A15 that holds, apart from
 /// faults of the names and the level that stand in it (own). Memory is taken only where the attributes have no fault.
 pub fn completed_item(alloc: Global, place: Place, item: &Item) -> Result<Completed, AttributeError>

@@ -19,7 +19,7 @@ use pli_item::{Bounds, DescribedAttribute, InitialValue, Item, ParameterDescript
 use std::cmp::Ordering;
 
 /// The fault of the lower number.
-pub(crate) fn lesser(first: Option<Code>, second: Option<Code>) -> Option<Code>
+pub fn lesser(first: Option<Code>, second: Option<Code>) -> Option<Code>
     ensures { result ≡ spec.lesser first second }
 {
     code_order();
@@ -130,7 +130,7 @@ const RESULT: Place = Place {
 };
 
 /// The fault of the attributes in RETURNS, of a procedure and of an ENTRY.
-pub(crate) fn result_fault(attributes: &[DescribedAttribute]) -> Option<Code>
+pub fn result_fault(attributes: &[DescribedAttribute]) -> Option<Code>
     ensures { result ≡ spec.result_fault (map described_view attributes.now) }
 {
     description_fault(RESULT, &[], attributes)

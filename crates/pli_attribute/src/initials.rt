@@ -5,9 +5,9 @@ ghost use Rattle.pli_item.specs.DeclarationView.{attribute_view};
 ghost use Rattle.pli_map.specs.Sizes.{count_of};
 ghost use Rattle.pli_map.specs.DescriptionView.{description_view};
 ghost use Rattle.pli_attribute.specs.Extents.{are_good, all_bounds};
-ghost use Rattle.pli_attribute.specs.Initials.{values_in, fits, elements_given, all_given, is_more_than, elements_of};
+ghost use Rattle.pli_attribute.specs.Initials.{values_in, fits, elements_given, all_given, is_more_than, elements_of, elements_inside};
 
-use crate::extents::described;
+use crate::extents::{bad_bounds, described};
 use crate::place::Place;
 use pli_item::{Attribute, Bounds, InitialValue, SimpleAttribute};
 use pli_map::Description;
@@ -90,7 +90,7 @@ fn given(values: &[InitialValue]) -> u128
 }
 
 /// How many elements there are; a number over the limit stands for every greater one.
-fn elements(above: u64, dimensions: &[Bounds]) -> u128
+pub(crate) fn elements(above: u64, dimensions: &[Bounds]) -> u128
     requires { list_all are_good dimensions.now ≡ true }
     ensures { result ≡ min (above * count_of (all_bounds dimensions.now)) 79228162514264337593543950336 }
 {
@@ -109,5 +109,20 @@ pub(crate) fn too_many(place: Place, dimensions: &[Bounds], values: &[InitialVal
     match place.elements_above {
         Some(above) => elements(above, dimensions) < given(values),
         None => false,
+    }
+}
+
+/// How many elements the levels above and these dimensions make together, up to `u64::MAX`; `None` where one of them has bad
+/// bounds.
+#[tactic(auto, using(crate::proofs::Shapes::bounds_good))]
+pub fn elements_within(above: Option<u64>, dimensions: &[Bounds]) -> Option<u64>
+    ensures { result ≡ elements_inside above dimensions.now }
+{
+    if bad_bounds(dimensions) {
+        return None;
+    }
+    match above {
+        Some(above) => Some(elements(above, dimensions).min(u128::from(u64::MAX)) as u64),
+        None => None,
     }
 }

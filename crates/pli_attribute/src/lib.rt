@@ -8,15 +8,21 @@ mod extents;
 mod faults;
 mod initials;
 mod laws;
+mod layout;
+mod named;
 mod parts;
 mod place;
 mod set;
 mod summary;
 mod types;
 
-pub use complete::{AttributeError, completed_item, completed_result};
+pub use complete::{AttributeError, completed_item, completed_result, item_fault};
 pub use completed::{Completed, Scope, Storage, Variable};
+pub use faults::{lesser, result_fault};
+pub use initials::elements_within;
 pub use laws::{sets_are_of_what_stands, types_are_within_limits, worked_examples};
+pub use layout::{array_layout, scalar_layout};
+pub use named::Named;
 pub use place::{Place, Position};
 
 #[cfg(test)]

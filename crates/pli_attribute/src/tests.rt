@@ -1,9 +1,10 @@
 use crate::{
-    AttributeError, Completed, Place, Position, Scope, Storage, Variable, completed_item,
-    completed_result, sets_are_of_what_stands, types_are_within_limits, worked_examples,
+    AttributeError, Completed, Named, Place, Position, Scope, Storage, Variable, array_layout,
+    completed_item, completed_result, elements_within, item_fault, lesser, result_fault,
+    scalar_layout, sets_are_of_what_stands, types_are_within_limits, worked_examples,
 };
-use pli_base::{BitString, CharacterString, Name, Sign, TokenText};
-use pli_item::{InitialValue, declaration_at, returned_at};
+use pli_base::{BitString, CharacterString, Code, Name, Sign, TokenText};
+use pli_item::{DescribedAttribute, InitialValue, SimpleAttribute, declaration_at, returned_at};
 use pli_map::{Bounds, Description};
 use std::alloc::{AllocError, Global};
 use std::fmt::Write;
@@ -533,9 +534,132 @@ fn results(rt: HostRuntime) -> Result<(), Fail> {
     Ok(())
 }
 
+/// What the first item of a declaration takes by its attributes and dimensions, its bytes and its alignment.
+fn taken(alloc: Global, text: &str) -> Result<Option<(u32, u32)>, AllocError> {
+    let tokens = tokens_of(alloc, text)?;
+    if tokens.len() > 200000 {
+        return Ok(None);
+    }
+    let Ok(read) = declaration_at(alloc, 0, &tokens) else {
+        return Ok(None);
+    };
+    let Some(item) = read.value.first() else {
+        return Ok(None);
+    };
+    let Some(element) = scalar_layout(&item.attributes) else {
+        return Ok(None);
+    };
+    let Some(array) = array_layout(element, &item.dimensions) else {
+        return Ok(None);
+    };
+    Ok(Some((array.bytes, array.alignment)))
+}
+
+#[test]
+fn layouts(rt: HostRuntime) -> Result<(), Fail> {
+    for (text, want) in [
+        ("X ( 3 ) FIXED BINARY ;", Some((6, 2))),
+        ("X ( 3 ) FIXED BINARY ( 16 ) ;", Some((12, 4))),
+        ("X ( 0 : 1 , 2 ) CHAR ( 3 ) VARYING ;", Some((24, 2))),
+        ("X ( 2 ) BIT ( 9 ) ;", Some((4, 1))),
+        ("X ( 2 ) PTR ;", Some((16, 4))),
+        ("X ( 1 ) AREA ( 9 ) ;", Some((16, 8))),
+        ("X ( 31 ) CHAR ( 32767 ) ;", None),
+    ] {
+        assert_eq!(rt; taken(rt.alloc(), text)?, want, "{text}");
+    }
+    Ok(())
+}
+
+#[test]
+fn least_faults(rt: HostRuntime) {
+    let bit = DescribedAttribute::Simple(SimpleAttribute::Bit(Some(0)));
+    let fault = result_fault(&[bit]);
+    assert_eq!(rt; fault, Some(Code::BadLength));
+    assert_eq!(rt;
+        lesser(fault, Some(Code::BadPrecision)),
+        Some(Code::BadPrecision)
+    );
+    assert_eq!(rt; lesser(None, fault), fault);
+}
+
 #[test]
 fn laws_are_called() {
     sets_are_of_what_stands();
     types_are_within_limits();
     worked_examples();
+}
+
+#[test]
+fn elements_stop_at_the_greatest(rt: HostRuntime) -> Result<(), Fail> {
+    let tokens = tokens_of(
+        rt.alloc(),
+        "X ( 3 , 0 : 4 ) BIT , Y ( 4 : 3 ) BIT , Z BIT ;",
+    )?;
+    if tokens.len() > 200000 {
+        return Err("too many tokens".into());
+    }
+    let Ok(read) = declaration_at(rt.alloc(), 0, &tokens) else {
+        return Err("no declaration".into());
+    };
+    let [array, bad, scalar] = read.value.as_slice() else {
+        return Err("three items".into());
+    };
+    assert_eq!(rt; elements_within(Some(2), &array.dimensions), Some(30));
+    assert_eq!(rt;
+        elements_within(Some(u64::MAX), &array.dimensions),
+        Some(u64::MAX)
+    );
+    assert_eq!(rt; elements_within(None, &array.dimensions), None);
+    assert_eq!(rt; elements_within(Some(2), &bad.dimensions), None);
+    assert_eq!(rt; elements_within(Some(2), &scalar.dimensions), Some(2));
+    Ok(())
+}
+
+/// What BASED and OFFSET know of the first item of a declaration, a letter for each, and its fault.
+fn named(alloc: Global, text: &str) -> Result<String, AllocError> {
+    let tokens = tokens_of(alloc, text)?;
+    if tokens.len() > 200000 {
+        return String::from_str(alloc, "TOO MANY TOKENS");
+    }
+    let Ok(read) = declaration_at(alloc, 0, &tokens) else {
+        return String::from_str(alloc, "NO DECLARATION");
+    };
+    let Some(item) = read.value.first() else {
+        return String::from_str(alloc, "NO ITEM");
+    };
+    let named = Named::of_item(&item.attributes);
+    let mut shown = String::new(alloc);
+    for (holds, letter) in [
+        (named.is_variable, "V"),
+        (named.is_locator, "L"),
+        (named.is_area, "A"),
+        (named.is_not_based, "N"),
+    ] {
+        if holds {
+            shown.push_str(letter)?;
+        }
+    }
+    if let Some(code) = item_fault(alloc, place_of('L'), item)? {
+        shown.push_str(" ")?;
+        shown.push_str(code.label())?;
+    }
+    Ok(shown)
+}
+
+#[test]
+fn items_that_others_name(rt: HostRuntime) -> Result<(), Fail> {
+    for (text, want) in [
+        ("X PTR ;", "VLN"),
+        ("X OFFSET ( A ) BASED ( P ) ;", "VL"),
+        ("X AREA ;", "VAN"),
+        ("X AREA BASED ( P ) ;", "VA A13"),
+        ("X ENTRY ;", "N"),
+        ("X BUILTIN ;", "N A3"),
+        ("X BIT ( 0 ) ;", "VN A6"),
+        ("X ENTRY ( ( 32767 ) CHAR ( 32767 ) ) ;", "N A15"),
+    ] {
+        assert_eq!(rt; named(rt.alloc(), text)?.as_str(), want, "{text}");
+    }
+    Ok(())
 }

@@ -1,5 +1,6 @@
 -- What compiling a unit answers, and what it appends to the text of diagnostics.
 use Rattle.std.specs.Prelude.{◌≡◌, ℕ, List, ◌++◌, Option, Result, Ok, Err, []}
+use Rattle.std.specs.Global.{Vec}
 use Rattle.std.specs.List.{flat_map}
 use Rattle.std.specs.Result.{result_ok}
 use Rattle.pli_base.specs.Name.{Name}
@@ -10,10 +11,10 @@ use Rattle.pli_base.specs.declared.tree.Unit.{Unit}
 use Rattle.pli_meaning.specs.Scratch as scratch
 use Rattle.pli_bench.specs.declared.compile.Parsed.{Parsed}
 
--- a tree or a fault, apart from where the tree lies in memory
-abbrev pub tree_view : Result Unit Fault → Result tree.Procedure Fault
+-- a tree or faults, apart from where they lie in memory
+abbrev pub tree_view : Result Unit (Vec Fault) → Result tree.Procedure (List Fault)
 tree_view (Ok u) = Ok (unit_view u)
-tree_view (Err fault) = Err fault
+tree_view (Err faults) = Err faults.items
 
 abbrev pub parsed_view : Parsed → scratch.Parsed
 parsed_view p = record { origins = p.expansion.origins; tree = unit_view p.tree }

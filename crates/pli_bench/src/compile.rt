@@ -1,6 +1,8 @@
 //! A unit compiled from its expansion, or its diagnostics as they are answered.
-ghost use Rattle.std.specs.Prelude.{◌≡◌, ◌≤◌, ◌++◌, Ok, length, map, option_map, slice_get, IfOk, OnOk};
+ghost use Rattle.std.specs.Prelude.{◌≡◌, ◌≤◌, ◌++◌, [], Ok, length, map, option_map, slice_get, IfOk, OnOk};
 ghost use Rattle.std.specs.List.{flat_map};
+ghost use Rattle.pli_base.specs.TreeView.{unit_view};
+ghost use Rattle.pli_code.specs.Declarations.{declaration_faults};
 ghost use Rattle.pli_meaning.specs.Scratch.{diagnostic_line, located, origin_of, program_of, parsed_as, parsed_of, compiled_from, compiled_of};
 ghost use Rattle.pli_bench.specs.Compiling.{Tells, parsed_view, tree_view};
 ghost use Rattle.pli_link.specs.Answers.{compiled_view};
@@ -15,6 +17,7 @@ use pli_link::Compiled;
 use pli_lower::{LowerError, lower};
 use pli_members::Members;
 use pli_parse::{ParseError, parse};
+use pli_resolve::faults;
 use std::alloc::{AllocError, Global};
 
 /// A unit's expansion and its tree.
@@ -64,24 +67,45 @@ fn origin_at(unit: Name, origins: &[Origin], place: usize) -> Origin
     }
 }
 
-/// The tree of a unit's tokens, or the one fault: of the grammar, or of the first form that cannot be compiled yet.
-fn tree_of(alloc: Global, texts: &[TokenText]) -> Result<Result<Unit, Fault>, AllocError>
+/// Appends the diagnostics of faults at tokens.
+fn write_faults(
+    text: &mut Vec<u8>,
+    unit: Name,
+    origins: &[Origin],
+    faults: &[Fault],
+) -> Result<(), AllocError>
+    ensures { OnOk result (text.new.items ≡ text.old.items ++ flat_map (diagnostic_line unit) (map (located unit origins.now) faults.now)) }
+{
+    for fault in faults {
+        let origin = origin_at(unit, origins, fault.at as usize);
+        write_diagnostic(text, unit, origin, fault.code)?;
+    }
+    Ok(())
+}
+
+/// The tree of a unit's tokens, or the faults of the first pass that has any: the one of reading, all of the declarations and uses
+/// of names, or the one of the first form that cannot be compiled yet.
+fn tree_of(alloc: Global, texts: &[TokenText]) -> Result<Result<Unit, Vec<Fault>>, AllocError>
     requires { length texts.now ≤ 200000 }
     ensures { IfOk result (λ read. tree_view read ≡ program_of texts.now) }
 {
     let procedure = match parse(alloc, texts) {
         Ok(procedure) => procedure,
-        Err(ParseError::Fault(fault)) => return Ok(Err(fault)),
+        Err(ParseError::Fault(fault)) => return Ok(Err(vec![in alloc; fault]?)),
         Err(ParseError::OutOfMemory) => return Err(AllocError),
     };
+    let found = faults(alloc, &procedure)?;
+    if !found.is_empty() {
+        return Ok(Err(found));
+    }
     match lower(alloc, &procedure) {
         Ok(tree) => Ok(Ok(tree)),
-        Err(LowerError::NotYetBuilt(fault)) => Ok(Err(fault)),
+        Err(LowerError::NotYetBuilt(fault)) => Ok(Err(vec![in alloc; fault]?)),
         Err(LowerError::OutOfMemory) => Err(AllocError),
     }
 }
 
-/// The tree of an expansion without a fault, or its diagnostic.
+/// The tree of an expansion without a fault, or its diagnostics.
 fn parse_expansion(
     alloc: Global,
     unit: Name,
@@ -92,15 +116,14 @@ fn parse_expansion(
 {
     match tree_of(alloc, expansion.texts())? {
         Ok(tree) => Ok(Some(Parsed { expansion, tree })),
-        Err(fault) => {
-            let origin = origin_at(unit, expansion.origins(), fault.at as usize);
-            write_diagnostic(text, unit, origin, fault.code)?;
+        Err(faults) => {
+            write_faults(text, unit, expansion.origins(), &faults)?;
             Ok(None)
         }
     }
 }
 
-/// The tree of a unit's expansion, or its diagnostic.
+/// The tree of a unit's expansion, or its diagnostics.
 #[tactic(auto, unfolding(pli_meaning::specs::Scratch::parsed_of, pli_include::specs::Expanded::expansion_of))]
 fn parse_unit(
     alloc: Global,
@@ -121,38 +144,19 @@ fn parse_unit(
     }
 }
 
-/// Appends the diagnostics of faults at tokens.
-fn write_faults(
-    text: &mut Vec<u8>,
-    unit: Name,
-    origins: &[Origin],
-    faults: &[Fault],
-) -> Result<(), AllocError>
-    ensures { OnOk result (text.new.items ≡ text.old.items ++ flat_map (diagnostic_line unit) (map (located unit origins.now) faults.now)) }
-{
-    for fault in faults {
-        let origin = origin_at(unit, origins, fault.at as usize);
-        write_diagnostic(text, unit, origin, fault.code)?;
-    }
-    Ok(())
-}
-
-/// The code of a tree, or its diagnostics.
+/// The code of a tree without faults of its declarations, or its diagnostic.
 fn code_tree(
     alloc: Global,
     unit: Name,
     parsed: &Parsed,
     text: &mut Vec<u8>,
 ) -> Result<Option<Compiled>, AllocError>
+    requires { declaration_faults (unit_view parsed.now.tree) ≡ [] }
     ensures { IfOk result (λ compiled. Tells unit (compiled_from unit (Ok (parsed_view parsed.now))) (option_map compiled_view compiled) text.old.items text.new.items) }
 {
-    let origins = parsed.expansion.origins();
     let resolved = match resolve(alloc, &parsed.tree) {
         Ok(resolved) => resolved,
-        Err(DeclareError::Faults(faults)) => {
-            write_faults(text, unit, origins, &faults)?;
-            return Ok(None);
-        }
+        Err(DeclareError::Faults(_)) => unreachable!(),
         Err(DeclareError::OutOfMemory) => return Err(AllocError),
     };
     match generate(alloc, &parsed.tree, &resolved.names) {
@@ -163,7 +167,8 @@ fn code_tree(
             code,
         })),
         Err(GenerateError::TooLong) => {
-            write_diagnostic(text, unit, origin_at(unit, origins, 0), Code::CodeTooLong)?;
+            let origin = origin_at(unit, parsed.expansion.origins(), 0);
+            write_diagnostic(text, unit, origin, Code::CodeTooLong)?;
             Ok(None)
         }
         Err(GenerateError::OutOfMemory) => Err(AllocError),

@@ -26,7 +26,7 @@ fn answers(alloc: Global, session: &[u8]) -> Result<Vec<u8>, ServeFault> {
 }
 
 /// Sessions with their answers.
-const SESSIONS: [Row; 37] = [
+const SESSIONS: [Row; 38] = [
     FIRST_RUN,
     (
         b"BUILD\nRUN\nFOO\nADD E SOURCE\nADD E SOURCE\nINSERT E 1 X\nBUILD\n",
@@ -184,8 +184,13 @@ const SESSIONS: [Row; 37] = [
     ),
     // the first form of a unit that cannot be compiled yet is told, at its line, and nothing else of that unit
     (
-        b"ADD M SOURCE\nINSERT M 0 M: PROC OPTIONS(MAIN);\nINSERT M 1 Y = 1;\nINSERT M 2 %INCLUDE K;\nINSERT M 3 IF Y THEN STOP; END M;\nADD K INCLUDE\nINSERT K 0 ;\nINSERT K 1 Y = Y - 1;\nADD N SOURCE\nINSERT N 0 N: PROC; Z = 1; END;\nBUILD\nREPLACE K 2 Y = Y + 1;\nBUILD\nREMOVE M 4 4\nINSERT M 3 END;\nBUILD\n",
-        b"OK\nOK\nOK\nOK\nOK\nOK\nOK\nOK\nOK\nOK\nM K:2 Z1 NOT YET BUILT\nN N:1 A1 NOT DECLARED\nNOT BUILT\nOK\nM M:4 Z1 NOT YET BUILT\nN N:1 A1 NOT DECLARED\nNOT BUILT\nOK\nOK\nM M:2 A1 NOT DECLARED\nM K:2 A1 NOT DECLARED\nM K:2 A1 NOT DECLARED\nN N:1 A1 NOT DECLARED\nNOT BUILT\n",
+        b"ADD M SOURCE\nINSERT M 0 M: PROC OPTIONS(MAIN);\nINSERT M 1 DCL Y FIXED BIN(31); Y = 1;\nINSERT M 2 %INCLUDE K;\nINSERT M 3 IF Y THEN STOP; END M;\nADD K INCLUDE\nINSERT K 0 ;\nINSERT K 1 Y = Y - 1;\nADD N SOURCE\nINSERT N 0 N: PROC; Z = 1; END;\nBUILD\nREPLACE K 2 Y = Y + 1;\nBUILD\nREMOVE M 4 4\nINSERT M 3 END;\nBUILD\n",
+        b"OK\nOK\nOK\nOK\nOK\nOK\nOK\nOK\nOK\nOK\nM K:2 Z1 NOT YET BUILT\nN N:1 A1 NOT DECLARED\nNOT BUILT\nOK\nM M:4 Z1 NOT YET BUILT\nN N:1 A1 NOT DECLARED\nNOT BUILT\nOK\nOK\nN N:1 A1 NOT DECLARED\nNOT BUILT\n",
+    ),
+    // the faults of declarations come before forms that cannot be compiled yet, wherever they stand; a name that is no variable is such a form
+    (
+        b"ADD M SOURCE\nINSERT M 0 M: PROC OPTIONS(MAIN); L: ;\nINSERT M 1 IF Y > 1 THEN DO; Y = Y - 1; END;\nINSERT M 2 Y = M; END;\nBUILD\nINSERT M 1 DCL Y FIXED BIN(31);\nBUILD\nREPLACE M 1 M: PROC OPTIONS(MAIN);\nBUILD\nREMOVE M 3 3\nBUILD\nREPLACE M 3 Y = Y; PUT LIST(M); END;\nBUILD\nREPLACE M 3 END;\nBUILD\nRUN\n",
+        b"OK\nOK\nOK\nOK\nM M:2 A1 NOT DECLARED\nM M:2 A1 NOT DECLARED\nM M:2 A1 NOT DECLARED\nM M:3 A1 NOT DECLARED\nNOT BUILT\nOK\nM M:1 Z1 NOT YET BUILT\nNOT BUILT\nOK\nM M:3 Z1 NOT YET BUILT\nNOT BUILT\nOK\nM M:3 Z1 NOT YET BUILT\nNOT BUILT\nOK\nM M:3 Z1 NOT YET BUILT\nNOT BUILT\nOK\nBUILT\nENDED\n",
     ),
     (b"RUN\n", b"B2 NOT BUILT\n"),
     (b"", b""),
@@ -201,7 +206,7 @@ fn sessions(rt: HostRuntime) -> Result<(), Fail> {
 }
 
 /// The one line of a member, with what a build says of it.
-const DIAGNOSTICS: [Row; 31] = [
+const DIAGNOSTICS: [Row; 33] = [
     (
         b"M: PROC OPTIONS(MAIN); X = 2 ? 1; END;",
         b"M M:1 X3 BAD CHARACTER\n",
@@ -297,6 +302,10 @@ const DIAGNOSTICS: [Row; 31] = [
     ),
     (
         b"M: PROC OPTIONS(MAIN); DCL X CHAR(3); X = Y; END;",
+        b"M M:1 A1 NOT DECLARED\n",
+    ),
+    (
+        b"M: PROC OPTIONS(MAIN); DCL X CHAR(3), Y CHAR(3); X = Y; END;",
         b"M M:1 Z1 NOT YET BUILT\n",
     ),
     (
@@ -309,6 +318,10 @@ const DIAGNOSTICS: [Row; 31] = [
     ),
     (
         b"M: PROC(A) OPTIONS(MAIN); END;",
+        b"M M:1 A3 ATTRIBUTES CONFLICT\nM M:1 A4 ATTRIBUTES MISSING\n",
+    ),
+    (
+        b"M: PROC(A); DCL A FIXED BIN(31); END;",
         b"M M:1 Z1 NOT YET BUILT\n",
     ),
 ];

@@ -1,4 +1,5 @@
 pub mod LoweringConstants
 pub mod LoweringFaults
 pub mod LoweringLists
+pub mod LoweringNames
 pub mod LoweringParts

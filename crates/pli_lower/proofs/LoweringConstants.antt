@@ -1,7 +1,8 @@
 -- The constants of what is lowered are of the language.
-use Rattle.std.proofs.Common.{◌≡◌, ℕ, ◌^◌, nat_lt, Bool, true, false, cond, ◌&&◌, List, [], ◌∷◌, Option, Some, None, Result, Ok, Err, refl, subst}
+use Rattle.std.proofs.Common.{◌≡◌, ℕ, ◌^◌, nat_lt, Bool, true, false, cond, ◌&&◌, List, [], ◌∷◌, ◌++◌, Option, Some, None, Result, Ok, Err, refl, ap, subst}
 use Rattle.std.specs.Prelude.{option_map}
 use Rattle.std.proofs.lemmas.Bool.{ltb-true}
+use Rattle.pli_base.specs.Name.{Name}
 use Rattle.pli_base.specs.Reading.{◌>>=◌}
 use Rattle.pli_base.specs.Syntax.{Expression, Referred, Constant, Infix}
 use Rattle.pli_base.specs.Tree as small
@@ -9,28 +10,29 @@ use Rattle.pli_base.specs.declared.syntax.ConstantValue.{ConstantValue}
 use Rattle.pli_base.specs.declared.syntax.ConstantValue.TheVariants.{Decimal}
 use Rattle.pli_base.specs.declared.syntax.InfixOperator.TheVariants.{Add}
 use Rattle.pli_base.specs.declared.token.Fault.{Fault}
+use Rattle.pli_code.specs.Declarations.{names_in, body_faults}
 use Rattle.pli_parse.specs.Statements.{Statement, Numbered, Body, Null, Declare, Assign, Put, Statements, Ended, Before}
-use Rattle.pli_lower.specs.Lowering.{both, is_of_language, lowered_constant, lowered_reference, lowered_expression, lowered_expressions, lowered_items, lowered_body, not_yet_built, numbered, lowered_statement, lowered_statements, is_plain, procedure_of, lowered}
+use Rattle.pli_lower.specs.Lowering.{both, is_of_language, lowered_constant, lowered_reference, lowered_expression, lowered_expressions, lowered_items, lowered_body, is_faultless, of_variables, variables_of, not_yet_built, numbered, lowered_statement, lowered_statements, is_plain, procedure_of, lowered}
 use Rattle.pli_lower.specs.LoweringLaws.{IsConstantOfLanguage, IsExpressionOfLanguage, AreExpressionsOfLanguage, IsBodyOfLanguage, AreStatementsOfLanguage, IsOfLanguage, LowersToLanguage}
 
-same_ok : {A : Type 0} {x y : A} → ◌≡◌ {A = Result A Fault} (Ok x) (Ok y) → x ≡ y
+pub same_ok : {A : Type 0} {x y : A} → ◌≡◌ {A = Result A Fault} (Ok x) (Ok y) → x ≡ y
 same_ok h = cc
 
 -- both steps succeed
-bind_ok : {A B : Type 0} (r : Result A Fault) (f : A → Result B Fault) (y : B) → (r >>= f) ≡ Ok y → (x : A) × (r ≡ Ok x) × (f x ≡ Ok y)
+pub bind_ok : {A B : Type 0} (r : Result A Fault) (f : A → Result B Fault) (y : B) → (r >>= f) ≡ Ok y → (x : A) × (r ≡ Ok x) × (f x ≡ Ok y)
 bind_ok (Ok x) f y h = (x, refl, h)
 bind_ok (Err e) f y h = cc
 
-some_ok : {A : Type 0} {x y : A} → ◌≡◌ {A = Option A} (Some x) (Some y) → x ≡ y
+pub some_ok : {A : Type 0} {x y : A} → ◌≡◌ {A = Option A} (Some x) (Some y) → x ≡ y
 some_ok h = cc
 
 -- both parts were lowered
-both_ok : {A B C : Type 0} (make : A → B → C) (x : Option A) (y : Option B) (z : C) → both make x y ≡ Some z → (a : A) × (b : B) × (x ≡ Some a) × (y ≡ Some b) × (make a b ≡ z)
+pub both_ok : {A B C : Type 0} (make : A → B → C) (x : Option A) (y : Option B) (z : C) → both make x y ≡ Some z → (a : A) × (b : B) × (x ≡ Some a) × (y ≡ Some b) × (make a b ≡ z)
 both_ok make None y z h = cc
 both_ok make (Some a) None z h = cc
 both_ok make (Some a) (Some b) z h = (a, b, refl, refl, some_ok h)
 
-mapped_ok : {A B : Type 0} (f : A → B) (x : Option A) (z : B) → option_map f x ≡ Some z → (a : A) × (x ≡ Some a) × (f a ≡ z)
+pub mapped_ok : {A B : Type 0} (f : A → B) (x : Option A) (z : B) → option_map f x ≡ Some z → (a : A) × (x ≡ Some a) × (f a ≡ z)
 mapped_ok f None z h = cc
 mapped_ok f (Some a) z h = (a, refl, some_ok h)
 
@@ -77,29 +79,39 @@ body_lowered (Assign target equals value) s h =
 body_lowered (Put false (e ∷ es)) s h = let m = mapped_ok small.Put (lowered_expressions (e ∷ es)) s h in subst IsBodyOfLanguage m.2 (expressions_lowered (e ∷ es) m.0 m.1)
 body_lowered b s h = cc
 
-numbered_lowered : (number at : ℕ) (body : Option small.Body) (s : small.Statement) → ((b : small.Body) → body ≡ Some b → IsBodyOfLanguage b) → numbered number at body ≡ Ok s → IsBodyOfLanguage s.body
-numbered_lowered number at None s known h = cc
-numbered_lowered number at (Some b) s known h = subst (λ (s : small.Statement). IsBodyOfLanguage s.body) (same_ok h) (known b refl)
+-- a body of variables: it was lowered, and has no fault
+pub of_variables_ok : (names before : List Name) (x : Option small.Body) (b : small.Body) → of_variables names before x ≡ Some b → (x ≡ Some b) × (is_faultless (body_faults names before b) ≡ true)
+of_variables_ok names before None b h = cc
+of_variables_ok names before (Some a) b h = by (is_faultless (body_faults names before a)) refl h
+  where
+    by : (c : Bool) → is_faultless (body_faults names before a) ≡ c → cond c (Some a) None ≡ Some b → (◌≡◌ {A = Option small.Body} (Some a) (Some b)) × (is_faultless (body_faults names before b) ≡ true)
+    by true e g = (g, subst (λ b. is_faultless (body_faults names before b) ≡ true) (some_ok g) e)
+    by false e g = cc
 
-statement_lowered : (t : Statement) (s : small.Statement) → lowered_statement t ≡ Ok s → IsBodyOfLanguage s.body
+pub numbered_ok : (number at : ℕ) (body : Option small.Body) (s : small.Statement) → numbered number at body ≡ Ok s → body ≡ Some s.body
+numbered_ok number at None s h = cc
+numbered_ok number at (Some b) s h = ap (λ (s : small.Statement). Some s.body) (same_ok h)
+
+statement_lowered : (names before : List Name) (t : Statement) (s : small.Statement) → lowered_statement names before t ≡ Ok s → IsBodyOfLanguage s.body
 unfolding lowered_statement
-statement_lowered (Numbered number None at body) s h = numbered_lowered number at (lowered_body body) s (body_lowered body) h
-statement_lowered (Numbered number (Some label) at body) s h = cc
+statement_lowered names before (Numbered number None at body) s h =
+    body_lowered body s.body (of_variables_ok names before (lowered_body body) s.body (numbered_ok number at (of_variables names before (lowered_body body)) s h)).0
+statement_lowered names before (Numbered number (Some label) at body) s h = cc
 
-statements_lowered : (ts : Statements) (ss : List small.Statement) → lowered_statements ts ≡ Ok ss → AreStatementsOfLanguage ss
+statements_lowered : (names before : List Name) (ts : Statements) (ss : List small.Statement) → lowered_statements names before ts ≡ Ok ss → AreStatementsOfLanguage ss
 unfolding lowered_statements
-statements_lowered Ended ss h = subst AreStatementsOfLanguage (same_ok h) tt
-statements_lowered (Before first more) ss h =
-    let a = bind_ok (lowered_statement first) _ ss h in
-    let b = bind_ok (lowered_statements more) _ ss a.2 in
-    subst AreStatementsOfLanguage (same_ok b.2) (statement_lowered first a.0 a.1, statements_lowered more b.0 b.1)
+statements_lowered names before Ended ss h = subst AreStatementsOfLanguage (same_ok h) tt
+statements_lowered names before (Before first more) ss h =
+    let a = bind_ok (lowered_statement names before first) _ ss h in
+    let b = bind_ok (lowered_statements names (before ++ names_in a.0.body) more) _ ss a.2 in
+    subst AreStatementsOfLanguage (same_ok b.2) (statement_lowered names before first a.0 a.1, statements_lowered names (before ++ names_in a.0.body) more b.0 b.1)
 
 pub lowers_to_language : LowersToLanguage
 unfolding lowered
 lowers_to_language unit u h = by (is_plain unit.heading) h
   where
-    by : (b : Bool) → cond b (lowered_statements unit.statements >>= λ ss. Ok (procedure_of unit.heading ss)) (not_yet_built unit.heading.name.at) ≡ Ok u → IsOfLanguage u
+    by : (b : Bool) → cond b (lowered_statements (variables_of unit.statements) [] unit.statements >>= λ ss. Ok (procedure_of unit.heading ss)) (not_yet_built unit.heading.name.at) ≡ Ok u → IsOfLanguage u
     by true e =
-        let a = bind_ok (lowered_statements unit.statements) _ u e in
-        subst IsOfLanguage (same_ok a.2) (statements_lowered unit.statements a.0 a.1)
+        let a = bind_ok (lowered_statements (variables_of unit.statements) [] unit.statements) _ u e in
+        subst IsOfLanguage (same_ok a.2) (statements_lowered (variables_of unit.statements) [] unit.statements a.0 a.1)
     by false e = cc

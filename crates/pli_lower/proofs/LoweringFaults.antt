@@ -1,11 +1,13 @@
 -- The one fault of lowering is Z1.
-use Rattle.std.proofs.Common.{◌≡◌, ℕ, Bool, true, false, cond, ◌∷◌, Option, Some, None, Result, Ok, Err, ap, sym}
+use Rattle.std.proofs.Common.{◌≡◌, ℕ, Bool, true, false, cond, ◌∷◌, Option, Some, None, Result, Ok, Err, List, [], ◌++◌, ap, sym}
 use Rattle.pli_base.specs.Reading.{◌>>=◌}
+use Rattle.pli_base.specs.Name.{Name}
 use Rattle.pli_base.specs.Tree as small
 use Rattle.pli_base.specs.declared.code.Code.TheVariants.{NotYetBuilt}
 use Rattle.pli_base.specs.declared.token.Fault.{Fault}
+use Rattle.pli_code.specs.Declarations.{names_in}
 use Rattle.pli_parse.specs.Statements.{Statement, Numbered, Statements, Ended, Before}
-use Rattle.pli_lower.specs.Lowering.{not_yet_built, numbered, lowered_body, lowered_statement, lowered_statements, is_plain, procedure_of, lowered}
+use Rattle.pli_lower.specs.Lowering.{not_yet_built, numbered, of_variables, variables_of, lowered_body, lowered_statement, lowered_statements, is_plain, procedure_of, lowered}
 use Rattle.pli_lower.specs.LoweringLaws.{FailsAsNotYetBuilt}
 
 same_err : {A : Type 0} {e f : Fault} → ◌≡◌ {A = Result A Fault} (Err e) (Err f) → e ≡ f
@@ -26,22 +28,22 @@ numbered_fault : (number at : ℕ) (body : Option small.Body) (f : Fault) → nu
 numbered_fault number at None f h = made_fault {A = small.Statement} at f h
 numbered_fault number at (Some body) f h = cc
 
-statement_fault : (t : Statement) (f : Fault) → lowered_statement t ≡ Err f → f.code ≡ NotYetBuilt
+statement_fault : (names before : List Name) (t : Statement) (f : Fault) → lowered_statement names before t ≡ Err f → f.code ≡ NotYetBuilt
 unfolding lowered_statement
-statement_fault (Numbered number None at body) f h = numbered_fault number at (lowered_body body) f h
-statement_fault (Numbered number (Some label) at body) f h = made_fault {A = small.Statement} label.at f h
+statement_fault names before (Numbered number None at body) f h = numbered_fault number at (of_variables names before (lowered_body body)) f h
+statement_fault names before (Numbered number (Some label) at body) f h = made_fault {A = small.Statement} label.at f h
 
-statements_fault : (ts : Statements) (f : Fault) → lowered_statements ts ≡ Err f → f.code ≡ NotYetBuilt
+statements_fault : (names before : List Name) (ts : Statements) (f : Fault) → lowered_statements names before ts ≡ Err f → f.code ≡ NotYetBuilt
 unfolding lowered_statements
-statements_fault Ended f h = cc
-statements_fault (Before first more) f h =
-    bind_fault (lowered_statement first) _ f (statement_fault first f)
-    (λ s. bind_fault (lowered_statements more) (λ ss. Ok (s ∷ ss)) f (statements_fault more f) (λ ss. no_fault (s ∷ ss) f)) h
+statements_fault names before Ended f h = cc
+statements_fault names before (Before first more) f h =
+    bind_fault (lowered_statement names before first) _ f (statement_fault names before first f)
+    (λ s. bind_fault (lowered_statements names (before ++ names_in s.body) more) (λ ss. Ok (s ∷ ss)) f (statements_fault names (before ++ names_in s.body) more f) (λ ss. no_fault (s ∷ ss) f)) h
 
 pub fails_as_not_yet_built : FailsAsNotYetBuilt
 unfolding lowered
-fails_as_not_yet_built unit f h = by (is_plain unit.heading) h
+fails_as_not_yet_built unit f h = by (is_plain unit.heading) (lowered_statements (variables_of unit.statements) [] unit.statements) (statements_fault (variables_of unit.statements) [] unit.statements f) h
   where
-    by : (b : Bool) → cond b (lowered_statements unit.statements >>= λ ss. Ok (procedure_of unit.heading ss)) (not_yet_built unit.heading.name.at) ≡ Err f → f.code ≡ NotYetBuilt
-    by true e = bind_fault (lowered_statements unit.statements) (λ ss. Ok (procedure_of unit.heading ss)) f (statements_fault unit.statements f) (λ ss. no_fault (procedure_of unit.heading ss) f) e
-    by false e = made_fault {A = small.Procedure} unit.heading.name.at f e
+    by : (b : Bool) (r : Result (List small.Statement) Fault) → (r ≡ Err f → f.code ≡ NotYetBuilt) → cond b (r >>= λ ss. Ok (procedure_of unit.heading ss)) (not_yet_built unit.heading.name.at) ≡ Err f → f.code ≡ NotYetBuilt
+    by true r known e = bind_fault r (λ ss. Ok (procedure_of unit.heading ss)) f known (λ ss. no_fault (procedure_of unit.heading ss) f) e
+    by false r known e = made_fault {A = small.Procedure} unit.heading.name.at f e

@@ -1,6 +1,7 @@
 -- Lists, lowered by loops: what is done, in front of what the rest gives, is what the whole gives.
 use Rattle.std.proofs.Common.{◌≡◌, ℕ, ◌+◌, ◌<◌, Bool, true, false, if◌then◌else◌, List, [], ◌∷◌, ◌++◌, map, drop, get_or, length, ◌≤◌, Option, Some, None, option_map, Result, Ok, Err, refl, ap, sym, ◌∙◌, append_assoc, append-nil}
 use Rattle.std.proofs.lemmas.List.{at_drop_more, at_drop_all, map-append}
+use Rattle.pli_base.specs.Name.{Name}
 use Rattle.pli_base.specs.Tree as small
 use Rattle.pli_base.specs.Reading.{◌>>=◌}
 use Rattle.pli_base.specs.SyntaxView.{expression_view}
@@ -9,6 +10,7 @@ use Rattle.pli_base.specs.declared.tree.Expression.{Expression as LoweredExpress
 use Rattle.pli_base.specs.declared.tree.Statement.{Statement as LoweredStatement}
 use Rattle.pli_base.specs.declared.syntax.Expression.{Expression}
 use Rattle.pli_base.specs.declared.token.Fault.{Fault}
+use Rattle.pli_code.specs.Declarations.{names_in}
 use Rattle.pli_item.specs.DeclarationView.{item_view}
 use Rattle.pli_item.specs.declared.declaration.Item.{Item}
 use Rattle.pli_parse.specs.StatementView.{statement_view, statements_view}
@@ -102,36 +104,38 @@ one_with_done done y (Ok ys) = ap Ok (sym (append_assoc done (y ∷ []) ys))
 one_with_done done y (Err f) = refl
 
 -- one more statement
-module _ (xs : List Statement) (i : ℕ) (x : Statement) (lt : i < length xs) (read : x ≡ get_or xs i x) (done : List small.Statement) (total : Result (List small.Statement) Fault)
-    (so_far : with_done done (lowered_statements (statements_view (drop i xs))) ≡ total) where
-  abbrev behind : Result (List small.Statement) Fault
-  behind = lowered_statements (statements_view (drop (i + 1) xs))
+module _ (names before : List Name) (xs : List Statement) (i : ℕ) (x : Statement) (lt : i < length xs) (read : x ≡ get_or xs i x) (done : List small.Statement) (total : Result (List small.Statement) Fault)
+    (so_far : with_done done (lowered_statements names before (statements_view (drop i xs))) ≡ total) where
+  abbrev behind : small.Statement → Result (List small.Statement) Fault
+  behind s = lowered_statements names (before ++ names_in s.body) (statements_view (drop (i + 1) xs))
 
   abbrev led : Result small.Statement Fault → Result (List small.Statement) Fault
-  led first = with_done done (first >>= λ y. behind >>= λ ys. Ok (y ∷ ys))
+  led first = with_done done (first >>= λ y. behind y >>= λ ys. Ok (y ∷ ys))
 
-  at_statement : total ≡ led (lowered_statement (statement_view x))
+  at_statement : total ≡ led (lowered_statement names before (statement_view x))
   unfolding lowered_statements
   at_statement =
-      sym so_far ∙ at_drop_more (λ ys. with_done done (lowered_statements (statements_view ys))) xs i x lt
-      ∙ ap (λ y. led (lowered_statement (statement_view y))) (sym read)
+      sym so_far ∙ at_drop_more (λ ys. with_done done (lowered_statements names before (statements_view ys))) xs i x lt
+      ∙ ap (λ y. led (lowered_statement names before (statement_view y))) (sym read)
 
-  pub statement_fails : (e : LowerError) → Fails e (lowered_statement (statement_view x)) → Fails e total
+  pub statement_fails : (e : LowerError) → Fails e (lowered_statement names before (statement_view x)) → Fails e total
   statement_fails errors.OutOfMemory h = tt
   statement_fails (errors.NotYetBuilt f) h = at_statement ∙ ap led h
 
-  one_behind : (y : small.Statement) → lowered_statement (statement_view x) ≡ Ok y → with_done (done ++ y ∷ []) behind ≡ total
-  one_behind y h = sym (at_statement ∙ ap led h ∙ one_with_done done y behind)
+  one_behind : (y : small.Statement) → lowered_statement names before (statement_view x) ≡ Ok y → with_done (done ++ y ∷ []) (behind y) ≡ total
+  one_behind y h = sym (at_statement ∙ ap led h ∙ one_with_done done y (behind y))
 
-pub statements_go_on : (xs : List Statement) (i : ℕ) (x : Statement) → i < length xs → x ≡ get_or xs i x → (done : List LoweredStatement) (total : Result (List small.Statement) Fault)
-    → with_done (map lowered.statement_view done) (lowered_statements (statements_view (drop i xs))) ≡ total
-    → (y : LoweredStatement) → lowered_statement (statement_view x) ≡ Ok (lowered.statement_view y)
-    → with_done (map lowered.statement_view (done ++ y ∷ [])) (lowered_statements (statements_view (drop (i + 1) xs))) ≡ total
-statements_go_on xs i x lt read done total so_far y h =
-    ap (λ ys. with_done ys (lowered_statements (statements_view (drop (i + 1) xs)))) (map-append lowered.statement_view done (y ∷ []))
-    ∙ one_behind xs i x lt read (map lowered.statement_view done) total so_far (lowered.statement_view y) h
+pub statements_go_on : (names before next : List Name) (xs : List Statement) (i : ℕ) (x : Statement) → i < length xs → x ≡ get_or xs i x → (done : List LoweredStatement) (total : Result (List small.Statement) Fault)
+    → with_done (map lowered.statement_view done) (lowered_statements names before (statements_view (drop i xs))) ≡ total
+    → (y : LoweredStatement) → lowered_statement names before (statement_view x) ≡ Ok (lowered.statement_view y)
+    → next ≡ before ++ names_in (lowered.body_view y.body)
+    → with_done (map lowered.statement_view (done ++ y ∷ [])) (lowered_statements names next (statements_view (drop (i + 1) xs))) ≡ total
+statements_go_on names before next xs i x lt read done total so_far y h known =
+    ap (λ ns. with_done (map lowered.statement_view (done ++ y ∷ [])) (lowered_statements names ns (statements_view (drop (i + 1) xs)))) known
+    ∙ ap (λ ys. with_done ys (lowered_statements names (before ++ names_in (lowered.body_view y.body)) (statements_view (drop (i + 1) xs)))) (map-append lowered.statement_view done (y ∷ []))
+    ∙ one_behind names before xs i x lt read (map lowered.statement_view done) total so_far (lowered.statement_view y) h
 
-pub statements_end : (xs : List Statement) (i : ℕ) (done : List small.Statement) (total : Result (List small.Statement) Fault) → length xs ≤ i
-    → with_done done (lowered_statements (statements_view (drop i xs))) ≡ total → total ≡ Ok done
+pub statements_end : (names before : List Name) (xs : List Statement) (i : ℕ) (done : List small.Statement) (total : Result (List small.Statement) Fault) → length xs ≤ i
+    → with_done done (lowered_statements names before (statements_view (drop i xs))) ≡ total → total ≡ Ok done
 unfolding lowered_statements
-statements_end xs i done total all so_far = sym so_far ∙ at_drop_all (λ ys. with_done done (lowered_statements (statements_view ys))) xs i all ∙ ap Ok (append-nil done)
+statements_end names before xs i done total all so_far = sym so_far ∙ at_drop_all (λ ys. with_done done (lowered_statements names before (statements_view ys))) xs i all ∙ ap Ok (append-nil done)

@@ -17,7 +17,7 @@ use Rattle.pli_base.specs.declared.syntax.Reference.{Reference, out-Reference}
 use Rattle.pli_parse.specs.StatementView.{option_view, statements_view, unit_view}
 use Rattle.pli_parse.specs.StatementLaws.{heading_made, unit_made}
 use Rattle.pli_parse.specs.declared.statement.Procedure.{Procedure, out-Procedure, roll-out-Procedure}
-use Rattle.pli_lower.specs.Lowering.{lowered_reference, variable_named, lowered_statements, lowered, is_main, is_returns, not_yet_built}
+use Rattle.pli_lower.specs.Lowering.{lowered_reference, variable_named, variables_of, lowered_statements, lowered, is_main, is_returns, not_yet_built}
 
 -- ten digits are enough for each constant
 pub enough_digits : (value digits : ℕ) → value < 2 ^ 31 → 9 < digits → nat_lt value (10 ^ digits) ≡ true
@@ -58,14 +58,14 @@ unit_out p =
 pub unit_parts : (p : Procedure)
     → lowered (unit_view p)
     ≡ (if (length (out-Procedure p).parameters.items == 0) && not (list_any (λ o. is_returns (option_view o)) (out-Procedure p).options.items)
-    then (lowered_statements (statements_view (out-Procedure p).statements.items)
+    then (lowered_statements (variables_of (statements_view (out-Procedure p).statements.items)) [] (statements_view (out-Procedure p).statements.items)
     >>= λ ss. Ok (record { name = (out-Procedure p).name.name; is_main = list_any (λ o. is_main (option_view o)) (out-Procedure p).options.items; statements = ss }))
     else not_yet_built (out-Procedure p).name.at)
 unfolding lowered
 unit_parts p =
     let x = out-Procedure p in
     let wanted : Bool → Bool → Result small.Procedure Fault =
-    λ returns main. if (length x.parameters.items == 0) && not returns then (lowered_statements (statements_view x.statements.items) >>= λ ss. Ok (record { name = x.name.name; is_main = main; statements = ss })) else not_yet_built x.name.at in
+    λ returns main. if (length x.parameters.items == 0) && not returns then (lowered_statements (variables_of (statements_view x.statements.items)) [] (statements_view x.statements.items) >>= λ ss. Ok (record { name = x.name.name; is_main = main; statements = ss })) else not_yet_built x.name.at in
     ap lowered (unit_out p)
     ∙ ap (λ returns. wanted returns (list_any is_main (map option_view x.options.items))) (any_seen option_view is_returns x.options.items)
     ∙ ap (wanted (list_any (λ o. is_returns (option_view o)) x.options.items)) (any_seen option_view is_main x.options.items)

@@ -1,6 +1,7 @@
 -- Lowering: what a unit says in the language that is compiled today, or its first statement that cannot be compiled yet (own).
 use Rattle.std.specs.Prelude.{ℕ, ◌^◌, ◌==◌, nat_lt, Bool, true, false, not, ◌&&◌, if◌then◌else◌, Option, Some, None, is_none, option_map, Result, Ok, List, [], ◌∷◌, ◌++◌, map, length}
 use Rattle.std.specs.List.{list_any}
+use Rattle.pli_base.specs.Name.{Name}
 use Rattle.pli_base.specs.Words.{declared_precision}
 use Rattle.pli_base.specs.Tree as small
 use Rattle.pli_base.specs.Reading.{◌>>=◌, at_fault}
@@ -11,6 +12,7 @@ use Rattle.pli_base.specs.declared.syntax.InfixOperator.TheVariants.{Add}
 use Rattle.pli_base.specs.declared.syntax.Identifier.{Identifier}
 use Rattle.pli_base.specs.declared.code.Code.TheVariants.{NotYetBuilt}
 use Rattle.pli_base.specs.declared.token.Fault.{Fault}
+use Rattle.pli_code.specs.Declarations.{names_in, body_faults}
 use Rattle.pli_item.specs.Declarations.{Attribute, Simple, Fixed, Binary, Item}
 use Rattle.pli_parse.specs.Statements.{ProcedureOption, Main, Returns, Heading, Statement, Numbered, Body, Null, Declare, Assign, Put, Statements, Ended, Before, ExternalProcedure}
 
@@ -83,6 +85,32 @@ lowered_body (Assign target equals value) = both small.Assign (lowered_reference
 lowered_body (Put false (first ∷ more)) = option_map small.Put (lowered_expressions (first ∷ more))
 lowered_body body = None
 
+-- the variables of a DECLARE, if it can be compiled
+abbrev pub names_of_items : Option (List small.Reference) → List Name
+names_of_items None = []
+names_of_items (Some items) = map (λ r. r.name) items
+
+-- the variables that a statement declares: a DECLARE without a label
+unfoldable pub variables_in : Statement → List Name
+variables_in (Numbered number None at (Declare items)) = names_of_items (lowered_items items)
+variables_in statement = []
+
+-- the variables of a unit, as its own statements declare them; statements inside others are not looked at
+unfoldable pub variables_of : Statements → List Name
+variables_of Ended = []
+variables_of (Before first more) = variables_in first ++ variables_of more
+
+abbrev pub is_faultless : List Fault → Bool
+is_faultless [] = true
+is_faultless (fault ∷ faults) = false
+
+-- a body that uses variables alone and declares none again, where names are all variables of the unit and before those that are declared before. Any other name
+-- that a unit without faults of its declarations uses is a label's, a procedure's, a built-in function's or that of another variable; and no such unit declares
+-- a name again
+abbrev pub of_variables : (names before : List Name) → Option small.Body → Option small.Body
+of_variables names before None = None
+of_variables names before (Some body) = if is_faultless (body_faults names before body) then Some body else None
+
 -- the statement that begins at this token cannot be compiled yet
 abbrev pub not_yet_built : {A : Type 0} → ℕ → Result A Fault
 not_yet_built at = at_fault NotYetBuilt at
@@ -93,16 +121,16 @@ numbered number at None = not_yet_built at
 numbered number at (Some body) = Ok (record { number = number; body = body })
 
 -- a statement without a label; a labelled one begins with its label
-unfoldable pub lowered_statement : Statement → Result small.Statement Fault
-lowered_statement (Numbered number None at body) = numbered number at (lowered_body body)
-lowered_statement (Numbered number (Some label) at body) = not_yet_built label.at
+unfoldable pub lowered_statement : (names before : List Name) → Statement → Result small.Statement Fault
+lowered_statement names before (Numbered number None at body) = numbered number at (of_variables names before (lowered_body body))
+lowered_statement names before (Numbered number (Some label) at body) = not_yet_built label.at
 
 -- statements in order, or the fault of the first that cannot be compiled
-unfoldable pub lowered_statements : Statements → Result (List small.Statement) Fault
-lowered_statements Ended = Ok []
-lowered_statements (Before first more) = do
-  statement ← lowered_statement first
-  statements ← lowered_statements more
+unfoldable pub lowered_statements : (names before : List Name) → Statements → Result (List small.Statement) Fault
+lowered_statements names before Ended = Ok []
+lowered_statements names before (Before first more) = do
+  statement ← lowered_statement names before first
+  statements ← lowered_statements names (before ++ names_in statement.body) more
   Ok (statement ∷ statements)
 
 -- OPTIONS(MAIN)
@@ -127,5 +155,5 @@ procedure_of heading statements = record { name = heading.name.name; is_main = l
 unfoldable pub lowered : ExternalProcedure → Result small.Procedure Fault
 lowered unit =
     if is_plain unit.heading
-    then (lowered_statements unit.statements >>= λ statements. Ok (procedure_of unit.heading statements))
+    then (lowered_statements (variables_of unit.statements) [] unit.statements >>= λ statements. Ok (procedure_of unit.heading statements))
     else not_yet_built unit.heading.name.at

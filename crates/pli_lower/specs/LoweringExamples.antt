@@ -41,18 +41,30 @@ one body = lowered (unit [] (Main ∷ []) (Before (Numbered 2 None 8 body) Ended
 abbrev pub as_one : small.Body → Result small.Procedure Fault
 as_one body = Ok (record { name = codes "M"; is_main = true; statements = record { number = 2; body = body } ∷ [] })
 
--- DECLARE X with these attributes
-abbrev pub declared : List SimpleAttribute → Body
-declared attributes = Declare (record { level = None; names = name_at (codes "X") 9 ∷ []; dimensions = []; attributes = simple attributes } ∷ [])
+-- DECLARE of a name with these attributes
+abbrev pub declared_as : Identifier → List SimpleAttribute → Body
+declared_as name attributes = Declare (record { level = None; names = name ∷ []; dimensions = []; attributes = simple attributes } ∷ [])
   where
     simple : List SimpleAttribute → List Attribute
     simple [] = []
     simple (a ∷ rest) = Simple a ∷ simple rest
 
+-- DECLARE X with these attributes, at token 8
+abbrev pub declared : List SimpleAttribute → Body
+declared attributes = declared_as (name_at (codes "X") 9) attributes
+
+-- DCL X FIXED BIN(31); and then statements
+abbrev pub with_x : Statements → Statements
+with_x statements = Before (Numbered 2 None 8 (declared (Fixed None ∷ Binary (Some 31) ∷ []))) statements
+
+-- a main procedure that declares X and has this statement, whose number is 3 and whose first token is token 16
+abbrev pub behind_x : Body → Result small.Procedure Fault
+behind_x body = lowered (unit [] (Main ∷ []) (with_x (Before (Numbered 3 None 16 body) Ended)))
+
 -- M: PROC OPTIONS(MAIN); DCL X FIXED BIN(31); X = 2 + X; PUT LIST(X); END;
 abbrev pub WholeUnit : Type 0
 WholeUnit =
-    lowered (unit [] (Main ∷ []) (Before (Numbered 2 None 8 (declared (Fixed None ∷ Binary (Some 31) ∷ [])))
+    lowered (unit [] (Main ∷ []) (with_x
     (Before (Numbered 3 None 16 (Assign (x_at 16) 17 (Infix Add 19 (number_at 18 2 1) (Referred (x_at 20)))))
     (Before (Numbered 4 None 22 (Put false (Referred (x_at 25) ∷ []))) Ended))))
     ≡ Ok (record {
@@ -68,6 +80,12 @@ WholeUnit =
 -- M: PROC RECURSIVE; ; END;
 abbrev pub NoMainProcedure : Type 0
 NoMainProcedure = lowered (unit [] (Recursive ∷ []) (Before (Numbered 2 None 4 Null) Ended)) ≡ Ok (record { name = codes "M"; is_main = false; statements = record { number = 2; body = small.Null } ∷ [] })
+
+-- M: PROC OPTIONS(MAIN); PUT LIST(X); DCL X FIXED BIN(31); END;
+abbrev pub DeclaredBehind : Type 0
+DeclaredBehind =
+    lowered (unit [] (Main ∷ []) (Before (Numbered 2 None 8 (Put false (Referred (x_at 11) ∷ []))) (Before (Numbered 3 None 14 (declared_as (name_at (codes "X") 15) (Fixed None ∷ Binary (Some 31) ∷ []))) Ended)))
+    ≡ Ok (record { name = codes "M"; is_main = true; statements = record { number = 2; body = small.Put (small.Variable (x 11) ∷ []) } ∷ record { number = 3; body = small.Declare (x 15 ∷ []) } ∷ [] })
 
 -- DCL (X, Y) BIN FIXED(31);
 abbrev pub TwoNames : Type 0
@@ -92,10 +110,13 @@ abbrev pub LabelledStatement : Type 0
 LabelledStatement =
     lowered (unit [] [] (Before (Numbered 2 None 4 Null) (Before (Numbered 3 (Some (name_at (codes "L") 5)) 7 Null) (Before (Numbered 4 None 8 Stop) Ended)))) ≡ not_yet_built 5
 
--- M: PROC; X = 2 - X; STOP; END;
+-- M: PROC OPTIONS(MAIN); DCL X FIXED BIN(31); X = 2 - X; STOP; END;
 abbrev pub FirstOfTwo : Type 0
 FirstOfTwo =
-    lowered (unit [] [] (Before (Numbered 2 None 4 (Assign (x_at 4) 5 (Infix Subtract 7 (number_at 6 2 1) (Referred (x_at 8))))) (Before (Numbered 3 None 10 Stop) Ended))) ≡ not_yet_built 4
+    lowered (unit [] (Main ∷ []) (with_x
+    (Before (Numbered 3 None 16 (Assign (x_at 16) 17 (Infix Subtract 19 (number_at 18 2 1) (Referred (x_at 20)))))
+    (Before (Numbered 4 None 22 Stop) Ended))))
+    ≡ not_yet_built 16
 
 -- DCL X FIXED BIN(15);
 abbrev pub OtherPrecision : Type 0
@@ -125,30 +146,57 @@ WithDimension =
     five : Bounds
     five = record { low = None; high = record { negative = false; value = 5 } }
 
--- PUT SKIP LIST(X);
+-- DCL X FIXED BIN(31); PUT SKIP LIST(X);
 abbrev pub WithSkip : Type 0
-WithSkip = one (Put true (Referred (x_at 12) ∷ [])) ≡ not_yet_built 8
+WithSkip = behind_x (Put true (Referred (x_at 20) ∷ [])) ≡ not_yet_built 16
 
--- X = -2;
+-- DCL X FIXED BIN(31); X = -2;
 abbrev pub PrefixOperator : Type 0
-PrefixOperator = one (Assign (x_at 8) 9 (Prefix Minus 10 (number_at 11 2 1))) ≡ not_yet_built 8
+PrefixOperator = behind_x (Assign (x_at 16) 17 (Prefix Minus 18 (number_at 19 2 1))) ≡ not_yet_built 16
 
--- X = (X);
+-- DCL X FIXED BIN(31); X = (X);
 abbrev pub ParenthesizedExpression : Type 0
-ParenthesizedExpression = one (Assign (x_at 8) 9 (Parenthesized 10 (Referred (x_at 11)))) ≡ not_yet_built 8
+ParenthesizedExpression = behind_x (Assign (x_at 16) 17 (Parenthesized 18 (Referred (x_at 19)))) ≡ not_yet_built 16
 
--- S.X = 2;
+-- DCL X FIXED BIN(31); X.X = 2;
 abbrev pub QualifiedName : Type 0
-QualifiedName = one (Assign (Named (name_at (codes "S") 8) Absent (Joined Member (name_at (codes "X") 10) Absent Alone)) 11 (number_at 12 2 1)) ≡ not_yet_built 8
+QualifiedName = behind_x (Assign (Named (name_at (codes "X") 16) Absent (Joined Member (name_at (codes "X") 18) Absent Alone)) 19 (number_at 20 2 1)) ≡ not_yet_built 16
 
--- X = F();
+-- DCL X FIXED BIN(31); X = X();
 abbrev pub WithArguments : Type 0
-WithArguments = one (Assign (x_at 8) 9 (Referred (Named (name_at (codes "F") 10) (Given Empty) Alone))) ≡ not_yet_built 8
+WithArguments = behind_x (Assign (x_at 16) 17 (Referred (Named (name_at (codes "X") 18) (Given Empty) Alone))) ≡ not_yet_built 16
 
--- X = 1B;
+-- DCL X FIXED BIN(31); X = 1B;
 abbrev pub BinaryConstant : Type 0
-BinaryConstant = one (Assign (x_at 8) 9 (Constant 10 (constants.Binary 1 1))) ≡ not_yet_built 8
+BinaryConstant = behind_x (Assign (x_at 16) 17 (Constant 18 (constants.Binary 1 1))) ≡ not_yet_built 16
 
--- DO; X = 2; END;
+-- DCL X FIXED BIN(31); DO; X = 2; END;
 abbrev pub WithinGroup : Type 0
-WithinGroup = one (Do None (Before (Numbered 3 None 10 (Assign (x_at 10) 11 (number_at 12 2 1))) Ended) 4) ≡ not_yet_built 8
+WithinGroup = behind_x (Do None (Before (Numbered 4 None 18 (Assign (x_at 18) 19 (number_at 20 2 1))) Ended) 5) ≡ not_yet_built 16
+
+-- DCL X FIXED BIN(31); X = M;
+abbrev pub NameOfProcedure : Type 0
+NameOfProcedure = behind_x (Assign (x_at 16) 17 (Referred (Named (name_at (codes "M") 18) Absent Alone))) ≡ not_yet_built 16
+
+-- DCL X FIXED BIN(31); M = X;
+abbrev pub TargetOfProcedure : Type 0
+TargetOfProcedure = behind_x (Assign (Named (name_at (codes "M") 16) Absent Alone) 17 (Referred (x_at 18))) ≡ not_yet_built 16
+
+-- DCL X FIXED BIN(31); DCL X FIXED BIN(31);
+abbrev pub DeclaredAgain : Type 0
+DeclaredAgain = behind_x (declared_as (name_at (codes "X") 17) (Fixed None ∷ Binary (Some 31) ∷ [])) ≡ not_yet_built 16
+
+-- M: PROC OPTIONS(MAIN); PUT LIST(Y); DCL Y FIXED BIN(15); END;
+abbrev pub OtherVariable : Type 0
+OtherVariable =
+    lowered (unit [] (Main ∷ []) (Before (Numbered 2 None 8 (Put false (Referred (y_at 11) ∷ []))) (Before (Numbered 3 None 14 (declared_as (name_at (codes "Y") 15) (Fixed None ∷ Binary (Some 15) ∷ []))) Ended)))
+    ≡ not_yet_built 8
+  where
+    y_at : ℕ → Reference
+    y_at p = Named (name_at (codes "Y") p) Absent Alone
+
+-- M: PROC OPTIONS(MAIN); PUT LIST(X); DO; DCL X FIXED BIN(31); END; END;
+abbrev pub DeclaredWithin : Type 0
+DeclaredWithin =
+    lowered (unit [] (Main ∷ []) (Before (Numbered 2 None 8 (Put false (Referred (x_at 11) ∷ []))) (Before (Numbered 3 None 14 (Do None (Before (Numbered 4 None 16 (declared_as (name_at (codes "X") 17) (Fixed None ∷ Binary (Some 31) ∷ []))) Ended) 5)) Ended)))
+    ≡ not_yet_built 8

@@ -3,6 +3,7 @@ use Rattle.std.specs.Prelude.{◌≡◌, ℕ, ◌^◌, ◌<◌, List, [], ◌∷
 use Rattle.pli_base.specs.Tree.{Expression, Variable, Constant, Sum, Body, Null, Declare, Assign, Put, Statement, Procedure}
 use Rattle.pli_base.specs.declared.code.Code.TheVariants.{NotYetBuilt}
 use Rattle.pli_base.specs.declared.token.Fault.{Fault}
+use Rattle.pli_code.specs.Declarations.{declaration_faults}
 use Rattle.pli_parse.specs.Statements.{ExternalProcedure}
 use Rattle.pli_lower.specs.Lowering.{lowered}
 
@@ -44,3 +45,7 @@ LowersToLanguage = (unit : ExternalProcedure) (u : Procedure) → lowered unit �
 -- the one fault of lowering is Z1
 abbrev pub FailsAsNotYetBuilt : Type 0
 FailsAsNotYetBuilt = (unit : ExternalProcedure) (f : Fault) → lowered unit ≡ Err f → f.code ≡ NotYetBuilt
+
+-- what is lowered uses its variables alone, and declares each once
+abbrev pub LowersToFaultless : Type 0
+LowersToFaultless = (unit : ExternalProcedure) (u : Procedure) → lowered unit ≡ Ok u → declaration_faults u ≡ []

@@ -7,9 +7,12 @@ mod expression;
 mod laws;
 mod statement;
 mod unit;
+mod variable;
 
 pub use answer::LowerError;
-pub use laws::{constants_are_of_language, faults_are_not_yet_built, worked_examples};
+pub use laws::{
+    constants_are_of_language, faults_are_not_yet_built, names_are_of_variables, worked_examples,
+};
 pub use unit::lower;
 
 #[cfg(test)]

@@ -1,7 +1,8 @@
 ghost use Rattle.std.specs.Prelude.{◌<◌};
 
 use crate::{
-    LowerError, constants_are_of_language, faults_are_not_yet_built, lower, worked_examples,
+    LowerError, constants_are_of_language, faults_are_not_yet_built, lower, names_are_of_variables,
+    worked_examples,
 };
 use pli_base::syntax::{ConstantValue, Expression, Identifier, InfixOperator, Part, Reference};
 use pli_base::{Name, Unit};
@@ -188,6 +189,17 @@ fn alone(alloc: Global, body: Body) -> Result<String, Fail> {
     Ok(text)
 }
 
+/// What a main procedure is lowered to that declares X and has this statement, at token 16.
+fn behind_x(alloc: Global, body: Body) -> Result<String, Fail> {
+    let options = vec![in alloc; ProcedureOption::Main]?;
+    let statements = vec![in alloc;
+        statement(2, 8, declaration(alloc, 31, 8)?),
+        statement(3, 16, body),
+    ]?;
+    let text = lowered(alloc, &procedure(alloc, options, statements)?)?;
+    Ok(text)
+}
+
 /// `DECLARE X FIXED BINARY(31); X = 2 + X; PUT LIST(X); ;`
 fn four_statements(alloc: Global) -> Result<Vec<Statement>, Fail> {
     let mut statements = Vec::new(alloc);
@@ -223,6 +235,7 @@ fn laws() {
     worked_examples();
     constants_are_of_language();
     faults_are_not_yet_built();
+    names_are_of_variables();
 }
 
 #[test]
@@ -242,19 +255,43 @@ fn headings(rt: HostRuntime) -> Result<(), Fail> {
 fn statements(rt: HostRuntime) -> Result<(), Fail> {
     let alloc = rt.alloc();
     assert_eq!(rt;
-        alone(alloc, assignment(alloc, InfixOperator::Subtract, 8)?)?.as_str(),
-        "Z1 at 8"
+        behind_x(alloc, assignment(alloc, InfixOperator::Subtract, 16)?)?.as_str(),
+        "Z1 at 16"
     );
     assert_eq!(rt;
         alone(alloc, declaration(alloc, 15, 8)?)?.as_str(),
         "Z1 at 8"
     );
-    assert_eq!(rt; alone(alloc, put(alloc, true, 8)?)?.as_str(), "Z1 at 8");
+    assert_eq!(rt;
+        behind_x(alloc, put(alloc, true, 16)?)?.as_str(),
+        "Z1 at 16"
+    );
     assert_eq!(rt; alone(alloc, Body::Stop)?.as_str(), "Z1 at 8");
     assert_eq!(rt;
-        alone(alloc, put(alloc, false, 8)?)?.as_str(),
-        "M MAIN 2:PUT X@11"
+        behind_x(alloc, put(alloc, false, 16)?)?.as_str(),
+        "M MAIN 2:DECLARE X@9 3:PUT X@19"
     );
+    Ok(())
+}
+
+#[test]
+fn names(rt: HostRuntime) -> Result<(), Fail> {
+    let alloc = rt.alloc();
+    assert_eq!(rt; alone(alloc, put(alloc, false, 8)?)?.as_str(), "Z1 at 8");
+    assert_eq!(rt;
+        alone(alloc, assignment(alloc, InfixOperator::Add, 8)?)?.as_str(),
+        "Z1 at 8"
+    );
+    assert_eq!(rt;
+        behind_x(alloc, declaration(alloc, 31, 16)?)?.as_str(),
+        "Z1 at 16"
+    );
+    let statements = vec![in alloc;
+        statement(2, 8, put(alloc, false, 8)?),
+        statement(3, 14, declaration(alloc, 31, 14)?),
+    ]?;
+    let text = lowered(alloc, &procedure(alloc, Vec::new(alloc), statements)?)?;
+    assert_eq!(rt; text.as_str(), "M 2:PUT X@11 3:DECLARE X@15");
     Ok(())
 }
 

@@ -41,9 +41,10 @@ fn has_result(options: &[ProcedureOption]) -> bool
 }
 
 /// The unit in the language that is compiled today: a procedure without parameters and RETURNS, with null statements, DECLARE of
-/// FIXED BINARY(31) variables, assignments and PUT LIST of sums of names and decimal constants, none of them labelled (own).
+/// FIXED BINARY(31) variables, assignments and PUT LIST of sums of these variables and decimal constants, none of them labelled (own).
 /// The fault of a unit with another form stands at the first token of the first such statement, which is its label if it has one;
-/// statements inside others are not looked at.
+/// statements inside others are not looked at. A name that is none of these variables, as a label's or a procedure's, is such a form
+/// too, and so is a name that is declared again, which no unit without faults of its declarations has.
 #[tactic(auto, using(crate::proofs::LoweringParts::unit_parts))]
 pub fn lower(alloc: Global, procedure: &Procedure) -> Result<Unit, LowerError>
     ensures { Gives small.unit_view result (lowered (unit_view procedure.now)) }

@@ -1,5 +1,5 @@
 //! A size with an alignment.
-ghost use Rattle.std.specs.Prelude.{◌≡◌, ◌<◌, ◌≤◌, ◌+◌, max};
+ghost use Rattle.std.specs.Prelude.{◌≡◌, ◌<◌, ◌≤◌, ◌+◌, ◌*◌, max};
 ghost use Rattle.std.specs.Int.{next_multiple_of};
 
 /// The greatest size of a description, in bytes.
@@ -21,8 +21,19 @@ pub struct Layout {
 impl Layout {
     ghost use Rattle.pli_map.specs.Layouts.{IsLayout};
 
+    /// The layout of no member: a structure begins with it.
+    pub fn empty() -> Layout
+        ensures bytes { result.bytes ≡ 0 }
+        ensures alignment { result.alignment ≡ 1 }
+    {
+        Layout {
+            bytes: 0,
+            alignment: 1,
+        }
+    }
+
     /// The layout of this many bytes, or `None` where they are over the limit.
-    pub(crate) fn of(bytes: u64, alignment: u32) -> Option<Layout>
+    pub fn of(bytes: u64, alignment: u32) -> Option<Layout>
         requires positive { 0 < alignment }
         requires small { alignment ≤ 8 }
         ensures { IsLayout result bytes alignment }
@@ -36,8 +47,8 @@ impl Layout {
         })
     }
 
-    /// The layout of members up to here and one more.
-    pub(crate) fn and(self, member: Layout) -> Option<Layout>
+    /// The layout of members up to here and one more, or `None` where they are over the limit.
+    pub fn and(self, member: Layout) -> Option<Layout>
         ensures { IsLayout result (next_multiple_of self.bytes member.alignment + member.bytes)
             (max self.alignment member.alignment) }
     {
@@ -46,6 +57,14 @@ impl Layout {
             start + u64::from(member.bytes),
             self.alignment.max(member.alignment),
         )
+    }
+
+    /// The layout of an array of so many elements of this layout, or `None` where it is over the limit.
+    pub fn times(self, count: u64) -> Option<Layout>
+        ensures { IsLayout result (count * next_multiple_of self.bytes self.alignment) self.alignment }
+    {
+        let counted = count.min(OVER_LIMIT);
+        Layout::of(counted * u64::from(self.stride()), self.alignment)
     }
 
     /// From one element of this layout to the next, in bytes.

@@ -92,10 +92,7 @@ fn measure_array(bounds: &[Bounds], element: &Description) -> Option<Layout>
 pub fn measure_members(members: &[Description]) -> Option<Layout>
     ensures { let ds = members_view members.now in IsLayout result (end_behind 0 ds) (greatest_alignment ds) }
 {
-    let mut whole = Layout {
-        bytes: 0,
-        alignment: 1,
-    };
+    let mut whole = Layout::empty();
     for member in members {
         whole = whole.and(measure(member)?)?;
     }

@@ -1,7 +1,8 @@
 use crate::{
-    Bounds, Description, Part, Step, alignment, areas_are_rounded, elements_are_in_row_major_order,
-    elements_are_within_bounds, four_alignments, measure, parts_do_not_meet, parts_lie_within,
-    parts_stand_aligned, place, same_is_equal, size, worked_examples,
+    Bounds, Description, Layout, Part, Step, alignment, areas_are_rounded,
+    elements_are_in_row_major_order, elements_are_within_bounds, four_alignments, measure,
+    parts_do_not_meet, parts_lie_within, parts_stand_aligned, place, same_is_equal, size,
+    worked_examples,
 };
 use Go::{E1, E2, E3, M};
 use Word::{Ar, Bi, Ch, Di, Fb, Of, Pt, St, Va};
@@ -469,6 +470,15 @@ fn layouts(rt: HostRuntime) -> Result<(), Fail> {
         (layout.bytes, layout.alignment, layout.stride()),
         (6, 4, 8)
     );
+    let three = layout.times(3).ok_or("a layout")?;
+    assert_eq!(rt; (three.bytes, three.alignment), (24, 4));
+    assert!(rt; layout.times(125_001).is_none());
+    let halfword = Layout::of(2, 2).ok_or("a layout")?;
+    let both = Layout::empty()
+        .and(halfword)
+        .and_then(|front| front.and(layout))
+        .ok_or("a layout")?;
+    assert_eq!(rt; (both.bytes, both.alignment), (10, 4));
     let dimension = Bounds { low: -2, high: 7 };
     assert_eq!(rt; dimension.extent(), 10);
     assert_eq!(rt; dimension.distance_to(7), Some(9));

@@ -1,7 +1,8 @@
 -- Members that have a module have one main unit, whose tree has no faults.
-use Rattle.std.specs.Prelude.{◌≡◌, ℕ, Bool, true, false, Result, Ok, Err, List, [], ◌∷◌, ◌++◌, map, refl, if◌then◌else◌}
+use Rattle.std.specs.Prelude.{◌≡◌, ℕ, Bool, true, false, Some, Result, Ok, Err, List, [], ◌∷◌, ◌++◌, map, refl, if◌then◌else◌}
 use Rattle.std.specs.Cmp.Lexicographic.{slice_cmp}
 use Rattle.std.specs.List.{filter, flat_map}
+use Rattle.std.specs.Result.{result_ok}
 use Rattle.std.specs.Ordering.{nat_cmp, is_gt}
 use Rattle.std.proofs.Common.{sym, ◌∙◌, ap, subst}
 use Rattle.pli_base.specs.Name.{Name}
@@ -17,7 +18,12 @@ use Rattle.pli_code.specs.Declarations.{declaration_faults}
 use Rattle.pli_code.specs.Link.{Compiled, Place, LinkFault, TwoMainProcedures, inserted, in_order_after, in_order, place_of_unit, mains, later, none_among, link_faults, module_or, link_of}
 use Rattle.pli_code.specs.ModuleView.{Module}
 use Rattle.pli_code.specs.Translation.{code_of, is_too_long}
-use Rattle.pli_meaning.specs.Scratch.{Diagnostic, Parsed, units_of, parsed_as, parsed_from, parsed_of, coded, compiled_from, compiled_of, diagnostics_in, diagnostic_line, one, Made, built, linked, scratch, all_text, all_units, text_in, units_in, sources, source_in, has_main, main_units}
+use Rattle.pli_lower.specs.Lowering.{lowered}
+use Rattle.pli_lower.proofs.LoweringNames.{lowers_to_faultless}
+use Rattle.pli_parse.specs.StatementReading.{unit_of}
+use Rattle.pli_parse.specs.Statements.{ExternalProcedure}
+use Rattle.pli_resolve.specs.Resolution.{resolution_faults}
+use Rattle.pli_meaning.specs.Scratch.{Diagnostic, read_or_fault, lowered_unless, program_from, program_of, Parsed, units_of, parsed_as, parsed_from, parsed_of, compiled_from, compiled_of, diagnostics_in, diagnostic_line, one, Made, built, linked, scratch, all_text, all_units, text_in, units_in, sources, source_in, has_main, main_units}
 
 -- a list with an element is not empty
 filled : {A : Type 0} (xs ys : List A) (y : A) → xs ++ y ∷ ys ≡ [] → ⊥
@@ -37,19 +43,50 @@ back_empty (x ∷ xs) ys e = cc
 text_filled : (name : Name) (d : Diagnostic) (ds : List Diagnostic) → flat_map (diagnostic_line name) (d ∷ ds) ≡ [] → ⊥
 text_filled name d ds e = filled _ [] 10 (front_empty (diagnostic_line name d) _ e)
 
--- a fault has a diagnostic at least
-abbrev HasDiagnostics : {A : Type 0} → Result A (List Diagnostic) → Type 0
-HasDiagnostics (Ok x) = Unit {0}
-HasDiagnostics (Err []) = ⊥
-HasDiagnostics (Err (d ∷ ds)) = Unit {0}
+-- what reading gives: a tree whose declarations have no faults, or a fault at least
+abbrev IsRead : Result Procedure (List Fault) → Type 0
+IsRead (Ok u) = declaration_faults u ≡ []
+IsRead (Err []) = ⊥
+IsRead (Err (fault ∷ faults)) = Unit {0}
 
-parsed_as_has : (unit : Name) (origins : List Origin) (r : Result Procedure Fault) → HasDiagnostics (parsed_as unit origins r)
-parsed_as_has unit origins (Ok u) = tt
-parsed_as_has unit origins (Err fault) = tt
+lowered_read : (r : Result Procedure Fault) → ((u : Procedure) → r ≡ Ok u → declaration_faults u ≡ []) → IsRead (read_or_fault r)
+lowered_read (Ok u) known = known u refl
+lowered_read (Err fault) known = tt
 
-parsed_has : (unit : Name) (o : Outcome) → HasDiagnostics (parsed_from unit o)
+resolved_read : (faults : List Fault) (unit : ExternalProcedure) → IsRead (lowered_unless faults unit)
+resolved_read [] unit = lowered_read (lowered unit) (lowers_to_faultless unit)
+resolved_read (fault ∷ faults) unit = tt
+
+program_read : (r : Result ExternalProcedure Fault) → IsRead (program_from r)
+program_read (Ok unit) = resolved_read (resolution_faults unit) unit
+program_read (Err fault) = tt
+
+-- the same of a unit, whose faults are diagnostics
+abbrev IsParsed : Result Parsed (List Diagnostic) → Type 0
+IsParsed (Ok p) = declaration_faults p.tree ≡ []
+IsParsed (Err []) = ⊥
+IsParsed (Err (d ∷ ds)) = Unit {0}
+
+parsed_as_has : (unit : Name) (origins : List Origin) (r : Result Procedure (List Fault)) → IsRead r → IsParsed (parsed_as unit origins r)
+parsed_as_has unit origins (Ok u) h = h
+parsed_as_has unit origins (Err []) h = h
+parsed_as_has unit origins (Err (fault ∷ faults)) h = tt
+
+parsed_has : (unit : Name) (o : Outcome) → IsParsed (parsed_from unit o)
 parsed_has unit (Err stop) = tt
-parsed_has unit (Ok p) = parsed_as_has unit p.origins _
+parsed_has unit (Ok p) = parsed_as_has unit p.origins (program_of p.texts) (program_read (unit_of p.texts))
+
+unit_parsed : (entries : List (Name × Member)) (unit : Name) → IsParsed (parsed_of entries unit)
+unfolding parsed_of
+unit_parsed entries unit = parsed_has unit (outcome_of entries unit)
+
+parsed_tree : (r : Result Parsed (List Diagnostic)) (p : Parsed) → IsParsed r → Some p ≡ result_ok r → declaration_faults p.tree ≡ []
+parsed_tree (Ok q) p h e = let same : p ≡ q = cc in subst (λ p. declaration_faults p.tree ≡ []) (sym same) h
+parsed_tree (Err ds) p h e = let bad : ⊥ = cc in absurd bad
+
+-- the declarations of a unit's tree have no faults
+pub tree_faultless : (entries : List (Name × Member)) (unit : Name) (p : Parsed) → Some p ≡ result_ok (parsed_of entries unit) → declaration_faults p.tree ≡ []
+tree_faultless entries unit p e = parsed_tree (parsed_of entries unit) p (unit_parsed entries unit) e
 
 abbrev unit_code : Name → Parsed → Compiled
 unit_code name p = record { unit = name; procedure = p.tree.name; is_main = p.tree.is_main; code = code_of p.tree }
@@ -67,22 +104,17 @@ chosen_clean : (name : Name) (p : Parsed) (b : Bool) (d : Diagnostic) → declar
 chosen_clean name p true d e h = absurd (text_filled name d [] h)
 chosen_clean name p false d e h = record { parsed = p; spelled = refl; faultless = e; code = refl }
 
-coded_clean : (name : Name) (p : Parsed) (faults : List Fault) → declaration_faults p.tree ≡ faults
-    → diagnostics_in name (coded name p faults) ≡ [] → IsClean name (Ok p) (coded name p faults)
-coded_clean name p [] e h = chosen_clean name p (is_too_long (code_of p.tree)) _ e h
-coded_clean name p (fault ∷ faults) e h = absurd (text_filled name _ _ h)
-
-compiled_clean : (name : Name) (r : Result Parsed (List Diagnostic)) → HasDiagnostics r
+compiled_clean : (name : Name) (r : Result Parsed (List Diagnostic)) → IsParsed r
     → diagnostics_in name (compiled_from name r) ≡ [] → IsClean name r (compiled_from name r)
-compiled_clean name (Ok p) h e = coded_clean name p (declaration_faults p.tree) refl e
+compiled_clean name (Ok p) h e = chosen_clean name p (is_too_long (code_of p.tree)) _ h e
 compiled_clean name (Err []) h e = absurd h
 compiled_clean name (Err (d ∷ ds)) h e = absurd (text_filled name d ds e)
 
 -- a unit without diagnostics
 unit_clean : (entries : List (Name × Member)) (name : Name) → diagnostics_in name (compiled_of entries name) ≡ []
     → IsClean name (parsed_of entries name) (compiled_of entries name)
-unfolding parsed_of compiled_of
-unit_clean entries name e = compiled_clean name (parsed_from name (outcome_of entries name)) (parsed_has name (outcome_of entries name)) e
+unfolding compiled_of
+unit_clean entries name e = compiled_clean name (parsed_of entries name) (unit_parsed entries name) e
 
 module _ (entries : List (Name × Member)) where
   -- a unit's code is that of its tree, which has no faults

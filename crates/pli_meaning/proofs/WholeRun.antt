@@ -2,7 +2,6 @@
 use Rattle.std.specs.Prelude.{◌≡◌, ℕ, ◌+◌, Result, Ok, Err, List, [], ◌∷◌, refl}
 use Rattle.std.proofs.Common.{sym, ◌∙◌, ap, subst}
 use Rattle.pli_base.specs.Name.{Name}
-use Rattle.pli_base.specs.Reading.{◌>>=◌}
 use Rattle.pli_base.specs.Tree.{Procedure}
 use Rattle.pli_base.specs.declared.token.Fault.{Fault}
 use Rattle.pli_base.specs.declared.token.Origin.{Origin}
@@ -13,13 +12,14 @@ use Rattle.pli_code.specs.Machine.{Outcome, RunsTo}
 use Rattle.pli_meaning.specs.Laws.{GoesOn}
 use Rattle.pli_meaning.specs.Meaning.{whole_run}
 use Rattle.pli_meaning.specs.Members.{MembersSimulate, OneMeaning, MembersGrow}
-use Rattle.pli_meaning.specs.Scratch.{Diagnostic, Parsed, program_of, parsed_as, parsed_from, parsed_of, main_units, Means}
+use Rattle.pli_meaning.specs.Scratch.{Diagnostic, read_or_fault, lowered_unless, program_from, Parsed, program_of, parsed_as, parsed_from, parsed_of, main_units, Means}
 use Rattle.pli_meaning.specs.Sound.{IsSound}
 use Rattle.pli_meaning.proofs.Growth.{growth}
 use Rattle.pli_meaning.proofs.Simulation.{simulation}
 use Rattle.pli_lower.specs.Lowering.{lowered}
 use Rattle.pli_parse.specs.StatementReading.{unit_of}
 use Rattle.pli_parse.specs.Statements.{ExternalProcedure}
+use Rattle.pli_resolve.specs.Resolution.{resolution_faults}
 use Rattle.pli_lower.proofs.LoweringConstants.{lowers_to_language}
 use Rattle.pli_meaning.proofs.Whole.{program_made}
 
@@ -29,14 +29,28 @@ read_as p = Ok p
 read_is : (p q : Parsed) → read_as p ≡ read_as q → p ≡ q
 read_is p q e = cc
 
+abbrev tree_as : {F : Type 0} → Procedure → Result Procedure F
+tree_as u = Ok u
+
+tree_is : {F : Type 0} (u v : Procedure) → tree_as {F = F} u ≡ tree_as v → u ≡ v
+tree_is u v e = cc
+
 -- what is lowered is sound
-program_sound : (read : Result ExternalProcedure Fault) (u : Procedure) → (read >>= lowered) ≡ Ok u → IsSound u
-program_sound (Ok unit) u h = lowers_to_language unit u h
+lowered_sound : (r : Result Procedure Fault) (u : Procedure) → ((v : Procedure) → r ≡ Ok v → IsSound v) → read_or_fault r ≡ Ok u → IsSound u
+lowered_sound (Ok v) u sound h = subst IsSound (tree_is v u h) (sound v refl)
+lowered_sound (Err fault) u sound h = let bad : ⊥ = cc in absurd bad
+
+resolved_sound : (faults : List Fault) (unit : ExternalProcedure) (u : Procedure) → lowered_unless faults unit ≡ Ok u → IsSound u
+resolved_sound [] unit u h = lowered_sound (lowered unit) u (lowers_to_language unit) h
+resolved_sound (fault ∷ faults) unit u h = let bad : ⊥ = cc in absurd bad
+
+program_sound : (read : Result ExternalProcedure Fault) (u : Procedure) → program_from read ≡ Ok u → IsSound u
+program_sound (Ok unit) u h = resolved_sound (resolution_faults unit) unit u h
 program_sound (Err fault) u h = let bad : ⊥ = cc in absurd bad
 
-read_sound : (unit : Name) (origins : List Origin) (r : Result Procedure Fault) (p : Parsed) → ((u : Procedure) → r ≡ Ok u → IsSound u) → parsed_as unit origins r ≡ Ok p → IsSound p.tree
+read_sound : (unit : Name) (origins : List Origin) (r : Result Procedure (List Fault)) (p : Parsed) → ((u : Procedure) → r ≡ Ok u → IsSound u) → parsed_as unit origins r ≡ Ok p → IsSound p.tree
 read_sound unit origins (Ok u) p sound h = subst (λ q. IsSound q.tree) (read_is _ p h) (sound u refl)
-read_sound unit origins (Err fault) p sound h = let bad : ⊥ = cc in absurd bad
+read_sound unit origins (Err faults) p sound h = let bad : ⊥ = cc in absurd bad
 
 -- the tree that an expansion gives is sound
 sound_from : (unit : Name) (o : Expansion) (p : Parsed) → parsed_from unit o ≡ Ok p → IsSound p.tree

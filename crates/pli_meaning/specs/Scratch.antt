@@ -3,7 +3,6 @@ use Rattle.std.specs.Prelude.{◌≡◌, ℕ, Bool, false, Option, Some, None, R
 use Rattle.std.specs.List.{filter, flat_map}
 use Rattle.pli_base.specs.Name.{Name}
 use Rattle.pli_base.specs.Codes.{code_label, code_text}
-use Rattle.pli_base.specs.Reading.{◌>>=◌}
 use Rattle.pli_base.specs.Tree.{Procedure}
 use Rattle.pli_base.specs.Words.{Tokens}
 use Rattle.pli_base.specs.declared.code.Code.{Code}
@@ -17,7 +16,8 @@ use Rattle.pli_members.specs.Members.{Member}
 use Rattle.pli_members.specs.declared.kind.Kind.{Kind}
 use Rattle.pli_members.specs.declared.kind.Kind.TheVariants.{Source, Include}
 use Rattle.pli_parse.specs.StatementReading.{unit_of}
-use Rattle.pli_code.specs.Declarations.{declaration_faults}
+use Rattle.pli_parse.specs.Statements.{ExternalProcedure}
+use Rattle.pli_resolve.specs.Resolution.{resolution_faults}
 use Rattle.pli_code.specs.Link.{Compiled, Place, LinkFault, NoMainProcedure, TwoMainProcedures, DefinedTwice, link_of}
 use Rattle.pli_code.specs.Machine.{Outcome}
 use Rattle.pli_code.specs.ModuleView.{Module}
@@ -41,37 +41,51 @@ located unit origins fault = record { origin = origin_of unit (slice_get origins
 abbrev pub one : Code → Origin → List Diagnostic
 one code origin = record { origin = origin; code = code } ∷ []
 
--- the tree of a unit's tokens, in the language that is compiled today; or the one fault of the tokens, or of the first form that cannot be compiled yet
-abbrev pub program_of : Tokens → Result Procedure Fault
-program_of texts = unit_of texts >>= lowered
+-- what is read, or the one fault
+abbrev pub read_or_fault : {A : Type 0} → Result A Fault → Result A (List Fault)
+read_or_fault (Ok x) = Ok x
+read_or_fault (Err fault) = Err (fault ∷ [])
+
+-- all faults of a unit's declarations and uses, if there are any; else the unit in the language that is compiled today, or the fault of its first form that
+-- cannot be compiled yet
+abbrev pub lowered_unless : List Fault → ExternalProcedure → Result Procedure (List Fault)
+lowered_unless [] unit = read_or_fault (lowered unit)
+lowered_unless (fault ∷ faults) unit = Err (fault ∷ faults)
+
+abbrev pub program_from : Result ExternalProcedure Fault → Result Procedure (List Fault)
+program_from (Ok unit) = lowered_unless (resolution_faults unit) unit
+program_from (Err fault) = Err (fault ∷ [])
+
+-- the tree of a unit's tokens, in the language that is compiled today; or the faults of the first pass that has any: reading, then the declarations, then lowering
+abbrev pub program_of : Tokens → Result Procedure (List Fault)
+program_of texts = program_from (unit_of texts)
 
 -- a tree and the places of the tokens that it was read from
 pub record Parsed : Type 0 where
   pub origins : List Origin
   pub tree : Procedure
 
-abbrev pub parsed_as : Name → List Origin → Result Procedure Fault → Result Parsed (List Diagnostic)
+abbrev pub parsed_as : Name → List Origin → Result Procedure (List Fault) → Result Parsed (List Diagnostic)
 parsed_as unit origins (Ok u) = Ok (record { origins = origins; tree = u })
-parsed_as unit origins (Err fault) = Err (located unit origins fault ∷ [])
+parsed_as unit origins (Err faults) = Err (map (located unit origins) faults)
 
 abbrev pub parsed_from : Name → Expansion → Result Parsed (List Diagnostic)
 parsed_from unit (Err stop) = Err (one stop.fault.code stop.fault.origin)
 parsed_from unit (Ok p) = parsed_as unit p.origins (program_of p.texts)
 
--- the tree of a unit's expansion, or the first fault
+-- the tree of a unit's expansion, or its diagnostics: the one of the expansion, or those of the first pass over its tokens that has any
 unfoldable pub parsed_of : List (Name × Member) → Name → Result Parsed (List Diagnostic)
 parsed_of entries unit = parsed_from unit (outcome_of entries unit)
 
--- the code of a tree without faults of its declarations, or the faults
-abbrev pub coded : Name → Parsed → List Fault → Result Compiled (List Diagnostic)
-coded unit p [] =
+-- the code of a tree, if it is not too long
+abbrev pub coded : Name → Parsed → Result Compiled (List Diagnostic)
+coded unit p =
     if is_too_long (code_of p.tree) then Err (one code.CodeTooLong (origin_of unit (slice_get p.origins 0)))
     else Ok (record { unit = unit; procedure = p.tree.name; is_main = p.tree.is_main; code = code_of p.tree })
-coded unit p (fault ∷ faults) = Err (map (located unit p.origins) (fault ∷ faults))
 
 abbrev pub compiled_from : Name → Result Parsed (List Diagnostic) → Result Compiled (List Diagnostic)
 compiled_from unit (Err diagnostics) = Err diagnostics
-compiled_from unit (Ok p) = coded unit p (declaration_faults p.tree)
+compiled_from unit (Ok p) = coded unit p
 
 -- a unit compiled, or its diagnostics in the order of their tokens; a pass with faults is the last
 unfoldable pub compiled_of : List (Name × Member) → Name → Result Compiled (List Diagnostic)

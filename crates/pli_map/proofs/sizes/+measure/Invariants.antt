@@ -7,9 +7,9 @@ use Rattle.pli_map.proofs.sizes.+measure.Given as goal
 abbrev pub invariant-measure_members-loop-member : goal.invariant-measure_members-loop-member
 invariant-measure_members-loop-member l =
     record {
-      end : end_behind l.whole.0 (members_view (drop l.member-index l.members)) ≡ end_behind 0 (members_view l.members);
-      alignment : max l.whole.1.0 (greatest_alignment (members_view (drop l.member-index l.members))) ≡ greatest_alignment (members_view l.members);
-      in_limit : l.whole.0 ≤ 1000000;
-      positive : 0 < l.whole.1.0;
-      small : l.whole.1.0 ≤ 8;
+      end : end_behind l.whole.bytes (members_view (drop l.member-index l.members)) ≡ end_behind 0 (members_view l.members);
+      alignment : max l.whole.alignment (greatest_alignment (members_view (drop l.member-index l.members))) ≡ greatest_alignment (members_view l.members);
+      in_limit : l.whole.bytes ≤ 1000000;
+      positive : 0 < l.whole.alignment;
+      small : l.whole.alignment ≤ 8;
     }

@@ -1,0 +1,10 @@
+pub mod WorkedExamples
+pub mod Looks
+pub mod Goodness
+pub mod Headings
+pub mod Numbered
+pub mod Numbers
+pub mod Gathered
+pub mod TableAt
+pub mod Names
+pub mod Walked

@@ -1,0 +1,10 @@
+use Rattle.std.proofs.Common.{◌≡◌, drop, map}
+use Rattle.pli_attribute.specs.Faults.{lesser, result_fault}
+use Rattle.pli_parse.specs.StatementView.{option_view}
+use Rattle.pli_resolve.specs.Resolution.{least, returned_by}
+use Rattle.pli_resolve.proofs.heading.returned_fault.Given as goal
+
+-- the least so far and that of what is left
+abbrev pub invariant-loop-option : goal.invariant-loop-option
+invariant-loop-option l =
+    lesser l.least (least (map result_fault (returned_by (map option_view (drop l.option-index l.options))))) ≡ least (map result_fault (returned_by (map option_view l.options)))

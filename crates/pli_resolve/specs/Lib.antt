@@ -1,0 +1,5 @@
+pub mod Resolution
+pub mod Answers
+pub mod Looking
+pub mod Walks
+pub mod ResolutionExamples

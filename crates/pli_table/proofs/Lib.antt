@@ -1,0 +1,4 @@
+pub mod Standings
+pub mod Behind
+pub mod Blocks
+pub mod Whole

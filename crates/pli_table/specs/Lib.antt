@@ -1,0 +1,4 @@
+pub mod Tables
+pub mod TableView
+pub mod Answers
+pub mod TableLaws

@@ -1,0 +1,14 @@
+//! What each block of a unit declares.
+#![tactic(auto)]
+
+mod entries;
+mod entry;
+mod laws;
+mod table;
+
+pub use entry::{Entity, Entry};
+pub use laws::owners_stand_before;
+pub use table::{Table, Tables};
+
+#[cfg(test)]
+mod tests;

@@ -1,0 +1,11 @@
+pub mod Numbers
+pub mod Owners
+pub mod Marks
+pub mod Levelled
+pub mod NameSets
+pub mod Placing
+pub mod Named
+pub mod Sound
+pub mod Measuring
+pub mod MembersFound
+pub mod NumbersOn

@@ -1,0 +1,5 @@
+pub mod Places
+pub mod Walks
+pub mod Descriptions
+pub mod Judging
+pub mod Measures
