@@ -1,3 +1,4 @@
+use crate::extents::bad_bounds;
 use crate::{
     AttributeError, Completed, Named, Place, Position, Scope, Storage, Variable, array_layout,
     completed_item, completed_result, elements_within, item_fault, lesser, result_fault,
@@ -549,6 +550,9 @@ fn taken(alloc: Global, text: &str) -> Result<Option<(u32, u32)>, AllocError> {
     let Some(element) = scalar_layout(&item.attributes) else {
         return Ok(None);
     };
+    if bad_bounds(&item.dimensions) {
+        return Ok(None);
+    }
     let Some(array) = array_layout(element, &item.dimensions) else {
         return Ok(None);
     };
