@@ -232,14 +232,14 @@ class Item(Named):
             yield 8
         if "INITIAL" in has and not self.initials_fit():
             yield 9
-        if "AREA" in has and self.above:
+        if "AREA" in has and (self.level != 1 or self.above and any(item.description.bounds for item in self.above.levels())):
             yield 13
 
     def stands_well(self):
         """Whether its attributes agree with its name, level, members and dimensions, and with a parameter."""
         has = self.description.has
         return not (
-            has & LEVEL_1_ONLY and (self.level != 1 or self.above)
+            has & LEVEL_1_ONLY and self.level != 1
             or self.members and (self.description.data or has & NO_VARIABLE or self.is_parameter)
             or self.description.bounds and has & NO_VARIABLE
             or "BUILTIN" in has and self.name not in BUILT_IN
@@ -287,10 +287,14 @@ class Block:
     """The names that a block declares: those that count, members too."""
 
     def __init__(self, outer):
-        self.outer, self.names = outer, []
+        self.outer, self.names, self.items = outer, [], []
 
     def declares(self, name):
         return any(named.name == name for named in self.names)
+
+    def has_variable(self, name):
+        """Whether an item of this name stands beneath no other, also one that does not count."""
+        return any(item.name == name and not item.above for item in self.items)
 
     def own(self, name):
         """What is declared by this name alone, no member."""
@@ -380,13 +384,12 @@ class Unit:
             self.fault(name, 14)
         self.checks.append(lambda: self.judge_results(name, outer, results))
         self.statements(items, block, frames, "block")
+        for item in block.items:
+            item.is_parameter = item.level == 1 and item.name in parameters
         for number, parameter in enumerate(parameters):
-            declared = block.own(parameter)
             if parameter in parameters[:number]:
                 self.fault(parameter, 2)
-            if isinstance(declared, Item):
-                declared.is_parameter = True
-            else:
+            if not block.has_variable(parameter):
                 self.fault(parameter, 4)
 
     def judge_results(self, name, outer, results):
@@ -448,6 +451,7 @@ class Unit:
                 if not above or above in block.names:
                     self.declare(block, item)
                 before.append(item)
+                block.items.append(item)
         self.items += before
 
     def expression(self, tree, block):
@@ -487,7 +491,10 @@ class Unit:
         if meant is None:
             self.fault(name, 1)
             return
-        within = meant[0].within if len(meant) == 1 else None
+        if len(meant) > 1:
+            self.fault(name, 10)
+            return
+        within = meant[0].within
         if within not in frames:
             self.fault(name, 11)
             return

@@ -65,6 +65,8 @@ def forms(count):
         "BEGIN;DCL 1 S BASED(P),2 X(10)FIXED BIN(31),2 C CHAR(8)VAR;ALLOCATE S IN(A)SET(Q);FREE P->S;END;",
         "ON ZDIV PUT SKIP LIST(X,Y+1);SIGNAL ZDIV;REVERT ZDIV;",
     )
+    yield "DCL(I,N,J,Y)FIXED BIN,A(9)FIXED BIN,B(9)BIT,(P,Q)PTR,C CHAR(8),F ENTRY;"
+    yield "DCL 1 S BASED(P),2 X(9,9)FIXED BIN(31);L:;"
     for _ in range(count // (73 + 47 + 19)):
         yield from group
 
