@@ -2,10 +2,10 @@
 use Rattle.std.proofs.Common.{◌≡◌, ℕ, Bool, true, false, not, ◌||◌, ◌&&◌, nat_lt, Option, Some, None, List, [], ◌∷◌, length, map, refl, ap, sym, ◌∙◌, ◌<◌, ◌≤◌, arith, option_map}
 use Rattle.std.specs.List.{list_all, list_any}
 use Rattle.std.specs.Option.{option_or}
-use Rattle.pli_item.specs.Declarations as tree
+use Rattle.pli_base.specs.Declarations as tree
 use Rattle.pli_base.specs.declared.code.Code.{Code}
 use Rattle.pli_base.specs.declared.code.Code.TheVariants.{AttributesConflict, AttributesMissing, BadPrecision, BadLength, BadBounds, TooManyParameters, GenerationTooLarge}
-use Rattle.pli_item.specs.declared.declaration.Bounds.{Bounds}
+use Rattle.pli_base.specs.declared.declaration.Bounds.{Bounds}
 use Rattle.pli_attribute.specs.Types.{number_of, is_bad_precision, is_bad_length}
 use Rattle.pli_attribute.specs.Extents.{are_good, are_bad_bounds, is_array}
 use Rattle.pli_attribute.specs.Agreement.{set_agrees, is_missing}

@@ -1,7 +1,7 @@
 -- Which attributes agree.
 use Rattle.std.specs.Prelude.{ℕ, ◌+◌, Bool, true, false, not, ◌==◌, ◌&&◌, ◌||◌, List, [], ◌∷◌}
 use Rattle.std.specs.Int.RustNames.{bit_and}
-use Rattle.pli_item.specs.Declarations as tree
+use Rattle.pli_base.specs.Declarations as tree
 use Rattle.pli_attribute.specs.Sets.{fixed, binary, character, varying, bit, pointer, offset, area, automatic, static, based, controlled, internal, external, initial, built_in, entry, returns, data_attributes, storage_attributes, scope_attributes, has, none_of, within, is_one_of, each_once, set_of}
 use Rattle.pli_attribute.specs.declared.place.Place.{Place}
 use Rattle.pli_attribute.specs.declared.place.Position.{Position}

@@ -1,7 +1,7 @@
 -- What attributes without a fault are completed to.
 use Rattle.std.specs.Prelude.{ℕ, if◌then◌else◌, Option, Some, None, option_map, List, map}
-use Rattle.pli_item.specs.Declarations as tree
-use Rattle.pli_item.specs.declared.declaration.InitialValue.{InitialValue}
+use Rattle.pli_base.specs.Declarations as tree
+use Rattle.pli_base.specs.declared.declaration.InitialValue.{InitialValue}
 use Rattle.pli_map.specs.Description.{Description}
 use Rattle.pli_map.specs.declared.description.Bounds.{Bounds}
 use Rattle.pli_attribute.specs.Sets.{static, based, controlled, external, built_in, entry, has, set_of, outermost}

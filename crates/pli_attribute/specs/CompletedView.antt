@@ -1,7 +1,7 @@
 -- What completed attributes of the program say, apart from where they lie in memory, and what the functions that complete answer.
 use Rattle.std.specs.Prelude.{◌≡◌, List, Some, None, option_map, map, Result, Ok, Err}
 use Rattle.pli_base.specs.declared.code.Code.{Code}
-use Rattle.pli_item.specs.Declarations as tree
+use Rattle.pli_base.specs.Declarations as tree
 use Rattle.pli_map.specs.DescriptionView.{description_view}
 use Rattle.pli_map.specs.declared.description.Description.{Description}
 use Rattle.pli_attribute.specs.Completed as complete

@@ -1,8 +1,8 @@
 -- The bounds of dimensions.
 use Rattle.std.specs.Prelude.{Bool, not, ◌&&◌, ◌||◌, nat_lt, int_le, ℤ, pos, negsuc, ◌-ℤ◌, if◌then◌else◌, Option, Some, None, List, length, map}
 use Rattle.std.specs.List.{list_all}
-use Rattle.pli_item.specs.declared.declaration.Bounds.{Bounds}
-use Rattle.pli_item.specs.declared.declaration.Integer.{Integer}
+use Rattle.pli_base.specs.declared.declaration.Bounds.{Bounds}
+use Rattle.pli_base.specs.declared.declaration.Integer.{Integer}
 use Rattle.pli_map.specs.declared.description.Bounds as described
 
 abbrev pub integer_of : Integer → ℤ

@@ -8,8 +8,8 @@ use Rattle.std.specs.declared.cmp.Ordering.TheVariants.{Less, Equal, Greater}
 use Rattle.pli_base.specs.Codes.{code_place}
 use Rattle.pli_base.specs.declared.code.Code.{Code}
 use Rattle.pli_base.specs.declared.code.Code.TheVariants.{AttributesConflict, AttributesMissing, BadPrecision, BadLength, BadBounds, BadInitial, AreaNotAllowedHere, TooManyParameters, GenerationTooLarge}
-use Rattle.pli_item.specs.Declarations as tree
-use Rattle.pli_item.specs.declared.declaration.Bounds.{Bounds}
+use Rattle.pli_base.specs.Declarations as tree
+use Rattle.pli_base.specs.declared.declaration.Bounds.{Bounds}
 use Rattle.pli_map.specs.Description as described
 use Rattle.pli_map.specs.declared.description.Bounds as whole
 use Rattle.pli_map.specs.Sizes.{size_of}

@@ -1,10 +1,10 @@
 -- The values in INITIAL.
 use Rattle.std.specs.Prelude.{ℕ, Bool, true, false, not, ◌+◌, ◌*◌, ◌^◌, ◌-◌, min, ◌&&◌, ◌||◌, nat_lt, Option, Some, None, option_map, List, [], ◌∷◌, if◌then◌else◌}
 use Rattle.std.specs.List.{list_all}
-use Rattle.pli_item.specs.Declarations as tree
-use Rattle.pli_item.specs.declared.declaration.Bounds.{Bounds}
-use Rattle.pli_item.specs.declared.declaration.InitialValue.{InitialValue}
-use Rattle.pli_item.specs.declared.declaration.InitialValue.TheVariants as initial
+use Rattle.pli_base.specs.Declarations as tree
+use Rattle.pli_base.specs.declared.declaration.Bounds.{Bounds}
+use Rattle.pli_base.specs.declared.declaration.InitialValue.{InitialValue}
+use Rattle.pli_base.specs.declared.declaration.InitialValue.TheVariants as initial
 use Rattle.pli_map.specs.Description as map
 use Rattle.pli_map.specs.Sizes.{count_of}
 use Rattle.pli_attribute.specs.Sets.{area, has}

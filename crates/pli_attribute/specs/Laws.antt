@@ -1,7 +1,7 @@
 -- What the definitions of attributes amount to.
 use Rattle.std.specs.Prelude.{◌≡◌, ℕ, ◌^◌, ◌≤◌, Some, None, List}
 use Rattle.std.specs.List.{list_any}
-use Rattle.pli_item.specs.Declarations as tree
+use Rattle.pli_base.specs.Declarations as tree
 use Rattle.pli_map.specs.Description.{Description, FixedBinary, Character, Varying, Bit, Pointer, Offset, Area, Array, Structure}
 use Rattle.pli_attribute.specs.Sets.{has, kind_of, set_of}
 use Rattle.pli_attribute.specs.Faults.{item_fault, result_fault, parameter_fault, described_scalar}

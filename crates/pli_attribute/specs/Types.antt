@@ -1,7 +1,7 @@
 -- The type that a set of data attributes says, with its defaults.
 use Rattle.std.specs.Prelude.{ℕ, Bool, true, not, nat_le, ◌&&◌, ◌||◌, if◌then◌else◌, List, [], ◌∷◌, Option, Some, None}
 use Rattle.std.specs.Option.{option_or}
-use Rattle.pli_item.specs.Declarations as tree
+use Rattle.pli_base.specs.Declarations as tree
 use Rattle.pli_map.specs.Description as map
 use Rattle.pli_attribute.specs.Sets.{fixed, varying, character, bit, pointer, offset, area, has}
 

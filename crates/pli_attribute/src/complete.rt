@@ -1,7 +1,7 @@
 //! What the attributes of an item and of a result are completed to, or their least fault.
 ghost use Rattle.std.specs.Prelude.{◌≡◌, true, false, None, map, option_map, IfOk};
 ghost use Rattle.std.specs.List.{list_any};
-ghost use Rattle.pli_item.specs.DeclarationView.{described_view, parameter_view, attribute_view, item_view};
+ghost use Rattle.pli_base.specs.DeclarationView.{described_view, parameter_view, attribute_view, item_view};
 ghost use Rattle.pli_map.specs.DescriptionView.{description_view};
 ghost use Rattle.pli_attribute.specs.Extents.{are_bad_bounds};
 ghost use Rattle.pli_attribute.specs.Faults.{parameter_of, parameter_fault, parameters_fault, described_scalar, is_too_large, with_bounds, own_fault, returned_fault, returned_in};
@@ -13,14 +13,14 @@ ghost use Rattle.pli_attribute.specs.declared.complete.AttributeError.TheVariant
 use crate::completed::{Completed, Scope, Storage, Variable};
 use crate::extents::all_described;
 use crate::faults::{attributes_fault, result_fault};
-use crate::initials::values_of;
+use crate::initials::{copied, values_of};
 use crate::parts::{parameters_of, returned_of};
 use crate::place::{Place, Position};
 use crate::set::AttributeSet;
 use crate::summary::Summary;
 use crate::types::scalar;
 use pli_base::Code;
-use pli_item::{Attribute, DescribedAttribute, InitialValue, Item, ParameterDescription};
+use pli_base::declaration::{Attribute, DescribedAttribute, Item, ParameterDescription};
 use pli_map::{Bounds, Description, size};
 use std::alloc::{AllocError, Global};
 
@@ -79,19 +79,8 @@ fn scope(set: AttributeSet) -> Scope
     }
 }
 
-/// Copies values.
-fn copied(alloc: Global, values: &[InitialValue]) -> Result<Vec<InitialValue>, AllocError>
-    ensures { IfOk result (λ copied. copied.items ≡ values.now) }
-{
-    let mut copied = Vec::with_capacity(alloc, values.len())?;
-    for value in values {
-        copied.push(value.copy(alloc)?)?;
-    }
-    Ok(copied)
-}
-
 /// A type with dimensions before it, if there are any.
-fn bounded(
+pub(crate) fn bounded(
     alloc: Global,
     bounds: Vec<Bounds>,
     element: Description,

@@ -3,7 +3,7 @@ ghost use Rattle.std.specs.Prelude.{◌≡◌, ◌≤ℤ◌, negsuc, pos, IsTrue
 ghost use Rattle.std.specs.List.{list_all};
 ghost use Rattle.pli_attribute.specs.Extents.{integer_of, low_of, bounds_of, are_good, are_bad_bounds, all_bounds};
 
-use pli_item::{Bounds, Integer};
+use pli_base::declaration::{Bounds, Integer};
 use std::alloc::{AllocError, Global};
 
 /// How many dimensions an item may have of its own (own).

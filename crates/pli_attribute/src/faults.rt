@@ -1,6 +1,6 @@
 //! The least fault of attributes.
 ghost use Rattle.std.specs.Prelude.{◌≡◌, [], false, None, map};
-ghost use Rattle.pli_item.specs.DeclarationView.{described_view, parameter_view, attribute_view, item_view};
+ghost use Rattle.pli_base.specs.DeclarationView.{described_view, parameter_view, attribute_view, item_view};
 ghost use Rattle.pli_attribute.specs.Types.{is_bad_precision, is_bad_length};
 ghost use Rattle.pli_attribute.specs.Extents.{are_bad_bounds};
 ghost use Rattle.pli_attribute.specs.Initials.{is_bad_initial};
@@ -14,8 +14,8 @@ use crate::place::{Place, Position};
 use crate::set::AttributeSet;
 use crate::summary::Summary;
 use crate::types::{bad_length, bad_precision, scalar};
+use pli_base::declaration::{Bounds, DescribedAttribute, InitialValue, Item, ParameterDescription};
 use pli_base::{Code, code_order};
-use pli_item::{Bounds, DescribedAttribute, InitialValue, Item, ParameterDescription};
 use std::cmp::Ordering;
 
 /// The fault of the lower number.

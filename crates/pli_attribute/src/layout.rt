@@ -1,7 +1,7 @@
 //! What items take by their attributes and dimensions alone, without a tree.
 ghost use Rattle.std.specs.Prelude.{◌≡◌, ◌*◌, false, map, if◌then◌else◌, nat_le};
 ghost use Rattle.std.specs.Int.{next_multiple_of};
-ghost use Rattle.pli_item.specs.DeclarationView.{attribute_view};
+ghost use Rattle.pli_base.specs.DeclarationView.{attribute_view};
 ghost use Rattle.pli_map.specs.Layouts.{IsLayout};
 ghost use Rattle.pli_map.specs.Sizes.{count_of, size_of, alignment_of};
 ghost use Rattle.pli_attribute.specs.Sets.{outermost};
@@ -12,7 +12,7 @@ ghost use Rattle.pli_attribute.specs.Types.{number_or, scalar_of};
 use crate::initials::elements;
 use crate::set::AttributeSet;
 use crate::summary::Summary;
-use pli_item::{Attribute, Bounds};
+use pli_base::declaration::{Attribute, Bounds};
 use pli_map::Layout;
 
 /// Bytes and alignment of FIXED BINARY: a halfword up to 15 digits.

@@ -4,6 +4,7 @@
 mod agreement;
 mod complete;
 mod completed;
+mod described;
 mod extents;
 mod faults;
 mod initials;
@@ -17,7 +18,8 @@ mod summary;
 mod types;
 
 pub use complete::{AttributeError, completed_item, completed_result, item_fault};
-pub use completed::{Completed, Scope, Storage, Variable};
+pub use completed::{Completed, Scope, Storage, Variable, copied_description};
+pub use described::{array_description, scalar_description};
 pub use faults::{lesser, result_fault};
 pub use initials::elements_within;
 pub use laws::{sets_are_of_what_stands, types_are_within_limits, worked_examples};

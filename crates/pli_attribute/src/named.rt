@@ -1,11 +1,11 @@
 //! What an item is to BASED and OFFSET, which name others.
 ghost use Rattle.std.specs.Prelude.{◌≡◌, ◌+◌, ◌||◌, map};
-ghost use Rattle.pli_item.specs.DeclarationView.{attribute_view};
+ghost use Rattle.pli_base.specs.DeclarationView.{attribute_view};
 ghost use Rattle.pli_attribute.specs.Sets.{has, none_of, set_of, outermost, entry, built_in, based, pointer, offset, area};
 
 use crate::set::AttributeSet;
 use crate::summary::Summary;
-use pli_item::Attribute;
+use pli_base::declaration::Attribute;
 
 /// What attributes make of an item that BASED or OFFSET may name.
 #[derive(Clone, Copy, Debug, PartialEq, Eq)]

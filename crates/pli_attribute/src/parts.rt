@@ -1,9 +1,9 @@
 //! The parts of an item that ENTRY and RETURNS hold.
 ghost use Rattle.std.specs.Prelude.{◌≡◌, map, option_map};
-ghost use Rattle.pli_item.specs.DeclarationView.{described_view, parameter_view, attribute_view};
+ghost use Rattle.pli_base.specs.DeclarationView.{described_view, parameter_view, attribute_view};
 ghost use Rattle.pli_attribute.specs.Faults.{parameters_in, returned_in};
 
-use pli_item::{Attribute, DescribedAttribute, ParameterDescription};
+use pli_base::declaration::{Attribute, DescribedAttribute, ParameterDescription};
 
 /// The descriptions of parameters in an item's ENTRY, none without any.
 pub(crate) fn parameters_of(attributes: &[Attribute]) -> &[ParameterDescription]

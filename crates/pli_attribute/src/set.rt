@@ -1,11 +1,11 @@
 //! Sets of attributes.
 ghost use Rattle.std.specs.Prelude.{⊤, ◌≡◌, ◌==◌, [], ◌∷◌, codes, map};
 ghost use Rattle.std.specs.Int.RustNames.{bit_and, bit_or};
-ghost use Rattle.pli_item.specs.DeclarationView.{simple_view, described_view, attribute_view};
+ghost use Rattle.pli_base.specs.DeclarationView.{simple_view, described_view, attribute_view};
 ghost use Rattle.pli_attribute.specs.Sets.{has, none_of, within, is_one_of, simple_kind, kind_of, outermost};
 
 use bitflags::{Flag, Flags, bitflag_items};
-use pli_item::{Attribute, DescribedAttribute, SimpleAttribute};
+use pli_base::declaration::{Attribute, DescribedAttribute, SimpleAttribute};
 
 /// The attributes that stand beside a name. A precision counts as one beside FIXED or BINARY.
 #[derive(Clone, Copy, PartialEq, Eq, Debug)]

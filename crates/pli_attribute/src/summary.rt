@@ -2,13 +2,13 @@
 ghost use Rattle.std.specs.Prelude.{◌≡◌, ◌&&◌, true, map};
 ghost use Rattle.std.specs.Int.RustNames.{bit_or};
 ghost use Rattle.std.specs.Option.{option_or};
-ghost use Rattle.pli_item.specs.DeclarationView.{simple_view, described_view, attribute_view};
+ghost use Rattle.pli_base.specs.DeclarationView.{simple_view, described_view, attribute_view};
 ghost use Rattle.pli_attribute.specs.Sets.{none_of, set_of, each_once, outermost};
 ghost use Rattle.pli_attribute.specs.Types.{simple_number, described_number, number_of};
 
 use crate::set::AttributeSet;
 use bitflags::Flags;
-use pli_item::{Attribute, DescribedAttribute, SimpleAttribute};
+use pli_base::declaration::{Attribute, DescribedAttribute, SimpleAttribute};
 
 /// What attributes say together.
 #[derive(Clone, Copy)]

@@ -4,8 +4,9 @@ use crate::{
     completed_item, completed_result, elements_within, item_fault, lesser, result_fault,
     scalar_layout, sets_are_of_what_stands, types_are_within_limits, worked_examples,
 };
+use pli_base::declaration::{DescribedAttribute, InitialValue, Integer, SimpleAttribute};
 use pli_base::{BitString, CharacterString, Code, Name, Sign, TokenText};
-use pli_item::{DescribedAttribute, InitialValue, SimpleAttribute, declaration_at, returned_at};
+use pli_item::{declaration_at, returned_at};
 use pli_map::{Bounds, Description};
 use std::alloc::{AllocError, Global};
 use std::fmt::Write;
@@ -665,5 +666,59 @@ fn items_that_others_name(rt: HostRuntime) -> Result<(), Fail> {
     ] {
         assert_eq!(rt; named(rt.alloc(), text)?.as_str(), want, "{text}");
     }
+    Ok(())
+}
+
+#[test]
+fn copies_of_variables(rt: HostRuntime) -> Result<(), Fail> {
+    let alloc = rt.alloc();
+    let factor = InitialValue::Integer {
+        factor: Some(3),
+        value: Integer {
+            negative: true,
+            value: 7,
+        },
+    };
+    let bytes = Vec::from_slice(alloc, b"ABC")?;
+    let characters = InitialValue::Characters(CharacterString::new(bytes));
+    let bits = InitialValue::Bits(BitString::new(Vec::from_slice(alloc, &[true, false])?));
+    let variable = Completed::Variable(Variable {
+        description: Some(Description::FixedBinary(15)),
+        bounds: Vec::from_slice(
+            alloc,
+            &[Bounds { low: -1, high: 1 }, Bounds { low: 1, high: 5 }],
+        )?,
+        storage: Some(Storage::Static),
+        scope: Scope::External,
+        initial: vec![in alloc; factor, characters, bits, InitialValue::Null]?,
+    });
+    let copy = variable.copy(alloc)?;
+    drop(variable);
+    assert_eq!(rt;
+        show(alloc, &copy)?.as_str(),
+        "STATIC EXT (-1:1) (1:5) FIXED(15) 3*7 characters bits null"
+    );
+    Ok(())
+}
+
+#[test]
+fn copies_of_other_items(rt: HostRuntime) -> Result<(), Fail> {
+    let alloc = rt.alloc();
+    let array = Description::Array {
+        bounds: Vec::from_slice(alloc, &[Bounds { low: 2, high: 4 }])?,
+        element: Box::new(alloc, Description::Varying(9))?,
+    };
+    let entry = Completed::Entry {
+        parameters: vec![in alloc; Description::Bit(1), array]?,
+        result: Some(Description::Character(3)),
+    };
+    let copy = entry.copy(alloc)?;
+    drop(entry);
+    assert_eq!(rt;
+        show(alloc, &copy)?.as_str(),
+        "ENTRY, BIT(1), (2:4) VAR(9) RETURNS CHAR(3)"
+    );
+    let copy = Completed::BuiltIn.copy(alloc)?;
+    assert_eq!(rt; show(alloc, &copy)?.as_str(), "BUILTIN");
     Ok(())
 }

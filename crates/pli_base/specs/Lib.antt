@@ -11,3 +11,8 @@ pub mod Words
 pub mod Syntax
 pub mod SyntaxView
 pub mod SyntaxLaws
+pub mod Declarations
+pub mod DeclarationView
+pub mod Statements
+pub mod StatementView
+pub mod StatementLaws

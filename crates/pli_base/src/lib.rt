@@ -2,9 +2,12 @@
 #![tactic(auto)]
 
 mod code;
+mod copying;
+pub mod declaration;
 mod device;
 mod line;
 mod name;
+pub mod statement;
 mod string;
 pub mod syntax;
 mod token;

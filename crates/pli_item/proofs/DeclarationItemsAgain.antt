@@ -7,7 +7,7 @@ use Rattle.pli_base.specs.declared.code.Code.TheVariants.{ParenthesisExpected, S
 use Rattle.pli_base.specs.declared.token.Sign.TheVariants.{Semicolon, Comma, OpenParenthesis, CloseParenthesis}
 use Rattle.pli_base.specs.declared.token.TokenText.TheVariants.{Word, Sign}
 use Rattle.pli_item.specs.DeclarationWords.{attribute_first, behind, if_first, with_attribute, begins_description}
-use Rattle.pli_item.specs.Declarations as tree
+use Rattle.pli_base.specs.Declarations as tree
 use Rattle.pli_item.specs.DeclarationReading.{read_as, mapped, expected, taken, enclosed, Commas, Nothing, list_at, dimensions_at, identifier_at, described_from, described_at, parameter_at, parameters_from, parameters_at, entry_from, entry_at, returned_at, attribute_from, attribute_at, attributes_from, attributes_at, level_at, names_from, names_at, item_at, items_at, declaration_at}
 use Rattle.pli_item.specs.DeclarationGrammar.{between, SpellsListed, Anywhere, SpellsList, SpellsOptional, SpellsSimple, word_of, SpellsDescribed, SpellsParameter, SpellsParameters, SpellsReturned, SpellsAttribute, SpellsAttributes, SpellsIdentifier, SpellsNames, SpellsLevel, SpellsItem, SpellsItems, SpellsDeclaration, EndsItems}
 use Rattle.pli_base.specs.declared.syntax.Identifier.{Identifier}

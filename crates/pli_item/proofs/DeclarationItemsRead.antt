@@ -6,7 +6,7 @@ use Rattle.pli_base.specs.declared.code.Code.TheVariants.{ParenthesisExpected, S
 use Rattle.pli_base.specs.declared.token.Sign.TheVariants.{Semicolon, OpenParenthesis, CloseParenthesis}
 use Rattle.pli_base.specs.declared.token.TokenText.TheVariants.{Word, Decimal, Binary, Sign}
 use Rattle.pli_item.specs.DeclarationWords.{attribute_first, behind, if_first, begins_description}
-use Rattle.pli_item.specs.Declarations as tree
+use Rattle.pli_base.specs.Declarations as tree
 use Rattle.pli_item.specs.DeclarationReading.{expected, taken, enclosed, Commas, Nothing, list_at, dimensions_at, identifier_at, nest_at, simple_of, described_from, described_at, parameter_at, parameters_from, parameters_at, entry_from, entry_at, returned_at, attribute_from, attribute_at, attributes_from, attributes_at, level_at, names_from, names_at, item_at, items_at, declaration_at}
 use Rattle.pli_item.specs.DeclarationGrammar.{SpellsFront, SpellsListed, Anywhere, SpellsList, SpellsEnclosed, SpellsOptional, Part, OneAttribute, IsWellFormed, simple, entry, entry_of_none, entry_of, returns_of, last_attribute, more_attributes, description, last_description, more_descriptions, SpellsDescribed, SpellsParameter, SpellsParameters, SpellsReturned, SpellsAttribute, SpellsAttributes, SpellsIdentifier, SpellsNames, SpellsLevel, SpellsItem, SpellsItems, SpellsDeclaration}
 use Rattle.pli_item.specs.declared.word.AttributeWord.{AttributeWord}

@@ -9,10 +9,10 @@ use Rattle.pli_base.specs.declared.token.Fault.{Fault}
 use Rattle.pli_base.specs.declared.token.Sign.TheVariants.{Comma, OpenParenthesis, CloseParenthesis}
 use Rattle.pli_base.specs.declared.token.TokenText.TheVariants.{Word, Sign}
 use Rattle.pli_item.specs.DeclarationWords.{data_word, storage_word, nesting_word, attribute_word, attribute_first, behind, begins_description}
-use Rattle.pli_item.specs.Declarations.{SimpleAttribute}
+use Rattle.pli_base.specs.Declarations.{SimpleAttribute}
 use Rattle.pli_item.specs.DeclarationReading.{read_as, expected, simple_of, Walk, description_walk, parameters_walk, entry_walk, word_walk, behind_walk, walk_by, step_at, walked_after, walked, nest_at}
 use Rattle.pli_item.specs.DeclarationGrammar.{SpellsDimensions, SpellsSimple, word_of, Part, OneAttribute, Attributes, OneDescription, Descriptions, IsWellFormed, simple, entry, entry_of_none, entry_of, returns_of, last_attribute, more_attributes, description, last_description, more_descriptions}
-use Rattle.pli_item.specs.declared.declaration.Bounds.{Bounds}
+use Rattle.pli_base.specs.declared.declaration.Bounds.{Bounds}
 use Rattle.pli_item.specs.declared.nest.Open.{Open}
 use Rattle.pli_item.specs.declared.nest.Open.TheVariants as opened
 use Rattle.pli_item.specs.declared.nest.Expects.{Expects}

@@ -10,7 +10,7 @@ use Rattle.pli_base.specs.declared.token.TokenText.TheVariants.{Word, Sign}
 use Rattle.pli_item.specs.DeclarationWords.{attribute_first, behind, begins_description}
 use Rattle.pli_item.specs.DeclarationReading.{expected, taken, dimensions_at, simple_of, Walk, description_walk, parameters_walk, entry_walk, word_walk, closed_walk, comma_walk, behind_walk, no_word_walk, walk_by, step_at, walked_after, walked, nest_at}
 use Rattle.pli_item.specs.DeclarationGrammar.{SpellsFront, SpellsDimensions, OneAttribute, Attributes, OneDescription, Descriptions, IsWellFormed, simple, entry, entry_of_none, entry_of, returns_of, last_attribute, more_attributes, description, last_description, more_descriptions}
-use Rattle.pli_item.specs.declared.declaration.Bounds.{Bounds}
+use Rattle.pli_base.specs.declared.declaration.Bounds.{Bounds}
 use Rattle.pli_item.specs.declared.nest.Open.{Open}
 use Rattle.pli_item.specs.declared.nest.Open.TheVariants as opened
 use Rattle.pli_item.specs.declared.nest.Expects.{Expects}

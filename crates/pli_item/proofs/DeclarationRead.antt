@@ -9,13 +9,13 @@ use Rattle.pli_base.specs.declared.token.Fault.{Fault}
 use Rattle.pli_base.specs.declared.token.Sign.TheVariants.{Colon, Comma, OpenParenthesis, CloseParenthesis, Plus, Minus}
 use Rattle.pli_base.specs.declared.token.TokenText.TheVariants.{Word, Decimal, Binary, Characters, Bits, Sign}
 use Rattle.pli_item.specs.DeclarationWords.{data_word, storage_word, nesting_word, word_or, attribute_word, with_rest, attribute_first, behind, name_first, is_colon, is_zero}
-use Rattle.pli_item.specs.Declarations as tree
+use Rattle.pli_base.specs.Declarations as tree
 use Rattle.pli_item.specs.DeclarationReading.{read_as, mapped, expected, taken, enclosed, if_open, Separator, Commas, Periods, separated, behind_separator, listed_after, listed_at, list_at, number_at, signed, integer_at, bounds_from, bounds_at, or_none, dimensions_at, length_at, with_scale, scaled_at, precision_at, name_at, identifier_at, area_at, locator_at, repeated_at, null_from, value_at, values_at, simple_of}
 use Rattle.pli_item.specs.DeclarationGrammar.{SpellsFront, between, SpellsListed, Anywhere, SpellsList, SpellsEnclosed, SpellsOptional, SpellsNumber, SpellsInteger, SpellsBounds, SpellsDimensions, SpellsScaled, SpellsName, SpellsValue, word_of, SpellsBehind, SpellsSimple, SpellsIdentifier}
-use Rattle.pli_item.specs.declared.declaration.Integer.{Integer}
-use Rattle.pli_item.specs.declared.declaration.Bounds.{Bounds}
-use Rattle.pli_item.specs.declared.declaration.InitialValue.{InitialValue}
-use Rattle.pli_item.specs.declared.declaration.InitialValue.TheVariants as initial
+use Rattle.pli_base.specs.declared.declaration.Integer.{Integer}
+use Rattle.pli_base.specs.declared.declaration.Bounds.{Bounds}
+use Rattle.pli_base.specs.declared.declaration.InitialValue.{InitialValue}
+use Rattle.pli_base.specs.declared.declaration.InitialValue.TheVariants as initial
 use Rattle.pli_item.specs.declared.word.SimpleWord.{SimpleWord}
 use Rattle.pli_item.specs.declared.word.SimpleWord.TheVariants as words
 use Rattle.pli_item.specs.declared.word.AttributeWord.{AttributeWord}

@@ -9,13 +9,13 @@ use Rattle.pli_base.specs.declared.token.Fault.{Fault}
 use Rattle.pli_base.specs.declared.token.Sign.TheVariants.{Colon, Comma, OpenParenthesis, CloseParenthesis}
 use Rattle.pli_base.specs.declared.token.TokenText.TheVariants.{Word, Decimal, Sign}
 use Rattle.pli_item.specs.DeclarationWords.{attribute_word, with_rest, attribute_first, behind, name_first, is_colon}
-use Rattle.pli_item.specs.Declarations as tree
+use Rattle.pli_base.specs.Declarations as tree
 use Rattle.pli_item.specs.DeclarationReading.{read_as, mapped, taken, enclosed, if_open, Separator, Commas, Periods, Nothing, separated, behind_separator, listed_after, listed_at, list_at, number_at, signed, integer_at, bounds_from, bounds_at, or_none, dimensions_at, length_at, with_scale, scaled_at, precision_at, name_at, identifier_at, area_at, locator_at, repeated_at, null_from, value_at, values_at, simple_of}
 use Rattle.pli_item.specs.DeclarationGrammar.{between, SpellsListed, Anywhere, SpellsList, SpellsEnclosed, SpellsOptional, SpellsNumber, SpellsSigned, SpellsInteger, SpellsRange, SpellsBounds, SpellsDimensions, SpellsScaled, SpellsName, SpellsValue, word_of, SpellsBehind, SpellsIdentifier}
-use Rattle.pli_item.specs.declared.declaration.Integer.{Integer}
-use Rattle.pli_item.specs.declared.declaration.Bounds.{Bounds}
-use Rattle.pli_item.specs.declared.declaration.InitialValue.{InitialValue}
-use Rattle.pli_item.specs.declared.declaration.InitialValue.TheVariants as initial
+use Rattle.pli_base.specs.declared.declaration.Integer.{Integer}
+use Rattle.pli_base.specs.declared.declaration.Bounds.{Bounds}
+use Rattle.pli_base.specs.declared.declaration.InitialValue.{InitialValue}
+use Rattle.pli_base.specs.declared.declaration.InitialValue.TheVariants as initial
 use Rattle.pli_item.specs.declared.word.AttributeWord.{AttributeWord}
 use Rattle.pli_item.proofs.DeclarationRead.{any_place}
 

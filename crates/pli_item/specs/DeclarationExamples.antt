@@ -7,9 +7,9 @@ use Rattle.pli_base.specs.declared.token.Sign.TheVariants.{Colon, Semicolon, Com
 use Rattle.pli_base.specs.declared.token.TokenText.{TokenText}
 use Rattle.pli_base.specs.declared.token.TokenText.TheVariants.{Word, Decimal, Characters, Sign}
 use Rattle.pli_item.specs.DeclarationReading.{read_as, declaration_at}
-use Rattle.pli_item.specs.Declarations as tree
+use Rattle.pli_base.specs.Declarations as tree
 use Rattle.pli_base.specs.declared.syntax.Identifier.{Identifier}
-use Rattle.pli_item.specs.declared.declaration.InitialValue.TheVariants as initial
+use Rattle.pli_base.specs.declared.declaration.InitialValue.TheVariants as initial
 
 abbrev pub w : List ℕ → TokenText
 w n = Word n

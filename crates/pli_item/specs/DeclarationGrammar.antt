@@ -7,12 +7,12 @@ use Rattle.pli_base.specs.declared.token.Sign.TheVariants.{Colon, Semicolon, Com
 use Rattle.pli_base.specs.declared.token.TokenText.TheVariants.{Word, Decimal, Binary, Characters, Bits, Sign}
 use Rattle.pli_item.specs.DeclarationWords.{attribute_word, behind, with_attribute}
 use Rattle.pli_item.specs.DeclarationReading.{Separator, Commas, Periods, Nothing, behind_separator}
-use Rattle.pli_item.specs.Declarations as tree
+use Rattle.pli_base.specs.Declarations as tree
 use Rattle.pli_base.specs.declared.syntax.Identifier.{Identifier}
-use Rattle.pli_item.specs.declared.declaration.Integer.{Integer}
-use Rattle.pli_item.specs.declared.declaration.Bounds.{Bounds}
-use Rattle.pli_item.specs.declared.declaration.InitialValue.{InitialValue}
-use Rattle.pli_item.specs.declared.declaration.InitialValue.TheVariants as initial
+use Rattle.pli_base.specs.declared.declaration.Integer.{Integer}
+use Rattle.pli_base.specs.declared.declaration.Bounds.{Bounds}
+use Rattle.pli_base.specs.declared.declaration.InitialValue.{InitialValue}
+use Rattle.pli_base.specs.declared.declaration.InitialValue.TheVariants as initial
 use Rattle.pli_item.specs.declared.word.SimpleWord.{SimpleWord}
 use Rattle.pli_item.specs.declared.word.SimpleWord.TheVariants as words
 use Rattle.pli_item.specs.declared.word.AttributeWord.TheVariants as attribute

@@ -11,12 +11,12 @@ use Rattle.pli_base.specs.declared.token.Sign.TheVariants.{OpenParenthesis, Plus
 use Rattle.pli_base.specs.declared.token.TokenText.{TokenText}
 use Rattle.pli_base.specs.declared.token.TokenText.TheVariants.{Word, Decimal, Binary, Characters, Bits, Sign}
 use Rattle.pli_item.specs.DeclarationWords.{attribute_first, behind, name_first, with_attribute, begins_description, is_colon, is_period, is_zero}
-use Rattle.pli_item.specs.Declarations as tree
+use Rattle.pli_base.specs.Declarations as tree
 use Rattle.pli_base.specs.declared.syntax.Identifier.{Identifier}
-use Rattle.pli_item.specs.declared.declaration.Integer.{Integer}
-use Rattle.pli_item.specs.declared.declaration.Bounds.{Bounds}
-use Rattle.pli_item.specs.declared.declaration.InitialValue.{InitialValue}
-use Rattle.pli_item.specs.declared.declaration.InitialValue.TheVariants as initial
+use Rattle.pli_base.specs.declared.declaration.Integer.{Integer}
+use Rattle.pli_base.specs.declared.declaration.Bounds.{Bounds}
+use Rattle.pli_base.specs.declared.declaration.InitialValue.{InitialValue}
+use Rattle.pli_base.specs.declared.declaration.InitialValue.TheVariants as initial
 use Rattle.pli_item.specs.declared.word.SimpleWord.{SimpleWord}
 use Rattle.pli_item.specs.declared.word.SimpleWord.TheVariants as words
 use Rattle.pli_item.specs.declared.word.AttributeWord.{AttributeWord}

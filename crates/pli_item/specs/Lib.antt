@@ -2,6 +2,4 @@ pub mod DeclarationAnswers
 pub mod DeclarationExamples
 pub mod DeclarationGrammar
 pub mod DeclarationReading
-pub mod DeclarationView
 pub mod DeclarationWords
-pub mod Declarations

@@ -1,11 +1,10 @@
 //! Descriptions of parameters and of results.
 ghost use Rattle.std.specs.Prelude.{◌≡◌, ◌≤◌, ◌+◌, length, map, IfOk};
-ghost use Rattle.pli_item.specs.DeclarationView.{described_view, parameter_view};
+ghost use Rattle.pli_base.specs.DeclarationView.{described_view, parameter_view};
 ghost use Rattle.pli_item.specs.DeclarationReading.{Commas, Nothing, list_at, described_at, parameter_at, parameters_at, returned_at};
 ghost use Rattle.pli_item.specs.DeclarationAnswers.{Gives, Advances, front_view};
 
 use crate::answer::{Front, ParseError};
-use crate::declaration::{DescribedAttribute, ParameterDescription};
 use crate::extent::dimensions_at;
 use crate::front::{
     attribute_first, begins_description, behind_close, behind_comma, close_taken, fault_at,
@@ -14,6 +13,7 @@ use crate::front::{
 use crate::nest::nest_at;
 use crate::simple::simple_of;
 use crate::word::AttributeWord;
+use pli_base::declaration::{DescribedAttribute, ParameterDescription};
 use pli_base::{Code, TokenText};
 use std::alloc::Global;
 

@@ -4,8 +4,8 @@ ghost use Rattle.pli_item.specs.DeclarationReading.{Commas, list_at, integer_at,
 ghost use Rattle.pli_item.specs.DeclarationAnswers.{Gives, Advances, Continues, front_view};
 
 use crate::answer::{Front, ParseError};
-use crate::declaration::{Bounds, Integer};
 use crate::front::{behind_colon, behind_comma, behind_open, close_taken, number_at, zero_taken};
+use pli_base::declaration::{Bounds, Integer};
 use pli_base::{Sign, TokenText};
 use std::alloc::Global;
 

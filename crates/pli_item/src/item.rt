@@ -1,12 +1,11 @@
 //! The items of DECLARE.
 ghost use Rattle.std.specs.Prelude.{◌≡◌, ◌≤◌, ◌+◌, length, map, IfOk};
-ghost use Rattle.pli_item.specs.Declarations as tree;
-ghost use Rattle.pli_item.specs.DeclarationView.{attribute_view, item_view};
+ghost use Rattle.pli_base.specs.Declarations as tree;
+ghost use Rattle.pli_base.specs.DeclarationView.{attribute_view, item_view};
 ghost use Rattle.pli_item.specs.DeclarationReading.{Commas, Nothing, mapped, list_at, entry_at, attribute_at, attributes_at, identifier_at, names_at, item_at, declaration_at};
 ghost use Rattle.pli_item.specs.DeclarationAnswers.{Gives, Advances, Continues, front_view};
 
 use crate::answer::{Front, ParseError};
-use crate::declaration::{Attribute, Item};
 use crate::described::{parameters_at, returned_at};
 use crate::extent::dimensions_at;
 use crate::front::{
@@ -15,6 +14,7 @@ use crate::front::{
 };
 use crate::simple::simple_of;
 use crate::word::AttributeWord;
+use pli_base::declaration::{Attribute, Item};
 use pli_base::syntax::Identifier;
 use pli_base::{Code, TokenText};
 use std::alloc::Global;

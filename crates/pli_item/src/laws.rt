@@ -2,7 +2,7 @@
 ghost use Rattle.std.specs.Prelude.{◌≡◌, ◌+◌, ◌++◌, ℕ, List, Ok, length};
 ghost use Rattle.pli_base.specs.Words.{Tokens};
 ghost use Rattle.pli_base.specs.Reading.{Front};
-ghost use Rattle.pli_item.specs.Declarations as tree;
+ghost use Rattle.pli_base.specs.Declarations as tree;
 ghost use Rattle.pli_item.specs.DeclarationReading.{read_as, items_at, declaration_at, returned_at};
 ghost use Rattle.pli_item.specs.DeclarationGrammar.{SpellsFront, SpellsItems, SpellsDeclaration, SpellsReturned, Anywhere, EndsItems};
 ghost use Rattle.pli_item.specs.DeclarationExamples.{NameThatIsKeyword, Levels, Nest, Values, WrongWord, NoLevelInParentheses, NoScaleButZero, NoFactorOfString, NoDescription, NoDescriptionBehindComma, NoAttributeInNest, TextEnds};

@@ -2,7 +2,6 @@
 #![tactic(auto)]
 
 mod answer;
-mod declaration;
 mod described;
 mod extent;
 mod front;
@@ -13,10 +12,6 @@ mod simple;
 mod word;
 
 pub use answer::{Front, ParseError};
-pub use declaration::{
-    Attribute, Bounds, DescribedAttribute, InitialValue, Integer, Item, ParameterDescription,
-    SimpleAttribute,
-};
 pub use described::returned_at;
 pub use front::{
     behind_comma, behind_open, close_taken, fault_at, name_first, open_taken, semicolon_taken,

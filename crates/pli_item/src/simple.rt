@@ -1,20 +1,20 @@
 //! Attributes other than ENTRY and RETURNS, behind their keywords.
 ghost use Rattle.std.specs.Prelude.{◌≡◌, ◌≤◌, ◌+◌, length, IfOk};
-ghost use Rattle.pli_item.specs.Declarations as tree;
-ghost use Rattle.pli_item.specs.DeclarationView.{simple_view};
+ghost use Rattle.pli_base.specs.Declarations as tree;
+ghost use Rattle.pli_base.specs.DeclarationView.{simple_view};
 ghost use Rattle.pli_item.specs.DeclarationReading.{Commas, Periods, mapped, list_at, name_at, area_at, locator_at, repeated_at, null_from, value_at, values_at, simple_of};
 ghost use Rattle.pli_item.specs.DeclarationAnswers.{Gives, Advances, Continues, front_view};
 ghost use Rattle.pli_item.specs.DeclarationWords.{behind};
 ghost use Rattle.pli_base.specs.Words.{is_open};
 
 use crate::answer::{Front, ParseError};
-use crate::declaration::{InitialValue, SimpleAttribute};
 use crate::extent::{integer_at, length_at, precision_at};
 use crate::front::{
     behind_comma, behind_open, behind_period, close_taken, fault_at, name_first, number_at,
     open_taken,
 };
 use crate::word::SimpleWord;
+use pli_base::declaration::{InitialValue, SimpleAttribute};
 use pli_base::{Code, Name, Sign, TokenText};
 use std::alloc::Global;
 

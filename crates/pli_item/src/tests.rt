@@ -1,4 +1,8 @@
 use super::*;
+use pli_base::declaration::{
+    Attribute, Bounds, DescribedAttribute, InitialValue, Integer, Item, ParameterDescription,
+    SimpleAttribute,
+};
 use pli_base::syntax::Identifier;
 use pli_base::{BitString, CharacterString, Name, Sign, TokenText};
 use std::alloc::{AllocError, Global};

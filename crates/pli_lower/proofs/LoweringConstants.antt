@@ -11,7 +11,7 @@ use Rattle.pli_base.specs.declared.syntax.ConstantValue.TheVariants.{Decimal}
 use Rattle.pli_base.specs.declared.syntax.InfixOperator.TheVariants.{Add}
 use Rattle.pli_base.specs.declared.token.Fault.{Fault}
 use Rattle.pli_code.specs.Declarations.{names_in, body_faults}
-use Rattle.pli_parse.specs.Statements.{Statement, Numbered, Body, Null, Declare, Assign, Put, Statements, Ended, Before}
+use Rattle.pli_base.specs.Statements.{Statement, Numbered, Body, Null, Declare, Assign, Put, Statements, Ended, Before}
 use Rattle.pli_lower.specs.Lowering.{both, is_of_language, lowered_constant, lowered_reference, lowered_expression, lowered_expressions, lowered_items, lowered_body, is_faultless, of_variables, variables_of, not_yet_built, numbered, lowered_statement, lowered_statements, is_plain, procedure_of, lowered}
 use Rattle.pli_lower.specs.LoweringLaws.{IsConstantOfLanguage, IsExpressionOfLanguage, AreExpressionsOfLanguage, IsBodyOfLanguage, AreStatementsOfLanguage, IsOfLanguage, LowersToLanguage}
 

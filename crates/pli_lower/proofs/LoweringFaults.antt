@@ -6,7 +6,7 @@ use Rattle.pli_base.specs.Tree as small
 use Rattle.pli_base.specs.declared.code.Code.TheVariants.{NotYetBuilt}
 use Rattle.pli_base.specs.declared.token.Fault.{Fault}
 use Rattle.pli_code.specs.Declarations.{names_in}
-use Rattle.pli_parse.specs.Statements.{Statement, Numbered, Statements, Ended, Before}
+use Rattle.pli_base.specs.Statements.{Statement, Numbered, Statements, Ended, Before}
 use Rattle.pli_lower.specs.Lowering.{not_yet_built, numbered, of_variables, variables_of, lowered_body, lowered_statement, lowered_statements, is_plain, procedure_of, lowered}
 use Rattle.pli_lower.specs.LoweringLaws.{FailsAsNotYetBuilt}
 

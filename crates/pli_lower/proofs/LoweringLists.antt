@@ -11,10 +11,10 @@ use Rattle.pli_base.specs.declared.tree.Statement.{Statement as LoweredStatement
 use Rattle.pli_base.specs.declared.syntax.Expression.{Expression}
 use Rattle.pli_base.specs.declared.token.Fault.{Fault}
 use Rattle.pli_code.specs.Declarations.{names_in}
-use Rattle.pli_item.specs.DeclarationView.{item_view}
-use Rattle.pli_item.specs.declared.declaration.Item.{Item}
-use Rattle.pli_parse.specs.StatementView.{statement_view, statements_view}
-use Rattle.pli_parse.specs.declared.statement.Statement.{Statement}
+use Rattle.pli_base.specs.DeclarationView.{item_view}
+use Rattle.pli_base.specs.declared.declaration.Item.{Item}
+use Rattle.pli_base.specs.StatementView.{statement_view, statements_view}
+use Rattle.pli_base.specs.declared.statement.Statement.{Statement}
 use Rattle.pli_lower.specs.Lowering.{both, lowered_expression, lowered_expressions, is_variables, variable_named, lowered_item, lowered_items, lowered_statement, lowered_statements}
 use Rattle.pli_lower.specs.LoweringAnswers.{Fails, Refuses}
 use Rattle.pli_lower.specs.declared.answer.LowerError.{LowerError}

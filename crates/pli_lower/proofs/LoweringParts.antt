@@ -14,9 +14,9 @@ use Rattle.pli_base.specs.declared.syntax.Expression.{Expression}
 use Rattle.pli_base.specs.declared.syntax.Identifier.{Identifier}
 use Rattle.pli_base.specs.declared.syntax.JoinedPart.{JoinedPart}
 use Rattle.pli_base.specs.declared.syntax.Reference.{Reference, out-Reference}
-use Rattle.pli_parse.specs.StatementView.{option_view, statements_view, unit_view}
-use Rattle.pli_parse.specs.StatementLaws.{heading_made, unit_made}
-use Rattle.pli_parse.specs.declared.statement.Procedure.{Procedure, out-Procedure, roll-out-Procedure}
+use Rattle.pli_base.specs.StatementView.{option_view, statements_view, unit_view}
+use Rattle.pli_base.specs.StatementLaws.{heading_made, unit_made}
+use Rattle.pli_base.specs.declared.statement.Procedure.{Procedure, out-Procedure, roll-out-Procedure}
 use Rattle.pli_lower.specs.Lowering.{lowered_reference, variable_named, variables_of, lowered_statements, lowered, is_main, is_returns, not_yet_built}
 
 -- ten digits are enough for each constant

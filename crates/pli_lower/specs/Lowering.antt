@@ -13,8 +13,8 @@ use Rattle.pli_base.specs.declared.syntax.Identifier.{Identifier}
 use Rattle.pli_base.specs.declared.code.Code.TheVariants.{NotYetBuilt}
 use Rattle.pli_base.specs.declared.token.Fault.{Fault}
 use Rattle.pli_code.specs.Declarations.{names_in, body_faults}
-use Rattle.pli_item.specs.Declarations.{Attribute, Simple, Fixed, Binary, Item}
-use Rattle.pli_parse.specs.Statements.{ProcedureOption, Main, Returns, Heading, Statement, Numbered, Body, Null, Declare, Assign, Put, Statements, Ended, Before, ExternalProcedure}
+use Rattle.pli_base.specs.Declarations.{Attribute, Simple, Fixed, Binary, Item}
+use Rattle.pli_base.specs.Statements.{ProcedureOption, Main, Returns, Heading, Statement, Numbered, Body, Null, Declare, Assign, Put, Statements, Ended, Before, ExternalProcedure}
 
 -- what two parts make, where both can be compiled
 abbrev pub both : {A B C : Type 0} → (make : A → B → C) → Option A → Option B → Option C

@@ -9,9 +9,9 @@ use Rattle.pli_base.specs.declared.syntax.InfixOperator.TheVariants.{Add, Subtra
 use Rattle.pli_base.specs.declared.syntax.PrefixOperator.TheVariants.{Minus}
 use Rattle.pli_base.specs.declared.syntax.Joining.TheVariants.{Member}
 use Rattle.pli_base.specs.declared.token.Fault.{Fault}
-use Rattle.pli_item.specs.Declarations.{SimpleAttribute, Fixed, Binary, Static, Simple, Attribute}
-use Rattle.pli_item.specs.declared.declaration.Bounds.{Bounds}
-use Rattle.pli_parse.specs.Statements.{ProcedureOption, Main, Returns, Recursive, Body, Null, Declare, Assign, Put, Stop, Do, Numbered, Statements, Ended, Before, ExternalProcedure}
+use Rattle.pli_base.specs.Declarations.{SimpleAttribute, Fixed, Binary, Static, Simple, Attribute}
+use Rattle.pli_base.specs.declared.declaration.Bounds.{Bounds}
+use Rattle.pli_base.specs.Statements.{ProcedureOption, Main, Returns, Recursive, Body, Null, Declare, Assign, Put, Stop, Do, Numbered, Statements, Ended, Before, ExternalProcedure}
 use Rattle.pli_lower.specs.Lowering.{lowered, not_yet_built}
 
 -- a name at a token

@@ -4,7 +4,7 @@ use Rattle.pli_base.specs.Tree.{Expression, Variable, Constant, Sum, Body, Null,
 use Rattle.pli_base.specs.declared.code.Code.TheVariants.{NotYetBuilt}
 use Rattle.pli_base.specs.declared.token.Fault.{Fault}
 use Rattle.pli_code.specs.Declarations.{declaration_faults}
-use Rattle.pli_parse.specs.Statements.{ExternalProcedure}
+use Rattle.pli_base.specs.Statements.{ExternalProcedure}
 use Rattle.pli_lower.specs.Lowering.{lowered}
 
 -- a constant is at most 2147483647, and has so many digits

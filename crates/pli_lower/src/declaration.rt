@@ -1,15 +1,15 @@
 //! Lowering of declarations.
 ghost use Rattle.std.specs.Prelude.{◌≡◌, ◌++◌, map, OnOk, is_none};
 ghost use Rattle.pli_base.specs.TreeView as small;
-ghost use Rattle.pli_item.specs.DeclarationView.{attribute_view, item_view};
+ghost use Rattle.pli_base.specs.DeclarationView.{attribute_view, item_view};
 ghost use Rattle.pli_lower.specs.Lowering.{is_declared_once, is_fixed_binary, variable_named, lowered_items, is_variables};
 ghost use Rattle.pli_lower.specs.LoweringAnswers.{Lowers};
 
 use crate::answer::Refusal;
 use crate::expression::variable_named;
 use pli_base::Reference;
+use pli_base::declaration::{Attribute, Item, SimpleAttribute};
 use pli_base::syntax::Identifier;
-use pli_item::{Attribute, Item, SimpleAttribute};
 use std::alloc::{AllocError, Global};
 
 /// The precision of the variables that can be compiled.

@@ -2,7 +2,7 @@
 ghost use Rattle.std.specs.Prelude.{◌≡◌, ◌++◌, [], map, IfOk};
 ghost use Rattle.pli_base.specs.TreeView as small;
 ghost use Rattle.pli_code.specs.Declarations.{names_in};
-ghost use Rattle.pli_parse.specs.StatementView.{body_view, statement_view, statements_view};
+ghost use Rattle.pli_base.specs.StatementView.{body_view, statement_view, statements_view};
 ghost use Rattle.pli_lower.specs.Lowering.{lowered_body, of_variables, variables_of, lowered_statement, lowered_statements};
 ghost use Rattle.pli_lower.specs.LoweringAnswers.{Gives, Lowers};
 
@@ -12,7 +12,7 @@ use crate::expression::{lower_expression, lower_expressions, lower_reference};
 use crate::variable::{is_of_variables, variables};
 use indexmap::IndexSet;
 use pli_base::Name;
-use pli_parse::{Body, Statement};
+use pli_base::statement::{Body, Statement};
 use std::alloc::Global;
 
 /// Lowers what a statement says.

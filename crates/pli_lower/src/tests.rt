@@ -4,10 +4,10 @@ use crate::{
     LowerError, constants_are_of_language, faults_are_not_yet_built, lower, names_are_of_variables,
     worked_examples,
 };
+use pli_base::declaration::{Attribute, DescribedAttribute, Item, SimpleAttribute};
+use pli_base::statement::{Body, Procedure, ProcedureOption, Statement};
 use pli_base::syntax::{ConstantValue, Expression, Identifier, InfixOperator, Part, Reference};
 use pli_base::{Name, Unit};
-use pli_item::{Attribute, DescribedAttribute, Item, SimpleAttribute};
-use pli_parse::{Body, Procedure, ProcedureOption, Statement};
 use std::alloc::{AllocError, Global};
 use std::fmt::Write;
 use std::test::*;

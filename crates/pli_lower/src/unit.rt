@@ -2,14 +2,14 @@
 ghost use Rattle.std.specs.Prelude.{◌≡◌};
 ghost use Rattle.std.specs.List.{list_any};
 ghost use Rattle.pli_base.specs.TreeView as small;
-ghost use Rattle.pli_parse.specs.StatementView.{option_view, unit_view};
+ghost use Rattle.pli_base.specs.StatementView.{option_view, unit_view};
 ghost use Rattle.pli_lower.specs.Lowering.{lowered, is_main, is_returns};
 ghost use Rattle.pli_lower.specs.LoweringAnswers.{Gives};
 
 use crate::answer::{LowerError, not_yet_built};
 use crate::statement::lower_statements;
 use pli_base::Unit;
-use pli_parse::{Procedure, ProcedureOption};
+use pli_base::statement::{Procedure, ProcedureOption};
 use std::alloc::Global;
 
 /// Whether the option is OPTIONS(MAIN).

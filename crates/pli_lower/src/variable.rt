@@ -5,14 +5,14 @@ ghost use Rattle.indexmap.specs.IndexSet.{insert_all};
 ghost use Rattle.pli_base.specs.Words.{same_name};
 ghost use Rattle.pli_base.specs.TreeView as small;
 ghost use Rattle.pli_code.specs.Declarations.{names_in, repeats, expression_faults, body_faults};
-ghost use Rattle.pli_parse.specs.StatementView.{statement_view, statements_view};
+ghost use Rattle.pli_base.specs.StatementView.{statement_view, statements_view};
 ghost use Rattle.pli_lower.specs.Lowering.{variables_in, variables_of, is_faultless};
 
 use crate::answer::Refusal;
 use crate::declaration::lower_items;
 use indexmap::IndexSet;
+use pli_base::statement::Statement;
 use pli_base::{Body, Expression, Name, Reference};
-use pli_parse::Statement;
 use std::alloc::{AllocError, Global};
 
 /// Puts the names of variables in a set.
@@ -35,7 +35,7 @@ fn add_declared(
     ensures { OnOk result (names.new.keys ≡ insert_all same_name names.old.keys (variables_in (statement_view statement.now))) }
 {
     match &statement.body {
-        pli_parse::Body::Declare(items) if statement.label.is_none() => {
+        pli_base::statement::Body::Declare(items) if statement.label.is_none() => {
             match lower_items(alloc, items.as_slice()) {
                 Ok(variables) => add_names(names, variables.as_slice()),
                 Err(Refusal::NotBuilt) => Ok(()),

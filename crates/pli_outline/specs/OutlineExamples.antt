@@ -4,9 +4,9 @@ use Rattle.pli_base.specs.Name.{Name}
 use Rattle.pli_base.specs.Syntax.{Referred, Reference, Named, Alone, Joined, Absent, Given, Empty, Listed}
 use Rattle.pli_base.specs.declared.syntax.Identifier.{Identifier}
 use Rattle.pli_base.specs.declared.syntax.Joining.TheVariants.{Member, Located}
-use Rattle.pli_parse.specs.Statements.{Heading, Statement, Numbered, Body, Statements, Ended, Before, ExternalProcedure}
-use Rattle.pli_parse.specs.Statements as body
-use Rattle.pli_parse.specs.declared.statement.Condition.TheVariants.{Area}
+use Rattle.pli_base.specs.Statements.{Heading, Statement, Numbered, Body, Statements, Ended, Before, ExternalProcedure}
+use Rattle.pli_base.specs.Statements as body
+use Rattle.pli_base.specs.declared.statement.Condition.TheVariants.{Area}
 use Rattle.pli_outline.specs.Outlines.{Region, Mark, Labelled, Entered, Used, Jumped, Placed, outline_of}
 use Rattle.pli_outline.specs.declared.region.RegionKind.{RegionKind}
 use Rattle.pli_outline.specs.declared.region.RegionKind.TheVariants as kinds

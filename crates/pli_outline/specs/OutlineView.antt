@@ -1,7 +1,7 @@
 -- What an outline of the program says, apart from where it lies in memory.
 use Rattle.std.specs.Prelude.{List, map}
-use Rattle.pli_item.specs.DeclarationView.{item_view}
-use Rattle.pli_parse.specs.StatementView.{unit_view}
+use Rattle.pli_base.specs.DeclarationView.{item_view}
+use Rattle.pli_base.specs.StatementView.{unit_view}
 use Rattle.pli_outline.specs.Outlines as plain
 use Rattle.pli_outline.specs.declared.region.Region.{Region}
 use Rattle.pli_outline.specs.declared.region.Mark.{Mark}

@@ -5,9 +5,9 @@ use Rattle.std.specs.List.{flat_map}
 use Rattle.pli_base.specs.Syntax.{Expression, Referred, Constant, Parenthesized, Prefix, Infix, Reference, Named, JoinedParts, Alone, Joined, Arguments, Absent, Given, Expressions, Empty, Listed}
 use Rattle.pli_base.specs.declared.syntax.Identifier.{Identifier}
 use Rattle.pli_base.specs.declared.syntax.Joining.TheVariants.{Member, Located}
-use Rattle.pli_item.specs.Declarations.{Item}
-use Rattle.pli_parse.specs.Statements.{Heading, Range, To, By, Repeat, Control, While, Iterate, Allocation, Statement, Numbered, Body, Statements, Ended, Before, Alternative, NoElse, Else, ExternalProcedure}
-use Rattle.pli_parse.specs.Statements as body
+use Rattle.pli_base.specs.Declarations.{Item}
+use Rattle.pli_base.specs.Statements.{Heading, Range, To, By, Repeat, Control, While, Iterate, Allocation, Statement, Numbered, Body, Statements, Ended, Before, Alternative, NoElse, Else, ExternalProcedure}
+use Rattle.pli_base.specs.Statements as body
 use Rattle.pli_outline.specs.declared.region.RegionKind.{RegionKind}
 use Rattle.pli_outline.specs.declared.region.RegionKind.TheVariants as kinds
 

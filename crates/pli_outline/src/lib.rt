@@ -10,6 +10,3 @@ mod walk;
 pub use laws::worked_examples;
 pub use region::{Mark, Outline, Placed, Region, RegionKind};
 pub use walk::outline;
-
-#[cfg(test)]
-mod tests;

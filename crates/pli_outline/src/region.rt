@@ -1,7 +1,7 @@
 //! Outlines: what a unit declares and uses, apart from how its statements nest.
+use pli_base::declaration::Item;
+use pli_base::statement::Procedure;
 use pli_base::syntax::Identifier;
-use pli_item::Item;
-use pli_parse::Procedure;
 
 /// What a region is (own).
 #[derive(Clone, Copy, Debug, PartialEq, Eq)]

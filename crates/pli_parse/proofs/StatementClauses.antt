@@ -8,7 +8,7 @@ use Rattle.pli_item.specs.declared.answer.ParseError.{ParseError}
 use Rattle.pli_item.specs.declared.answer.ParseError.TheVariants as errors
 use Rattle.pli_item.specs.DeclarationAnswers.{Fails}
 use Rattle.pli_item.specs.DeclarationReading.{taken}
-use Rattle.pli_parse.specs.Statements.{Statement, count}
+use Rattle.pli_base.specs.Statements.{Statement, count}
 use Rattle.pli_parse.specs.StatementWords.{Context, standing}
 use Rattle.pli_parse.specs.declared.keyword.Standing.TheVariants.{AsClause}
 use Rattle.pli_parse.specs.StatementReading.{Inside, expression_in, alternative_from, else_first, if_at}

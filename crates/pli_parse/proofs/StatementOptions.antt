@@ -8,7 +8,7 @@ use Rattle.pli_item.specs.declared.answer.ParseError.TheVariants as errors
 use Rattle.pli_item.specs.DeclarationAnswers.{Fails}
 use Rattle.pli_item.specs.DeclarationReading.{read_as, mapped, returned_at}
 use Rattle.pli_item.proofs.DeclarationLists.{with_done}
-use Rattle.pli_parse.specs.Statements.{ProcedureOption}
+use Rattle.pli_base.specs.Statements.{ProcedureOption}
 use Rattle.pli_parse.specs.StatementReading.{OptionWord, OptionsWord, ReturnsWord, RecursiveWord, option_first, options_by, options_from}
 use Rattle.pli_parse.specs.StatementAnswers.{option_of}
 

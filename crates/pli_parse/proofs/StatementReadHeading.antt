@@ -23,7 +23,7 @@ use Rattle.pli_item.specs.DeclarationGrammar.{SpellsFront, SpellsListed}
 use Rattle.pli_item.proofs.DeclarationSteps.{same_ok, bind_ok, mapped_ok, taken_ok, two}
 use Rattle.pli_item.proofs.DeclarationRead.{Reads}
 use Rattle.pli_item.proofs.DeclarationItemsRead.{returned_reads}
-use Rattle.pli_parse.specs.Statements.{ProcedureOption, Main, Returns, Recursive, Heading, Body, Call}
+use Rattle.pli_base.specs.Statements.{ProcedureOption, Main, Returns, Recursive, Heading, Body, Call}
 use Rattle.pli_parse.specs.StatementReading.{identifier_at, uncounted, call_at, OptionWord, OptionsWord, ReturnsWord, RecursiveWord, option_word, option_first, main_at, options_by, options_from, heading_at}
 use Rattle.pli_parse.specs.StatementGrammar.{SpellsIdentifier, SpellsCall, SpellsParameters, SpellsOption, SpellsOptions, SpellsHeading}
 use Rattle.pli_parse.proofs.StatementReadTools as tools

@@ -7,7 +7,7 @@ use Rattle.pli_base.specs.declared.token.TokenText.TheVariants.{Word}
 use Rattle.pli_base.specs.declared.syntax.Identifier.{Identifier}
 use Rattle.pli_item.specs.DeclarationGrammar.{SpellsFront}
 use Rattle.pli_item.proofs.DeclarationSteps.{same_ok, bind_ok, mapped_ok, two}
-use Rattle.pli_parse.specs.Statements.{Statement, Before, Alternative, Else, count, list_count, AwaitsElse, AlternativeAwaitsElse}
+use Rattle.pli_base.specs.Statements.{Statement, Before, Alternative, Else, count, list_count, AwaitsElse, AlternativeAwaitsElse}
 use Rattle.pli_parse.specs.StatementWords.{Context, standing}
 use Rattle.pli_parse.specs.StatementReading.{StatementReader, Inside, deeper, Listing, ending_at, Next, EndsHere, Another, next_of, list_by, list_from, else_first, alternative_from}
 use Rattle.pli_parse.specs.StatementGrammar.{SpellsStatement, SpellsStatements, SpellsEnd, SpellsAlternative}

@@ -16,8 +16,8 @@ use Rattle.pli_item.specs.DeclarationGrammar.{SpellsFront, SpellsListed}
 use Rattle.pli_item.proofs.DeclarationSteps.{same_ok, bind_ok, mapped_ok, taken_ok, two}
 use Rattle.pli_item.proofs.DeclarationRead.{Reads}
 use Rattle.pli_item.proofs.DeclarationItemsRead.{declaration_reads}
-use Rattle.pli_parse.specs.Statements as body
-use Rattle.pli_parse.specs.Statements.{Body, BodyAwaitsElse}
+use Rattle.pli_base.specs.Statements as body
+use Rattle.pli_base.specs.Statements.{Body, BodyAwaitsElse}
 use Rattle.pli_parse.specs.StatementWords.{Context, keyword_of}
 use Rattle.pli_parse.specs.StatementReading.{expression_in, reference_in, closing, identifier_at, is_equals, assignment_at, condition_at, allocation_at, put_at, call_at, is_labelled, else_first, standing_misplaced, misplacement}
 use Rattle.pli_parse.specs.StatementGrammar.{BeginsAssignment, IsOfItsKind, SpellsIdentifier, SpellsCondition, SpellsAllocation, SpellsValue, StandsIn, MayReturn, SpellsBody}

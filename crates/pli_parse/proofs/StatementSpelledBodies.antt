@@ -8,7 +8,7 @@ use Rattle.pli_base.specs.declared.token.TokenText.TheVariants.{Word, Sign}
 use Rattle.pli_item.specs.DeclarationReading.{Commas}
 use Rattle.pli_item.specs.DeclarationGrammar.{SpellsListed}
 use Rattle.pli_grammar.specs.Expressions.{SpellsReferenceAlone}
-use Rattle.pli_parse.specs.Statements.{Statement, Numbered, Body, Null, Assign, Declare, Procedure, Begin, Do, If, On, Revert, Signal, Stop, Allocate, Free, Call, Goto, Return, Put}
+use Rattle.pli_base.specs.Statements.{Statement, Numbered, Body, Null, Assign, Declare, Procedure, Begin, Do, If, On, Revert, Signal, Stop, Allocate, Free, Call, Goto, Return, Put}
 use Rattle.pli_parse.specs.StatementGrammar.{SpellsKeyed, SpellsClosed, SpellsCondition, SpellsAllocation, SpellsCall, SpellsValue, SpellsPut, IsOfItsKind, SpellsStatement, SpellsBody}
 use Rattle.pli_parse.specs.StatementWords.{Context}
 use Rattle.pli_parse.specs.declared.keyword.Keyword.{Keyword}

@@ -1,8 +1,5 @@
 pub mod StatementAnswers
 pub mod StatementExamples
 pub mod StatementGrammar
-pub mod StatementLaws
 pub mod StatementReading
-pub mod StatementView
 pub mod StatementWords
-pub mod Statements

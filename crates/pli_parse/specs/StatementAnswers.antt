@@ -5,8 +5,8 @@ use Rattle.pli_base.specs.Reading.{Front}
 use Rattle.pli_base.specs.declared.token.Fault.{Fault}
 use Rattle.pli_base.specs.declared.syntax.Identifier.{Identifier}
 use Rattle.pli_item.specs.DeclarationReading.{mapped, read_as, returned_at}
-use Rattle.pli_parse.specs.Statements as tree
-use Rattle.pli_parse.specs.StatementView as views
+use Rattle.pli_base.specs.Statements as tree
+use Rattle.pli_base.specs.StatementView as views
 use Rattle.pli_parse.specs.StatementWords.{Context}
 use Rattle.pli_parse.specs.StatementWords as grammar
 use Rattle.pli_parse.specs.declared.first.Context as first

@@ -12,14 +12,14 @@ use Rattle.pli_base.specs.declared.token.Fault.{Fault}
 use Rattle.pli_base.specs.declared.token.Sign.TheVariants.{Colon, Semicolon, OpenParenthesis, CloseParenthesis, Equals}
 use Rattle.pli_base.specs.declared.token.TokenText.{TokenText}
 use Rattle.pli_base.specs.declared.token.TokenText.TheVariants.{Word, Decimal, Sign}
-use Rattle.pli_item.specs.Declarations as declarations
+use Rattle.pli_base.specs.Declarations as declarations
 use Rattle.pli_item.specs.DeclarationReading.{read_as}
-use Rattle.pli_parse.specs.Statements.{Main, Returns, Recursive, To, By, Iterate, While, Statement, Numbered, Body, Statements, Ended, Before, NoElse, Else, ExternalProcedure}
-use Rattle.pli_parse.specs.Statements as body
+use Rattle.pli_base.specs.Statements.{Main, Returns, Recursive, To, By, Iterate, While, Statement, Numbered, Body, Statements, Ended, Before, NoElse, Else, ExternalProcedure}
+use Rattle.pli_base.specs.Statements as body
 use Rattle.pli_parse.specs.StatementReading.{statement_at, unit_of}
 use Rattle.pli_parse.specs.StatementWords.{standing, a_procedure}
 use Rattle.pli_parse.specs.declared.keyword.Standing.TheVariants.{InGroup}
-use Rattle.pli_parse.specs.declared.statement.Condition.TheVariants as conditions
+use Rattle.pli_base.specs.declared.statement.Condition.TheVariants as conditions
 
 abbrev pub w : Name → TokenText
 w n = Word n

@@ -12,13 +12,13 @@ use Rattle.pli_grammar.specs.Assignments.{IsAssignment}
 use Rattle.pli_grammar.specs.Expressions.{SpellsArguments, SpellsOutermost, SpellsReferenceAlone, GivenFits, Every, OutermostFits, Deeper}
 use Rattle.pli_item.specs.DeclarationReading.{Commas}
 use Rattle.pli_item.specs.DeclarationGrammar.{SpellsListed, SpellsReturned, SpellsDeclaration}
-use Rattle.pli_parse.specs.Statements.{ProcedureOption, Main, Returns, Recursive, Heading, Range, To, By, Repeat, Control, While, Iterate, Allocation, Statement, Numbered, Body, Null, Assign, Declare, Procedure, Begin, Do, If, On, Revert, Signal, Stop, Allocate, Free, Call, Goto, Return, Put, Statements, Ended, Before, Alternative, NoElse, Else, ExternalProcedure, count, list_count, AwaitsElse}
+use Rattle.pli_base.specs.Statements.{ProcedureOption, Main, Returns, Recursive, Heading, Range, To, By, Repeat, Control, While, Iterate, Allocation, Statement, Numbered, Body, Null, Assign, Declare, Procedure, Begin, Do, If, On, Revert, Signal, Stop, Allocate, Free, Call, Goto, Return, Put, Statements, Ended, Before, Alternative, NoElse, Else, ExternalProcedure, count, list_count, AwaitsElse}
 use Rattle.pli_parse.specs.StatementWords.{Context, standing, the_unit, a_procedure, keyword_of, condition_of}
 use Rattle.pli_parse.specs.declared.keyword.Keyword.{Keyword}
 use Rattle.pli_parse.specs.declared.keyword.Keyword.TheVariants as words
 use Rattle.pli_parse.specs.declared.keyword.Standing.{Standing}
 use Rattle.pli_parse.specs.declared.keyword.Standing.TheVariants.{InBlock, InGroup, AsClause, AsUnit}
-use Rattle.pli_parse.specs.declared.statement.Condition.{Condition}
+use Rattle.pli_base.specs.declared.statement.Condition.{Condition}
 
 -- the tokens up to the first `;` are a reference, `=` and one expression, whatever the words are; there is no `;` in those, and no limit counts
 abbrev pub BeginsAssignment : ℕ → Tokens → Type 0

@@ -17,14 +17,14 @@ use Rattle.pli_grammar.specs.Reading.{expression_at, reference_at, arguments_at,
 use Rattle.pli_grammar.specs.Reading as expressions
 use Rattle.pli_item.specs.DeclarationWords.{behind}
 use Rattle.pli_item.specs.DeclarationReading.{expected, read_as, mapped, taken, enclosed, if_open, or_none, Commas, list_at, declaration_at, returned_at}
-use Rattle.pli_parse.specs.Statements.{ProcedureOption, Main, Returns, Recursive, Heading, Range, To, By, Repeat, Control, While, Iterate, Allocation, Statement, Numbered, Body, Statements, Ended, Before, Alternative, NoElse, Else, ExternalProcedure, count}
-use Rattle.pli_parse.specs.Statements as body
+use Rattle.pli_base.specs.Statements.{ProcedureOption, Main, Returns, Recursive, Heading, Range, To, By, Repeat, Control, While, Iterate, Allocation, Statement, Numbered, Body, Statements, Ended, Before, Alternative, NoElse, Else, ExternalProcedure, count}
+use Rattle.pli_base.specs.Statements as body
 use Rattle.pli_parse.specs.StatementWords.{Context, standing, the_unit, a_procedure, condition_of, behind_word, begins_assignment, Kind, Assigns, Empty, Keyed, Unknown, kind_of}
 use Rattle.pli_parse.specs.declared.keyword.Keyword.{Keyword}
 use Rattle.pli_parse.specs.declared.keyword.Keyword.TheVariants.{Procedure, Declare, End, Begin, Do, If, On, Revert, Signal, Stop, Allocate, Free, Call, Goto, GoTo, Return, Put}
 use Rattle.pli_parse.specs.declared.keyword.Standing.{Standing}
 use Rattle.pli_parse.specs.declared.keyword.Standing.TheVariants.{InBlock, InGroup, AsClause, AsUnit}
-use Rattle.pli_parse.specs.declared.statement.Condition.{Condition}
+use Rattle.pli_base.specs.declared.statement.Condition.{Condition}
 
 -- parts of statements; so many levels may still be opened in their expressions
 

@@ -10,8 +10,8 @@ use Rattle.pli_parse.specs.declared.keyword.Keyword.{Keyword}
 use Rattle.pli_parse.specs.declared.keyword.Keyword.TheVariants.{Procedure, Declare, End, Begin, Do, If, On, Revert, Signal, Stop, Allocate, Free, Call, Goto, GoTo, Return, Put}
 use Rattle.pli_parse.specs.declared.keyword.Standing.{Standing}
 use Rattle.pli_parse.specs.declared.keyword.Standing.TheVariants.{InBlock, AsUnit}
-use Rattle.pli_parse.specs.declared.statement.Condition.{Condition}
-use Rattle.pli_parse.specs.declared.statement.Condition.TheVariants.{FixedOverflow, ZeroDivide, Area}
+use Rattle.pli_base.specs.declared.statement.Condition.{Condition}
+use Rattle.pli_base.specs.declared.statement.Condition.TheVariants.{FixedOverflow, ZeroDivide, Area}
 
 -- where a statement stands, and whether it belongs to an ON-unit, in which there is no RETURN
 pub record Context : Type 0 where

@@ -2,8 +2,8 @@
 ghost use Rattle.std.specs.Prelude.{◌≡◌, ◌≤◌, ◌+◌, length, option_map, codes, IfOk};
 ghost use Rattle.pli_base.specs.SyntaxView.{expression_view};
 ghost use Rattle.pli_item.specs.DeclarationAnswers.{Gives, Advances, Continues, front_view};
-ghost use Rattle.pli_parse.specs.StatementView.{control_view};
-ghost use Rattle.pli_parse.specs.StatementView as views;
+ghost use Rattle.pli_base.specs.StatementView.{control_view};
+ghost use Rattle.pli_base.specs.StatementView as views;
 ghost use Rattle.pli_parse.specs.StatementReading.{expression_in, parenthesized, optional_at, range_at, specified, control_from, control_at};
 ghost use Rattle.pli_parse.specs.StatementReading as reading;
 ghost use Rattle.pli_parse.specs.StatementAnswers.{specified_view, BehindWhile};
@@ -11,8 +11,8 @@ ghost use Rattle.pli_parse.specs.StatementAnswers.{specified_view, BehindWhile};
 use crate::cursor::{
     behind_word, equals_taken, expression_in, is_name, parenthesized_expression, reference_in,
 };
-use crate::statement::{Control, Range};
 use crate::word::{RangeWord, range_first};
+use pli_base::statement::{Control, Range};
 use pli_base::syntax::Expression;
 use pli_base::{Code, Sign, TokenText};
 use pli_item::{Front, ParseError};

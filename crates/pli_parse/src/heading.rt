@@ -5,13 +5,13 @@ ghost use Rattle.pli_base.specs.declared.syntax.Identifier as identifier;
 ghost use Rattle.pli_item.specs.DeclarationReading.{taken, mapped, or_none, if_open, list_at, Commas};
 ghost use Rattle.pli_item.specs.DeclarationWords.{behind};
 ghost use Rattle.pli_item.specs.DeclarationAnswers.{Gives, Advances, Continues, front_view};
-ghost use Rattle.pli_parse.specs.StatementView as views;
+ghost use Rattle.pli_base.specs.StatementView as views;
 ghost use Rattle.pli_parse.specs.StatementReading.{identifier_at, main_at, options_from, heading_at};
 ghost use Rattle.pli_parse.specs.StatementAnswers.{heading_view, option_view, option_of};
 
 use crate::cursor::{identifiers_listed, is_name};
-use crate::statement::ProcedureOption;
 use crate::word::{OptionWord, option_first};
+use pli_base::statement::ProcedureOption;
 use pli_base::syntax::Identifier;
 use pli_base::{Code, TokenText};
 use pli_item::{

@@ -4,8 +4,8 @@ ghost use Rattle.pli_item.specs.DeclarationWords.{is_either};
 ghost use Rattle.pli_parse.specs.StatementWords.{keyword_of, condition_of};
 ghost use Rattle.pli_parse.specs.StatementAnswers.{words};
 
-use crate::statement::Condition;
 use pli_base::Name;
+use pli_base::statement::Condition;
 
 /// The keyword that a statement begins with. No word is reserved: it is one only where a statement begins that is no assignment.
 #[derive(Clone, Copy)]

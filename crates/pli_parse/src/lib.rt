@@ -2,7 +2,6 @@
 #![tactic(auto)]
 
 mod control;
-mod copying;
 mod cursor;
 mod first;
 mod heading;
@@ -12,7 +11,6 @@ mod reader;
 mod reading;
 mod simple;
 mod spelling;
-mod statement;
 mod unit;
 mod word;
 
@@ -21,11 +19,10 @@ pub use laws::worked_examples;
 pub use pli_item::ParseError;
 pub use reading::units_read_are_spelled;
 pub use spelling::{one_unit, units_spelled_are_read};
-pub use statement::{
-    Allocation, Body, Condition, Control, Procedure, ProcedureOption, Range, Statement,
-};
 pub use unit::parse;
 
+#[cfg(test)]
+mod copies;
 #[cfg(test)]
 mod tests;
 #[cfg(test)]

@@ -1,12 +1,12 @@
 //! Statements, with those inside them.
 ghost use Rattle.std.specs.Prelude.{◌≡◌, ◌≤◌, ◌<◌, ◌+◌, ◌-◌, length, codes, IfOk};
 ghost use Rattle.pli_item.specs.DeclarationAnswers.{Gives, Advances, front_view};
-ghost use Rattle.pli_parse.specs.Statements.{count, body_count, list_count, alternative_count};
-ghost use Rattle.pli_parse.specs.StatementLaws.{boxed_view};
-ghost use Rattle.pli_parse.specs.StatementView.{body_view, statement_view, statements_view};
+ghost use Rattle.pli_base.specs.Statements.{count, body_count, list_count, alternative_count};
+ghost use Rattle.pli_base.specs.StatementLaws.{boxed_view};
+ghost use Rattle.pli_base.specs.StatementView.{body_view, statement_view, statements_view};
 ghost use Rattle.pli_parse.specs.StatementReading.{is_label, ending_at, list_in, begin_at, do_at, procedure_at, alternative_from, if_at, on_at, keyed_at, body_from, statement_at, inside_of};
 ghost use Rattle.pli_parse.specs.StatementReading as reading;
-ghost use Rattle.pli_parse.specs.Statements as tree;
+ghost use Rattle.pli_base.specs.Statements as tree;
 ghost use Rattle.pli_parse.specs.StatementWords as grammar;
 ghost use Rattle.pli_parse.specs.StatementAnswers.{heading_view, counted_view, Counts, inside_at, listing_view, context_view, kind_view, words, BehindKind};
 
@@ -19,7 +19,7 @@ use crate::first::{
 use crate::heading::{Heading, heading_at, word_taken};
 use crate::keyword::{Keyword, Standing};
 use crate::simple::{assignment_at, condition_at, simple_at};
-use crate::statement::{Body, Procedure, Statement};
+use pli_base::statement::{Body, Procedure, Statement};
 use pli_base::syntax::Identifier;
 use pli_base::{Code, Name, TokenText};
 use pli_item::{Front, ParseError, semicolon_taken};
@@ -151,7 +151,7 @@ pub fn list_in<'a>(
 
 /// What stands behind BEGIN.
 #[cycle(reader)]
-#[tactic(auto, unfolding(crate::specs::StatementReading::begin_at), using(crate::specs::StatementLaws::begin_made))]
+#[tactic(auto, unfolding(crate::specs::StatementReading::begin_at), using(pli_base::specs::StatementLaws::begin_made))]
 fn begin_at<'a>(
     alloc: Global,
     levels: u32,
@@ -186,7 +186,7 @@ fn begin_at<'a>(
 
 /// What stands behind DO.
 #[cycle(reader)]
-#[tactic(auto, unfolding(crate::specs::StatementReading::do_at), using(crate::specs::StatementLaws::do_made))]
+#[tactic(auto, unfolding(crate::specs::StatementReading::do_at), using(pli_base::specs::StatementLaws::do_made))]
 fn do_at<'a>(
     alloc: Global,
     levels: u32,
@@ -222,7 +222,7 @@ fn do_at<'a>(
 }
 
 /// A procedure inside a unit, of its parts.
-#[tactic(auto, using(crate::specs::StatementLaws::procedure_made))]
+#[tactic(auto, using(pli_base::specs::StatementLaws::procedure_made))]
 fn procedure_of(name: Identifier, number: u32, heading: Heading, list: Listing) -> Body
     ensures { body_view result ≡ tree.Procedure (heading_view name number heading) (statements_view list.statements.items) list.end }
 {
@@ -319,7 +319,7 @@ fn alternative_at<'a>(
 
 /// What stands behind IF.
 #[cycle(reader)]
-#[tactic(auto, unfolding(crate::specs::StatementReading::if_at), using(crate::specs::StatementLaws::if_made))]
+#[tactic(auto, unfolding(crate::specs::StatementReading::if_at), using(pli_base::specs::StatementLaws::if_made))]
 fn if_at<'a>(
     alloc: Global,
     levels: u32,
@@ -356,7 +356,7 @@ fn if_at<'a>(
 
 /// What stands behind ON.
 #[cycle(reader)]
-#[tactic(auto, unfolding(crate::specs::StatementReading::on_at), using(crate::specs::StatementLaws::on_made))]
+#[tactic(auto, unfolding(crate::specs::StatementReading::on_at), using(pli_base::specs::StatementLaws::on_made))]
 fn on_at<'a>(
     alloc: Global,
     levels: u32,

@@ -5,9 +5,9 @@ ghost use Rattle.pli_item.specs.DeclarationWords.{behind};
 ghost use Rattle.pli_base.specs.Words.{is_open};
 ghost use Rattle.pli_base.specs.SyntaxView.{expression_view};
 ghost use Rattle.pli_item.specs.DeclarationAnswers.{Gives, Advances, Continues, front_view};
-ghost use Rattle.pli_parse.specs.Statements as tree;
-ghost use Rattle.pli_parse.specs.Statements.{body_count};
-ghost use Rattle.pli_parse.specs.StatementView.{allocation_view, body_view};
+ghost use Rattle.pli_base.specs.Statements as tree;
+ghost use Rattle.pli_base.specs.Statements.{body_count};
+ghost use Rattle.pli_base.specs.StatementView.{allocation_view, body_view};
 ghost use Rattle.pli_parse.specs.StatementAnswers.{words};
 ghost use Rattle.pli_parse.specs.StatementWords.{the_unit};
 ghost use Rattle.pli_parse.specs.StatementReading.{stopped, closing, identifier_at, condition_at, assignment_at, places_from, allocation_at, put_first, put_from, put_at, call_at, keyed_at, expression_in, reference_in};
@@ -17,8 +17,8 @@ use crate::cursor::{
     parenthesized_reference, reference_in, references_listed,
 };
 use crate::keyword::{Keyword, named_condition};
-use crate::statement::{Allocation, Body, Condition};
 use crate::word::{PlaceWord, place_first};
+use pli_base::statement::{Allocation, Body, Condition};
 use pli_base::syntax::{Expression, Identifier};
 use pli_base::{Code, TokenText};
 use pli_item::{

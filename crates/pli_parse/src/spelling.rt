@@ -1,7 +1,7 @@
 //! Laws of the grammar of statements and units: what is spelled so is read, and tokens spell at most one unit.
 ghost use Rattle.std.specs.Prelude.{◌≡◌, Ok};
 ghost use Rattle.pli_base.specs.Words.{Tokens};
-ghost use Rattle.pli_parse.specs.Statements as tree;
+ghost use Rattle.pli_base.specs.Statements as tree;
 ghost use Rattle.pli_parse.specs.StatementGrammar.{SpellsUnit};
 ghost use Rattle.pli_parse.specs.StatementReading.{unit_of};
 

@@ -1,4 +1,7 @@
 use super::*;
+use pli_base::statement::{
+    Allocation, Body, Condition, Control, Procedure, ProcedureOption, Range, Statement,
+};
 use pli_base::syntax::{
     ConstantValue, Expression, Identifier, InfixOperator, Joining, Part, PrefixOperator, Reference,
 };

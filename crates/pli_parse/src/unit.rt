@@ -3,7 +3,7 @@ ghost use Rattle.std.specs.Prelude.{◌≡◌, ◌≤◌, ◌+◌, length};
 ghost use Rattle.pli_base.specs.Reading.{misplaced};
 ghost use Rattle.pli_base.specs.Words.{is_procedure};
 ghost use Rattle.pli_item.specs.DeclarationAnswers.{Gives};
-ghost use Rattle.pli_parse.specs.StatementView.{unit_view};
+ghost use Rattle.pli_base.specs.StatementView.{unit_view};
 ghost use Rattle.pli_parse.specs.StatementReading.{external_at, unit_of};
 
 use crate::cursor::{fault, is_name};
@@ -11,7 +11,7 @@ use crate::first::{Context, has_semicolon};
 use crate::heading::heading_at;
 use crate::keyword::Standing;
 use crate::reader::{last_place, list_in};
-use crate::statement::Procedure;
+use pli_base::statement::Procedure;
 use pli_base::syntax::Identifier;
 use pli_base::{Code, Name, Sign, TokenText};
 use pli_item::ParseError;
@@ -47,7 +47,7 @@ fn misplaced(texts: &[TokenText]) -> Option<u32>
 }
 
 /// The external procedure of this name, behind PROCEDURE.
-#[tactic(auto, unfolding(crate::specs::StatementReading::external_at, crate::specs::StatementReading::inside_of), using(crate::specs::StatementLaws::unit_made))]
+#[tactic(auto, unfolding(crate::specs::StatementReading::external_at, crate::specs::StatementReading::inside_of), using(pli_base::specs::StatementLaws::unit_made))]
 fn external_at(
     alloc: Global,
     name: &Identifier,

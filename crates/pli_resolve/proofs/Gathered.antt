@@ -6,7 +6,7 @@ use Rattle.std.proofs.lemmas.Bool.Decides.{nat_tests}
 use Rattle.std.proofs.lemmas.List.{take_more, map-append, map-set, get_or-map, set_past, append-nil}
 use Rattle.std.proofs.lemmas.Grind.{flat_map-append}
 use Rattle.pli_base.specs.Name.{Name}
-use Rattle.pli_parse.specs.Statements.{Heading}
+use Rattle.pli_base.specs.Statements.{Heading}
 use Rattle.pli_outline.specs.Outlines.{Entered, Placed}
 use Rattle.pli_outline.specs.OutlineView.{placed_view, marks_view}
 use Rattle.pli_outline.specs.declared.region.Placed as written

@@ -2,9 +2,9 @@
 use Rattle.std.proofs.Common.{◌≡◌, Option, Some, None, map, refl, ap}
 use Rattle.pli_base.specs.declared.code.Code.{Code}
 use Rattle.pli_attribute.specs.Faults.{lesser}
-use Rattle.pli_parse.specs.StatementLaws.{unit_out}
-use Rattle.pli_parse.specs.StatementView.{option_view, unit_view}
-use Rattle.pli_parse.specs.declared.statement.Procedure.{Procedure, out-Procedure}
+use Rattle.pli_base.specs.StatementLaws.{unit_out}
+use Rattle.pli_base.specs.StatementView.{option_view, unit_view}
+use Rattle.pli_base.specs.declared.statement.Procedure.{Procedure, out-Procedure}
 
 pub parameters_out : (p : Procedure) → (unit_view p).heading.parameters ≡ (out-Procedure p).parameters.items
 parameters_out p = ap (λ u. u.heading.parameters) (unit_out p)

@@ -1,4 +1,5 @@
 pub mod WorkedExamples
+pub mod ResolvedExamplesHold
 pub mod Looks
 pub mod Goodness
 pub mod Headings
@@ -8,3 +9,6 @@ pub mod Gathered
 pub mod TableAt
 pub mod Names
 pub mod Walked
+pub mod NamedUses
+pub mod Faultless
+pub mod OfBlocks

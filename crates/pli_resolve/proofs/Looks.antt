@@ -1,5 +1,6 @@
 -- From block to block outwards, through the tables of a unit.
 use Rattle.std.proofs.Common.{◌≡◌, ℕ, zero, suc, ◌+◌, ◌<◌, ◌≤◌, Bool, true, false, Option, Some, None, IfSome, List, [], ◌∷◌, ◌++◌, map, length, get_or, if◌then◌else◌, refl, sym, ap, subst, ◌∙◌, arith}
+use Rattle.std.specs.List.{slice_get}
 use Rattle.std.proofs.Math.ListN.{get_or-map}
 use Rattle.std.proofs.lemmas.List.{length-map}
 use Rattle.pli_base.specs.Name.{Name}
@@ -93,6 +94,7 @@ pub record IsLeft (o : Outline) (region : ℕ) (names : List Name) (here : Optio
   pub out : ℕ
   pub meant : meant_from out (scope_from o here) names ≡ meant (scope_of o region) names
   pub tables : (k : ℕ) → get_or (tables_from o here) k [] ≡ get_or (tables_of o region) (out + k) []
+  pub outwards : (k : ℕ) → slice_get (blocks_from o.regions here) k ≡ slice_get (blocks_round o.regions region) (out + k)
   pub itself : IfSome here (λ b. innermost o.regions b ≡ Some b)
   pub within : IfSome here (λ b. b < length o.regions)
 
@@ -104,6 +106,7 @@ module _ (o : Outline) (region : ℕ) (names : List Name) where
     out = 0;
     meant = ap (λ bs. meant_from 0 (map (block_in o) bs ++ unit_block o ∷ []) names) (sym shown);
     tables = λ k. ap (λ bs. get_or (map (entries_in o) bs ++ unit_entries o.marks ∷ []) k []) (sym shown) ∙ ap (λ n. get_or (tables_of o region) n []) (let on : k ≡ 0 + k = omega arith in on);
+    outwards = λ k. ap (λ bs. slice_get bs k) (sym shown) ∙ ap (slice_get (blocks_round o.regions region)) (let on : k ≡ 0 + k = omega arith in on);
     itself = subst (λ ss. IfSome here (λ b. innermost ss b ≡ Some b)) same itself;
     within = subst (λ (ss : List Region). IfSome here (λ b. b < length ss)) same within;
   }
@@ -112,17 +115,19 @@ module _ (o : Outline) (region : ℕ) (names : List Name) where
       shown = subst (λ ss. blocks_round ss region ≡ blocks_from ss here) same e
 
   -- what the innermost block decides is what the names mean
-  found_by : (here at : Option ℕ) (w : IsLeft o region names here) → get_or (tables_from o here) 0 [] ≡ entries_at o at → IsWithin o at
+  found_by : (here at : Option ℕ) (w : IsLeft o region names here) → get_or (tables_from o here) 0 [] ≡ entries_at o at
+      → at ≡ slice_get (blocks_from o.regions here) 0 → IsWithin o at
       → (f : Found) → IsBelow (length (entries_at o at)) f → meant_there w.out f ≡ meant (scope_of o region) names → IsLookedUp (looked_there at f) o region names
-  found_by here at w entries within Nothing lt e = sym e
-  found_by here at w entries within (One n) lt e = record {
+  found_by here at w entries place within Nothing lt e = sym e
+  found_by here at w entries place within (One n) lt e = record {
     out = w.out;
     meant = sym e;
+    place = place ∙ w.outwards 0 ∙ ap (slice_get (blocks_round o.regions region)) (let on : w.out + 0 ≡ w.out = omega arith in on);
     entries = ap (λ k. get_or (tables_of o region) k []) (let on : w.out ≡ w.out + 0 = omega arith in on) ∙ sym (w.tables 0) ∙ entries;
     within = within;
     number_within = lt;
   }
-  found_by here at w entries within Several lt e = sym e
+  found_by here at w entries place within Several lt e = sym e
 
   decided : (out : ℕ) (block : Block) (outer : Scope) (b : Bool) → declares_first block names ≡ b → b ≡ true
       → meant_there out (found_in block names) ≡ meant_from out (block ∷ outer) names
@@ -148,7 +153,7 @@ module _ (o : Outline) (region : ℕ) (names : List Name) where
     here_decides : (found : Found) → found ≡ found_in (block_in o n) names → (b : Bool) → declares_first (block_in o n) names ≡ b → b ≡ true
         → IsLookedUp (looked_there (Some n) found) o region names
     here_decides found is b f h =
-        found_by (Some n) (Some n) w (ap (λ ts. get_or ts 0 []) inside_tables) w.within found
+        found_by (Some n) (Some n) w (ap (λ ts. get_or ts 0 []) inside_tables) (ap (λ bs. slice_get bs 0) (sym e)) w.within found
         (wider (length (block_in o n)) (length (entries_in o n)) found (judged_length (entries_in o n) (verdicts_in o n))
         (subst (IsBelow (length (block_in o n))) (sym is) (found_is_below (block_in o n) names)))
         (ap (meant_there w.out) is ∙ decided w.out (block_in o n) outer_scope b f h ∙ ap (λ bs. meant_from w.out bs names) (sym inside) ∙ w.meant)
@@ -157,6 +162,11 @@ module _ (o : Outline) (region : ℕ) (names : List Name) where
     further k =
         ap (λ ts. get_or ts (suc k) []) (sym inside_tables) ∙ w.tables (suc k)
         ∙ ap (λ m. get_or (tables_of o region) m []) (let on : w.out + suc k ≡ w.out + 1 + k = omega arith in on)
+
+    beyond : (k : ℕ) → slice_get outer k ≡ slice_get (blocks_round o.regions region) (w.out + 1 + k)
+    beyond k =
+        ap (λ bs. slice_get bs (suc k)) (sym e) ∙ w.outwards (suc k)
+        ∙ ap (slice_get (blocks_round o.regions region)) (let on : w.out + suc k ≡ w.out + 1 + k = omega arith in on)
 
   -- a block decides
   pub found_here : (n : ℕ) → IsLeft o region names (Some n) → (found : Found) → found ≡ found_in (block_in o n) names
@@ -171,6 +181,7 @@ module _ (o : Outline) (region : ℕ) (names : List Name) where
     out = w.out + 1;
     meant = passed w.out (block_in o n) (scope_from o next) b f h ∙ ap (λ bs. meant_from w.out bs names) (sym (inside n w (blocks_from o.regions next) shown)) ∙ w.meant;
     tables = further n w (blocks_from o.regions next) shown;
+    outwards = beyond n w (blocks_from o.regions next) shown;
     itself = subst (λ ss. IfSome next (λ m. innermost ss m ≡ Some m)) same itself;
     within = lower next before;
   }
@@ -187,7 +198,7 @@ module _ (o : Outline) (region : ℕ) (names : List Name) where
     pub found_last : (found : Found) → found ≡ found_in (unit_block o) names → (b : Bool) → declares_first (unit_block o) names ≡ b → b ≡ true
         → IsLookedUp (looked_there None found) o region names
     found_last found is b f h =
-        found_by None None w refl tt found
+        found_by None None w refl refl tt found
         (wider (length (unit_block o)) (length (unit_entries o.marks)) found
         (unit_length o)
         (subst (IsBelow (length (unit_block o))) (sym is) (found_is_below (unit_block o) names)))

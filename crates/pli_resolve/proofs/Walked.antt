@@ -6,9 +6,9 @@ use Rattle.std.proofs.lemmas.List.{drop_more, map-append, length-map, get_or-map
 use Rattle.pli_base.specs.declared.code.Code.{Code}
 use Rattle.pli_base.specs.declared.syntax.Identifier.{Identifier}
 use Rattle.pli_base.specs.declared.token.Fault.{Fault}
-use Rattle.pli_item.specs.Declarations as tree
-use Rattle.pli_item.specs.DeclarationView.{item_view}
-use Rattle.pli_item.specs.declared.declaration.Item.{Item}
+use Rattle.pli_base.specs.Declarations as tree
+use Rattle.pli_base.specs.DeclarationView.{item_view}
+use Rattle.pli_base.specs.declared.declaration.Item.{Item}
 use Rattle.pli_outline.specs.Outlines.{Region, Mark, Declared, Labelled, Entered, Used, Jumped, Placed, Outline}
 use Rattle.pli_outline.specs.OutlineView.{placed_view, marks_view}
 use Rattle.pli_outline.specs.declared.region.Placed as written

@@ -1,7 +1,9 @@
 -- What the functions that resolve answer.
 use Rattle.std.specs.Prelude.{◌≡◌, ℕ, ◌+◌, ◌<◌, Option, Some, None, List, [], map, length, get_or}
+use Rattle.std.specs.List.{slice_get}
 use Rattle.pli_base.specs.Name.{Name}
 use Rattle.pli_outline.specs.Outlines.{Outline}
+use Rattle.pli_region.specs.Regions.{blocks_round}
 use Rattle.pli_scope.specs.Scopes.{meant}
 use Rattle.pli_scope.specs.declared.found.Meant.TheVariants.{Item as Means, Ambiguous as Several, NotDeclared as Nothing}
 use Rattle.pli_table.specs.Tables.{Entry, entries_in, unit_entries, scope_of, tables_of, numbers_from}
@@ -24,6 +26,7 @@ IsWithin o (Some block) = block < length o.regions
 pub record IsFound (o : Outline) (region : ℕ) (names : List Name) (block : Option ℕ) (number : ℕ) : Type 0 where
   pub out : ℕ
   pub meant : meant (scope_of o region) names ≡ Means number out
+  pub place : block ≡ slice_get (blocks_round o.regions region) out
   pub entries : get_or (tables_of o region) out [] ≡ entries_at o block
   pub within : IsWithin o block
   pub number_within : number < length (entries_at o block)

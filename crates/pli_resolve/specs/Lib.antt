@@ -3,3 +3,7 @@ pub mod Answers
 pub mod Looking
 pub mod Walks
 pub mod ResolutionExamples
+pub mod ResolvedExamples
+pub mod Resolved
+pub mod ResolvedView
+pub mod Targets

@@ -7,9 +7,9 @@ use Rattle.pli_base.specs.declared.code.Code.{Code}
 use Rattle.pli_base.specs.declared.code.Code.TheVariants.{NotDeclared, DeclaredTwice, AttributesConflict, AttributesMissing, BadLevel, Ambiguous, BadGoto, BadLocatorOrAreaName, TooManyParameters, GenerationTooLarge}
 use Rattle.pli_base.specs.declared.syntax.Identifier.{Identifier}
 use Rattle.pli_base.specs.declared.token.Fault.{Fault}
-use Rattle.pli_item.specs.Declarations.{SimpleAttribute, Offset, Based, DescribedAttribute, Plain, ParameterDescription, Attribute, Simple, Entry, Returns}
-use Rattle.pli_parse.specs.Statements as options
-use Rattle.pli_parse.specs.Statements.{Heading, ProcedureOption, ExternalProcedure}
+use Rattle.pli_base.specs.Declarations.{SimpleAttribute, Offset, Based, DescribedAttribute, Plain, ParameterDescription, Attribute, Simple, Entry, Returns}
+use Rattle.pli_base.specs.Statements as options
+use Rattle.pli_base.specs.Statements.{Heading, ProcedureOption, ExternalProcedure}
 use Rattle.pli_outline.specs.Outlines.{Mark, Entered, Used, Jumped, Placed, Outline, outline_of}
 use Rattle.pli_attribute.specs.Faults.{first_of, lesser, result_fault}
 use Rattle.pli_scope.specs.Scopes.{meant}
@@ -23,6 +23,7 @@ use Rattle.pli_table.specs.Tables.{Entity, AsItem, AsLabel, AsProcedure, no_entr
 use Rattle.pli_region.specs.Reach.{reaches}
 use Rattle.pli_variable.specs.Places.{is_built_in, own_code, is_locator, is_area}
 use Rattle.pli_variable.specs.Descriptions.{is_too_large_variable}
+use Rattle.pli_variable.specs.Declarations.{returned_by}
 
 abbrev pub at_token : ℕ → Option Code → List Fault
 at_token at None = []
@@ -92,12 +93,6 @@ abbrev pub twice_code : Verdict → Option Code
 twice_code Counts = None
 twice_code Twice = Some DeclaredTwice
 twice_code Beneath = None
-
--- the options of a procedure
-abbrev pub returned_by : List ProcedureOption → List (List DescribedAttribute)
-returned_by [] = []
-returned_by (options.Returns attributes ∷ more) = attributes ∷ returned_by more
-returned_by (option ∷ more) = returned_by more
 
 -- whether the attributes in each RETURNS are good
 abbrev pub returned_are : (List DescribedAttribute → Bool) → Heading → Bool
@@ -189,7 +184,7 @@ used_faults o here (Used names) = at_first names (reference_code names (meant (s
 used_faults o here (Jumped label) = at_token label.at (jump_code o here (meant (scope_of o here) (label.name ∷ [])))
 used_faults o here mark = []
 
--- the faults of marks, where counts says how many names each block has declared before them
+-- the faults of a mark, of which the first name that it declares has this number in its block
 abbrev pub mark_faults : Outline → (number : ℕ) → Placed → List Fault
 mark_faults o number p =
     codes_from o (block_of o.regions p.region) number (entries_of number p.region p.mark) ++ parameter_faults o p.mark ++ used_faults o p.region p.mark

@@ -5,10 +5,10 @@ use Rattle.pli_base.specs.declared.code.Code.{Code}
 use Rattle.pli_base.specs.declared.code.Code.TheVariants.{NotDeclared, DeclaredTwice, AttributesConflict, AttributesMissing, BadPrecision, BadLength, BadLevel, BadInitial, Ambiguous, BadGoto, BadLocatorOrAreaName, AreaNotAllowedHere, GenerationTooLarge}
 use Rattle.pli_base.specs.declared.syntax.Identifier.{Identifier}
 use Rattle.pli_base.specs.declared.token.Fault.{Fault}
-use Rattle.pli_item.specs.Declarations.{Fixed, Binary, Character, Bit, Pointer, Offset, Area, Based, Initial, Attribute, Simple, Plain, Item}
-use Rattle.pli_item.specs.declared.declaration.Bounds.{Bounds}
-use Rattle.pli_item.specs.declared.declaration.InitialValue.TheVariants as initial
-use Rattle.pli_parse.specs.Statements.{ProcedureOption, Returns, Heading}
+use Rattle.pli_base.specs.Declarations.{Fixed, Binary, Character, Bit, Pointer, Offset, Area, Based, Initial, Attribute, Simple, Plain, Item}
+use Rattle.pli_base.specs.declared.declaration.Bounds.{Bounds}
+use Rattle.pli_base.specs.declared.declaration.InitialValue.TheVariants as initial
+use Rattle.pli_base.specs.Statements.{ProcedureOption, Returns, Heading}
 use Rattle.pli_outline.specs.Outlines.{Region, Mark, Declared, Labelled, Entered, Used, Jumped, Placed, Outline}
 use Rattle.pli_outline.specs.declared.region.RegionKind.{RegionKind}
 use Rattle.pli_outline.specs.declared.region.RegionKind.TheVariants as kinds

@@ -2,7 +2,7 @@
 ghost use Rattle.std.specs.Prelude.{◌≡◌, false, map, option_map};
 ghost use Rattle.std.specs.Option.{unwrap_or};
 ghost use Rattle.std.specs.List.{list_all};
-ghost use Rattle.pli_item.specs.DeclarationView.{simple_view, described_view, parameter_view, attribute_view};
+ghost use Rattle.pli_base.specs.DeclarationView.{simple_view, described_view, parameter_view, attribute_view};
 ghost use Rattle.pli_outline.specs.OutlineView.{outline_view};
 ghost use Rattle.pli_variable.specs.Places.{is_locator, is_area};
 ghost use Rattle.pli_resolve.specs.Resolution.{is_good, simple_is_good, described_is_good, attribute_is_good};
@@ -10,7 +10,7 @@ ghost use Rattle.pli_resolve.specs.Resolution.{is_good, simple_is_good, describe
 use crate::known::Known;
 use crate::look_up::{Looked, look_up};
 use pli_base::Name;
-use pli_item::{Attribute, DescribedAttribute, ParameterDescription, SimpleAttribute};
+use pli_base::declaration::{Attribute, DescribedAttribute, ParameterDescription, SimpleAttribute};
 use pli_variable::Judged;
 
 impl Known<'_> {

@@ -2,18 +2,19 @@
 ghost use Rattle.std.specs.Prelude.{◌≡◌, length, map};
 ghost use Rattle.std.specs.List.{list_any, list_all};
 ghost use Rattle.pli_attribute.specs.Faults as faults;
-ghost use Rattle.pli_item.specs.DeclarationView.{described_view};
-ghost use Rattle.pli_parse.specs.StatementView.{option_view, unit_view};
+ghost use Rattle.pli_base.specs.DeclarationView.{described_view};
+ghost use Rattle.pli_base.specs.StatementView.{option_view, unit_view};
 ghost use Rattle.pli_outline.specs.OutlineView.{outline_view};
-ghost use Rattle.pli_resolve.specs.Resolution.{described_is_good, returned_by, returned_are, names_nothing};
+ghost use Rattle.pli_resolve.specs.Resolution.{described_is_good, returned_are, names_nothing};
+ghost use Rattle.pli_variable.specs.Declarations.{returned_by};
 ghost use Rattle.pli_resolve.specs.Resolution as spec;
 
 use crate::known::Known;
 use crate::least::{code_if, least};
 use pli_attribute::{lesser, result_fault};
 use pli_base::Code;
-use pli_item::{DescribedAttribute, SimpleAttribute};
-use pli_parse::{Procedure, ProcedureOption};
+use pli_base::declaration::{DescribedAttribute, SimpleAttribute};
+use pli_base::statement::{Procedure, ProcedureOption};
 
 /// How many parameters a procedure may have (own).
 const PARAMETER_LIMIT: usize = 64;
@@ -28,7 +29,7 @@ fn parameter_count(procedure: &Procedure) -> usize
 
 /// The options of a procedure.
 #[tactic(auto, using(crate::proofs::Headings::options_out))]
-fn options_of(procedure: &Procedure) -> &[ProcedureOption]
+pub(crate) fn options_of(procedure: &Procedure) -> &[ProcedureOption]
     ensures { map option_view result.now ≡ (unit_view procedure.now).heading.options }
 {
     procedure.options.as_slice()

@@ -1,5 +1,6 @@
-//! Worked examples of the faults of declarations.
+//! Worked examples of the faults of declarations, and of resolved units.
 ghost use Rattle.pli_resolve.specs.ResolutionExamples.{OfOneName, OfItems, TwoMembers, UndeclaredNames, Groups, Units, Blocks, Locators, Parameters};
+ghost use Rattle.pli_resolve.specs.ResolvedExamples.{OneVariable, Hiding, Jump, Located, Areas, OfMembers};
 
 /// Outlines of units with their faults.
 pub fn worked_examples()
@@ -12,4 +13,14 @@ pub fn worked_examples()
     ensures blocks { Blocks }
     ensures locators { Locators }
     ensures parameters { Parameters }
+{}
+
+/// Units without faults, resolved.
+pub fn resolved_examples()
+    ensures one_variable { OneVariable }
+    ensures hiding { Hiding }
+    ensures jump { Jump }
+    ensures located { Located }
+    ensures areas { Areas }
+    ensures of_members { OfMembers }
 {}

@@ -1,6 +1,7 @@
-//! What the names of a unit mean, and the faults of its declarations.
+//! What the names of a unit are and mean, or the faults of its declarations.
 #![tactic(auto)]
 
+mod attributes;
 mod good;
 mod heading;
 mod item_codes;
@@ -10,13 +11,25 @@ mod laws;
 mod least;
 mod look_up;
 mod marks;
+mod named;
 mod parameters;
 mod references;
+mod resolved;
+mod resolving;
 mod told;
 mod unit;
+mod uses;
 
-pub use laws::worked_examples;
+pub use laws::{resolved_examples, worked_examples};
+pub use resolved::{Block, Resolved, Target, Use};
+pub use resolving::{ResolveError, resolve};
 pub use unit::faults;
 
+#[cfg(test)]
+mod outline_tests;
+#[cfg(test)]
+mod resolved_tests;
+#[cfg(test)]
+mod table_tests;
 #[cfg(test)]
 mod tests;

@@ -1,7 +1,7 @@
 //! The faults of the marks of a unit, one after another.
 ghost use Rattle.std.specs.Prelude.{◌≡◌, ◌+◌, ◌≤◌, ◌++◌, [], map, length, IfOk, OnOk};
 ghost use Rattle.std.specs.List.{flat_map};
-ghost use Rattle.pli_item.specs.DeclarationView.{item_view};
+ghost use Rattle.pli_base.specs.DeclarationView.{item_view};
 ghost use Rattle.pli_outline.specs.Outlines.{Used};
 ghost use Rattle.pli_outline.specs.OutlineView.{mark_view, marks_view, regions_view, outline_view};
 ghost use Rattle.pli_region.specs.Regions.{block_of};
@@ -14,9 +14,9 @@ use crate::jumps::jump_code;
 use crate::parameters::tell_parameters;
 use crate::references::reference_code;
 use crate::told::tell;
+use pli_base::declaration::Item;
 use pli_base::syntax::Identifier;
 use pli_base::{Code, Fault};
-use pli_item::Item;
 use pli_outline::{Mark, Outline, Placed};
 use pli_region::Nesting;
 use pli_table::Tables;

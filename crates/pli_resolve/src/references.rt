@@ -16,7 +16,7 @@ use pli_variable::is_built_in;
 use std::alloc::{AllocError, Global};
 
 /// Whether names are one name that is a built-in function's.
-fn is_function(names: &[Identifier]) -> bool
+pub(crate) fn is_function(names: &[Identifier]) -> bool
     ensures { result ≡ is_function names.now }
 {
     match names {
@@ -26,7 +26,7 @@ fn is_function(names: &[Identifier]) -> bool
 }
 
 /// The names of identifiers.
-fn names_of(alloc: Global, identifiers: &[Identifier]) -> Result<Vec<Name>, AllocError>
+pub(crate) fn names_of(alloc: Global, identifiers: &[Identifier]) -> Result<Vec<Name>, AllocError>
     ensures { IfOk result (λ names. names.items ≡ names_of identifiers.now) }
 {
     identifiers

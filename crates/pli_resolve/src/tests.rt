@@ -1,4 +1,5 @@
 use crate::{faults, worked_examples};
+use pli_base::statement::Procedure;
 use pli_base::{Fault, Name, Sign, TokenText};
 use pli_parse::{ParseError, parse};
 use std::alloc::{AllocError, Global};
@@ -15,6 +16,7 @@ fn sign_of(word: &str) -> Option<Sign> {
         ")" => Some(Sign::CloseParenthesis),
         "=" => Some(Sign::Equals),
         "+" => Some(Sign::Plus),
+        "-" => Some(Sign::Minus),
         "->" => Some(Sign::Arrow),
         _ => None,
     }
@@ -38,7 +40,7 @@ fn token_of(word: &str) -> Option<TokenText> {
 }
 
 /// The tokens of a text, whose words stand apart.
-fn tokens_of(alloc: Global, text: &str) -> Result<Vec<TokenText>, AllocError> {
+pub(crate) fn tokens_of(alloc: Global, text: &str) -> Result<Vec<TokenText>, AllocError> {
     let mut tokens = Vec::new(alloc);
     for word in text.split(' ') {
         if let Some(token) = token_of(word) {
@@ -46,6 +48,26 @@ fn tokens_of(alloc: Global, text: &str) -> Result<Vec<TokenText>, AllocError> {
         }
     }
     Ok(tokens)
+}
+
+/// The unit that a text is; none where it does not read.
+pub(crate) fn unit_of(alloc: Global, text: &str) -> Result<Option<Procedure>, AllocError> {
+    let tokens = tokens_of(alloc, text)?;
+    if tokens.len() > 200_000 {
+        return Ok(None);
+    }
+    match parse(alloc, tokens.as_slice()) {
+        Ok(unit) => Ok(Some(unit)),
+        Err(_) => Ok(None),
+    }
+}
+
+/// Puts the letters of a name behind what is shown.
+pub(crate) fn push_name(shown: &mut String, name: &Name) -> Result<(), AllocError> {
+    for byte in name.bytes() {
+        shown.push(char::from(*byte))?;
+    }
+    Ok(())
 }
 
 /// `A1 at 4, A10 at 6`.

@@ -1,6 +1,6 @@
 //! The faults of the declarations of a unit.
 ghost use Rattle.std.specs.Prelude.{◌≡◌, ◌++◌, map, IfOk, OnOk};
-ghost use Rattle.pli_parse.specs.StatementView.{unit_view};
+ghost use Rattle.pli_base.specs.StatementView.{unit_view};
 ghost use Rattle.pli_outline.specs.OutlineView.{outline_view, placed_view, regions_view};
 ghost use Rattle.pli_table.specs.Answers.{AreOf};
 ghost use Rattle.pli_resolve.specs.Resolution.{unit_faults, outline_faults, resolution_faults};
@@ -11,9 +11,9 @@ use crate::known::Known;
 use crate::marks::tell_marks;
 use crate::parameters::{judged_blocks, parameters, tell_parameters};
 use crate::told::tell;
+use pli_base::statement::Procedure;
 use pli_base::{Code, Fault};
 use pli_outline::{Mark, Outline, Placed};
-use pli_parse::Procedure;
 use pli_region::Nesting;
 use pli_table::Tables;
 use std::alloc::{AllocError, Global};
@@ -78,7 +78,7 @@ fn tell_unit(
 }
 
 /// The faults of the marks of an outline.
-fn tell_outline(
+pub(crate) fn tell_outline(
     alloc: Global,
     outline: &Outline,
     nesting: &Nesting,

@@ -3,7 +3,7 @@ use Rattle.std.proofs.Common.{◌≡◌, ℕ, zero, suc, ◌+◌, ◌<◌, ◌�
 use Rattle.std.proofs.lemmas.List.{length-map}
 use Rattle.std.specs.List.{flat_map}
 use Rattle.pli_base.specs.declared.syntax.Identifier.{Identifier}
-use Rattle.pli_item.specs.Declarations.{Item}
+use Rattle.pli_base.specs.Declarations.{Item}
 use Rattle.pli_outline.specs.Outlines.{Region, Mark, Declared, Labelled, Entered, Used, Jumped, Placed}
 use Rattle.pli_region.specs.Regions.{block_of}
 use Rattle.pli_scope.specs.Levels.{standings_of}

@@ -1,7 +1,7 @@
 -- Items of a DECLARE stand behind the items that they are members of.
 use Rattle.std.proofs.Common.{◌≡◌, ℕ, zero, suc, ◌+◌, ◌<◌, ◌≤◌, ◌⊎◌, inl, inr, Bool, true, false, nat_lt, List, [], ◌∷◌, ◌++◌, length, map, get_or, Option, None, Some, IfSome, if◌then◌else◌, refl, ap, ◌∙◌, arith}
 use Rattle.pli_base.specs.declared.syntax.Identifier.{Identifier}
-use Rattle.pli_item.specs.Declarations.{Item}
+use Rattle.pli_base.specs.Declarations.{Item}
 use Rattle.pli_scope.specs.Levels.{level_of, nearest_after, standing, standings_after, standings_of}
 use Rattle.pli_scope.specs.declared.level.Numbered.{Numbered}
 use Rattle.pli_scope.specs.declared.level.Standing.{Standing}

@@ -2,9 +2,9 @@
 use Rattle.std.specs.Prelude.{List, map}
 use Rattle.std.specs.Global.{Vec}
 use Rattle.pli_base.specs.declared.syntax.Identifier.{Identifier}
-use Rattle.pli_item.specs.Declarations as tree
-use Rattle.pli_item.specs.DeclarationView.{item_view}
-use Rattle.pli_parse.specs.StatementView.{unit_view}
+use Rattle.pli_base.specs.Declarations as tree
+use Rattle.pli_base.specs.DeclarationView.{item_view}
+use Rattle.pli_base.specs.StatementView.{unit_view}
 use Rattle.pli_table.specs.Tables as plain
 use Rattle.pli_table.specs.declared.entry.Entity.{Entity}
 use Rattle.pli_table.specs.declared.entry.Entity.TheVariants as entities

@@ -2,8 +2,8 @@
 use Rattle.std.specs.Prelude.{ℕ, zero, suc, ◌+◌, Bool, true, ◌==◌, Option, None, option_map, List, [], ◌∷◌, ◌++◌, map, length, get_or, if◌then◌else◌}
 use Rattle.std.specs.List.{flat_map}
 use Rattle.pli_base.specs.declared.syntax.Identifier.{Identifier}
-use Rattle.pli_item.specs.Declarations.{Item}
-use Rattle.pli_parse.specs.Statements.{Heading}
+use Rattle.pli_base.specs.Declarations.{Item}
+use Rattle.pli_base.specs.Statements.{Heading}
 use Rattle.pli_outline.specs.Outlines.{Region, Mark, Declared, Labelled, Entered, Used, Jumped, Placed, Outline}
 use Rattle.pli_scope.specs.Levels.{standings_of}
 use Rattle.pli_scope.specs.Repeats.{verdicts_of, is_counting}

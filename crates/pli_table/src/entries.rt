@@ -1,15 +1,15 @@
 //! What marks declare.
 ghost use Rattle.std.specs.Prelude.{◌≡◌, ◌++◌, [], ◌∷◌, map, length, OnOk, IfOk};
 ghost use Rattle.std.specs.List.{flat_map};
-ghost use Rattle.pli_item.specs.DeclarationView.{item_view};
+ghost use Rattle.pli_base.specs.DeclarationView.{item_view};
 ghost use Rattle.pli_outline.specs.OutlineView.{mark_view};
 ghost use Rattle.pli_table.specs.Tables.{named, item_entries, declared_entries, entries_of};
 ghost use Rattle.pli_table.specs.TableView.{named_view, entity_view, entries_view};
 ghost use Rattle.pli_table.specs.Answers.{StandBehindOwners};
 
 use crate::entry::{Entity, Entry};
+use pli_base::declaration::Item;
 use pli_base::syntax::Identifier;
-use pli_item::Item;
 use pli_outline::Mark;
 use pli_scope::{Standing, standings};
 use std::alloc::{AllocError, AllocFailed, Global};

@@ -1,7 +1,7 @@
 //! What a name is declared as.
+use pli_base::declaration::Item;
+use pli_base::statement::Procedure;
 use pli_base::syntax::Identifier;
-use pli_item::Item;
-use pli_parse::Procedure;
 
 /// What a name is declared as.
 #[derive(Clone, Copy)]

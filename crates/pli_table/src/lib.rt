@@ -9,6 +9,3 @@ mod table;
 pub use entry::{Entity, Entry};
 pub use laws::owners_stand_before;
 pub use table::{Table, Tables};
-
-#[cfg(test)]
-mod tests;

@@ -9,3 +9,6 @@ pub mod Sound
 pub mod Measuring
 pub mod MembersFound
 pub mod NumbersOn
+pub mod Describing
+pub mod Options
+pub mod Faultless

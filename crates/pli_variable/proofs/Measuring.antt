@@ -3,7 +3,7 @@ use Rattle.std.proofs.Common.{◌≡◌, ℕ, zero, suc, ◌+◌, ◌*◌, ◌�
 use Rattle.std.specs.Prelude.{int_le}
 use Rattle.std.specs.Int.{next_multiple_of}
 use Rattle.std.specs.List.{list_all}
-use Rattle.pli_item.specs.declared.declaration.Bounds.{Bounds}
+use Rattle.pli_base.specs.declared.declaration.Bounds.{Bounds}
 use Rattle.pli_map.specs.Description.{Description, Structure, Members, NoMembers}
 use Rattle.pli_map.specs.Layouts.{IsLayout}
 use Rattle.pli_map.specs.Sizes.{size_of, alignment_of, end_behind, greatest_alignment, count_of, extent_of}

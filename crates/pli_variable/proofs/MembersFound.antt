@@ -43,7 +43,7 @@ same_made f g [] h = refl
 same_made f g (k ∷ ks) h =
     ap (λ d. member_then d (members_made f ks)) (h 0 (omega arith)) ∙ ap (member_then (g k)) (same_made f g ks (λ i within. h (suc i) (omega (arith, within))))
 
-same_inside : (f g : ℕ → Option Description) (scalar : Description) (ks : List ℕ) → ((i : ℕ) → i < length ks → f (get_or ks i 0) ≡ g (get_or ks i 0))
+pub same_inside : (f g : ℕ → Option Description) (scalar : Description) (ks : List ℕ) → ((i : ℕ) → i < length ks → f (get_or ks i 0) ≡ g (get_or ks i 0))
     → inside f scalar ks ≡ inside g scalar ks
 same_inside f g scalar [] h = refl
 same_inside f g scalar (k ∷ ks) h = ap (option_map _) (same_made f g (k ∷ ks) h)

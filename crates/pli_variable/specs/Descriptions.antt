@@ -2,12 +2,14 @@
 use Rattle.std.specs.Prelude.{◌≡◌, ℕ, zero, suc, Bool, false, ◌&&◌, nat_le, Option, Some, None, is_none, option_map, List, [], ◌∷◌, map, length, get_or, if◌then◌else◌}
 use Rattle.pli_base.specs.Name.{Name}
 use Rattle.pli_base.specs.Codes.{code_place}
+use Rattle.pli_base.specs.Declarations.{Item}
 use Rattle.pli_base.specs.declared.code.Code.{Code}
 use Rattle.pli_base.specs.declared.code.Code.TheVariants.{BadBounds}
 use Rattle.pli_map.specs.Description.{Description, Structure, Members, NoMembers, MemberThen}
 use Rattle.pli_attribute.specs.Extents.{all_bounds, are_bad_bounds}
 use Rattle.pli_attribute.specs.Faults.{with_bounds, described_scalar, is_too_large}
-use Rattle.pli_attribute.specs.Sets.{outermost}
+use Rattle.pli_attribute.specs.Sets.{outermost, set_of}
+use Rattle.pli_attribute.specs.Types.{number_of, is_bad_precision, is_bad_length}
 use Rattle.pli_table.specs.Tables.{Entry, no_entry, numbers_from}
 use Rattle.pli_variable.specs.Places.{item_of, members_of, own_code, is_variable}
 
@@ -62,6 +64,12 @@ is_large_at entries codes n =
 abbrev pub is_too_large_variable : List Entry → (parameters : List Name) → ℕ → Bool
 is_too_large_variable entries parameters n = is_large_at entries (own_codes entries parameters) n
 
--- an item whose code is none of A3 to A7 has no bad bounds
+-- bounds, precision and length are within the limits
+pub record IsSoundItem (item : Item) : Type 0 where
+  pub bounds : are_bad_bounds item.dimensions ≡ false
+  pub precision : is_bad_precision (set_of (map outermost item.attributes)) (number_of (map outermost item.attributes)) ≡ false
+  pub length_of : is_bad_length (set_of (map outermost item.attributes)) (number_of (map outermost item.attributes)) ≡ false
+
+-- an item whose code is none of A3 to A7 is within the limits
 abbrev pub ShapesAreSound : List Entry → (codes : List (Option Code)) → Type 0
-ShapesAreSound entries codes = (n : ℕ) → is_of_shape (get_or codes n None) ≡ false → are_bad_bounds (item_of entries n).dimensions ≡ false
+ShapesAreSound entries codes = (n : ℕ) → is_of_shape (get_or codes n None) ≡ false → IsSoundItem (item_of entries n)

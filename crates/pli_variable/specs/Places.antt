@@ -5,7 +5,7 @@ use Rattle.std.specs.Option.{unwrap_or}
 use Rattle.pli_base.specs.Name.{Name}
 use Rattle.pli_base.specs.Words.{same_name}
 use Rattle.pli_base.specs.declared.code.Code.{Code}
-use Rattle.pli_item.specs.Declarations.{Item}
+use Rattle.pli_base.specs.Declarations.{Item}
 use Rattle.pli_map.specs.Sizes.{count_of}
 use Rattle.pli_attribute.specs.Extents.{all_bounds, are_bad_bounds, is_array}
 use Rattle.pli_attribute.specs.Faults.{item_fault}

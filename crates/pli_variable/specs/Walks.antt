@@ -8,7 +8,7 @@ use Rattle.pli_attribute.specs.Initials.{elements_inside}
 use Rattle.pli_attribute.specs.Sets.{none_of, based, set_of, outermost}
 use Rattle.pli_attribute.specs.declared.place.Place.{Place}
 use Rattle.pli_scope.specs.Levels.{level_of}
-use Rattle.pli_item.specs.Declarations.{Item}
+use Rattle.pli_base.specs.Declarations.{Item}
 use Rattle.pli_table.specs.Tables.{Entry}
 use Rattle.pli_variable.specs.Places.{owners_of, members_of, item_in, item_of, position_of, elements_through, is_built_in, set_in, is_locator, is_area}
 use Rattle.pli_variable.specs.declared.places.Surroundings.{Surroundings}

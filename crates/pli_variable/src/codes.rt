@@ -1,6 +1,6 @@
 //! The least fault of each item of a block, apart from names.
 ghost use Rattle.std.specs.Prelude.{◌≡◌, map, length, IfOk};
-ghost use Rattle.pli_item.specs.DeclarationView.{item_view};
+ghost use Rattle.pli_base.specs.DeclarationView.{item_view};
 ghost use Rattle.pli_attribute.specs.Faults as fault;
 ghost use Rattle.pli_table.specs.Tables.{numbers_from};
 ghost use Rattle.pli_table.specs.TableView.{entry_view, entries_view};
@@ -10,8 +10,8 @@ ghost use Rattle.pli_variable.specs.Places as place;
 
 use crate::places;
 use pli_attribute::{Place, item_fault};
+use pli_base::declaration::Item;
 use pli_base::{Code, Name};
-use pli_item::Item;
 use pli_table::{Entity, Entry};
 use std::alloc::{AllocError, Global};
 

@@ -1,11 +1,13 @@
 //! What an entry has as an item. A label and a procedure have nothing.
 ghost use Rattle.std.specs.Prelude.{◌≡◌, map};
-ghost use Rattle.pli_item.specs.DeclarationView.{attribute_view};
+ghost use Rattle.pli_base.specs.DeclarationView.{attribute_view};
 ghost use Rattle.pli_scope.specs.Levels.{level_of};
 ghost use Rattle.pli_table.specs.TableView.{entry_view};
 ghost use Rattle.pli_variable.specs.Places.{item_in};
+ghost use Rattle.pli_variable.specs.Places as places;
 
-use pli_item::{Attribute, Bounds};
+use pli_attribute::Named;
+use pli_base::declaration::{Attribute, Bounds};
 use pli_table::{Entity, Entry};
 
 /// The level number, 1 without one (X3.74).
@@ -44,5 +46,18 @@ pub(crate) fn attributes<'a>(entry: &Entry<'a>) -> &'a [Attribute]
             is_bad_level: _,
         } => item.attributes.as_slice(),
         Entity::Label { .. } | Entity::Procedure { .. } => &[],
+    }
+}
+
+/// Whether it is a variable: an item that is neither an entry nor a built-in function.
+pub(crate) fn is_variable(entry: &Entry) -> bool
+    ensures { result ≡ places.is_variable (entry_view entry.now).entity }
+{
+    match entry.entity {
+        Entity::Item {
+            item,
+            is_bad_level: _,
+        } => Named::of_item(item.attributes.as_slice()).is_variable,
+        Entity::Label { .. } | Entity::Procedure { .. } => false,
     }
 }

@@ -1,14 +1,20 @@
-//! The items of a block as variables: where each stands, its least fault, and its size.
+//! The items of a block as variables: where each stands, its least fault, its size, and what it is declared as.
 #![tactic(auto)]
 
 mod codes;
+mod declaration;
+mod declared;
+mod descriptions;
 mod items;
 mod judged;
 mod locators;
 mod places;
+mod returned;
 mod sizes;
 mod words;
 
+pub use declaration::{Declaration, Kind};
+pub use declared::declare;
 pub use judged::{Judged, judge};
 pub use words::is_built_in;
 

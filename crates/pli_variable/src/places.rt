@@ -17,7 +17,7 @@ use crate::words::is_built_in;
 use indexmap::IndexSet;
 use pli_attribute::{Place, Position, elements_within};
 use pli_base::Name;
-use pli_item::Bounds;
+use pli_base::declaration::Bounds;
 use pli_table::Entry;
 use std::alloc::{AllocError, AllocFailed, Global};
 

@@ -2,7 +2,7 @@
 //! recurs as deep as structures nest.
 ghost use Rattle.std.specs.Prelude.{◌≡◌, ◌<◌, ◌+◌, ◌++◌, ◌∷◌, [], ◌&&◌, false, map, length, get_or, set, Some, Option, option_map, OnOk, IfOk, ℕ};
 ghost use Rattle.std.specs.Option.{is_none};
-ghost use Rattle.pli_item.specs.DeclarationView.{attribute_view};
+ghost use Rattle.pli_base.specs.DeclarationView.{attribute_view};
 ghost use Rattle.pli_map.specs.Description.{Description, Structure, Members};
 ghost use Rattle.pli_attribute.specs.Extents.{all_bounds, are_bad_bounds};
 ghost use Rattle.pli_attribute.specs.Faults.{with_bounds, described_scalar};
@@ -16,11 +16,12 @@ ghost use Rattle.pli_variable.specs.Places as places;
 ghost use Rattle.pli_variable.specs.Places.{item_in, members_of};
 ghost use Rattle.pli_variable.specs.declared.sizes.Measured.TheVariants as variants;
 
-use pli_attribute::{Named, array_layout, scalar_layout};
+use crate::items::{attributes, dimensions, is_variable};
+use pli_attribute::{array_layout, scalar_layout};
 use pli_base::Code;
-use pli_item::{Attribute, Bounds};
+use pli_base::declaration::Bounds;
 use pli_map::Layout;
-use pli_table::{Entity, Entry};
+use pli_table::Entry;
 use std::alloc::{AllocError, Global};
 
 /// What an item takes, as far as it is known.
@@ -100,26 +101,6 @@ fn structure(members: &[usize], measured: &[Measured]) -> Measured
     whole
 }
 
-/// The dimensions of an item; nothing else has any.
-fn dimensions_of<'a>(entry: &Entry<'a>) -> &'a [Bounds]
-    ensures { result.now ≡ (item_in (entry_view entry.now).entity).dimensions }
-{
-    match entry.entity {
-        Entity::Item { item, .. } => item.dimensions.as_slice(),
-        _ => &[],
-    }
-}
-
-/// The attributes of an item; nothing else has any.
-fn attributes_of<'a>(entry: &Entry<'a>) -> &'a [Attribute]
-    ensures { map attribute_view result.now ≡ (item_in (entry_view entry.now).entity).attributes }
-{
-    match entry.entity {
-        Entity::Item { item, .. } => item.attributes.as_slice(),
-        _ => &[],
-    }
-}
-
 /// What an item takes whose bounds are good, with these members.
 fn measure(entry: &Entry, members: &[usize], measured: &[Measured]) -> Measured
     requires { are_bad_bounds (item_in (entry_view entry.now).entity).dimensions ≡ false }
@@ -128,15 +109,15 @@ fn measure(entry: &Entry, members: &[usize], measured: &[Measured]) -> Measured
         → IsMeasured result (option_map (with_bounds (all_bounds item.dimensions)) (inside describe (described_scalar (map outermost item.attributes)) members.now)) }
 {
     let inside = if members.is_empty() {
-        Measured::of(scalar_layout(attributes_of(entry)))
+        Measured::of(scalar_layout(attributes(entry)))
     } else {
         structure(members, measured)
     };
-    inside.with_dimensions(dimensions_of(entry))
+    inside.with_dimensions(dimensions(entry))
 }
 
 /// Whether the item of a number has one of A3 to A7.
-fn has_bad_shape(codes: &[Option<Code>], number: usize) -> bool
+pub(crate) fn has_bad_shape(codes: &[Option<Code>], number: usize) -> bool
     ensures { result ≡ is_of_shape (get_or codes.now number None) }
 {
     match codes.get(number) {
@@ -156,7 +137,10 @@ fn add(members: &mut Vec<Vec<usize>>, owner: usize, number: usize) -> Result<(),
 }
 
 /// The members of each item.
-fn members_by_owner(alloc: Global, entries: &[Entry]) -> Result<Vec<Vec<usize>>, AllocError>
+pub(crate) fn members_by_owner(
+    alloc: Global,
+    entries: &[Entry],
+) -> Result<Vec<Vec<usize>>, AllocError>
     requires { AreBehindOwners (entries_view entries.now) }
     ensures { IfOk result (λ members. map (λ v. v.items) members.items ≡ map (members_of (entries_view entries.now)) (numbers_from 0 (length entries.now))) }
 {
@@ -196,16 +180,6 @@ fn measure_all(
         measured[number] = taken;
     }
     Ok(measured)
-}
-
-/// Whether an entry is a variable: an item that is neither an entry nor a built-in function.
-fn is_variable(entry: &Entry) -> bool
-    ensures { result ≡ places.is_variable (entry_view entry.now).entity }
-{
-    match entry.entity {
-        Entity::Item { item, .. } => Named::of_item(item.attributes.as_slice()).is_variable,
-        _ => false,
-    }
 }
 
 /// Whether an entry is a variable of its own, and over the limit.

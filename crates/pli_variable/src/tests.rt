@@ -1,11 +1,22 @@
-ghost use Rattle.std.specs.Prelude.{◌≡◌, ◌<◌, true, IfSome};
-ghost use Rattle.pli_table.specs.TableView.{entries_view};
+ghost use Rattle.std.specs.Prelude.{◌≡◌, ◌<◌, true, map, IfSome, IfOk};
+ghost use Rattle.pli_base.specs.StatementView.{option_view, unit_view};
+ghost use Rattle.pli_attribute.specs.Faults.{item_fault};
+ghost use Rattle.pli_attribute.specs.declared.place.Place.{Place};
+ghost use Rattle.pli_table.specs.TableView.{entry_view, entries_view};
 ghost use Rattle.pli_table.specs.Answers.{AreBehindOwners};
+ghost use Rattle.pli_variable.specs.Places.{item_in};
+ghost use Rattle.pli_variable.specs.Declarations.{returned_by, AreSound, AreGood};
+ghost use Rattle.pli_variable.specs.Declaring.{IsFaultless};
 
-use crate::{Judged, is_built_in, judge};
+use crate::codes::own_codes;
+use crate::{Declaration, Judged, Kind, declare, is_built_in, judge};
+use pli_attribute::{Completed, result_fault};
+use pli_base::declaration::{DescribedAttribute, Item, SimpleAttribute};
+use pli_base::statement::{Procedure, ProcedureOption};
 use pli_base::syntax::Identifier;
-use pli_base::{Name, Sign, TokenText};
-use pli_item::{Item, declaration_at};
+use pli_base::{Code, Name, Sign, TokenText};
+use pli_item::declaration_at;
+use pli_map::{Description, size};
 use pli_scope::standings;
 use pli_table::{Entity, Entry};
 use std::alloc::{AllocError, Global};
@@ -294,5 +305,189 @@ fn built_in_names(rt: HostRuntime) -> Result<(), Fail> {
         let name = Name::read(text.as_bytes()).ok_or("a name")?;
         assert_eq!(rt; is_built_in(name), want, "{text}");
     }
+    Ok(())
+}
+
+/// Whether no RETURNS among options has a fault.
+fn are_sound(options: &[ProcedureOption]) -> bool
+    ensures { result ≡ true → AreSound (returned_by (map option_view options.now)) }
+{
+    for option in options {
+        if let ProcedureOption::Returns(attributes) = option {
+            if result_fault(attributes.as_slice()).is_some() {
+                return false;
+            }
+        }
+    }
+    true
+}
+
+/// Whether no RETURNS of a procedure has a fault.
+#[tactic(auto, using(crate::proofs::Options::options_out))]
+fn is_sound(procedure: &Procedure) -> bool
+    ensures { result ≡ true → AreSound (returned_by (unit_view procedure.now).heading.options) }
+{
+    are_sound(procedure.options.as_slice())
+}
+
+/// Whether a name has no fault of its own, where the fault of an item is known.
+fn is_good(entry: &Entry, code: Option<Code>) -> bool
+    ensures { result ≡ true → (place : Place) → code ≡ item_fault place (item_in (entry_view entry.now).entity) → IsFaultless place (entry_view entry.now).entity }
+{
+    match entry.entity {
+        Entity::Item { .. } => code.is_none(),
+        Entity::Label { .. } => true,
+        Entity::Procedure {
+            procedure,
+            region: _,
+        } => is_sound(procedure),
+    }
+}
+
+/// Whether no name of a block has a fault of its own.
+fn are_good(alloc: Global, entries: &[Entry], parameters: &[Name]) -> Result<bool, AllocError>
+    requires { AreBehindOwners (entries_view entries.now) }
+    ensures { IfOk result (λ good. good ≡ true → AreGood (entries_view entries.now) parameters.now) }
+{
+    let codes = own_codes(alloc, entries, parameters)?;
+    for number in 0..entries.len() {
+        if !is_good(&entries[number], codes[number]) {
+            return Ok(false);
+        }
+    }
+    Ok(true)
+}
+
+/// How many bytes a description takes, `-` without one.
+fn show_size(shown: &mut String, description: &Option<Description>) -> Result<(), Fail> {
+    let Some(described) = description else {
+        shown.push_str(" -")?;
+        return Ok(());
+    };
+    let bytes = size(described).unwrap_or(0);
+    write!(shown, " {bytes}")?;
+    Ok(())
+}
+
+/// What an item is, with the size of an element of it.
+fn show_completed(shown: &mut String, completed: &Completed) -> Result<(), Fail> {
+    match completed {
+        Completed::Variable(variable) => show_size(shown, &variable.description),
+        Completed::Entry {
+            parameters: _,
+            result,
+        } => {
+            shown.push_str(" entry")?;
+            show_size(shown, result)
+        }
+        Completed::BuiltIn => {
+            shown.push_str(" built-in")?;
+            Ok(())
+        }
+    }
+}
+
+/// A declared name: what it is a member of, and what it is; of an item the size of an element and that of the whole variable.
+fn show_declaration(shown: &mut String, declaration: &Declaration) -> Result<(), Fail> {
+    let name = declaration.identifier.name;
+    write!(shown, "{name:?}")?;
+    if let Some(owner) = declaration.owner {
+        write!(shown, "<{owner}")?;
+    }
+    match &declaration.kind {
+        Kind::Item {
+            completed,
+            description,
+        } => {
+            show_completed(shown, completed)?;
+            show_size(shown, description)?;
+        }
+        Kind::Label { region } => write!(shown, " label in {region}")?,
+        Kind::Procedure { returned, region } => {
+            show_size(shown, returned)?;
+            write!(shown, " procedure of {region}")?;
+        }
+    }
+    shown.push_str(";")?;
+    Ok(())
+}
+
+/// What each name of a block is declared as.
+fn show_declarations(alloc: Global, entries: &[Entry]) -> Result<String, Fail> {
+    if !are_behind_owners(entries) {
+        return Err("an owner before its member".into());
+    }
+    let names = Vec::new(alloc);
+    if !are_good(alloc, entries, &names)? {
+        return Err("a fault".into());
+    }
+    let mut shown = String::new(alloc);
+    for declaration in declare(alloc, entries, &names)?.iter() {
+        show_declaration(&mut shown, declaration)?;
+    }
+    Ok(shown)
+}
+
+/// A name at the first token.
+fn identifier(name: &str) -> Result<Identifier, Fail> {
+    Ok(Identifier {
+        name: Name::read(name.as_bytes()).ok_or("a name")?,
+        at: 0,
+    })
+}
+
+/// A procedure that returns a pointer.
+fn pointer_procedure(alloc: Global, identifier: Identifier) -> Result<Procedure, Fail> {
+    let attribute = DescribedAttribute::Simple(SimpleAttribute::Pointer);
+    let mut attributes = Vec::new(alloc);
+    attributes.push(attribute)?;
+    let mut options = Vec::new(alloc);
+    options.push(ProcedureOption::Returns(attributes))?;
+    Ok(Procedure {
+        name: identifier,
+        number: 1,
+        parameters: Vec::new(alloc),
+        options,
+        statements: Vec::new(alloc),
+        end: 2,
+    })
+}
+
+#[test]
+fn declarations(rt: HostRuntime) -> Result<(), Fail> {
+    let tokens = tokens_of(
+        rt.alloc(),
+        "1 S , 2 X ( 3 ) FIXED BIN , 2 Y CHAR ( 4 ) , ABS BUILTIN ;",
+    )?;
+    if tokens.len() > 200000 {
+        return Err("too many tokens".into());
+    }
+    let Ok(read) = declaration_at(rt.alloc(), 0, &tokens) else {
+        return Err("no declaration".into());
+    };
+    let label = identifier("L")?;
+    let name = identifier("P")?;
+    let procedure = pointer_procedure(rt.alloc(), name)?;
+    let mut entries = entries_of(rt.alloc(), &read.value)?;
+    let labelled = Entry {
+        identifier: label,
+        owner: None,
+        entity: Entity::Label { region: 7 },
+    };
+    let entered = Entry {
+        identifier: name,
+        owner: None,
+        entity: Entity::Procedure {
+            procedure: &procedure,
+            region: 9,
+        },
+    };
+    if entries.push(labelled).is_err() || entries.push(entered).is_err() {
+        return Err("no memory".into());
+    }
+    assert_eq!(rt;
+        show_declarations(rt.alloc(), &entries)?.as_str(),
+        "S - 10;X<0 2 -;Y<0 4 -;ABS built-in -;L label in 7;P 8 procedure of 9;"
+    );
     Ok(())
 }

@@ -1,7 +1,7 @@
 use Rattle.std.proofs.Common.{◌≤◌, ◌<◌, ◌∙◌, ap, sym, map, option_map, length, arith}
 use Rattle.std.proofs.lemmas.List.{length-map}
 use Rattle.std.specs.List.{list_any}
-use Rattle.pli_item.specs.DeclarationView.{attribute_view, parameter_view, item_view}
+use Rattle.pli_base.specs.DeclarationView.{attribute_view, parameter_view, item_view}
 use Rattle.pli_map.specs.DescriptionView.{description_view}
 use Rattle.pli_attribute.specs.Sets.{set_of, outermost}
 use Rattle.pli_attribute.specs.Completed.{OfEntry, OfVariable}

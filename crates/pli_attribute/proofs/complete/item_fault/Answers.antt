@@ -1,7 +1,7 @@
 use Rattle.std.proofs.Common.{◌≤◌, ◌<◌, ◌∙◌, ap, sym, map, length, arith}
 use Rattle.std.proofs.lemmas.List.{length-map}
 use Rattle.std.specs.List.{list_any}
-use Rattle.pli_item.specs.DeclarationView.{attribute_view, parameter_view, item_view}
+use Rattle.pli_base.specs.DeclarationView.{attribute_view, parameter_view, item_view}
 use Rattle.pli_map.specs.DescriptionView.{description_view}
 use Rattle.pli_attribute.specs.Faults.{parameters_in, parameters_fault, is_too_large}
 use Rattle.pli_attribute.proofs.Shapes.{attributes_first, parts_none, entry_too_many, entry_too_large, entry_good}

@@ -1,5 +1,5 @@
 use Rattle.std.proofs.Common.{◌≡◌, None, map, take, drop}
-use Rattle.pli_item.specs.DeclarationView.{parameter_view}
+use Rattle.pli_base.specs.DeclarationView.{parameter_view}
 use Rattle.pli_map.specs.DescriptionView.{description_view}
 use Rattle.pli_attribute.specs.Faults.{parameter_of, parameters_fault}
 use Rattle.pli_attribute.proofs.complete.parameters.Given as goal

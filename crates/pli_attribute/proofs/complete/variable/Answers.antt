@@ -1,5 +1,5 @@
 use Rattle.std.proofs.Common.{◌∙◌, ap, map}
-use Rattle.pli_item.specs.DeclarationView.{attribute_view, item_view}
+use Rattle.pli_base.specs.DeclarationView.{attribute_view, item_view}
 use Rattle.pli_attribute.specs.Types.{number_of}
 use Rattle.pli_attribute.specs.Sets.{set_of, outermost}
 use Rattle.pli_attribute.proofs.Shapes.{own_sound, bounds_good, sound_alike}

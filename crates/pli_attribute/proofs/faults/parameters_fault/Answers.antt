@@ -1,6 +1,6 @@
 use Rattle.std.proofs.Common.{◌+◌, ◌∙◌, drop, map, sym, ap}
 use Rattle.std.proofs.lemmas.List.{at_drop_more}
-use Rattle.pli_item.specs.DeclarationView.{parameter_view}
+use Rattle.pli_base.specs.DeclarationView.{parameter_view}
 use Rattle.pli_attribute.specs.Faults.{lesser, parameter_fault, parameters_fault}
 use Rattle.pli_attribute.proofs.LeastFaults.{lesser_grouped}
 use Rattle.pli_attribute.proofs.faults.parameters_fault.Goals as goal

@@ -1,5 +1,5 @@
 use Rattle.std.proofs.Common.{◌≡◌, drop, map}
-use Rattle.pli_item.specs.DeclarationView.{parameter_view}
+use Rattle.pli_base.specs.DeclarationView.{parameter_view}
 use Rattle.pli_attribute.specs.Faults.{lesser, parameters_fault}
 use Rattle.pli_attribute.proofs.faults.parameters_fault.Given as goal
 

@@ -1,7 +1,7 @@
 use Rattle.std.proofs.Common.{◌≡◌, ◌*◌, ◌+◌, ◌∙◌, ◌&&◌, Bool, true, false, None, drop, ap, sym, arith}
 use Rattle.std.proofs.lemmas.List.{at_drop_more}
 use Rattle.std.specs.List.{list_all}
-use Rattle.pli_item.specs.declared.declaration.Bounds.{Bounds}
+use Rattle.pli_base.specs.declared.declaration.Bounds.{Bounds}
 use Rattle.pli_map.specs.Sizes.{count_of, extent_of}
 use Rattle.pli_attribute.specs.Extents.{all_bounds, are_good}
 use Rattle.pli_attribute.proofs.Counts.{count_left}

@@ -1,5 +1,5 @@
 use Rattle.std.proofs.Common.{◌≡◌, drop, map}
-use Rattle.pli_item.specs.DeclarationView.{attribute_view}
+use Rattle.pli_base.specs.DeclarationView.{attribute_view}
 use Rattle.pli_attribute.specs.Faults.{parameters_in}
 use Rattle.pli_attribute.proofs.parts.parameters_of.Given as goal
 

@@ -1,5 +1,5 @@
 use Rattle.std.proofs.Common.{◌≡◌, ◌≤◌, ◌+◌, length, map}
-use Rattle.pli_item.specs.DeclarationView.{parameter_view}
+use Rattle.pli_base.specs.DeclarationView.{parameter_view}
 use Rattle.pli_item.specs.DeclarationReading.{Commas, parameter_at, list_at}
 use Rattle.pli_item.proofs.DeclarationLists.{Left}
 use Rattle.pli_item.proofs.described.parameters_listed.Given as goal

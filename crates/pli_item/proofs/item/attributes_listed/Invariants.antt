@@ -1,5 +1,5 @@
 use Rattle.std.proofs.Common.{◌≡◌, ◌≤◌, ◌+◌, length, map}
-use Rattle.pli_item.specs.DeclarationView.{attribute_view}
+use Rattle.pli_base.specs.DeclarationView.{attribute_view}
 use Rattle.pli_item.specs.DeclarationReading.{Nothing, attribute_at, list_at}
 use Rattle.pli_item.proofs.DeclarationLists.{Left}
 use Rattle.pli_item.proofs.item.attributes_listed.Given as goal

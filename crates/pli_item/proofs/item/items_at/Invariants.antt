@@ -1,5 +1,5 @@
 use Rattle.std.proofs.Common.{◌≡◌, ◌≤◌, ◌+◌, length, map}
-use Rattle.pli_item.specs.DeclarationView.{item_view}
+use Rattle.pli_base.specs.DeclarationView.{item_view}
 use Rattle.pli_item.specs.DeclarationReading.{Commas, item_at, list_at}
 use Rattle.pli_item.proofs.DeclarationLists.{Left}
 use Rattle.pli_item.proofs.item.items_at.Given as goal

@@ -1,6 +1,6 @@
 use Rattle.std.proofs.Common.{◌≡◌, [], map, drop}
 use Rattle.pli_base.specs.TreeView as small
-use Rattle.pli_parse.specs.StatementView.{statements_view}
+use Rattle.pli_base.specs.StatementView.{statements_view}
 use Rattle.pli_lower.specs.Lowering.{lowered_statements}
 use Rattle.pli_lower.proofs.LoweringLists.{with_done}
 use Rattle.pli_lower.proofs.statement.lower_each.Given as goal

@@ -1,6 +1,6 @@
 use Rattle.std.proofs.Common.{◌≡◌, ◌++◌, map, drop}
 use Rattle.std.specs.List.{flat_map}
-use Rattle.pli_parse.specs.StatementView.{allocation_view}
+use Rattle.pli_base.specs.StatementView.{allocation_view}
 use Rattle.pli_outline.specs.Outlines.{placed, allocation_marks}
 use Rattle.pli_outline.specs.OutlineView.{marks_view}
 use Rattle.pli_outline.proofs.statements.mark_allocations.Given as goal

@@ -1,5 +1,5 @@
 use Rattle.std.proofs.Common.{◌≡◌, ◌++◌, ◌+◌, drop, length}
-use Rattle.pli_parse.specs.StatementView.{statements_view}
+use Rattle.pli_base.specs.StatementView.{statements_view}
 use Rattle.pli_outline.specs.Outlines.{regions_among, statements_regions, statements_marks}
 use Rattle.pli_outline.specs.OutlineView.{regions_view, marks_view}
 use Rattle.pli_outline.proofs.walk.+walk.Given as goal

@@ -4,7 +4,7 @@ use Rattle.std.proofs.lemmas.List.{map_push}
 use Rattle.pli_item.specs.DeclarationAnswers.{front_view}
 use Rattle.pli_parse.specs.StatementReading.{options_from}
 use Rattle.pli_parse.specs.StatementAnswers as answers
-use Rattle.pli_parse.specs.StatementView.{option_view}
+use Rattle.pli_base.specs.StatementView.{option_view}
 use Rattle.pli_parse.proofs.StatementOptions.{goes_on, fails, is_done}
 use Rattle.pli_parse.proofs.heading.options_from.Goals as goal
 

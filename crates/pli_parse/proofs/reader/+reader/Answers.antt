@@ -1,9 +1,9 @@
 use Rattle.std.proofs.Common.{◌≡◌, arith, ap, ◌∙◌, sym}
 use Rattle.std.proofs.lemmas.Result.{err_from_is_err_and}
 use Rattle.pli_parse.specs.StatementAnswers.{counted_view, inside_at, context_view, next_view}
-use Rattle.pli_parse.specs.StatementLaws.{list_made}
+use Rattle.pli_base.specs.StatementLaws.{list_made}
 use Rattle.pli_parse.specs.StatementReading.{begin_at, do_at, list_in, statement_at, next_of, EndsHere, Another}
-use Rattle.pli_parse.specs.StatementView.{statement_view}
+use Rattle.pli_base.specs.StatementView.{statement_view}
 use Rattle.pli_parse.proofs.StatementClauses.{alternative_fails}
 use Rattle.pli_parse.proofs.StatementRows.{goes_on, statement_fails, end_fails, ends, one_more}
 use Rattle.pli_item.specs.DeclarationAnswers.{front_view}

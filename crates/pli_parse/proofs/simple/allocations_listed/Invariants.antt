@@ -1,5 +1,5 @@
 use Rattle.std.proofs.Common.{◌≡◌, ◌≤◌, ◌+◌, length, map}
-use Rattle.pli_parse.specs.StatementView.{allocation_view}
+use Rattle.pli_base.specs.StatementView.{allocation_view}
 use Rattle.pli_item.specs.DeclarationReading.{Commas, list_at}
 use Rattle.pli_item.proofs.DeclarationLists.{Left}
 use Rattle.pli_parse.specs.StatementReading.{allocation_at}

@@ -1,6 +1,6 @@
 use Rattle.std.proofs.Common.{◌≡◌, drop, map}
 use Rattle.std.specs.List.{list_any}
-use Rattle.pli_parse.specs.StatementView.{option_view}
+use Rattle.pli_base.specs.StatementView.{option_view}
 use Rattle.pli_resolve.specs.Resolution.{is_main}
 use Rattle.pli_resolve.proofs.heading.has_main.Given as goal
 

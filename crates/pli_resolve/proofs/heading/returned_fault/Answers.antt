@@ -1,14 +1,15 @@
 use Rattle.std.proofs.Common.{◌≡◌, Option, ◌+◌, ◌∷◌, ◌∙◌, List, Vec, Global, drop, map, refl, sym, ap}
 use Rattle.std.proofs.lemmas.List.{at_drop_more}
-use Rattle.pli_item.specs.DeclarationView.{described_view}
-use Rattle.pli_item.specs.declared.declaration.DescribedAttribute.{DescribedAttribute}
+use Rattle.pli_base.specs.DeclarationView.{described_view}
+use Rattle.pli_base.specs.declared.declaration.DescribedAttribute.{DescribedAttribute}
 use Rattle.pli_base.specs.declared.code.Code.{Code}
 use Rattle.pli_attribute.specs.Faults.{lesser, result_fault}
 use Rattle.pli_attribute.proofs.LeastFaults.{lesser_grouped}
-use Rattle.pli_parse.specs.StatementView.{option_view}
-use Rattle.pli_parse.specs.declared.statement.ProcedureOption.{ProcedureOption}
-use Rattle.pli_parse.specs.declared.statement.ProcedureOption.TheVariants.{Main, Returns, Recursive}
-use Rattle.pli_resolve.specs.Resolution.{least, returned_by}
+use Rattle.pli_base.specs.StatementView.{option_view}
+use Rattle.pli_base.specs.declared.statement.ProcedureOption.{ProcedureOption}
+use Rattle.pli_base.specs.declared.statement.ProcedureOption.TheVariants.{Main, Returns, Recursive}
+use Rattle.pli_resolve.specs.Resolution.{least}
+use Rattle.pli_variable.specs.Declarations.{returned_by}
 use Rattle.pli_resolve.proofs.heading.returned_fault.Goals as goal
 use Rattle.pli_resolve.proofs.heading.returned_fault.Goals.{in-Returns, in_default}
 

@@ -1,7 +1,8 @@
 use Rattle.std.proofs.Common.{◌≡◌, drop, map}
 use Rattle.pli_attribute.specs.Faults.{lesser, result_fault}
-use Rattle.pli_parse.specs.StatementView.{option_view}
-use Rattle.pli_resolve.specs.Resolution.{least, returned_by}
+use Rattle.pli_base.specs.StatementView.{option_view}
+use Rattle.pli_resolve.specs.Resolution.{least}
+use Rattle.pli_variable.specs.Declarations.{returned_by}
 use Rattle.pli_resolve.proofs.heading.returned_fault.Given as goal
 
 -- the least so far and that of what is left

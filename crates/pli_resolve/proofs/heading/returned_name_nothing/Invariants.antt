@@ -1,7 +1,8 @@
 use Rattle.std.proofs.Common.{◌≡◌, drop, map}
 use Rattle.std.specs.List.{list_all}
-use Rattle.pli_parse.specs.StatementView.{option_view, unit_view}
-use Rattle.pli_resolve.specs.Resolution.{returned_by, returned_are, names_nothing}
+use Rattle.pli_base.specs.StatementView.{option_view, unit_view}
+use Rattle.pli_resolve.specs.Resolution.{returned_are, names_nothing}
+use Rattle.pli_variable.specs.Declarations.{returned_by}
 use Rattle.pli_resolve.proofs.heading.returned_name_nothing.Given as goal
 
 abbrev pub invariant-loop-option : goal.invariant-loop-option

@@ -1,6 +1,6 @@
 use Rattle.std.proofs.Common.{◌≡◌, ◌+◌, ◌≤◌, length, drop, map}
-use Rattle.pli_parse.specs.StatementView.{option_view}
-use Rattle.pli_resolve.specs.Resolution.{returned_by}
+use Rattle.pli_base.specs.StatementView.{option_view}
+use Rattle.pli_variable.specs.Declarations.{returned_by}
 use Rattle.pli_resolve.proofs.heading.returns_count.Given as goal
 
 abbrev pub invariant-loop-option : goal.invariant-loop-option

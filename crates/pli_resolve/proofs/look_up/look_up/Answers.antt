@@ -4,7 +4,7 @@ use Rattle.pli_outline.specs.OutlineView.{outline_view}
 use Rattle.pli_table.specs.Tables.{scope_of, block_in, unit_block}
 use Rattle.pli_scope.specs.Scopes.{meant, declares, found_in}
 use Rattle.pli_resolve.specs.Answers.{IsLookedUp}
-use Rattle.pli_resolve.proofs.Looks.{no_names, IsLeft, found_here, found_further, found_last, found_nowhere, first_is, table_read, tables_length}
+use Rattle.pli_resolve.proofs.Looks.{no_names, IsLeft, begun, found_here, found_further, found_last, found_nowhere, first_is, table_read, tables_length}
 use Rattle.pli_resolve.proofs.look_up.look_up.Goals as goal
 
 pub returns-in_default : goal.returns-in_default
@@ -12,6 +12,11 @@ returns-in_default c =
     let o = outline_view c.args.outline.now in
     let none : c.args.names.now ≡ [] = nil_from_length c.args.names.now (omega (arith, c.in_default.ensures.item)) in
     ap (meant (scope_of o c.args.region)) none ∙ no_names (scope_of o c.args.region) 0
+
+pub loop-here-init : goal.loop-here-init
+loop-here-init c =
+    begun (outline_view c.args.outline.now) c.args.region c.args.names.now c.args.nesting.now c.requires.nested
+    c.innermost-here.result c.innermost-here.ensures.blocks c.innermost-here.ensures.itself c.innermost-here.ensures.within
 
 pub index-requires : goal.index-requires
 index-requires c =

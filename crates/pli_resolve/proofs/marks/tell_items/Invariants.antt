@@ -1,6 +1,6 @@
 use Rattle.std.proofs.Common.{◌≡◌, ◌+◌, ◌++◌, length, drop, map}
 use Rattle.std.specs.List.{flat_map}
-use Rattle.pli_item.specs.DeclarationView.{item_view}
+use Rattle.pli_base.specs.DeclarationView.{item_view}
 use Rattle.pli_resolve.specs.Walks.{name_faults}
 use Rattle.pli_resolve.proofs.marks.tell_items.Given as goal
 

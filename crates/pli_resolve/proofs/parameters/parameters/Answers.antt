@@ -1,7 +1,7 @@
 use Rattle.std.proofs.Common.{◌≡◌, ◌++◌, [], ◌∷◌, ℕ, ◌+◌, ◌<◌, get_or, set, map, replicate, length, take, refl, sym, ap, ◌∙◌, arith}
 use Rattle.std.proofs.lemmas.List.{length-map}
-use Rattle.pli_parse.specs.StatementView.{unit_view}
-use Rattle.pli_parse.specs.StatementLaws.{unit_out}
+use Rattle.pli_base.specs.StatementView.{unit_view}
+use Rattle.pli_base.specs.StatementLaws.{unit_out}
 use Rattle.pli_outline.specs.Outlines.{Entered}
 use Rattle.pli_outline.specs.OutlineView.{regions_view, region_view, marks_view, mark_view, placed_view}
 use Rattle.pli_outline.specs.declared.region.Mark as written

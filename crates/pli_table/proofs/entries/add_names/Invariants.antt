@@ -1,5 +1,5 @@
 use Rattle.std.proofs.Common.{◌≡◌, ◌++◌, map, drop}
-use Rattle.pli_item.specs.DeclarationView.{item_view}
+use Rattle.pli_base.specs.DeclarationView.{item_view}
 use Rattle.pli_table.specs.Tables.{named}
 use Rattle.pli_table.specs.TableView.{named_view}
 use Rattle.pli_table.proofs.entries.add_names.Given as goal

@@ -1,6 +1,6 @@
 use Rattle.std.proofs.Common.{◌≡◌, ◌++◌, map, drop}
 use Rattle.std.specs.List.{flat_map}
-use Rattle.pli_item.specs.DeclarationView.{item_view}
+use Rattle.pli_base.specs.DeclarationView.{item_view}
 use Rattle.pli_table.specs.Tables.{named}
 use Rattle.pli_table.specs.TableView.{named_view}
 use Rattle.pli_table.proofs.entries.names_of.Given as goal

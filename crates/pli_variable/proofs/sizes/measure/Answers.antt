@@ -24,7 +24,7 @@ returns c = λ describe known.
     let here : IsMeasured c.if-is_empty.inside whole = elim c.if-is_empty.branch [
       | then-is_empty w ↦
           let none : members ≡ [] = nil_from_length members (eqb-true (length members) 0 (sym c.is_empty.ensures ∙ w.if-is_empty.true)) in
-          let takes = subst (λ as'. IsLayout w.scalar_layout.result (size_of (described_scalar (map outermost as'))) (alignment_of (described_scalar (map outermost as')))) w.attributes_of.ensures w.scalar_layout.ensures in
+          let takes = subst (λ as'. IsLayout w.scalar_layout.result (size_of (described_scalar (map outermost as'))) (alignment_of (described_scalar (map outermost as')))) w.attributes.ensures w.scalar_layout.ensures in
           subst (λ m. IsMeasured m whole) (sym (w.inside-is ∙ w.of-inside.ensures))
           (subst (λ ks. IsMeasured (of_layout w.scalar_layout.result) (inside describe scalar ks)) (sym none) (of_scalar w.scalar_layout.result scalar takes))
       | else-is_empty w ↦
@@ -33,4 +33,4 @@ returns c = λ describe known.
           (inside_some describe scalar members (λ none. true≢false (sym (c.is_empty.ensures ∙ eq-eqb (length members) 0 (ap length none)) ∙ w.if-is_empty.false)))
           (w.structure-inside.ensures describe known))
     ] in
-    subst (λ ds. IsMeasured c.with_dimensions.result (option_map (with_bounds (all_bounds ds)) whole)) c.dimensions_of.ensures (c.with_dimensions.ensures whole here)
+    subst (λ ds. IsMeasured c.with_dimensions.result (option_map (with_bounds (all_bounds ds)) whole)) c.dimensions.ensures (c.with_dimensions.ensures whole here)

@@ -1,35 +1,20 @@
-use Rattle.std.proofs.Common.{◌≡◌, ℕ, ◌+◌, ◌-◌, ◌<◌, List, [], map, get_or, length, Option, option_map, Vec, sym, ap, ◌∙◌, subst, arith}
-use Rattle.std.specs.Global.{Global}
-use Rattle.std.proofs.lemmas.List.{length-map, get_or-map, length-set}
+use Rattle.std.proofs.Common.{ℕ, ◌-◌, ◌<◌, List, map, get_or, length, Option, option_map, sym, ◌∙◌, subst, arith}
+use Rattle.std.proofs.lemmas.List.{length-map, length-set}
 use Rattle.pli_map.specs.Description.{Description}
 use Rattle.pli_attribute.specs.Extents.{all_bounds}
 use Rattle.pli_attribute.specs.Faults.{with_bounds, described_scalar}
 use Rattle.pli_attribute.specs.Sets.{outermost}
 use Rattle.pli_table.specs.Tables as tables
 use Rattle.pli_table.specs.TableView.{entry_view, entries_view}
-use Rattle.pli_variable.specs.Places.{members_of, item_in}
+use Rattle.pli_variable.specs.Places.{item_in}
 use Rattle.pli_variable.specs.Descriptions.{described, inside}
 use Rattle.pli_variable.specs.Measures.{IsMeasured, AreMeasured}
 use Rattle.pli_variable.specs.declared.sizes.Measured.{Measured}
 use Rattle.pli_variable.specs.declared.sizes.Measured.TheVariants.{Unknown}
-use Rattle.pli_variable.proofs.NumbersOn.{map_at, length_numbers}
+use Rattle.pli_variable.proofs.Describing.{rows, row}
 use Rattle.pli_variable.proofs.MembersFound.{viewed, shapeless, shaped, one_more}
 use Rattle.pli_variable.proofs.sizes.measure_all.Goals.{then-has_bad_shape, else-has_bad_shape}
 use Rattle.pli_variable.proofs.sizes.measure_all.Goals as goal
-
-abbrev items : Vec ℕ Global → List ℕ
-items v = v.items
-
-rows : (entries : List tables.Entry) (members : List (Vec ℕ Global)) (size : ℕ) → map items members ≡ map (members_of entries) (tables.numbers_from 0 size) → length members ≡ size
-rows entries members size h =
-    sym (length-map members items) ∙ ap length h ∙ length-map (tables.numbers_from 0 size) (members_of entries) ∙ length_numbers 0 size
-
-row : (entries : List tables.Entry) (members : List (Vec ℕ Global)) (size n : ℕ) (v : Vec ℕ Global) → map items members ≡ map (members_of entries) (tables.numbers_from 0 size)
-    → n < size → v ≡ get_or members n v → v.items ≡ members_of entries n
-row entries members size n v h within is =
-    let same : 0 + n ≡ n = omega arith in
-    ap items is ∙ sym (get_or-map items members n v [] (omega (arith, within, rows entries members size h)))
-    ∙ ap (λ (xs : List (List ℕ)). get_or xs n []) h ∙ map_at (members_of entries) 0 size n [] within ∙ ap (members_of entries) same
 
 pub index-requires : goal.index-requires
 index-requires c =

@@ -3,7 +3,6 @@ use Rattle.std.proofs.lemmas.Bool.{cases_lt}
 use Rattle.std.proofs.lemmas.List.{get_or-map, length-map}
 use Rattle.pli_scope.specs.declared.repeat.Written.{Written}
 use Rattle.pli_scope.specs.RepeatLaws.{written_at}
-use Rattle.pli_table.specs.Tables as plain
 use Rattle.pli_table.specs.Tables.{written, no_entry}
 use Rattle.pli_table.specs.TableView.{entry_view, entries_view}
 use Rattle.pli_table.specs.declared.entry.Entry.{Entry}

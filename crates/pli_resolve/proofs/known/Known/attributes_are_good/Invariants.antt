@@ -1,6 +1,6 @@
 use Rattle.std.proofs.Common.{◌≡◌, drop, map}
 use Rattle.std.specs.List.{list_all}
-use Rattle.pli_item.specs.DeclarationView.{attribute_view}
+use Rattle.pli_base.specs.DeclarationView.{attribute_view}
 use Rattle.pli_outline.specs.OutlineView.{outline_view}
 use Rattle.pli_resolve.specs.Resolution.{attribute_is_good}
 use Rattle.pli_resolve.proofs.known.Known.attributes_are_good.Given as goal

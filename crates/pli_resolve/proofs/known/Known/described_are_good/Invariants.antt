@@ -1,6 +1,6 @@
 use Rattle.std.proofs.Common.{◌≡◌, drop, map}
 use Rattle.std.specs.List.{list_all}
-use Rattle.pli_item.specs.DeclarationView.{described_view}
+use Rattle.pli_base.specs.DeclarationView.{described_view}
 use Rattle.pli_outline.specs.OutlineView.{outline_view}
 use Rattle.pli_resolve.specs.Resolution.{described_is_good}
 use Rattle.pli_resolve.proofs.known.Known.described_are_good.Given as goal

@@ -1,7 +1,7 @@
 use Rattle.std.proofs.Common.{◌≡◌, Bool, drop, map}
 use Rattle.std.specs.List.{list_all}
-use Rattle.pli_item.specs.Declarations.{ParameterDescription}
-use Rattle.pli_item.specs.DeclarationView.{parameter_view}
+use Rattle.pli_base.specs.Declarations.{ParameterDescription}
+use Rattle.pli_base.specs.DeclarationView.{parameter_view}
 use Rattle.pli_outline.specs.OutlineView.{outline_view}
 use Rattle.pli_resolve.specs.Resolution.{described_is_good}
 use Rattle.pli_resolve.proofs.known.Known.descriptions_are_good.Given as goal

@@ -1,8 +1,9 @@
 use Rattle.std.proofs.Common.{◌≡◌, drop, map}
 use Rattle.std.specs.List.{list_all}
-use Rattle.pli_parse.specs.StatementView.{option_view, unit_view}
+use Rattle.pli_base.specs.StatementView.{option_view, unit_view}
 use Rattle.pli_outline.specs.OutlineView.{outline_view}
-use Rattle.pli_resolve.specs.Resolution.{described_is_good, returned_by, returned_are}
+use Rattle.pli_resolve.specs.Resolution.{described_is_good, returned_are}
+use Rattle.pli_variable.specs.Declarations.{returned_by}
 use Rattle.pli_resolve.proofs.known.Known.returned_are_good.Given as goal
 
 abbrev pub invariant-loop-option : goal.invariant-loop-option

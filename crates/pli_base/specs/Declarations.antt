@@ -1,0 +1,39 @@
+-- The trees of what stands behind DECLARE, as definitions speak of them: without where they lie in memory.
+use Rattle.std.specs.Prelude.{ℕ, List, Option}
+use Rattle.pli_base.specs.Name.{Name}
+use Rattle.pli_base.specs.declared.syntax.Identifier.{Identifier}
+use Rattle.pli_base.specs.declared.declaration.Bounds.{Bounds}
+use Rattle.pli_base.specs.declared.declaration.InitialValue.{InitialValue}
+
+-- an attribute other than ENTRY and RETURNS
+pub data SimpleAttribute : Type 0 where
+  Fixed Binary : (precision : Option ℕ) → SimpleAttribute
+  Character Bit : (length_of : Option ℕ) → SimpleAttribute
+  Varying Pointer : SimpleAttribute
+  Offset : (area : Option Name) → SimpleAttribute
+  Area : (size : Option ℕ) → SimpleAttribute
+  Based : (locator : Option (List Name)) → SimpleAttribute
+  Controlled Static Automatic External Internal Builtin : SimpleAttribute
+  Initial : (values : List InitialValue) → SimpleAttribute
+
+-- an attribute in the description of a parameter or of a result; nothing is kept of what an ENTRY or RETURNS there holds
+pub data DescribedAttribute : Type 0 where
+  Plain : (attribute : SimpleAttribute) → DescribedAttribute
+  AnyEntry AnyReturns : DescribedAttribute
+
+pub record ParameterDescription : Type 0 where
+  pub dimensions : List Bounds
+  pub attributes : List DescribedAttribute
+
+-- an attribute of an item
+pub data Attribute : Type 0 where
+  Simple : (attribute : SimpleAttribute) → Attribute
+  Entry : (parameters : Option (List ParameterDescription)) → Attribute
+  Returns : (attributes : List DescribedAttribute) → Attribute
+
+-- one name or more, with what they have in common
+pub record Item : Type 0 where
+  pub level : Option ℕ
+  pub names : List Identifier
+  pub dimensions : List Bounds
+  pub attributes : List Attribute

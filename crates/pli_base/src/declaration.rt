@@ -1,0 +1,260 @@
+//! The trees of what stands behind DECLARE, and in the parentheses of a procedure's RETURNS.
+//! None of the types leads back to itself. An ENTRY or RETURNS in the description of a parameter or of a result is a fault of
+//! the declaration whatever its parentheses hold, so that nothing is kept of them, and a text may nest them as deep as it likes.
+ghost use Rattle.std.specs.Prelude.{◌≡◌, map, IfOk};
+ghost use Rattle.pli_base.specs.DeclarationView.{simple_view, described_view, parameter_view, attribute_view, item_view};
+
+use crate::name::Name;
+use crate::string::{BitString, CharacterString};
+use crate::syntax::Identifier;
+use std::alloc::{AllocError, Global};
+
+/// A constant with its sign, if it has one: `-0` is negative.
+#[derive(Clone, Copy)]
+pub struct Integer {
+    pub negative: bool,
+    pub value: u32,
+}
+
+/// The bounds of a dimension. Where there is no lower bound, it is 1 (X3.74).
+#[derive(Clone, Copy)]
+pub struct Bounds {
+    pub low: Option<Integer>,
+    pub high: Integer,
+}
+
+/// A value in INITIAL. A factor says how many elements have it (X3.74).
+#[derive(Drop)]
+pub enum InitialValue {
+    Integer { factor: Option<u32>, value: Integer },
+    Characters(CharacterString),
+    Bits(BitString),
+    Null,
+}
+
+/// An attribute other than ENTRY and RETURNS, with the number, names or values in its parentheses, if it has any.
+#[derive(Drop)]
+pub enum SimpleAttribute {
+    /// With a precision. Its scale is 0, and leaves no trace.
+    Fixed(Option<u32>),
+    /// With a precision. Its scale is 0, and leaves no trace.
+    Binary(Option<u32>),
+    /// With a length.
+    Character(Option<u32>),
+    /// With a length.
+    Bit(Option<u32>),
+    Varying,
+    Pointer,
+    /// With the name of an area.
+    Offset(Option<Name>),
+    /// With a size.
+    Area(Option<u32>),
+    /// With a locator, a name qualified by those before it.
+    Based(Option<Vec<Name>>),
+    Controlled,
+    Static,
+    Automatic,
+    External,
+    Internal,
+    Builtin,
+    Initial(Vec<InitialValue>),
+}
+
+/// An attribute in the description of a parameter or of a result. Nothing is kept of what the parentheses of ENTRY and
+/// RETURNS hold: neither may stand there, whatever it is.
+#[derive(Drop)]
+pub enum DescribedAttribute {
+    Simple(SimpleAttribute),
+    Entry,
+    Returns,
+}
+
+/// The description of a parameter of an entry.
+#[derive(Drop)]
+pub struct ParameterDescription {
+    pub dimensions: Vec<Bounds>,
+    pub attributes: Vec<DescribedAttribute>,
+}
+
+/// An attribute of an item. It has the simple ones in common with a description, so that each is defined and read once.
+#[derive(Drop)]
+pub enum Attribute {
+    Simple(SimpleAttribute),
+    /// With descriptions of its parameters.
+    Entry(Option<Vec<ParameterDescription>>),
+    /// With the attributes of the result.
+    Returns(Vec<DescribedAttribute>),
+}
+
+/// An item of DECLARE: one name, or names in parentheses that have the rest in common.
+#[derive(Drop)]
+pub struct Item {
+    pub level: Option<u32>,
+    pub names: Vec<Identifier>,
+    pub dimensions: Vec<Bounds>,
+    pub attributes: Vec<Attribute>,
+}
+
+impl InitialValue {
+    /// A value that says the same.
+    pub fn copy(&self, alloc: Global) -> Result<InitialValue, AllocError>
+        ensures { IfOk result (λ copied. copied ≡ self.now) }
+    {
+        Ok(match self {
+            InitialValue::Integer { factor, value } => InitialValue::Integer {
+                factor: *factor,
+                value: *value,
+            },
+            InitialValue::Characters(string) => InitialValue::Characters(string.copy(alloc)?),
+            InitialValue::Bits(string) => InitialValue::Bits(string.copy(alloc)?),
+            InitialValue::Null => InitialValue::Null,
+        })
+    }
+}
+
+/// Copies values.
+fn copied_values(alloc: Global, values: &[InitialValue]) -> Result<Vec<InitialValue>, AllocError>
+    ensures { IfOk result (λ copied. copied.items ≡ values.now) }
+{
+    let mut copied = Vec::new(alloc);
+    for value in values {
+        copied.push(value.copy(alloc)?)?;
+    }
+    Ok(copied)
+}
+
+impl SimpleAttribute {
+    /// An attribute that says the same.
+    pub fn copy(&self, alloc: Global) -> Result<SimpleAttribute, AllocError>
+        ensures { IfOk result (λ copied. simple_view copied ≡ simple_view self.now) }
+    {
+        match self {
+            SimpleAttribute::Fixed(precision) => Ok(SimpleAttribute::Fixed(*precision)),
+            SimpleAttribute::Binary(precision) => Ok(SimpleAttribute::Binary(*precision)),
+            SimpleAttribute::Character(length) => Ok(SimpleAttribute::Character(*length)),
+            SimpleAttribute::Bit(length) => Ok(SimpleAttribute::Bit(*length)),
+            SimpleAttribute::Area(size) => Ok(SimpleAttribute::Area(*size)),
+            SimpleAttribute::Offset(area) => Ok(SimpleAttribute::Offset(*area)),
+            SimpleAttribute::Based(None) => Ok(SimpleAttribute::Based(None)),
+            SimpleAttribute::Based(Some(names)) => {
+                let names = Vec::from_slice(alloc, names.as_slice())?;
+                Ok(SimpleAttribute::Based(Some(names)))
+            }
+            SimpleAttribute::Initial(values) => {
+                let values = copied_values(alloc, values.as_slice())?;
+                Ok(SimpleAttribute::Initial(values))
+            }
+            SimpleAttribute::Varying => Ok(SimpleAttribute::Varying),
+            SimpleAttribute::Pointer => Ok(SimpleAttribute::Pointer),
+            SimpleAttribute::Controlled => Ok(SimpleAttribute::Controlled),
+            SimpleAttribute::Static => Ok(SimpleAttribute::Static),
+            SimpleAttribute::Automatic => Ok(SimpleAttribute::Automatic),
+            SimpleAttribute::External => Ok(SimpleAttribute::External),
+            SimpleAttribute::Internal => Ok(SimpleAttribute::Internal),
+            SimpleAttribute::Builtin => Ok(SimpleAttribute::Builtin),
+        }
+    }
+}
+
+impl DescribedAttribute {
+    /// An attribute that says the same.
+    pub fn copy(&self, alloc: Global) -> Result<DescribedAttribute, AllocError>
+        ensures { IfOk result (λ copied. described_view copied ≡ described_view self.now) }
+    {
+        match self {
+            DescribedAttribute::Simple(simple) => {
+                Ok(DescribedAttribute::Simple(simple.copy(alloc)?))
+            }
+            DescribedAttribute::Entry => Ok(DescribedAttribute::Entry),
+            DescribedAttribute::Returns => Ok(DescribedAttribute::Returns),
+        }
+    }
+}
+
+/// Copies the attributes of a description.
+fn copied_description(
+    alloc: Global,
+    attributes: &[DescribedAttribute],
+) -> Result<Vec<DescribedAttribute>, AllocError>
+    ensures { IfOk result (λ copied. map described_view copied.items ≡ map described_view attributes.now) }
+{
+    let mut copied = Vec::new(alloc);
+    for attribute in attributes {
+        copied.push(attribute.copy(alloc)?)?;
+    }
+    Ok(copied)
+}
+
+impl ParameterDescription {
+    /// A description that says the same.
+    pub fn copy(&self, alloc: Global) -> Result<ParameterDescription, AllocError>
+        ensures { IfOk result (λ copied. parameter_view copied ≡ parameter_view self.now) }
+    {
+        Ok(ParameterDescription {
+            dimensions: Vec::from_slice(alloc, self.dimensions.as_slice())?,
+            attributes: copied_description(alloc, self.attributes.as_slice())?,
+        })
+    }
+}
+
+/// Copies descriptions of parameters.
+fn copied_parameters(
+    alloc: Global,
+    parameters: &[ParameterDescription],
+) -> Result<Vec<ParameterDescription>, AllocError>
+    ensures { IfOk result (λ copied. map parameter_view copied.items ≡ map parameter_view parameters.now) }
+{
+    let mut copied = Vec::new(alloc);
+    for parameter in parameters {
+        copied.push(parameter.copy(alloc)?)?;
+    }
+    Ok(copied)
+}
+
+impl Attribute {
+    /// An attribute that says the same.
+    pub fn copy(&self, alloc: Global) -> Result<Attribute, AllocError>
+        ensures { IfOk result (λ copied. attribute_view copied ≡ attribute_view self.now) }
+    {
+        match self {
+            Attribute::Simple(simple) => Ok(Attribute::Simple(simple.copy(alloc)?)),
+            Attribute::Entry(None) => Ok(Attribute::Entry(None)),
+            Attribute::Entry(Some(parameters)) => {
+                let parameters = copied_parameters(alloc, parameters.as_slice())?;
+                Ok(Attribute::Entry(Some(parameters)))
+            }
+            Attribute::Returns(attributes) => {
+                let attributes = copied_description(alloc, attributes.as_slice())?;
+                Ok(Attribute::Returns(attributes))
+            }
+        }
+    }
+}
+
+/// Copies attributes.
+fn copied_attributes(alloc: Global, attributes: &[Attribute]) -> Result<Vec<Attribute>, AllocError>
+    ensures { IfOk result (λ copied. map attribute_view copied.items ≡ map attribute_view attributes.now) }
+{
+    let mut copied = Vec::new(alloc);
+    for attribute in attributes {
+        copied.push(attribute.copy(alloc)?)?;
+    }
+    Ok(copied)
+}
+
+impl Item {
+    /// An item that says the same.
+    pub fn copy(&self, alloc: Global) -> Result<Item, AllocError>
+        ensures { IfOk result (λ copied. item_view copied ≡ item_view self.now) }
+    {
+        Ok(Item {
+            level: self.level,
+            names: Vec::from_slice(alloc, self.names.as_slice())?,
+            dimensions: Vec::from_slice(alloc, self.dimensions.as_slice())?,
+            attributes: copied_attributes(alloc, self.attributes.as_slice())?,
+        })
+    }
+}
+
+#[cfg(test)]
+mod tests;
