@@ -1,4 +1,9 @@
-use super::*;
+use pli_base::Name;
+use pli_base::declaration::{
+    Attribute, DescribedAttribute, InitialValue, Integer, Item, ParameterDescription,
+    SimpleAttribute,
+};
+use pli_base::syntax::Identifier;
 use std::test::Fail;
 
 #[test]

@@ -1,6 +1,6 @@
 ghost use Rattle.std.specs.Prelude.{Some};
 
-use crate::{
+use pli_base::{
     BitString, CharacterString, Code, Device, Failed, Line, NAME_LIMIT, Name, Sink, Source,
     TokenText, code_order, one_code, put_all, take_all,
 };

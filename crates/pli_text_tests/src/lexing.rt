@@ -1,5 +1,6 @@
-use super::*;
+use crate::tokens_of;
 use pli_base::{Line, Sign, Token, TokenText};
+use pli_lex::{LexError, lex};
 use std::alloc::{AllocError, Global};
 use std::fmt::Write;
 use std::test::*;
@@ -367,6 +368,27 @@ fn lines(rt: HostRuntime) -> Result<(), Fail> {
     for (texts, wanted) in table {
         let found = answered(rt.alloc(), texts)?;
         assert_eq!(rt; found.as_str(), wanted);
+    }
+    Ok(())
+}
+
+#[test]
+fn texts_for_tests(rt: HostRuntime) -> Result<(), Fail> {
+    let texts = tokens_of(rt.alloc(), "a 07 /* b\n*/ ;")?;
+    match texts.as_slice() {
+        [
+            TokenText::Word(name),
+            TokenText::Decimal { value, digits },
+            TokenText::Sign(sign),
+        ] => {
+            assert!(rt; name.is(b"A") && *sign == Sign::Semicolon);
+            assert!(rt; *value == 7 && *digits == 2);
+        }
+        _ => assert!(rt; false),
+    }
+    for text in ["", "\n", "A ?", "A\n'B\n'"] {
+        let texts = tokens_of(rt.alloc(), text)?;
+        assert!(rt; texts.is_empty(), "at {text}");
     }
     Ok(())
 }

@@ -1,8 +1,8 @@
-use crate::{
+use pli_base::Name;
+use pli_members::{
     EditError, Kind, Members, Refusal, deletion_keeps_others, deletion_takes, edit_gives_next,
     edit_keeps_others, next_is_new, runs_keep, worked_examples,
 };
-use pli_base::Name;
 use std::alloc::Global;
 use std::process::Abort;
 use std::test::Fail;

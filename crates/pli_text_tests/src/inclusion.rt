@@ -1,7 +1,7 @@
-use crate::{
+use pli_base::{Name, TokenText};
+use pli_include::{
     Expander, Expansion, level_is_never_met, texts_have_origins, trace_decides, worked_examples,
 };
-use pli_base::{Name, TokenText};
 use pli_members::{EditError, Kind, Members};
 use std::alloc::{AllocError, Global};
 use std::fmt::Write;
