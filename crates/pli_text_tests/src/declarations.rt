@@ -4,12 +4,17 @@ use pli_base::declaration::{
     SimpleAttribute,
 };
 use pli_base::syntax::Identifier;
+use std::alloc::{AllocError, Global};
 use std::test::Fail;
 
-#[test]
-fn copies(rt: HostRuntime) -> Result<(), Fail> {
-    let alloc = rt.alloc();
-    let name = Name::read(b"P").ok_or("a name")?;
+/// BASED on this name.
+fn based(alloc: Global, name: Name) -> Result<Attribute, AllocError> {
+    let locator = Vec::from_slice(alloc, &[name])?;
+    Ok(Attribute::Simple(SimpleAttribute::Based(Some(locator))))
+}
+
+/// INITIAL with two values: NULL and, three times, -1.
+fn initial(alloc: Global) -> Result<Attribute, AllocError> {
     let one = Integer {
         negative: true,
         value: 1,
@@ -21,26 +26,41 @@ fn copies(rt: HostRuntime) -> Result<(), Fail> {
             value: one
         },
     ]?;
-    let mut parameter = Vec::new(alloc);
-    parameter.push(DescribedAttribute::Entry)?;
-    parameter.push(DescribedAttribute::Simple(SimpleAttribute::Bit(Some(8))))?;
+    Ok(Attribute::Simple(SimpleAttribute::Initial(values)))
+}
+
+/// ENTRY with the description of one parameter.
+fn entry(alloc: Global) -> Result<Attribute, AllocError> {
+    let mut attributes = Vec::new(alloc);
+    attributes.push(DescribedAttribute::Entry)?;
+    attributes.push(DescribedAttribute::Simple(SimpleAttribute::Bit(Some(8))))?;
     let mut parameters = Vec::new(alloc);
     parameters.push(ParameterDescription {
         dimensions: Vec::new(alloc),
-        attributes: parameter,
+        attributes,
     })?;
+    Ok(Attribute::Entry(Some(parameters)))
+}
+
+/// The three attributes.
+fn attributes(alloc: Global, name: Name) -> Result<Vec<Attribute>, AllocError> {
     let mut attributes = Vec::new(alloc);
-    let locator = Vec::from_slice(alloc, &[name])?;
-    attributes.push(Attribute::Simple(SimpleAttribute::Based(Some(locator))))?;
-    attributes.push(Attribute::Simple(SimpleAttribute::Initial(values)))?;
-    attributes.push(Attribute::Entry(Some(parameters)))?;
+    attributes.push(based(alloc, name)?)?;
+    attributes.push(initial(alloc)?)?;
+    attributes.push(entry(alloc)?)?;
+    Ok(attributes)
+}
+
+#[test]
+fn copies(rt: HostRuntime) -> Result<(), Fail> {
+    let name = Name::read(b"P").ok_or("a name")?;
     let item = Item {
         level: Some(2),
-        names: Vec::from_slice(alloc, &[Identifier { name, at: 7 }])?,
-        dimensions: Vec::new(alloc),
-        attributes,
+        names: Vec::from_slice(rt.alloc(), &[Identifier { name, at: 7 }])?,
+        dimensions: Vec::new(rt.alloc()),
+        attributes: attributes(rt.alloc(), name)?,
     };
-    let copied = item.copy(alloc)?;
+    let copied = item.copy(rt.alloc())?;
     assert_eq!(rt; copied.level, Some(2));
     match copied.attributes.as_slice() {
         [
@@ -48,9 +68,7 @@ fn copies(rt: HostRuntime) -> Result<(), Fail> {
             Attribute::Simple(SimpleAttribute::Initial(values)),
             Attribute::Entry(Some(parameters)),
         ] => {
-            assert_eq!(rt; names.len(), 1);
-            assert_eq!(rt; values.len(), 2);
-            assert_eq!(rt; parameters.len(), 1);
+            assert!(rt; names.len() == 1 && values.len() == 2 && parameters.len() == 1);
         }
         _ => assert!(rt; false),
     }
