@@ -255,6 +255,3 @@ impl Item {
         })
     }
 }
-
-#[cfg(test)]
-mod tests;

@@ -20,6 +20,3 @@ pub use name::{NAME_LIMIT, Name};
 pub use string::{BitString, CharacterString};
 pub use token::{Fault, Origin, Sign, Token, TokenText};
 pub use tree::{Body, Expression, Reference, Statement, Unit};
-
-#[cfg(test)]
-mod tests;

@@ -13,6 +13,3 @@ mod walk;
 pub use expander::Expander;
 pub use expansion::{Expansion, ExpansionFault, Looked};
 pub use laws::{level_is_never_met, texts_have_origins, trace_decides, worked_examples};
-
-#[cfg(test)]
-mod tests;

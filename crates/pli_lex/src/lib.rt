@@ -17,6 +17,3 @@ pub use laws::{
     tokens_are_longest, worked_examples,
 };
 pub use reading::lex;
-
-#[cfg(test)]
-mod tests;

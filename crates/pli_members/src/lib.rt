@@ -18,6 +18,3 @@ pub use laws::{
 pub use members::Members;
 pub use names::Names;
 pub use refusal::{EditError, Refusal};
-
-#[cfg(test)]
-mod tests;

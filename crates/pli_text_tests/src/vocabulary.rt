@@ -1,9 +1,10 @@
 ghost use Rattle.std.specs.Prelude.{Some};
 
-use crate::{
+use pli_base::{
     BitString, CharacterString, Code, Device, Failed, Line, NAME_LIMIT, Name, Sink, Source,
     TokenText, code_order, one_code, put_all, take_all,
 };
+use std::alloc::{AllocError, Global};
 use std::collections::HashMap;
 use std::io::Cursor;
 use std::test::Fail;
@@ -117,19 +118,30 @@ fn failures(rt: HostRuntime) -> Result<(), Fail> {
     Ok(())
 }
 
+/// The bytes of a copy of a character constant.
+fn copied_characters(alloc: Global, bytes: &[u8]) -> Result<Vec<u8>, AllocError> {
+    let string = CharacterString::new(Vec::from_slice(alloc, bytes)?);
+    let text = TokenText::Characters(string.copy(alloc)?);
+    match text.copy(alloc)? {
+        TokenText::Characters(copied) => Vec::from_slice(alloc, copied.bytes()),
+        _ => Ok(Vec::new(alloc)),
+    }
+}
+
+/// The bits of a copy of a bit constant.
+fn copied_bits(alloc: Global, bits: &[bool]) -> Result<Vec<bool>, AllocError> {
+    let text = TokenText::Bits(BitString::new(Vec::from_slice(alloc, bits)?));
+    match text.copy(alloc)? {
+        TokenText::Bits(copied) => Vec::from_slice(alloc, copied.bits()),
+        _ => Ok(Vec::new(alloc)),
+    }
+}
+
 #[test]
 fn strings(rt: HostRuntime) -> Result<(), Fail> {
-    let alloc = rt.alloc();
-    let string = CharacterString::new(Vec::from_slice(alloc, b"it's")?);
-    assert_eq!(rt; string.copy(alloc)?.bytes(), b"it's".as_slice());
-    let text = TokenText::Bits(BitString::new(Vec::from_slice(alloc, &[true, false])?));
-    match text.copy(alloc)? {
-        TokenText::Bits(bits) => assert_eq!(rt; bits.bits(), [true, false].as_slice()),
-        _ => assert!(rt; false),
-    }
-    match TokenText::Characters(string).copy(alloc)? {
-        TokenText::Characters(characters) => assert_eq!(rt; characters.bytes(), b"it's".as_slice()),
-        _ => assert!(rt; false),
-    }
+    let characters = copied_characters(rt.alloc(), b"it's")?;
+    assert_eq!(rt; characters.as_slice(), b"it's".as_slice());
+    let bits = copied_bits(rt.alloc(), &[true, false])?;
+    assert_eq!(rt; bits.as_slice(), [true, false].as_slice());
     Ok(())
 }

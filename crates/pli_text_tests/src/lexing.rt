@@ -1,0 +1,380 @@
+use crate::tokens_of;
+use pli_base::{Line, Sign, Token, TokenText};
+use pli_lex::{LexError, lex};
+use std::alloc::{AllocError, Global};
+use std::fmt::Write;
+use std::process::Abort;
+use std::test::*;
+
+fn spelling(sign: Sign) -> &'static str {
+    match sign {
+        Sign::Colon => ":",
+        Sign::Semicolon => ";",
+        Sign::Comma => ",",
+        Sign::Period => ".",
+        Sign::OpenParenthesis => "(",
+        Sign::CloseParenthesis => ")",
+        Sign::Equals => "=",
+        Sign::NotEqual => "^=",
+        Sign::Less => "<",
+        Sign::LessOrEqual => "<=",
+        Sign::Greater => ">",
+        Sign::GreaterOrEqual => ">=",
+        Sign::Plus => "+",
+        Sign::Minus => "-",
+        Sign::Times => "*",
+        Sign::Concatenate => "||",
+        Sign::And => "&",
+        Sign::Or => "|",
+        Sign::Not => "^",
+        Sign::Arrow => "->",
+        Sign::Percent => "%",
+    }
+}
+
+/// The tokens with a `/` behind each and a line's number before its first. A decimal constant is its value, `#` and its digits, a binary one its value,
+/// `B` and its digits; a character constant stands in double quotes, and the bits of a bit constant stand behind `!`.
+fn shown(alloc: Global, tokens: &[Token]) -> Result<String, AllocError> {
+    let mut shown = String::new(alloc);
+    let mut line = 0;
+    for token in tokens {
+        if token.line != line {
+            line = token.line;
+            write!(shown, "{line}>")?;
+        }
+        match &token.text {
+            TokenText::Word(name) => {
+                for byte in name.bytes() {
+                    shown.push(char::from(*byte))?;
+                }
+            }
+            TokenText::Decimal { value, digits } => write!(shown, "{value}#{digits}")?,
+            TokenText::Binary { value, digits } => write!(shown, "{value}B{digits}")?,
+            TokenText::Characters(string) => {
+                shown.push('"')?;
+                for byte in string.bytes() {
+                    shown.push(char::from(*byte))?;
+                }
+                shown.push('"')?;
+            }
+            TokenText::Bits(string) => {
+                shown.push('!')?;
+                for bit in string.bits() {
+                    shown.push(if *bit { '1' } else { '0' })?;
+                }
+            }
+            TokenText::Sign(sign) => shown.push_str(spelling(*sign))?,
+        }
+        shown.push('/')?;
+    }
+    Ok(shown)
+}
+
+/// The tokens of lines, or the fault, as `X3 at 1`.
+fn answered(alloc: Global, lines: &[Line]) -> Result<String, AllocError> {
+    if lines.len() > 9999 {
+        return String::from_str(alloc, "TOO MANY LINES");
+    }
+    match lex(alloc, lines) {
+        Ok(tokens) => shown(alloc, &tokens),
+        Err(LexError::Fault(fault)) => {
+            let label = fault.code.label();
+            let line = fault.line;
+            format!(in alloc; "{label} at {line}")
+        }
+        Err(LexError::OutOfMemory) => Err(AllocError),
+    }
+}
+
+/// Lexes the texts of a table, whose lines end at each `\n`, and compares.
+fn agrees(rt: &impl Abort, alloc: Global, table: &[(&str, &str)]) -> Result<(), AllocError> {
+    for (text, wanted) in table {
+        let mut lines = Vec::new(alloc);
+        for line in text.split('\n') {
+            lines.push(Line::new(alloc, line.as_bytes())?)?;
+        }
+        let found = answered(alloc, &lines)?;
+        assert_eq!(rt; found.as_str(), *wanted, "at {text}");
+    }
+    Ok(())
+}
+
+static NUMBERS: [(&str, &str); 16] = [
+    ("", ""),
+    (" \t ", ""),
+    ("0 00 007", "1>0#1/0#2/7#3/"),
+    ("0000000001", "1>1#10/"),
+    ("2147483647", "1>2147483647#10/"),
+    ("1+1(2)", "1>1#1/+/1#1/(/2#1/)/"),
+    ("1B 0B", "1>1B1/0B1/"),
+    ("101b", "1>5B3/"),
+    ("0101B", "1>5B4/"),
+    ("1111111111111111111111111111111B", "1>2147483647B31/"),
+    ("0000000000000000000000000000000B", "1>0B31/"),
+    ("1B;", "1>1B1/;/"),
+    ("10 B", "1>10#2/B/"),
+    ("1'1'B", "1>1#1/!1/"),
+    ("101B'1'", "1>5B3/\"1\"/"),
+    ("1/**/2", "1>1#1/2#1/"),
+];
+
+#[test]
+fn numbers(rt: HostRuntime) -> Result<(), Fail> {
+    agrees(&rt, rt.alloc(), &NUMBERS)?;
+    Ok(())
+}
+
+static BAD_NUMBERS: [(&str, &str); 19] = [
+    ("00000000001", "X4 at 1"),
+    ("12345678901", "X4 at 1"),
+    ("2147483648", "X4 at 1"),
+    ("9999999999", "X4 at 1"),
+    ("11111111111111111111111111111111B", "X4 at 1"),
+    ("00000000000000000000000000000001B", "X4 at 1"),
+    ("12B", "X4 at 1"),
+    ("2B", "X4 at 1"),
+    ("1BB", "X4 at 1"),
+    ("101B2", "X4 at 1"),
+    ("101B.", "X4 at 1"),
+    ("101B_", "X4 at 1"),
+    ("12.5", "X4 at 1"),
+    ("1_", "X4 at 1"),
+    ("1$ ?", "X4 at 1"),
+    ("7.", "X4 at 1"),
+    ("1A", "X4 at 1"),
+    ("1E5", "X4 at 1"),
+    ("99999999999A", "X4 at 1"),
+];
+
+#[test]
+fn bad_numbers(rt: HostRuntime) -> Result<(), Fail> {
+    agrees(&rt, rt.alloc(), &BAD_NUMBERS)?;
+    Ok(())
+}
+
+static NAMES: [(&str, &str); 6] = [
+    ("M: PROC OPTIONS(MAIN);", "1>M/:/PROC/OPTIONS/(/MAIN/)/;/"),
+    ("put\tlist ( a , b )", "1>PUT/LIST/(/A/,/B/)/"),
+    ("a_$1 z$", "1>A_$1/Z$/"),
+    ("A.B", "1>A/./B/"),
+    (
+        "abcdefghijklmnopqrstuvwxyz_$345",
+        "1>ABCDEFGHIJKLMNOPQRSTUVWXYZ_$345/",
+    ),
+    ("IF=IF+1;;", "1>IF/=/IF/+/1#1/;/;/"),
+];
+
+#[test]
+fn names(rt: HostRuntime) -> Result<(), Fail> {
+    agrees(&rt, rt.alloc(), &NAMES)?;
+    Ok(())
+}
+
+static BAD_NAMES_AND_CHARACTERS: [(&str, &str); 7] = [
+    ("abcdefghijklmnopqrstuvwxyz_$3456", "X5 at 1"),
+    ("abcdefghijklmnopqrstuvwxyz_$3456? 1A", "X5 at 1"),
+    ("X?", "X3 at 1"),
+    ("_X", "X3 at 1"),
+    ("$X", "X3 at 1"),
+    ("A#", "X3 at 1"),
+    ("A \"B\"", "X3 at 1"),
+];
+
+#[test]
+fn bad_names_and_characters(rt: HostRuntime) -> Result<(), Fail> {
+    agrees(&rt, rt.alloc(), &BAD_NAMES_AND_CHARACTERS)?;
+    Ok(())
+}
+
+static CHARACTER_CONSTANTS: [(&str, &str); 13] = [
+    ("''", "1>\"\"/"),
+    ("''''", "1>\"'\"/"),
+    ("'It''s'", "1>\"It's\"/"),
+    ("'a''''b'", "1>\"a''b\"/"),
+    ("'A'''", "1>\"A'\"/"),
+    ("'A''B'", "1>\"A'B\"/"),
+    ("X='a b\tc'", "1>X/=/\"a b\tc\"/"),
+    ("'A'C", "1>\"A\"/C/"),
+    ("'A'1", "1>\"A\"/1#1/"),
+    ("'A' B", "1>\"A\"/B/"),
+    ("'A'.", "1>\"A\"/./"),
+    ("'/* */'", "1>\"/* */\"/"),
+    ("'A'||'B'", "1>\"A\"/||/\"B\"/"),
+];
+
+#[test]
+fn character_constants(rt: HostRuntime) -> Result<(), Fail> {
+    agrees(&rt, rt.alloc(), &CHARACTER_CONSTANTS)?;
+    Ok(())
+}
+
+static UNENDED_STRINGS: [(&str, &str); 6] = [
+    ("'", "X2 at 1"),
+    ("X = 'AB", "X2 at 1"),
+    ("'''", "X2 at 1"),
+    ("'A''", "X2 at 1"),
+    ("'A''B", "X2 at 1"),
+    ("'1'' B", "X2 at 1"),
+];
+
+#[test]
+fn unended_strings(rt: HostRuntime) -> Result<(), Fail> {
+    agrees(&rt, rt.alloc(), &UNENDED_STRINGS)?;
+    Ok(())
+}
+
+static BIT_CONSTANTS: [(&str, &str); 11] = [
+    ("'101'B", "1>!101/"),
+    ("'101'b", "1>!101/"),
+    ("''B ''B4", "1>!/!/"),
+    ("'10'B1", "1>!10/"),
+    ("'0123'B2", "1>!00011011/"),
+    ("'07'b3", "1>!000111/"),
+    ("'9aF'B4", "1>!100110101111/"),
+    ("'1'B.", "1>!1/./"),
+    ("'1'B 5", "1>!1/5#1/"),
+    ("'1'B'0'B", "1>!1/!0/"),
+    ("'101'B='5'B3", "1>!101/=/!101/"),
+];
+
+#[test]
+fn bit_constants(rt: HostRuntime) -> Result<(), Fail> {
+    agrees(&rt, rt.alloc(), &BIT_CONSTANTS)?;
+    Ok(())
+}
+
+static BAD_BIT_CONSTANTS: [(&str, &str); 14] = [
+    ("'12'B", "X6 at 1"),
+    ("'A'B", "X6 at 1"),
+    ("'2'B1", "X6 at 1"),
+    ("'4'B2", "X6 at 1"),
+    ("'8'B3", "X6 at 1"),
+    ("'G'B4", "X6 at 1"),
+    ("'1'B5", "X6 at 1"),
+    ("'1'B0", "X6 at 1"),
+    ("'1'BX", "X6 at 1"),
+    ("'1'B4X", "X6 at 1"),
+    ("'1'B10", "X6 at 1"),
+    ("'1'B_", "X6 at 1"),
+    ("'1 0'B", "X6 at 1"),
+    ("'1''0'B", "X6 at 1"),
+];
+
+#[test]
+fn bad_bit_constants(rt: HostRuntime) -> Result<(), Fail> {
+    agrees(&rt, rt.alloc(), &BAD_BIT_CONSTANTS)?;
+    Ok(())
+}
+
+static SIGNS: [(&str, &str); 17] = [
+    ("+-*(),.;:=<>&|^%", "1>+/-/*/(/)/,/./;/:/=/</>/&/|/^/%/"),
+    ("<=>=^=", "1><=/>=/^=/"),
+    ("^<^>", "1>>=/<=/"),
+    ("~~=~<~>", "1>^/^=/>=/<=/"),
+    ("->", "1>->/"),
+    ("- >", "1>-/>/"),
+    ("->>", "1>->/>/"),
+    ("-->", "1>-/->/"),
+    ("||", "1>||/"),
+    ("|||", "1>||/|/"),
+    ("| |", "1>|/|/"),
+    ("<<=", "1></<=/"),
+    ("==", "1>=/=/"),
+    (">==", "1>>=/=/"),
+    ("^^=", "1>^/^=/"),
+    ("=>", "1>=/>/"),
+    ("<>", "1></>/"),
+];
+
+#[test]
+fn signs(rt: HostRuntime) -> Result<(), Fail> {
+    agrees(&rt, rt.alloc(), &SIGNS)?;
+    Ok(())
+}
+
+static NO_SIGNS: [(&str, &str); 6] = [
+    ("*/", "X3 at 1"),
+    ("/", "X3 at 1"),
+    ("A/B", "X3 at 1"),
+    ("/ * A */", "X3 at 1"),
+    ("!", "X3 at 1"),
+    ("A @", "X3 at 1"),
+];
+
+#[test]
+fn no_signs(rt: HostRuntime) -> Result<(), Fail> {
+    agrees(&rt, rt.alloc(), &NO_SIGNS)?;
+    Ok(())
+}
+
+static COMMENTS: [(&str, &str); 12] = [
+    ("A/**/B", "1>A/B/"),
+    ("A/* /* */B", "1>A/B/"),
+    ("/*/*/", ""),
+    ("/***/X", "1>X/"),
+    ("/* ' */X", "1>X/"),
+    ("A /* B", "X1 at 1"),
+    ("/*/", "X1 at 1"),
+    ("/*", "X1 at 1"),
+    ("/**", "X1 at 1"),
+    ("A /* */ */", "X3 at 1"),
+    ("/* 1A ? */ 1A", "X4 at 1"),
+    ("? /*", "X3 at 1"),
+];
+
+#[test]
+fn comments(rt: HostRuntime) -> Result<(), Fail> {
+    agrees(&rt, rt.alloc(), &COMMENTS)?;
+    Ok(())
+}
+
+static LINES: [(&str, &str); 19] = [
+    ("M: PROC\n\n ;X\nEND", "1>M/:/PROC/3>;/X/4>END/"),
+    ("M: PROC\n\nX #\n?", "X3 at 3"),
+    ("PR\nOC", "1>PR/2>OC/"),
+    ("-\n>", "1>-/2>>/"),
+    ("12\nB", "1>12#2/2>B/"),
+    ("'1'\nB", "1>\"1\"/2>B/"),
+    ("A /* B\nC\n*/ D", "1>A/3>D/"),
+    ("/*\n*/", ""),
+    ("/*\n/*\n*/\n*/", "X3 at 4"),
+    ("/*\n\n*\n/", "X1 at 1"),
+    ("A\n/* x\ny", "X1 at 2"),
+    ("/* a */ /* b\nc */ 1A", "X4 at 2"),
+    ("X /*\n*/ Y /*\n*/ Z ?", "X3 at 3"),
+    ("A\nB /* */ /*\n\nC", "X1 at 2"),
+    ("A *\n/ B", "X3 at 2"),
+    ("/\n* A", "X3 at 1"),
+    ("'A\nB'", "X2 at 1"),
+    ("A\nB 'C", "X2 at 2"),
+    ("A /*\n' */ 'B'", "1>A/2>\"B\"/"),
+];
+
+#[test]
+fn lines(rt: HostRuntime) -> Result<(), Fail> {
+    let none = answered(rt.alloc(), &[])?;
+    assert_eq!(rt; none.as_str(), "");
+    agrees(&rt, rt.alloc(), &LINES)?;
+    Ok(())
+}
+
+#[test]
+fn texts_for_tests(rt: HostRuntime) -> Result<(), Fail> {
+    let texts = tokens_of(rt.alloc(), "a 07 /* b\n*/ ;")?;
+    match texts.as_slice() {
+        [
+            TokenText::Word(name),
+            TokenText::Decimal { value, digits },
+            TokenText::Sign(sign),
+        ] => {
+            assert!(rt; name.is(b"A") && *sign == Sign::Semicolon);
+            assert!(rt; *value == 7 && *digits == 2);
+        }
+        _ => assert!(rt; false),
+    }
+    for text in ["", "\n", "A ?", "A\n'B\n'"] {
+        let texts = tokens_of(rt.alloc(), text)?;
+        assert!(rt; texts.is_empty(), "at {text}");
+    }
+    Ok(())
+}

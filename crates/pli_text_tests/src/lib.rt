@@ -1,0 +1,17 @@
+//! Tests of what stands below the grammar: the words of `pli_base`, the lexer, members and inclusion; and tokens for the tests of other crates.
+#![tactic(auto)]
+
+mod tokens;
+
+pub use tokens::tokens_of;
+
+#[cfg(test)]
+mod declarations;
+#[cfg(test)]
+mod inclusion;
+#[cfg(test)]
+mod lexing;
+#[cfg(test)]
+mod members;
+#[cfg(test)]
+mod vocabulary;
