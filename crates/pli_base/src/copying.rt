@@ -119,13 +119,19 @@ impl Control {
                 first,
                 range,
                 condition,
-            } => Ok(Control::Iterate {
-                variable: variable.copy(alloc)?,
-                equals: *equals,
-                first: first.copy(alloc)?,
-                range: copied_range(alloc, range)?,
-                condition: copied_value(alloc, condition)?,
-            }),
+            } => {
+                let variable = variable.copy(alloc)?;
+                let first = first.copy(alloc)?;
+                let condition = copied_value(alloc, condition)?;
+                let range = copied_range(alloc, range)?;
+                Ok(Control::Iterate {
+                    variable,
+                    equals: *equals,
+                    first,
+                    range,
+                    condition,
+                })
+            }
         }
     }
 }
@@ -357,8 +363,8 @@ fn copied_group(
 ) -> Result<Body, AllocError>
     ensures { IfOk result (λ copied. body_view copied ≡ tree.Do (option_map control_view control.now) (statements_view statements.now) end) }
 {
-    let control = copied_control(alloc, control)?;
     let statements = copied_statements(alloc, statements)?;
+    let control = copied_control(alloc, control)?;
     Ok(Body::Do {
         control,
         statements,
