@@ -24,12 +24,3 @@ pub use laws::{resolved_examples, worked_examples};
 pub use resolved::{Block, Resolved, Target, Use};
 pub use resolving::{ResolveError, resolve};
 pub use unit::faults;
-
-#[cfg(test)]
-mod outline_tests;
-#[cfg(test)]
-mod resolved_tests;
-#[cfg(test)]
-mod table_tests;
-#[cfg(test)]
-mod tests;

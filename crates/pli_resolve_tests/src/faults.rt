@@ -1,74 +1,10 @@
-use crate::{faults, worked_examples};
-use pli_base::statement::Procedure;
-use pli_base::{Fault, Name, Sign, TokenText};
-use pli_parse::{ParseError, parse};
+//! The faults of the declarations of units.
+use crate::units::unit_of;
+use pli_base::Fault;
+use pli_resolve::{faults, worked_examples};
 use std::alloc::{AllocError, Global};
 use std::fmt::Write;
 use std::test::*;
-
-fn sign_of(word: &str) -> Option<Sign> {
-    match word {
-        ":" => Some(Sign::Colon),
-        ";" => Some(Sign::Semicolon),
-        "," => Some(Sign::Comma),
-        "." => Some(Sign::Period),
-        "(" => Some(Sign::OpenParenthesis),
-        ")" => Some(Sign::CloseParenthesis),
-        "=" => Some(Sign::Equals),
-        "+" => Some(Sign::Plus),
-        "-" => Some(Sign::Minus),
-        "->" => Some(Sign::Arrow),
-        _ => None,
-    }
-}
-
-/// The token that a word of a test's text stands for: a sign, a number or a name.
-fn token_of(word: &str) -> Option<TokenText> {
-    if let Some(sign) = sign_of(word) {
-        return Some(TokenText::Sign(sign));
-    }
-    if let Ok(value) = word.parse::<u32>() {
-        return match u8::try_from(word.len()) {
-            Ok(digits) => Some(TokenText::Decimal { value, digits }),
-            Err(_) => None,
-        };
-    }
-    match Name::read(word.as_bytes()) {
-        Some(name) => Some(TokenText::Word(name)),
-        None => None,
-    }
-}
-
-/// The tokens of a text, whose words stand apart.
-pub(crate) fn tokens_of(alloc: Global, text: &str) -> Result<Vec<TokenText>, AllocError> {
-    let mut tokens = Vec::new(alloc);
-    for word in text.split(' ') {
-        if let Some(token) = token_of(word) {
-            tokens.push(token)?;
-        }
-    }
-    Ok(tokens)
-}
-
-/// The unit that a text is; none where it does not read.
-pub(crate) fn unit_of(alloc: Global, text: &str) -> Result<Option<Procedure>, AllocError> {
-    let tokens = tokens_of(alloc, text)?;
-    if tokens.len() > 200_000 {
-        return Ok(None);
-    }
-    match parse(alloc, tokens.as_slice()) {
-        Ok(unit) => Ok(Some(unit)),
-        Err(_) => Ok(None),
-    }
-}
-
-/// Puts the letters of a name behind what is shown.
-pub(crate) fn push_name(shown: &mut String, name: &Name) -> Result<(), AllocError> {
-    for byte in name.bytes() {
-        shown.push(char::from(*byte))?;
-    }
-    Ok(())
-}
 
 /// `A1 at 4, A10 at 6`.
 fn show_faults(alloc: Global, faults: &[Fault]) -> Result<String, AllocError> {
@@ -86,29 +22,21 @@ fn show_faults(alloc: Global, faults: &[Fault]) -> Result<String, AllocError> {
 
 /// The faults of the declarations of a text; of one that does not read, the parser's.
 fn answered(alloc: Global, text: &str) -> Result<String, AllocError> {
-    let tokens = tokens_of(alloc, text)?;
-    if tokens.len() > 200_000 {
-        return String::from_str(alloc, "TOO MANY TOKENS");
-    }
-    match parse(alloc, &tokens) {
-        Ok(unit) => {
-            let faults = faults(alloc, &unit)?;
-            show_faults(alloc, &faults)
-        }
-        Err(ParseError::Fault(fault)) => show_faults(alloc, &[fault]),
-        Err(ParseError::OutOfMemory) => Err(AllocError),
+    match unit_of(alloc, text)? {
+        Ok(unit) => show_faults(alloc, &faults(alloc, &unit)?),
+        Err(fault) => show_faults(alloc, &[fault]),
     }
 }
 
-/// The first text of a table that is not answered as the table says, with its answer; nothing where all are.
-fn first_wrong(alloc: Global, texts: &[(&str, &str)]) -> Result<String, AllocError> {
+/// Fails at the first text of a table that is not answered as the table says, with its answer.
+fn are_answered(alloc: Global, texts: &[(&str, &str)]) -> Result<(), Fail> {
     for (text, want) in texts {
         let answer = answered(alloc, text)?;
         if answer.as_str() != *want {
-            return format!(in alloc; "{text}: {answer}");
+            return Err(Fail::new(format!(in alloc; "{text}: {answer}")?));
         }
     }
-    Ok(String::new(alloc))
+    Ok(())
 }
 
 /// References to what is declared, and to what is not.
@@ -434,65 +362,47 @@ static HEADINGS: [(&str, &str); 11] = [
 
 #[test]
 fn references_are_answered(rt: HostRuntime) -> Result<(), Fail> {
-    let wrong = first_wrong(rt.alloc(), &REFERENCES)?;
-    assert_eq!(rt; wrong.as_str(), "");
-    Ok(())
+    are_answered(rt.alloc(), &REFERENCES)
 }
 
 #[test]
 fn repeats_are_answered(rt: HostRuntime) -> Result<(), Fail> {
-    let wrong = first_wrong(rt.alloc(), &REPEATS)?;
-    assert_eq!(rt; wrong.as_str(), "");
-    Ok(())
+    are_answered(rt.alloc(), &REPEATS)
 }
 
 #[test]
 fn blocks_are_answered(rt: HostRuntime) -> Result<(), Fail> {
-    let wrong = first_wrong(rt.alloc(), &BLOCKS)?;
-    assert_eq!(rt; wrong.as_str(), "");
-    Ok(())
+    are_answered(rt.alloc(), &BLOCKS)
 }
 
 #[test]
 fn structures_are_answered(rt: HostRuntime) -> Result<(), Fail> {
-    let wrong = first_wrong(rt.alloc(), &STRUCTURES)?;
-    assert_eq!(rt; wrong.as_str(), "");
-    Ok(())
+    are_answered(rt.alloc(), &STRUCTURES)
 }
 
 #[test]
 fn jumps_are_answered(rt: HostRuntime) -> Result<(), Fail> {
-    let wrong = first_wrong(rt.alloc(), &JUMPS)?;
-    assert_eq!(rt; wrong.as_str(), "");
-    Ok(())
+    are_answered(rt.alloc(), &JUMPS)
 }
 
 #[test]
 fn levels_are_answered(rt: HostRuntime) -> Result<(), Fail> {
-    let wrong = first_wrong(rt.alloc(), &LEVELS)?;
-    assert_eq!(rt; wrong.as_str(), "");
-    Ok(())
+    are_answered(rt.alloc(), &LEVELS)
 }
 
 #[test]
 fn locators_are_answered(rt: HostRuntime) -> Result<(), Fail> {
-    let wrong = first_wrong(rt.alloc(), &LOCATORS)?;
-    assert_eq!(rt; wrong.as_str(), "");
-    Ok(())
+    are_answered(rt.alloc(), &LOCATORS)
 }
 
 #[test]
 fn items_are_answered(rt: HostRuntime) -> Result<(), Fail> {
-    let wrong = first_wrong(rt.alloc(), &ITEMS)?;
-    assert_eq!(rt; wrong.as_str(), "");
-    Ok(())
+    are_answered(rt.alloc(), &ITEMS)
 }
 
 #[test]
 fn headings_are_answered(rt: HostRuntime) -> Result<(), Fail> {
-    let wrong = first_wrong(rt.alloc(), &HEADINGS)?;
-    assert_eq!(rt; wrong.as_str(), "");
-    Ok(())
+    are_answered(rt.alloc(), &HEADINGS)
 }
 
 #[test]

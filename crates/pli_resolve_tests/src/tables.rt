@@ -1,8 +1,9 @@
-use crate::tests::{push_name, unit_of};
+//! What the blocks of units declare, and which item a reference means.
+use crate::units::{push_name, unit_of};
 use pli_base::Name;
 use pli_outline::outline;
 use pli_region::Nesting;
-use pli_scope::{Found, Verdict};
+use pli_scope::{Block, Found, Verdict};
 use pli_table::{Entity, Entry, Table, Tables, owners_stand_before};
 use std::alloc::{AllocError, Global};
 use std::fmt::Write;
@@ -59,13 +60,13 @@ fn show_tables(alloc: Global, tables: &Tables<'_>) -> Result<String, AllocError>
 
 fn tabled(alloc: Global, text: &str) -> Result<String, AllocError> {
     match unit_of(alloc, text)? {
-        Some(unit) => {
+        Ok(unit) => {
             let outline = outline(alloc, &unit)?;
             let nesting = Nesting::new(alloc, outline.regions.as_slice())?;
             let tables = Tables::new(alloc, &outline, &nesting)?;
             show_tables(alloc, &tables)
         }
-        None => Ok(String::new(alloc)),
+        Err(_) => Ok(String::new(alloc)),
     }
 }
 
@@ -103,46 +104,70 @@ static TABLES: [(&str, &str); 9] = [
     ("M : PROC ; M : ; END ;", " M#0 | M:0 |"),
 ];
 
-#[test]
-fn tables_of_texts(rt: HostRuntime) -> Result<(), Fail> {
-    for (text, wanted) in TABLES.iter() {
-        let shown = tabled(rt.alloc(), text)?;
-        assert_eq!(rt; shown.as_str(), *wanted, "{text}");
+/// The names of a reference, which stand apart.
+fn names_of(alloc: Global, reference: &str) -> Result<Vec<Name>, AllocError> {
+    let mut names = Vec::new(alloc);
+    for word in reference.split(' ') {
+        if let Some(name) = Name::read(word.as_bytes()) {
+            names.push(name)?;
+        }
+    }
+    Ok(names)
+}
+
+/// Fails at the first reference of a table that does not mean in a block what the table says.
+fn are_found(alloc: Global, block: &Block, references: &[(&str, Found)]) -> Result<(), Fail> {
+    for (reference, wanted) in references {
+        let names = names_of(alloc, reference)?;
+        if block.find(&names) != *wanted {
+            return Err(Fail::new(*reference));
+        }
     }
     Ok(())
 }
 
-fn name(text: &str) -> Result<Name, Fail> {
-    Ok(Name::read(text.as_bytes()).ok_or("a name")?)
+/// A unit whose block declares a name twice, and two structures with members of one name.
+static LOOKED_UP: &str = "M : PROC ; DCL 1 S , 2 A , 2 A , 1 T , 2 A , 2 B ; END ;";
+
+/// References, with what they mean in the block of that unit.
+static IN_THE_BLOCK: [(&str, Found); 6] = [
+    ("S A", Found::One(1)),
+    ("T A", Found::One(4)),
+    ("T B", Found::One(5)),
+    ("S B", Found::Nothing),
+    ("A", Found::Several),
+    ("M", Found::Nothing),
+];
+
+/// References, with what they mean in the outermost block, which declares the unit's own name.
+static OUTERMOST: [(&str, Found); 1] = [("M", Found::One(0))];
+
+fn are_looked_up(alloc: Global, tables: &Tables<'_>) -> Result<(), Fail> {
+    let table = tables.blocks.first().ok_or("a block")?;
+    are_found(alloc, &table.block, &IN_THE_BLOCK)?;
+    are_found(alloc, &tables.unit.block, &OUTERMOST)
+}
+
+#[test]
+fn tables_of_texts(rt: HostRuntime) -> Result<(), Fail> {
+    let alloc = rt.alloc();
+    for (text, wanted) in TABLES.iter() {
+        let shown = tabled(alloc, text)?;
+        if shown.as_str() != *wanted {
+            return Err(Fail::new(format!(in alloc; "{text}: {shown}")?));
+        }
+    }
+    Ok(())
 }
 
 #[test]
 fn names_are_looked_up(rt: HostRuntime) -> Result<(), Fail> {
     let alloc = rt.alloc();
-    let unit = unit_of(
-        alloc,
-        "M : PROC ; DCL 1 S , 2 A , 2 A , 1 T , 2 A , 2 B ; END ;",
-    )?
-    .ok_or("a unit")?;
+    let unit = unit_of(alloc, LOOKED_UP)?.ok().ok_or("a unit")?;
     let outline = outline(alloc, &unit)?;
     let nesting = Nesting::new(alloc, outline.regions.as_slice())?;
     let tables = Tables::new(alloc, &outline, &nesting)?;
-    let block = &tables.blocks.first().ok_or("a block")?.block;
-    for (reference, wanted) in [
-        (["S", "A"], Found::One(1)),
-        (["T", "A"], Found::One(4)),
-        (["T", "B"], Found::One(5)),
-        (["S", "B"], Found::Nothing),
-    ] {
-        assert_eq!(rt;
-            block.find(&[name(reference[0])?, name(reference[1])?]),
-            wanted
-        );
-    }
-    assert_eq!(rt; block.find(&[name("A")?]), Found::Several);
-    assert_eq!(rt; block.find(&[name("M")?]), Found::Nothing);
-    assert_eq!(rt; tables.unit.block.find(&[name("M")?]), Found::One(0));
-    Ok(())
+    are_looked_up(alloc, &tables)
 }
 
 #[test]

@@ -6,26 +6,16 @@
 //! in which it begins, from 0, which is the procedure of the unit; the letter is its kind, the number behind it the region that it
 //! stands in, and a procedure's parameters stand in parentheses. Each reference is told at its first name; behind `->` another one
 //! begins.
-use crate::tests::tokens_of;
-use crate::{Block, ResolveError, Resolved, Target, Use, faults, resolve, resolved_examples};
+use crate::units::{push_name, unit_of};
 use pli_attribute::{Completed, Scope, Storage, Variable};
-use pli_base::Name;
 use pli_base::declaration::InitialValue;
 use pli_map::{Bounds, Description};
 use pli_outline::{Region, RegionKind};
-use pli_parse::parse;
+use pli_resolve::{Block, ResolveError, Resolved, Target, Use, faults, resolve, resolved_examples};
 use pli_variable::{Declaration, Kind};
 use std::alloc::{AllocError, Global};
 use std::fmt::Write;
 use std::test::*;
-
-/// A name's letters.
-fn show_name(shown: &mut String, name: &Name) -> Result<(), AllocError> {
-    for byte in name.bytes() {
-        shown.push(char::from(*byte))?;
-    }
-    Ok(())
-}
 
 /// `[1:3,-1:2]`; nothing of a scalar.
 fn show_bounds(shown: &mut String, bounds: &[Bounds]) -> Result<(), AllocError> {
@@ -156,7 +146,7 @@ fn show_completed(shown: &mut String, completed: &Completed) -> Result<(), Alloc
 /// its region; ` F@4#1=F15`, a procedure, its region and its result.
 fn show_declaration(shown: &mut String, declaration: &Declaration) -> Result<(), AllocError> {
     shown.push(' ')?;
-    show_name(shown, &declaration.identifier.name)?;
+    push_name(shown, &declaration.identifier.name)?;
     let at = declaration.identifier.at;
     write!(shown, "@{at}")?;
     if let Some(owner) = declaration.owner {
@@ -197,7 +187,7 @@ fn show_block(shown: &mut String, region: &Region, block: &Block) -> Result<(), 
     }
     for (place, name) in block.parameters.iter().enumerate() {
         shown.push(if place == 0 { '(' } else { ',' })?;
-        show_name(shown, name)?;
+        push_name(shown, name)?;
     }
     if !block.parameters.is_empty() {
         shown.push(')')?;
@@ -338,25 +328,9 @@ static ITEMS: [(&str, &str); 2] = [
     ),
 ];
 
-/// How many faults a text has; none where it is resolved. A text that does not read has one.
-fn count_of_faults(alloc: Global, text: &str) -> Result<usize, AllocError> {
-    let tokens = tokens_of(alloc, text)?;
-    if tokens.len() > 200_000 {
-        return Ok(1);
-    }
-    match parse(alloc, tokens.as_slice()) {
-        Ok(unit) => Ok(faults(alloc, &unit)?.len()),
-        Err(_) => Ok(1),
-    }
-}
-
 /// A text, resolved, or the same of a copy.
 fn resolved(alloc: Global, text: &str, copies: bool) -> Result<String, AllocError> {
-    let tokens = tokens_of(alloc, text)?;
-    if tokens.len() > 200_000 {
-        return String::from_str(alloc, "TOO MANY TOKENS");
-    }
-    match parse(alloc, tokens.as_slice()) {
+    match unit_of(alloc, text)? {
         Ok(unit) => match resolve(alloc, &unit) {
             Ok(resolved) if copies => show_resolved(alloc, &resolved.copy(alloc)?),
             Ok(resolved) => show_resolved(alloc, &resolved),
@@ -367,75 +341,69 @@ fn resolved(alloc: Global, text: &str, copies: bool) -> Result<String, AllocErro
     }
 }
 
-/// The first text of a table that is not resolved as the table says, with its answer, or with a copy that differs; nothing where all are.
-fn first_wrong(alloc: Global, texts: &[(&str, &str)]) -> Result<String, AllocError> {
+/// Fails at the first text of a table that is not resolved as the table says, or whose copy differs, with its answer.
+fn are_resolved(alloc: Global, texts: &[(&str, &str)]) -> Result<(), Fail> {
     for (text, wanted) in texts {
         for copies in [false, true] {
             let shown = resolved(alloc, text, copies)?;
             if shown.as_str() != *wanted {
-                return format!(in alloc; "{text}: {shown}");
+                return Err(Fail::new(format!(in alloc; "{text}: {shown}")?));
             }
         }
     }
-    Ok(String::new(alloc))
+    Ok(())
+}
+
+/// Fails at the first text of a table that does not read, or that has a fault.
+fn are_faultless(alloc: Global, texts: &[(&str, &str)]) -> Result<(), Fail> {
+    for (text, _resolved) in texts {
+        let unit = unit_of(alloc, text)?.ok().ok_or(*text)?;
+        if !faults(alloc, &unit)?.is_empty() {
+            return Err(Fail::new(*text));
+        }
+    }
+    Ok(())
 }
 
 #[test]
 fn blocks_are_resolved(rt: HostRuntime) -> Result<(), Fail> {
-    let wrong = first_wrong(rt.alloc(), &BLOCKS)?;
-    assert_eq!(rt; wrong.as_str(), "");
-    Ok(())
+    are_resolved(rt.alloc(), &BLOCKS)
 }
 
 #[test]
 fn structures_are_resolved(rt: HostRuntime) -> Result<(), Fail> {
-    let wrong = first_wrong(rt.alloc(), &STRUCTURES)?;
-    assert_eq!(rt; wrong.as_str(), "");
-    Ok(())
+    are_resolved(rt.alloc(), &STRUCTURES)
 }
 
 #[test]
 fn labels_are_resolved(rt: HostRuntime) -> Result<(), Fail> {
-    let wrong = first_wrong(rt.alloc(), &LABELS)?;
-    assert_eq!(rt; wrong.as_str(), "");
-    Ok(())
+    are_resolved(rt.alloc(), &LABELS)
 }
 
 #[test]
 fn functions_are_resolved(rt: HostRuntime) -> Result<(), Fail> {
-    let wrong = first_wrong(rt.alloc(), &FUNCTIONS)?;
-    assert_eq!(rt; wrong.as_str(), "");
-    Ok(())
+    are_resolved(rt.alloc(), &FUNCTIONS)
 }
 
 #[test]
 fn locators_are_resolved(rt: HostRuntime) -> Result<(), Fail> {
-    let wrong = first_wrong(rt.alloc(), &LOCATORS)?;
-    assert_eq!(rt; wrong.as_str(), "");
-    Ok(())
+    are_resolved(rt.alloc(), &LOCATORS)
 }
 
 #[test]
 fn items_are_resolved(rt: HostRuntime) -> Result<(), Fail> {
-    let wrong = first_wrong(rt.alloc(), &ITEMS)?;
-    assert_eq!(rt; wrong.as_str(), "");
-    Ok(())
+    are_resolved(rt.alloc(), &ITEMS)
 }
 
 #[test]
 fn no_text_has_a_fault(rt: HostRuntime) -> Result<(), Fail> {
-    for (text, _) in BLOCKS
-        .iter()
-        .chain(STRUCTURES.iter())
-        .chain(LABELS.iter())
-        .chain(FUNCTIONS.iter())
-        .chain(LOCATORS.iter())
-        .chain(ITEMS.iter())
-    {
-        let count = count_of_faults(rt.alloc(), text)?;
-        assert_eq!(rt; count, 0, "{text}");
-    }
-    Ok(())
+    let alloc = rt.alloc();
+    are_faultless(alloc, &BLOCKS)?;
+    are_faultless(alloc, &STRUCTURES)?;
+    are_faultless(alloc, &LABELS)?;
+    are_faultless(alloc, &FUNCTIONS)?;
+    are_faultless(alloc, &LOCATORS)?;
+    are_faultless(alloc, &ITEMS)
 }
 
 #[test]
