@@ -26,6 +26,3 @@ pub use laws::{sets_are_of_what_stands, types_are_within_limits, worked_examples
 pub use layout::{array_layout, scalar_layout};
 pub use named::Named;
 pub use place::{Place, Position};
-
-#[cfg(test)]
-mod tests;

@@ -13,6 +13,3 @@ mod serving;
 
 pub use bench::Bench;
 pub use serving::{Next, ServeFault, WriteFailed};
-
-#[cfg(test)]
-mod tests;

@@ -8,6 +8,3 @@ mod front;
 pub use assignment::is_assignment;
 pub use expression::{outermost_arguments_at, outermost_expression_at, reference_at};
 pub use front::{Front, ParseError};
-
-#[cfg(test)]
-mod tests;

@@ -20,6 +20,3 @@ pub use item::{declaration_at, items_at};
 pub use laws::{
     declarations_read_are_spelled, declarations_spelled_are_read, one_declaration, worked_examples,
 };
-
-#[cfg(test)]
-mod tests;

@@ -4,6 +4,3 @@
 mod linking;
 
 pub use linking::{Compiled, LinkError, LinkFault, Place, link};
-
-#[cfg(test)]
-mod tests;

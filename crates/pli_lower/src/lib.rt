@@ -14,6 +14,3 @@ pub use laws::{
     constants_are_of_language, faults_are_not_yet_built, names_are_of_variables, worked_examples,
 };
 pub use unit::lower;
-
-#[cfg(test)]
-mod tests;

@@ -16,6 +16,3 @@ pub use laws::{
 pub use layout::{Layout, SIZE_LIMIT};
 pub use parts::{Part, Step, place};
 pub use sizes::{alignment, measure, size};
-
-#[cfg(test)]
-mod tests;

@@ -20,7 +20,7 @@ use Rattle.pli_code.specs.ModuleView.{Module}
 use Rattle.pli_code.specs.Translation.{code_of, is_too_long}
 use Rattle.pli_lower.specs.Lowering.{lowered}
 use Rattle.pli_lower.proofs.LoweringNames.{lowers_to_faultless}
-use Rattle.pli_parse.specs.StatementReading.{unit_of}
+use Rattle.pli_parse_statement.specs.StatementReading.{unit_of}
 use Rattle.pli_base.specs.Statements.{ExternalProcedure}
 use Rattle.pli_resolve.specs.Resolution.{resolution_faults}
 use Rattle.pli_meaning.specs.Scratch.{Diagnostic, read_or_fault, lowered_unless, program_from, program_of, Parsed, units_of, parsed_as, parsed_from, parsed_of, compiled_from, compiled_of, diagnostics_in, diagnostic_line, one, Made, built, linked, scratch, all_text, all_units, text_in, units_in, sources, source_in, has_main, main_units}

@@ -1,8 +1,5 @@
 mod StatementClauses
-mod StatementNames
-mod StatementOptions
 mod StatementRows
-mod StatementTexts
 pub mod StatementRead
 pub mod StatementReadFirst
 pub mod StatementReadHeading

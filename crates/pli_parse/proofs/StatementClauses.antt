@@ -9,9 +9,9 @@ use Rattle.pli_item.specs.declared.answer.ParseError.TheVariants as errors
 use Rattle.pli_item.specs.DeclarationAnswers.{Fails}
 use Rattle.pli_item.specs.DeclarationReading.{taken}
 use Rattle.pli_base.specs.Statements.{Statement, count}
-use Rattle.pli_parse.specs.StatementWords.{Context, standing}
-use Rattle.pli_parse.specs.declared.keyword.Standing.TheVariants.{AsClause}
-use Rattle.pli_parse.specs.StatementReading.{Inside, expression_in, alternative_from, else_first, if_at}
+use Rattle.pli_parse_statement.specs.StatementWords.{Context, standing}
+use Rattle.pli_parse_statement.specs.declared.keyword.Standing.TheVariants.{AsClause}
+use Rattle.pli_parse_statement.specs.StatementReading.{Inside, expression_in, alternative_from, else_first, if_at}
 
 -- behind a condition, THEN and the first clause, a fault of the second clause is the fault of the statement; m is the number of the next statement
 pub alternative_fails : (i : Inside) (c : Context) (p k m : ℕ) (ts us : Tokens) (condition : Front Expression) (first : Front Statement) (e : ParseError)

@@ -14,11 +14,11 @@ use Rattle.pli_grammar.specs.Expressions.{Deeper}
 use Rattle.pli_item.specs.DeclarationGrammar.{SpellsFront}
 use Rattle.pli_item.proofs.DeclarationSteps.{bind_ok, mapped_ok, two}
 use Rattle.pli_base.specs.Statements.{Statement, Numbered, Body, ExternalProcedure, list_count, AwaitsElse}
-use Rattle.pli_parse.specs.StatementWords.{Context, a_procedure, keyword_of, begins_assignment, Kind, Assigns, Empty, Keyed, Unknown, kind_of}
-use Rattle.pli_parse.specs.StatementReading.{Inside, inner_list, has_semicolon, heading_at, label_at, is_labelled, bad_label, Misplacement, AtLabel, AtStatement, misplacement, keyed_at, unless_misplaced, body_from, behind_label, begun, statement_of, inside_of, statement_at, finished, external_at, unit_from, unit_of, else_first}
-use Rattle.pli_parse.specs.StatementGrammar.{SpellsHeading, SpellsEnd, SpellsStatement, SpellsStatements, SpellsUnit}
-use Rattle.pli_parse.specs.declared.keyword.Keyword.{Keyword}
-use Rattle.pli_parse.specs.declared.keyword.Keyword.TheVariants as words
+use Rattle.pli_parse_statement.specs.StatementWords.{Context, a_procedure, keyword_of, begins_assignment, Kind, Assigns, Empty, Keyed, Unknown, kind_of}
+use Rattle.pli_parse_statement.specs.StatementReading.{Inside, inner_list, has_semicolon, heading_at, label_at, is_labelled, bad_label, Misplacement, AtLabel, AtStatement, misplacement, keyed_at, unless_misplaced, body_from, behind_label, begun, statement_of, inside_of, statement_at, finished, external_at, unit_from, unit_of, else_first}
+use Rattle.pli_parse_statement.specs.StatementGrammar.{SpellsHeading, SpellsEnd, SpellsStatement, SpellsStatements, SpellsUnit}
+use Rattle.pli_parse_statement.specs.declared.keyword.Keyword.{Keyword}
+use Rattle.pli_parse_statement.specs.declared.keyword.Keyword.TheVariants as words
 use Rattle.pli_parse.proofs.StatementReadFirst.{none_begins, empty_begins, word_begins, two_words_begin, label_spelled}
 use Rattle.pli_parse.proofs.StatementReadHeading.{heading_reads}
 use Rattle.pli_parse.proofs.StatementReadStands.{LabelFits, label_fits}

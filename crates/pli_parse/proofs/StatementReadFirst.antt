@@ -13,11 +13,11 @@ use Rattle.pli_grammar.proofs.SpelledIsAccepted.{assignment_accepted}
 use Rattle.pli_item.specs.DeclarationWords.{is_either}
 use Rattle.pli_item.specs.DeclarationGrammar.{SpellsFront}
 use Rattle.pli_item.proofs.DeclarationSteps.{some_same}
-use Rattle.pli_parse.specs.StatementWords.{keyword_of, behind_word, up_to_semicolon, is_assigned, begins_assignment, Kind, Assigns, Empty, Keyed, Unknown, go_kind, word_kind, first_kind, kind_of}
-use Rattle.pli_parse.specs.StatementReading.{has_semicolon, label_at, is_labelled, ending_at, is_label, named_end, EndsHere, next_by, next_of, else_by, else_first}
-use Rattle.pli_parse.specs.StatementGrammar.{BeginsAssignment, SpellsLabel, SpellsEnd}
-use Rattle.pli_parse.specs.declared.keyword.Keyword.{Keyword}
-use Rattle.pli_parse.specs.declared.keyword.Keyword.TheVariants as words
+use Rattle.pli_parse_statement.specs.StatementWords.{keyword_of, behind_word, up_to_semicolon, is_assigned, begins_assignment, Kind, Assigns, Empty, Keyed, Unknown, go_kind, word_kind, first_kind, kind_of}
+use Rattle.pli_parse_statement.specs.StatementReading.{has_semicolon, label_at, is_labelled, ending_at, is_label, named_end, EndsHere, next_by, next_of, else_by, else_first}
+use Rattle.pli_parse_statement.specs.StatementGrammar.{BeginsAssignment, SpellsLabel, SpellsEnd}
+use Rattle.pli_parse_statement.specs.declared.keyword.Keyword.{Keyword}
+use Rattle.pli_parse_statement.specs.declared.keyword.Keyword.TheVariants as words
 use Rattle.pli_parse.proofs.StatementReadTools.{behind_is, stopped_ok}
 
 -- a token that is no part of an expression stops the test for an assignment

@@ -24,8 +24,8 @@ use Rattle.pli_item.proofs.DeclarationSteps.{same_ok, bind_ok, mapped_ok, taken_
 use Rattle.pli_item.proofs.DeclarationRead.{Reads}
 use Rattle.pli_item.proofs.DeclarationItemsRead.{returned_reads}
 use Rattle.pli_base.specs.Statements.{ProcedureOption, Main, Returns, Recursive, Heading, Body, Call}
-use Rattle.pli_parse.specs.StatementReading.{identifier_at, uncounted, call_at, OptionWord, OptionsWord, ReturnsWord, RecursiveWord, option_word, option_first, main_at, options_by, options_from, heading_at}
-use Rattle.pli_parse.specs.StatementGrammar.{SpellsIdentifier, SpellsCall, SpellsParameters, SpellsOption, SpellsOptions, SpellsHeading}
+use Rattle.pli_parse_statement.specs.StatementReading.{identifier_at, uncounted, call_at, OptionWord, OptionsWord, ReturnsWord, RecursiveWord, option_word, option_first, main_at, options_by, options_from, heading_at}
+use Rattle.pli_parse_statement.specs.StatementGrammar.{SpellsIdentifier, SpellsCall, SpellsParameters, SpellsOption, SpellsOptions, SpellsHeading}
 use Rattle.pli_parse.proofs.StatementReadTools as tools
 use Rattle.pli_parse.proofs.StatementReadTools.{uncounted_ok, stopped_ok, identifier_reads, parenthesized_reads, paired_is, word_first}
 use Rattle.pli_parse.proofs.StatementReadParts.{MaybeEnclosed, open_reads, of_three}

@@ -8,10 +8,10 @@ use Rattle.pli_base.specs.declared.syntax.Identifier.{Identifier}
 use Rattle.pli_item.specs.DeclarationGrammar.{SpellsFront}
 use Rattle.pli_item.proofs.DeclarationSteps.{same_ok, bind_ok, mapped_ok, two}
 use Rattle.pli_base.specs.Statements.{Statement, Before, Alternative, Else, count, list_count, AwaitsElse, AlternativeAwaitsElse}
-use Rattle.pli_parse.specs.StatementWords.{Context, standing}
-use Rattle.pli_parse.specs.StatementReading.{StatementReader, Inside, deeper, Listing, ending_at, Next, EndsHere, Another, next_of, list_by, list_from, else_first, alternative_from}
-use Rattle.pli_parse.specs.StatementGrammar.{SpellsStatement, SpellsStatements, SpellsEnd, SpellsAlternative}
-use Rattle.pli_parse.specs.declared.keyword.Standing.TheVariants.{AsClause}
+use Rattle.pli_parse_statement.specs.StatementWords.{Context, standing}
+use Rattle.pli_parse_statement.specs.StatementReading.{StatementReader, Inside, deeper, Listing, ending_at, Next, EndsHere, Another, next_of, list_by, list_from, else_first, alternative_from}
+use Rattle.pli_parse_statement.specs.StatementGrammar.{SpellsStatement, SpellsStatements, SpellsEnd, SpellsAlternative}
+use Rattle.pli_parse_statement.specs.declared.keyword.Standing.TheVariants.{AsClause}
 use Rattle.pli_parse.proofs.StatementReadFirst.{end_begins, else_begins, ending_spelled}
 
 -- what reads statements reads what is spelled so; behind one that awaits an ELSE none stands

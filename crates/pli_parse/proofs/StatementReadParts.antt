@@ -15,9 +15,9 @@ use Rattle.pli_item.specs.DeclarationGrammar.{SpellsFront}
 use Rattle.pli_item.proofs.DeclarationSteps.{same_ok, some_same, bind_ok, mapped_ok, open_first, taken_ok, two}
 use Rattle.pli_item.proofs.DeclarationRead.{Reads, enclosed_spelled}
 use Rattle.pli_base.specs.Statements.{Control}
-use Rattle.pli_parse.specs.StatementWords.{condition_of}
-use Rattle.pli_parse.specs.StatementReading.{expression_in, reference_in, parenthesized, is_equals, condition_from, condition_at, optional_at, RangeWord, ToWord, ByWord, RepeatWord, range_word, range_first, range_from, range_at, Specified, Unspecified, Conditioned, Iterated, specified, control_from, control_at}
-use Rattle.pli_parse.specs.StatementGrammar.{SpellsCondition, SpellsEnclosed, SpellsOptional, SpellsRange, BeginsWithWhile, SpellsControl}
+use Rattle.pli_parse_statement.specs.StatementWords.{condition_of}
+use Rattle.pli_parse_statement.specs.StatementReading.{expression_in, reference_in, parenthesized, is_equals, condition_from, condition_at, optional_at, RangeWord, ToWord, ByWord, RepeatWord, range_word, range_first, range_from, range_at, Specified, Unspecified, Conditioned, Iterated, specified, control_from, control_at}
+use Rattle.pli_parse_statement.specs.StatementGrammar.{SpellsCondition, SpellsEnclosed, SpellsOptional, SpellsRange, BeginsWithWhile, SpellsControl}
 use Rattle.pli_base.specs.declared.statement.Condition.{Condition}
 use Rattle.pli_parse.proofs.StatementReadTools.{expression_reads, reference_reads, parenthesized_reads, optional_reads, paired_is, equals_first}
 

@@ -12,8 +12,8 @@ use Rattle.pli_item.specs.DeclarationGrammar.{SpellsFront, SpellsListed}
 use Rattle.pli_item.proofs.DeclarationSteps.{same_ok, bind_ok, two}
 use Rattle.pli_item.proofs.DeclarationRead.{Reads}
 use Rattle.pli_base.specs.Statements.{Body, Put}
-use Rattle.pli_parse.specs.StatementReading.{expression_in, parenthesized, PutWord, SkipWord, ListWord, put_word, put_first, put_by, put_from, put_begun, put_at}
-use Rattle.pli_parse.specs.StatementGrammar.{SpellsEnclosed, SpellsSkip, SpellsItems, SpellsPut}
+use Rattle.pli_parse_statement.specs.StatementReading.{expression_in, parenthesized, PutWord, SkipWord, ListWord, put_word, put_first, put_by, put_from, put_begun, put_at}
+use Rattle.pli_parse_statement.specs.StatementGrammar.{SpellsEnclosed, SpellsSkip, SpellsItems, SpellsPut}
 use Rattle.pli_parse.proofs.StatementReadTools.{expression_reads, parenthesized_reads, list_reads, paired_is}
 use Rattle.pli_parse.proofs.StatementReadParts.{of_two}
 

@@ -18,10 +18,10 @@ use Rattle.pli_item.proofs.DeclarationRead.{Reads}
 use Rattle.pli_item.proofs.DeclarationItemsRead.{declaration_reads}
 use Rattle.pli_base.specs.Statements as body
 use Rattle.pli_base.specs.Statements.{Body, BodyAwaitsElse}
-use Rattle.pli_parse.specs.StatementWords.{Context, keyword_of}
-use Rattle.pli_parse.specs.StatementReading.{expression_in, reference_in, closing, identifier_at, is_equals, assignment_at, condition_at, allocation_at, put_at, call_at, is_labelled, else_first, standing_misplaced, misplacement}
-use Rattle.pli_parse.specs.StatementGrammar.{BeginsAssignment, IsOfItsKind, SpellsIdentifier, SpellsCondition, SpellsAllocation, SpellsValue, StandsIn, MayReturn, SpellsBody}
-use Rattle.pli_parse.specs.declared.keyword.Keyword.TheVariants as words
+use Rattle.pli_parse_statement.specs.StatementWords.{Context, keyword_of}
+use Rattle.pli_parse_statement.specs.StatementReading.{expression_in, reference_in, closing, identifier_at, is_equals, assignment_at, condition_at, allocation_at, put_at, call_at, is_labelled, else_first, standing_misplaced, misplacement}
+use Rattle.pli_parse_statement.specs.StatementGrammar.{BeginsAssignment, IsOfItsKind, SpellsIdentifier, SpellsCondition, SpellsAllocation, SpellsValue, StandsIn, MayReturn, SpellsBody}
+use Rattle.pli_parse_statement.specs.declared.keyword.Keyword.TheVariants as words
 use Rattle.pli_parse.proofs.StatementReadTools.{expression_reads, reference_reads, identifier_reads, list_reads, stopped_ok, equals_first}
 use Rattle.pli_parse.proofs.StatementReadParts.{MaybeEnclosed, open_reads, condition_reads}
 use Rattle.pli_parse.proofs.StatementReadPlaces.{allocation_reads}

@@ -5,11 +5,11 @@ use Rattle.pli_base.specs.Syntax.{Expression}
 use Rattle.pli_base.specs.declared.syntax.Identifier.{Identifier}
 use Rattle.pli_base.specs.Statements as body
 use Rattle.pli_base.specs.Statements.{Heading, Control, Statement, Body, Statements, Alternative}
-use Rattle.pli_parse.specs.StatementReading.{is_labelled, bad_label, standing_misplaced, misplacement}
-use Rattle.pli_parse.specs.StatementGrammar.{StandsIn, MayReturn}
-use Rattle.pli_parse.specs.declared.keyword.Keyword.TheVariants as words
-use Rattle.pli_parse.specs.declared.keyword.Standing.{Standing}
-use Rattle.pli_parse.specs.declared.keyword.Standing.TheVariants.{InBlock, InGroup, AsClause, AsUnit}
+use Rattle.pli_parse_statement.specs.StatementReading.{is_labelled, bad_label, standing_misplaced, misplacement}
+use Rattle.pli_parse_statement.specs.StatementGrammar.{StandsIn, MayReturn}
+use Rattle.pli_parse_statement.specs.declared.keyword.Keyword.TheVariants as words
+use Rattle.pli_parse_statement.specs.declared.keyword.Standing.{Standing}
+use Rattle.pli_parse_statement.specs.declared.keyword.Standing.TheVariants.{InBlock, InGroup, AsClause, AsUnit}
 use Rattle.pli_base.specs.declared.statement.Condition.{Condition}
 
 -- behind THEN, ELSE and ON there is no label

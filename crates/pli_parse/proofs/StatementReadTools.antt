@@ -17,9 +17,9 @@ use Rattle.pli_item.specs.DeclarationReading.{taken, Commas, list_at}
 use Rattle.pli_item.specs.DeclarationGrammar.{SpellsFront, SpellsListed}
 use Rattle.pli_item.proofs.DeclarationSteps.{same_ok, some_same, bind_ok, mapped_ok, first_is, open_first, semicolon_first, taken_ok}
 use Rattle.pli_item.proofs.DeclarationRead.{Reads, enclosed_spelled, listed_reads}
-use Rattle.pli_parse.specs.StatementWords.{behind_word}
-use Rattle.pli_parse.specs.StatementReading.{uncounted, expression_in, reference_in, stopped, parenthesized, identifier_at, is_equals, if_word, optional_at, paired}
-use Rattle.pli_parse.specs.StatementGrammar.{SpellsIdentifier, SpellsEnclosed, SpellsOptional}
+use Rattle.pli_parse_statement.specs.StatementWords.{behind_word}
+use Rattle.pli_parse_statement.specs.StatementReading.{uncounted, expression_in, reference_in, stopped, parenthesized, identifier_at, is_equals, if_word, optional_at, paired}
+use Rattle.pli_parse_statement.specs.StatementGrammar.{SpellsIdentifier, SpellsEnclosed, SpellsOptional}
 
 -- the count of operators is dropped
 pub uncounted_ok : {A : Type 0} (r : Result (expressions.Front A) Fault) (y : Front A) → uncounted r ≡ Ok y → (x : expressions.Front A) × (r ≡ Ok x) × (record { value = x.value; next = x.next; rest = x.rest } ≡ y)

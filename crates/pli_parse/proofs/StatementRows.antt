@@ -10,10 +10,10 @@ use Rattle.pli_item.specs.DeclarationAnswers.{Fails}
 use Rattle.pli_item.specs.DeclarationReading.{read_as}
 use Rattle.pli_base.specs.Statements as tree
 use Rattle.pli_base.specs.Statements.{count, list_count}
-use Rattle.pli_parse.specs.StatementWords.{Context}
+use Rattle.pli_parse_statement.specs.StatementWords.{Context}
 use Rattle.pli_base.specs.StatementView.{statement_view, statements_view}
 use Rattle.pli_base.specs.declared.statement.Statement.{Statement}
-use Rattle.pli_parse.specs.StatementReading.{StatementReader, Listing, Next, EndsHere, Another, next_of, list_by, list_from, before, ending_at}
+use Rattle.pli_parse_statement.specs.StatementReading.{StatementReader, Listing, Next, EndsHere, Another, next_of, list_by, list_from, before, ending_at}
 
 -- statements in front of others
 abbrev pub in_front : List Statement → tree.Statements → tree.Statements

@@ -9,10 +9,10 @@ use Rattle.pli_item.specs.DeclarationReading.{Commas}
 use Rattle.pli_item.specs.DeclarationGrammar.{SpellsListed}
 use Rattle.pli_grammar.specs.Expressions.{SpellsReferenceAlone}
 use Rattle.pli_base.specs.Statements.{Statement, Numbered, Body, Null, Assign, Declare, Procedure, Begin, Do, If, On, Revert, Signal, Stop, Allocate, Free, Call, Goto, Return, Put}
-use Rattle.pli_parse.specs.StatementGrammar.{SpellsKeyed, SpellsClosed, SpellsCondition, SpellsAllocation, SpellsCall, SpellsValue, SpellsPut, IsOfItsKind, SpellsStatement, SpellsBody}
-use Rattle.pli_parse.specs.StatementWords.{Context}
-use Rattle.pli_parse.specs.declared.keyword.Keyword.{Keyword}
-use Rattle.pli_parse.specs.declared.keyword.Keyword.TheVariants as words
+use Rattle.pli_parse_statement.specs.StatementGrammar.{SpellsKeyed, SpellsClosed, SpellsCondition, SpellsAllocation, SpellsCall, SpellsValue, SpellsPut, IsOfItsKind, SpellsStatement, SpellsBody}
+use Rattle.pli_parse_statement.specs.StatementWords.{Context}
+use Rattle.pli_parse_statement.specs.declared.keyword.Keyword.{Keyword}
+use Rattle.pli_parse_statement.specs.declared.keyword.Keyword.TheVariants as words
 use Rattle.pli_parse.proofs.StatementSpelledTools.{HasSemicolon, semicolon_first, semicolon_later, semicolon_front, semicolon_back}
 use Rattle.pli_parse.proofs.StatementSpelledStarts.{NotColon, not_colon_front, Started, expression_not_colon, target_word, declaration_not_colon, closed_not_colon, allocations_not_colon, references_not_colon, heading_not_colon, control_not_colon, put_not_colon, value_not_colon, keyed_started, goto_started}
 

@@ -13,9 +13,9 @@ use Rattle.pli_item.specs.DeclarationWords.{behind}
 use Rattle.pli_item.specs.DeclarationReading.{read_as, mapped, taken}
 use Rattle.pli_item.proofs.DeclarationReadAgain.{Anyhow, placed}
 use Rattle.pli_base.specs.Statements.{Range, To, By, Repeat, Control, While, Iterate}
-use Rattle.pli_parse.specs.StatementGrammar.{SpellsOptional, SpellsEnclosed, SpellsRange, BeginsWithWhile, SpellsControl}
-use Rattle.pli_parse.specs.StatementReading.{expression_in, parenthesized, is_equals, optional_at, ToWord, ByWord, RepeatWord, range_word, range_first, range_from, range_at, Conditioned, Iterated, specified, control_from, control_at}
-use Rattle.pli_parse.specs.StatementWords.{behind_word}
+use Rattle.pli_parse_statement.specs.StatementGrammar.{SpellsOptional, SpellsEnclosed, SpellsRange, BeginsWithWhile, SpellsControl}
+use Rattle.pli_parse_statement.specs.StatementReading.{expression_in, parenthesized, is_equals, optional_at, ToWord, ByWord, RepeatWord, range_word, range_first, range_from, range_at, Conditioned, Iterated, specified, control_from, control_at}
+use Rattle.pli_parse_statement.specs.StatementWords.{behind_word}
 use Rattle.pli_parse.proofs.StatementSpelledTools.{name_is}
 use Rattle.pli_parse.proofs.StatementSpelledParts.{expression_again, reference_again, optional_again, enclosed_expression}
 

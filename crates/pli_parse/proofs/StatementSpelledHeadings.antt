@@ -13,8 +13,8 @@ use Rattle.pli_item.specs.DeclarationReading.{read_as, mapped, taken, if_open, o
 use Rattle.pli_item.proofs.DeclarationReadAgain.{Anyhow, NoOpen, ListEnds, placed, open_behind, no_open_word, enclosed_again, commas_close}
 use Rattle.pli_item.proofs.DeclarationItemsAgain.{returned_again}
 use Rattle.pli_base.specs.Statements.{ProcedureOption, Main, Returns, Recursive, Heading}
-use Rattle.pli_parse.specs.StatementGrammar.{SpellsIdentifier, SpellsParameters, SpellsOption, SpellsOptions, SpellsHeading}
-use Rattle.pli_parse.specs.StatementReading.{stopped, parenthesized, identifier_at, OptionsWord, ReturnsWord, RecursiveWord, option_word, option_first, main_at, options_by, options_from, heading_at, named_end, ending_at}
+use Rattle.pli_parse_statement.specs.StatementGrammar.{SpellsIdentifier, SpellsParameters, SpellsOption, SpellsOptions, SpellsHeading}
+use Rattle.pli_parse_statement.specs.StatementReading.{stopped, parenthesized, identifier_at, OptionsWord, ReturnsWord, RecursiveWord, option_word, option_first, main_at, options_by, options_from, heading_at, named_end, ending_at}
 use Rattle.pli_parse.proofs.StatementSpelledTools.{same_again}
 use Rattle.pli_parse.proofs.StatementSpelledParts.{identifier_again, commas_again, stopped_again}
 

@@ -10,12 +10,12 @@ use Rattle.pli_base.specs.declared.token.TokenText.TheVariants.{Word, Sign}
 use Rattle.pli_item.specs.DeclarationReading.{read_as, mapped}
 use Rattle.pli_item.proofs.DeclarationReadAgain.{placed}
 use Rattle.pli_base.specs.Statements.{Heading, Control, Alternative, AlternativeAwaitsElse, Statement, Numbered, Body, Null, Assign, Declare, Procedure, Begin, Do, If, On, Revert, Signal, Stop, Allocate, Free, Call, Goto, Return, Put, Statements, BodyAwaitsElse}
-use Rattle.pli_parse.specs.StatementGrammar.{IsOfItsKind, StandsIn, MayReturn, SpellsLabel, SpellsEnd, SpellsStatement, SpellsBody, SpellsStatements}
-use Rattle.pli_parse.specs.StatementReading.{StatementReader, Inside, deeper, has_semicolon, label_at, bad_label, second_label, begin_at, do_at, if_at, on_at, procedure_at, behind_label, begun, statement_of, inside_of, else_first}
-use Rattle.pli_parse.specs.StatementWords.{Context, standing, begins_assignment}
-use Rattle.pli_parse.specs.declared.keyword.Keyword.TheVariants as words
-use Rattle.pli_parse.specs.declared.keyword.Standing.{Standing}
-use Rattle.pli_parse.specs.declared.keyword.Standing.TheVariants.{InBlock, InGroup, AsClause, AsUnit}
+use Rattle.pli_parse_statement.specs.StatementGrammar.{IsOfItsKind, StandsIn, MayReturn, SpellsLabel, SpellsEnd, SpellsStatement, SpellsBody, SpellsStatements}
+use Rattle.pli_parse_statement.specs.StatementReading.{StatementReader, Inside, deeper, has_semicolon, label_at, bad_label, second_label, begin_at, do_at, if_at, on_at, procedure_at, behind_label, begun, statement_of, inside_of, else_first}
+use Rattle.pli_parse_statement.specs.StatementWords.{Context, standing, begins_assignment}
+use Rattle.pli_parse_statement.specs.declared.keyword.Keyword.TheVariants as words
+use Rattle.pli_parse_statement.specs.declared.keyword.Standing.{Standing}
+use Rattle.pli_parse_statement.specs.declared.keyword.Standing.TheVariants.{InBlock, InGroup, AsClause, AsUnit}
 use Rattle.pli_base.specs.declared.statement.Condition.{Condition}
 use Rattle.pli_parse.proofs.StatementSpelledTools.{HasSemicolon, semicolon_front, no_assignment_begins}
 use Rattle.pli_parse.proofs.StatementSpelledStarts.{Started, no_label}

@@ -21,8 +21,8 @@ use Rattle.pli_item.specs.DeclarationReading.{read_as, Commas, list_at}
 use Rattle.pli_item.proofs.DeclarationReadAgain.{placed}
 use Rattle.pli_base.specs.Statements.{Allocation, Body}
 use Rattle.pli_base.specs.Statements as body
-use Rattle.pli_parse.specs.StatementGrammar.{SpellsOptional, SpellsEnclosed, SpellsPlaced, SpellsAllocation, SpellsSkip, SpellsItems, SpellsPut, SpellsCall}
-use Rattle.pli_parse.specs.StatementReading.{expression_in, parenthesized, uncounted, identifier_at, InWord, SetWord, place_word, place_first, placed_by, places_from, allocation_at, PutWord, SkipWord, ListWord, put_word, put_first, put_by, put_from, put_begun, put_at, call_at}
+use Rattle.pli_parse_statement.specs.StatementGrammar.{SpellsOptional, SpellsEnclosed, SpellsPlaced, SpellsAllocation, SpellsSkip, SpellsItems, SpellsPut, SpellsCall}
+use Rattle.pli_parse_statement.specs.StatementReading.{expression_in, parenthesized, uncounted, identifier_at, InWord, SetWord, place_word, place_first, placed_by, places_from, allocation_at, PutWord, SkipWord, ListWord, put_word, put_first, put_by, put_from, put_begun, put_at, call_at}
 use Rattle.pli_parse.proofs.StatementSpelledParts.{enclosed_reference, expressions_again}
 
 in_first : (us : Tokens) → place_first (Word (codes "IN") ∷ us) ≡ Some (InWord, us)

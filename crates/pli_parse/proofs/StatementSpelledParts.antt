@@ -15,9 +15,9 @@ use Rattle.pli_item.specs.DeclarationWords.{behind}
 use Rattle.pli_item.specs.DeclarationGrammar.{Anywhere, SpellsListed}
 use Rattle.pli_item.specs.DeclarationReading.{read_as, mapped, taken, enclosed, Commas, list_at, separated}
 use Rattle.pli_item.proofs.DeclarationReadAgain.{ReadAgain, Anyhow, ListEnds, placed, open_taken, enclosed_again, listed_again, comma_goes, commas_close}
-use Rattle.pli_parse.specs.StatementGrammar.{SpellsIdentifier, SpellsCondition, SpellsClosed, SpellsEnclosed, SpellsOptional}
-use Rattle.pli_parse.specs.StatementReading.{uncounted, expression_in, reference_in, stopped, closing, parenthesized, identifier_at, condition_from, condition_at, if_word, optional_at}
-use Rattle.pli_parse.specs.StatementWords.{behind_word}
+use Rattle.pli_parse_statement.specs.StatementGrammar.{SpellsIdentifier, SpellsCondition, SpellsClosed, SpellsEnclosed, SpellsOptional}
+use Rattle.pli_parse_statement.specs.StatementReading.{uncounted, expression_in, reference_in, stopped, closing, parenthesized, identifier_at, condition_from, condition_at, if_word, optional_at}
+use Rattle.pli_parse_statement.specs.StatementWords.{behind_word}
 use Rattle.pli_parse.proofs.StatementSpelledTools.{same_again}
 
 pub expression_again : (levels : ℕ) → ReadAgain (expression_in levels) (SpellsOutermost levels) EndsExpression

@@ -17,13 +17,13 @@ use Rattle.pli_item.specs.DeclarationReading.{read_as, mapped, taken, if_open, C
 use Rattle.pli_item.proofs.DeclarationReadAgain.{Anyhow, ListEnds, placed, open_behind, enclosed_again}
 use Rattle.pli_item.proofs.DeclarationItemsAgain.{declaration_again}
 use Rattle.pli_base.specs.Statements.{Allocation, Heading, Control, Statement, Statements, Alternative, Body, Null, Assign, Declare, Procedure, Do, If, On, Revert, Signal, Stop, Allocate, Free, Call, Goto, Return, Put}
-use Rattle.pli_parse.specs.StatementGrammar.{BeginsAssignment, SpellsIdentifier, SpellsKeyed, SpellsClosed, SpellsCondition, SpellsAllocation, SpellsCall, SpellsGoto, SpellsValue, SpellsPut, IsUnitBody, StandsIn, MayReturn}
-use Rattle.pli_parse.specs.StatementReading.{expression_in, reference_in, stopped, closing, identifier_at, is_equals, assignment_at, condition_at, allocation_at, put_at, call_at, Inside, is_labelled, unit_misplaced, standing_misplaced, misplacement, keyed_at, unless_misplaced, body_from}
-use Rattle.pli_parse.specs.StatementWords.{Context, begins_assignment, Assigns, Empty, Keyed, first_kind, kind_of}
-use Rattle.pli_parse.specs.declared.keyword.Keyword.{Keyword}
-use Rattle.pli_parse.specs.declared.keyword.Keyword.TheVariants as words
-use Rattle.pli_parse.specs.declared.keyword.Standing.{Standing}
-use Rattle.pli_parse.specs.declared.keyword.Standing.TheVariants.{InBlock, InGroup, AsClause, AsUnit}
+use Rattle.pli_parse_statement.specs.StatementGrammar.{BeginsAssignment, SpellsIdentifier, SpellsKeyed, SpellsClosed, SpellsCondition, SpellsAllocation, SpellsCall, SpellsGoto, SpellsValue, SpellsPut, IsUnitBody, StandsIn, MayReturn}
+use Rattle.pli_parse_statement.specs.StatementReading.{expression_in, reference_in, stopped, closing, identifier_at, is_equals, assignment_at, condition_at, allocation_at, put_at, call_at, Inside, is_labelled, unit_misplaced, standing_misplaced, misplacement, keyed_at, unless_misplaced, body_from}
+use Rattle.pli_parse_statement.specs.StatementWords.{Context, begins_assignment, Assigns, Empty, Keyed, first_kind, kind_of}
+use Rattle.pli_parse_statement.specs.declared.keyword.Keyword.{Keyword}
+use Rattle.pli_parse_statement.specs.declared.keyword.Keyword.TheVariants as words
+use Rattle.pli_parse_statement.specs.declared.keyword.Standing.{Standing}
+use Rattle.pli_parse_statement.specs.declared.keyword.Standing.TheVariants.{InBlock, InGroup, AsClause, AsUnit}
 use Rattle.pli_base.specs.declared.statement.Condition.{Condition}
 use Rattle.pli_parse.proofs.StatementSpelledTools.{assignment_begins}
 use Rattle.pli_parse.proofs.StatementSpelledParts.{expression_again, reference_again, identifier_again, condition_again, stopped_again, closing_again, commas_again, commas_stop, references_again}

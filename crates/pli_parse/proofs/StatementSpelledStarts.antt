@@ -15,12 +15,12 @@ use Rattle.pli_base.specs.Declarations.{Item}
 use Rattle.pli_item.specs.DeclarationReading.{Commas}
 use Rattle.pli_item.specs.DeclarationGrammar.{SpellsListed, SpellsLevel, SpellsItem, SpellsNames, SpellsDeclaration}
 use Rattle.pli_base.specs.Statements.{Heading, Control, While, Iterate, Allocation, ProcedureOption, Main, Returns, Recursive}
-use Rattle.pli_parse.specs.StatementGrammar.{BeginsAssignment, SpellsKeyed, SpellsClosed, SpellsIdentifier, SpellsParameters, SpellsOptions, SpellsHeading, SpellsControl, SpellsAllocation, SpellsSkip, SpellsItems, SpellsPut, SpellsValue, SpellsGoto}
-use Rattle.pli_parse.specs.StatementReading.{label_at, has_semicolon, is_labelled, Another, next_by, next_of, else_by, else_first}
-use Rattle.pli_parse.specs.StatementWords.{keyword_of, behind_word, begins_assignment, Kind, Assigns, Keyed, word_kind, first_kind, kind_of}
-use Rattle.pli_parse.specs.declared.keyword.Keyword.{Keyword}
-use Rattle.pli_parse.specs.declared.keyword.Keyword.TheVariants.{End}
-use Rattle.pli_parse.specs.declared.keyword.Keyword.TheVariants as words
+use Rattle.pli_parse_statement.specs.StatementGrammar.{BeginsAssignment, SpellsKeyed, SpellsClosed, SpellsIdentifier, SpellsParameters, SpellsOptions, SpellsHeading, SpellsControl, SpellsAllocation, SpellsSkip, SpellsItems, SpellsPut, SpellsValue, SpellsGoto}
+use Rattle.pli_parse_statement.specs.StatementReading.{label_at, has_semicolon, is_labelled, Another, next_by, next_of, else_by, else_first}
+use Rattle.pli_parse_statement.specs.StatementWords.{keyword_of, behind_word, begins_assignment, Kind, Assigns, Keyed, word_kind, first_kind, kind_of}
+use Rattle.pli_parse_statement.specs.declared.keyword.Keyword.{Keyword}
+use Rattle.pli_parse_statement.specs.declared.keyword.Keyword.TheVariants.{End}
+use Rattle.pli_parse_statement.specs.declared.keyword.Keyword.TheVariants as words
 use Rattle.pli_parse.proofs.StatementSpelledTools.{name_is, assignment_begins}
 
 -- something stands there that is no `:`

@@ -10,9 +10,9 @@ use Rattle.pli_grammar.specs.Assignments.{IsAssignment, State, NameWanted, Opera
 use Rattle.pli_grammar.specs.Assignments as kinds
 use Rattle.pli_grammar.proofs.AcceptedIsSpelled.{accepted_is_assignment}
 use Rattle.pli_grammar.proofs.SpelledIsAccepted.{assignment_accepted}
-use Rattle.pli_parse.specs.StatementGrammar.{BeginsAssignment}
-use Rattle.pli_parse.specs.StatementReading.{has_semicolon}
-use Rattle.pli_parse.specs.StatementWords.{up_to_semicolon, is_assigned, begins_assignment}
+use Rattle.pli_parse_statement.specs.StatementGrammar.{BeginsAssignment}
+use Rattle.pli_parse_statement.specs.StatementReading.{has_semicolon}
+use Rattle.pli_parse_statement.specs.StatementWords.{up_to_semicolon, is_assigned, begins_assignment}
 
 -- there is a `;` among the tokens
 abbrev pub HasSemicolon : Tokens → Type 0

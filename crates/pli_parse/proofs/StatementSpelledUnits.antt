@@ -9,11 +9,11 @@ use Rattle.pli_base.specs.declared.token.Sign.TheVariants.{Colon, Semicolon}
 use Rattle.pli_base.specs.declared.token.TokenText.TheVariants.{Word, Sign}
 use Rattle.pli_item.proofs.DeclarationSteps.{same_ok, some_same}
 use Rattle.pli_base.specs.Statements.{Heading, Statements, ExternalProcedure, list_count}
-use Rattle.pli_parse.specs.StatementGrammar.{SpellsHeading, SpellsEnd, SpellsStatements, SpellsUnit}
-use Rattle.pli_parse.specs.StatementReading.{heading_at, Inside, deeper, has_semicolon, list_in, statement_of, inside_of, inner_list, finished, external_at, unit_from, unit_of}
-use Rattle.pli_parse.specs.StatementWords.{a_procedure, keyword_of}
-use Rattle.pli_parse.specs.declared.keyword.Keyword.{Keyword}
-use Rattle.pli_parse.specs.declared.keyword.Keyword.TheVariants as words
+use Rattle.pli_parse_statement.specs.StatementGrammar.{SpellsHeading, SpellsEnd, SpellsStatements, SpellsUnit}
+use Rattle.pli_parse_statement.specs.StatementReading.{heading_at, Inside, deeper, has_semicolon, list_in, statement_of, inside_of, inner_list, finished, external_at, unit_from, unit_of}
+use Rattle.pli_parse_statement.specs.StatementWords.{a_procedure, keyword_of}
+use Rattle.pli_parse_statement.specs.declared.keyword.Keyword.{Keyword}
+use Rattle.pli_parse_statement.specs.declared.keyword.Keyword.TheVariants as words
 use Rattle.pli_parse.proofs.StatementSpelledTools.{HasSemicolon, semicolon_first, semicolon_later, semicolon_back}
 use Rattle.pli_parse.proofs.StatementSpelledHeadings.{heading_again}
 use Rattle.pli_parse.proofs.StatementSpelledNests.{list_in_again}

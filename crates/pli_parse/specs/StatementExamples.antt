@@ -16,9 +16,9 @@ use Rattle.pli_base.specs.Declarations as declarations
 use Rattle.pli_item.specs.DeclarationReading.{read_as}
 use Rattle.pli_base.specs.Statements.{Main, Returns, Recursive, To, By, Iterate, While, Statement, Numbered, Body, Statements, Ended, Before, NoElse, Else, ExternalProcedure}
 use Rattle.pli_base.specs.Statements as body
-use Rattle.pli_parse.specs.StatementReading.{statement_at, unit_of}
-use Rattle.pli_parse.specs.StatementWords.{standing, a_procedure}
-use Rattle.pli_parse.specs.declared.keyword.Standing.TheVariants.{InGroup}
+use Rattle.pli_parse_statement.specs.StatementReading.{statement_at, unit_of}
+use Rattle.pli_parse_statement.specs.StatementWords.{standing, a_procedure}
+use Rattle.pli_parse_statement.specs.declared.keyword.Standing.TheVariants.{InGroup}
 use Rattle.pli_base.specs.declared.statement.Condition.TheVariants as conditions
 
 abbrev pub w : Name → TokenText

@@ -4,42 +4,22 @@ ghost use Rattle.pli_item.specs.DeclarationAnswers.{Gives, Advances, front_view}
 ghost use Rattle.pli_base.specs.Statements.{count, body_count, list_count, alternative_count};
 ghost use Rattle.pli_base.specs.StatementLaws.{boxed_view};
 ghost use Rattle.pli_base.specs.StatementView.{body_view, statement_view, statements_view};
-ghost use Rattle.pli_parse.specs.StatementReading.{is_label, ending_at, list_in, begin_at, do_at, procedure_at, alternative_from, if_at, on_at, keyed_at, body_from, statement_at, inside_of};
-ghost use Rattle.pli_parse.specs.StatementReading as reading;
+ghost use Rattle.pli_parse_statement.specs.StatementReading.{is_label, ending_at, list_in, begin_at, do_at, procedure_at, alternative_from, if_at, on_at, keyed_at, body_from, statement_at, inside_of};
+ghost use Rattle.pli_parse_statement.specs.StatementReading as reading;
 ghost use Rattle.pli_base.specs.Statements as tree;
-ghost use Rattle.pli_parse.specs.StatementWords as grammar;
-ghost use Rattle.pli_parse.specs.StatementAnswers.{heading_view, counted_view, Counts, inside_at, listing_view, context_view, kind_view, words, BehindKind};
+ghost use Rattle.pli_parse_statement.specs.StatementWords as grammar;
+ghost use Rattle.pli_parse_statement.specs.StatementAnswers.{heading_view, counted_view, Counts, inside_at, listing_view, context_view, kind_view, words, BehindKind};
 
-use crate::control::control_at;
-use crate::cursor::{expression_in, fault};
-use crate::first::{
-    Context, Kind, Misplacement, Next, bad_label, else_first, has_semicolon, kind_of, label_at,
-    next_of, why_misplaced,
-};
-use crate::heading::{Heading, heading_at, word_taken};
-use crate::keyword::{Keyword, Standing};
-use crate::simple::{assignment_at, condition_at, simple_at};
 use pli_base::statement::{Body, Procedure, Statement};
 use pli_base::syntax::Identifier;
 use pli_base::{Code, Name, TokenText};
 use pli_item::{Front, ParseError, semicolon_taken};
+use pli_parse_statement::{
+    Context, Counted, Heading, Keyword, Kind, Listing, Misplacement, Next, Standing, assignment_at,
+    bad_label, condition_at, control_at, else_first, expression_in, fault, has_semicolon,
+    heading_at, kind_of, label_at, next_of, simple_at, why_misplaced, word_taken,
+};
 use std::alloc::Global;
-
-/// What was read, the number of the next statement, the place behind what was read, and the tokens from there.
-#[derive(Drop)]
-pub struct Counted<'a, T> {
-    pub value: T,
-    pub number: u32,
-    pub next: u32,
-    pub rest: &'a [TokenText],
-}
-
-/// The statements of a block or group, and the number of its END.
-#[derive(Drop)]
-pub struct Listing {
-    pub statements: Vec<Statement>,
-    pub end: u32,
-}
 
 /// What was read where no statement is inside: only the statement itself is counted.
 fn alone(read: Front<'_, Body>, number: u32) -> Counted<'_, Body>
@@ -73,7 +53,7 @@ fn is_label(label: &Option<Identifier>, name: &Name) -> bool
 }
 
 /// What stands behind END: nothing, or the label of the block or group; and `;`.
-#[tactic(auto, unfolding(crate::specs::StatementReading::ending_at, crate::specs::StatementReading::stopped))]
+#[tactic(auto, unfolding(pli_parse_statement::specs::StatementReading::ending_at, pli_parse_statement::specs::StatementReading::stopped))]
 fn ending_at<'a>(
     label: &Option<Identifier>,
     at: u32,
@@ -151,7 +131,7 @@ pub fn list_in<'a>(
 
 /// What stands behind BEGIN.
 #[cycle(reader)]
-#[tactic(auto, unfolding(crate::specs::StatementReading::begin_at), using(pli_base::specs::StatementLaws::begin_made))]
+#[tactic(auto, unfolding(pli_parse_statement::specs::StatementReading::begin_at), using(pli_base::specs::StatementLaws::begin_made))]
 fn begin_at<'a>(
     alloc: Global,
     levels: u32,
@@ -186,7 +166,7 @@ fn begin_at<'a>(
 
 /// What stands behind DO.
 #[cycle(reader)]
-#[tactic(auto, unfolding(crate::specs::StatementReading::do_at), using(pli_base::specs::StatementLaws::do_made))]
+#[tactic(auto, unfolding(pli_parse_statement::specs::StatementReading::do_at), using(pli_base::specs::StatementLaws::do_made))]
 fn do_at<'a>(
     alloc: Global,
     levels: u32,
@@ -203,12 +183,24 @@ fn do_at<'a>(
     ensures place { IfOk result (Counts at number texts.now) }
 {
     let control = control_at(alloc, levels, at, texts)?;
-    let rest = semicolon_taken(control.next, control.rest)?;
+    let rest = match semicolon_taken(control.next, control.rest) {
+        Ok(rest) => rest,
+        Err(error) => {
+            drop(control);
+            return Err(error);
+        }
+    };
     let inner = Context {
         standing: Standing::InGroup,
         in_unit: context.in_unit,
     };
-    let list = list_in(alloc, levels, inner, label, control.next + 1, number, rest)?;
+    let list = match list_in(alloc, levels, inner, label, control.next + 1, number, rest) {
+        Ok(list) => list,
+        Err(error) => {
+            drop(control);
+            return Err(error);
+        }
+    };
     Ok(Counted {
         value: Body::Do {
             control: control.value,
@@ -239,7 +231,7 @@ fn procedure_of(name: Identifier, number: u32, heading: Heading, list: Listing) 
 
 /// What stands behind PROCEDURE, inside a unit; `number` is the number of the PROCEDURE.
 #[cycle(reader)]
-#[tactic(auto, unfolding(crate::specs::StatementReading::procedure_at))]
+#[tactic(auto, unfolding(pli_parse_statement::specs::StatementReading::procedure_at))]
 fn procedure_at<'a>(
     alloc: Global,
     levels: u32,
@@ -319,7 +311,7 @@ fn alternative_at<'a>(
 
 /// What stands behind IF.
 #[cycle(reader)]
-#[tactic(auto, unfolding(crate::specs::StatementReading::if_at), using(pli_base::specs::StatementLaws::if_made))]
+#[tactic(auto, unfolding(pli_parse_statement::specs::StatementReading::if_at), using(pli_base::specs::StatementLaws::if_made))]
 fn if_at<'a>(
     alloc: Global,
     levels: u32,
@@ -341,11 +333,12 @@ fn if_at<'a>(
         in_unit: context.in_unit,
     };
     let first = statement_at(alloc, levels, inner, condition.next + 1, number, behind)?;
+    let consequence = Box::new(alloc, first.value)?;
     let second = alternative_at(alloc, levels, context, first.next, first.number, first.rest)?;
     Ok(Counted {
         value: Body::If {
             condition: condition.value,
-            consequence: Box::new(alloc, first.value)?,
+            consequence,
             alternative: second.value,
         },
         number: second.number,
@@ -356,7 +349,7 @@ fn if_at<'a>(
 
 /// What stands behind ON.
 #[cycle(reader)]
-#[tactic(auto, unfolding(crate::specs::StatementReading::on_at), using(pli_base::specs::StatementLaws::on_made))]
+#[tactic(auto, unfolding(pli_parse_statement::specs::StatementReading::on_at), using(pli_base::specs::StatementLaws::on_made))]
 fn on_at<'a>(
     alloc: Global,
     levels: u32,
@@ -389,7 +382,7 @@ fn on_at<'a>(
 
 /// A statement behind its keyword at `at`.
 #[cycle(reader)]
-#[tactic(auto, unfolding(crate::specs::StatementReading::inside_of))]
+#[tactic(auto, unfolding(pli_parse_statement::specs::StatementReading::inside_of))]
 fn keyed_at<'a>(
     alloc: Global,
     levels: u32,
@@ -460,7 +453,7 @@ fn body_at<'a>(
 
 /// A statement with its label, where so many levels may be opened. `number` is its number.
 #[cycle(reader)]
-#[tactic(auto, unfolding(crate::specs::StatementReading::statement_of))]
+#[tactic(auto, unfolding(pli_parse_statement::specs::StatementReading::statement_of))]
 pub fn statement_at<'a>(
     alloc: Global,
     levels: u32,

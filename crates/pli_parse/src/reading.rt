@@ -5,9 +5,9 @@ ghost use Rattle.pli_base.specs.Reading.{Front};
 ghost use Rattle.pli_item.specs.DeclarationGrammar.{SpellsFront};
 ghost use Rattle.pli_base.specs.Statements as tree;
 ghost use Rattle.pli_base.specs.Statements.{AwaitsElse};
-ghost use Rattle.pli_parse.specs.StatementWords.{Context};
-ghost use Rattle.pli_parse.specs.StatementReading.{statement_at, else_first, unit_of};
-ghost use Rattle.pli_parse.specs.StatementGrammar.{SpellsStatement, SpellsUnit};
+ghost use Rattle.pli_parse_statement.specs.StatementWords.{Context};
+ghost use Rattle.pli_parse_statement.specs.StatementReading.{statement_at, else_first, unit_of};
+ghost use Rattle.pli_parse_statement.specs.StatementGrammar.{SpellsStatement, SpellsUnit};
 
 /// A law: what is read is spelled so, of the unit, and of a statement, which the front of the tokens spells. Behind a statement
 /// that awaits an ELSE none stands.

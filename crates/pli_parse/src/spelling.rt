@@ -2,8 +2,8 @@
 ghost use Rattle.std.specs.Prelude.{◌≡◌, Ok};
 ghost use Rattle.pli_base.specs.Words.{Tokens};
 ghost use Rattle.pli_base.specs.Statements as tree;
-ghost use Rattle.pli_parse.specs.StatementGrammar.{SpellsUnit};
-ghost use Rattle.pli_parse.specs.StatementReading.{unit_of};
+ghost use Rattle.pli_parse_statement.specs.StatementGrammar.{SpellsUnit};
+ghost use Rattle.pli_parse_statement.specs.StatementReading.{unit_of};
 
 /// A law: the tree of a unit that tokens spell is what is read of them.
 pub fn units_spelled_are_read()

@@ -4,17 +4,14 @@ ghost use Rattle.pli_base.specs.Reading.{misplaced};
 ghost use Rattle.pli_base.specs.Words.{is_procedure};
 ghost use Rattle.pli_item.specs.DeclarationAnswers.{Gives};
 ghost use Rattle.pli_base.specs.StatementView.{unit_view};
-ghost use Rattle.pli_parse.specs.StatementReading.{external_at, unit_of};
+ghost use Rattle.pli_parse_statement.specs.StatementReading.{external_at, unit_of};
 
-use crate::cursor::{fault, is_name};
-use crate::first::{Context, has_semicolon};
-use crate::heading::heading_at;
-use crate::keyword::Standing;
 use crate::reader::{last_place, list_in};
 use pli_base::statement::Procedure;
 use pli_base::syntax::Identifier;
 use pli_base::{Code, Name, Sign, TokenText};
 use pli_item::ParseError;
+use pli_parse_statement::{Context, Standing, fault, has_semicolon, heading_at, is_name};
 use std::alloc::Global;
 
 /// The greatest number of levels that may be opened (own): the unit is the first.
@@ -47,7 +44,7 @@ fn misplaced(texts: &[TokenText]) -> Option<u32>
 }
 
 /// The external procedure of this name, behind PROCEDURE.
-#[tactic(auto, unfolding(crate::specs::StatementReading::external_at, crate::specs::StatementReading::inside_of), using(pli_base::specs::StatementLaws::unit_made))]
+#[tactic(auto, unfolding(pli_parse_statement::specs::StatementReading::external_at, pli_parse_statement::specs::StatementReading::inside_of), using(pli_base::specs::StatementLaws::unit_made))]
 fn external_at(
     alloc: Global,
     name: &Identifier,
@@ -86,7 +83,7 @@ fn external_at(
 
 /// Reads the tokens of a unit, which must be one external procedure: its tree, or its one fault. First of all, `name : PROCEDURE`
 /// must stand. The time is linear in the number of tokens, and calls nest only as statements and parentheses do, at most 64 deep.
-#[tactic(auto, unfolding(crate::specs::StatementReading::unit_of))]
+#[tactic(auto, unfolding(pli_parse_statement::specs::StatementReading::unit_of))]
 pub fn parse(alloc: Global, texts: &[TokenText]) -> Result<Procedure, ParseError>
     requires { length texts.now ≤ 200000 }
     ensures { Gives unit_view result (unit_of texts.now) }

@@ -5,6 +5,3 @@ mod kind;
 mod nesting;
 
 pub use nesting::Nesting;
-
-#[cfg(test)]
-mod tests;

@@ -17,6 +17,3 @@ pub use laws::{
 pub use level::{Numbered, Standing, standings};
 pub use repeat::{Verdict, Written, verdicts};
 pub use scope::Scope;
-
-#[cfg(test)]
-mod tests;

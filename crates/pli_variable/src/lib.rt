@@ -17,6 +17,3 @@ pub use declaration::{Declaration, Kind};
 pub use declared::declare;
 pub use judged::{Judged, judge};
 pub use words::is_built_in;
-
-#[cfg(test)]
-mod tests;

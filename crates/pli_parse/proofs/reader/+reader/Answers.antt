@@ -1,8 +1,8 @@
 use Rattle.std.proofs.Common.{◌≡◌, arith, ap, ◌∙◌, sym}
 use Rattle.std.proofs.lemmas.Result.{err_from_is_err_and}
-use Rattle.pli_parse.specs.StatementAnswers.{counted_view, inside_at, context_view, next_view}
+use Rattle.pli_parse_statement.specs.StatementAnswers.{counted_view, inside_at, context_view, next_view}
 use Rattle.pli_base.specs.StatementLaws.{list_made}
-use Rattle.pli_parse.specs.StatementReading.{begin_at, do_at, list_in, statement_at, next_of, EndsHere, Another}
+use Rattle.pli_parse_statement.specs.StatementReading.{begin_at, do_at, list_in, statement_at, next_of, EndsHere, Another}
 use Rattle.pli_base.specs.StatementView.{statement_view}
 use Rattle.pli_parse.proofs.StatementClauses.{alternative_fails}
 use Rattle.pli_parse.proofs.StatementRows.{goes_on, statement_fails, end_fails, ends, one_more}
@@ -19,10 +19,10 @@ begin_at-returns-clause-numbers t c = rw (list_made c.in_ok-list.list.value.stat
 
 pub do_at-returns-clause-value : goal.do_at-returns-clause-value
 unfolding do_at
-do_at-returns-clause-value t c = rw (c.in_ok-control.ensures.value, c.in_ok-rest.ensures.value, c.in_ok-list.ensures.value, list_made c.in_ok-list.list.value.statements)
+do_at-returns-clause-value t c = rw (c.in_ok-control.ensures.value, c.in-Ok.ensures.value, c.in-Ok-list_in.ensures.value, list_made c.in-Ok-list_in.list.value.statements)
 
 pub do_at-returns-clause-numbers : goal.do_at-returns-clause-numbers
-do_at-returns-clause-numbers t c = rw (list_made c.in_ok-list.list.value.statements) (omega (arith, c.in_ok-list.ensures.numbers))
+do_at-returns-clause-numbers t c = rw (list_made c.in-Ok-list_in.list.value.statements) (omega (arith, c.in-Ok-list_in.ensures.numbers))
 
 pub if_at-returns-in_err-second-clause-value : goal.if_at-returns-in_err-second-clause-value
 if_at-returns-in_err-second-clause-value t c =

@@ -1,0 +1,9 @@
+//! Tests of what a DECLARE says: attributes and variables.
+#![tactic(auto)]
+
+#[cfg(test)]
+mod attributes;
+#[cfg(test)]
+mod reading;
+#[cfg(test)]
+mod variables;

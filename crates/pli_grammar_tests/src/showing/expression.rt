@@ -1,0 +1,105 @@
+//! Expressions and references as text.
+
+use pli_base::syntax::{
+    ConstantValue, Expression, Identifier, InfixOperator, Joining, Part, PrefixOperator, Reference,
+};
+use std::alloc::AllocError;
+use std::fmt::Write;
+
+/// `A@4` for a name at token 4.
+pub fn show_name(shown: &mut String, identifier: &Identifier) -> Result<(), AllocError> {
+    for byte in identifier.name.bytes() {
+        shown.push(char::from(*byte))?;
+    }
+    let at = identifier.at;
+    write!(shown, "@{at}")?;
+    Ok(())
+}
+
+/// Appends the expression, each operator's operands in parentheses, and the expression's own parentheses as brackets.
+#[cycle(show_value)]
+pub fn show_expression(shown: &mut String, expression: &Expression) -> Result<(), AllocError> {
+    match expression {
+        Expression::Reference(reference) => show_reference(shown, reference)?,
+        Expression::Constant { value, .. } => match value {
+            ConstantValue::Decimal { value, .. } => {
+                let value = *value;
+                write!(shown, "{value}")?;
+            }
+            _ => shown.push('?')?,
+        },
+        Expression::Parenthesized { inner, .. } => {
+            shown.push_str("[")?;
+            show_expression(shown, inner)?;
+            shown.push_str("]")?;
+        }
+        Expression::Prefix {
+            operator,
+            operand,
+            ..
+        } => {
+            shown.push_str(match operator {
+                PrefixOperator::Plus => "(+",
+                PrefixOperator::Minus => "(-",
+                PrefixOperator::Not => "(^",
+            })?;
+            show_expression(shown, operand)?;
+            shown.push_str(")")?;
+        }
+        Expression::Infix {
+            operator,
+            left,
+            right,
+            ..
+        } => {
+            shown.push_str("(")?;
+            show_expression(shown, left)?;
+            shown.push_str(match operator {
+                InfixOperator::Or => "|",
+                InfixOperator::And => "&",
+                InfixOperator::Equal => "=",
+                InfixOperator::NotEqual => "^=",
+                InfixOperator::Less => "<",
+                InfixOperator::LessOrEqual => "<=",
+                InfixOperator::Greater => ">",
+                InfixOperator::GreaterOrEqual => ">=",
+                InfixOperator::Concatenate => "||",
+                InfixOperator::Add => "+",
+                InfixOperator::Subtract => "-",
+                InfixOperator::Multiply => "*",
+            })?;
+            show_expression(shown, right)?;
+            shown.push_str(")")?;
+        }
+    }
+    Ok(())
+}
+
+/// Appends a reference.
+#[cycle(show_value)]
+pub fn show_reference(shown: &mut String, reference: &Reference) -> Result<(), AllocError> {
+    show_part(shown, &reference.first)?;
+    for joined in &reference.joined {
+        shown.push_str(match joined.joining {
+            Joining::Member => ".",
+            Joining::Located => "->",
+        })?;
+        show_part(shown, &joined.part)?;
+    }
+    Ok(())
+}
+
+/// Appends a name and the list behind it.
+#[cycle(show_value)]
+fn show_part(shown: &mut String, part: &Part) -> Result<(), AllocError> {
+    show_name(shown, &part.name)?;
+    if let Some(list) = &part.arguments {
+        shown.push_str("{")?;
+        for argument in list {
+            show_expression(shown, argument)?;
+            shown.push_str(";")?;
+        }
+        shown.push_str("}")?;
+    }
+    Ok(())
+}

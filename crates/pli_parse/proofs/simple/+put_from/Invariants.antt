@@ -1,4 +1,0 @@
-use Rattle.pli_parse.proofs.simple.+put_from.Given as goal
-
-abbrev pub decreases-put_from : goal.decreases-put_from
-decreases-put_from l = l.bound

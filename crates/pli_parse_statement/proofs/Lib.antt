@@ -1,0 +1,3 @@
+mod StatementNames
+mod StatementOptions
+mod StatementTexts

@@ -1,0 +1,17 @@
+use Rattle.std.proofs.Common.{◌≡◌, ◌≤◌, ◌+◌, length, map}
+use Rattle.pli_base.specs.StatementView.{allocation_view}
+use Rattle.pli_item.specs.DeclarationReading.{Commas, list_at}
+use Rattle.pli_item.proofs.DeclarationLists.{Left}
+use Rattle.pli_parse_statement.specs.StatementReading.{allocation_at}
+use Rattle.pli_parse_statement.proofs.simple.allocations_listed.Given as goal
+
+-- the values that were read, in front of those that are left, are all of them
+abbrev pub invariant-loop-values : goal.invariant-loop-values
+invariant-loop-values l =
+    record {
+      value : Left Commas (allocation_at l.levels) (map allocation_view l.values.items) l.next l.rest (list_at Commas (allocation_at l.levels) l.fn.at l.fn.texts);
+      place : (l.fn.at ≤ l.next) × (l.next + length l.rest ≡ l.fn.at + length l.fn.texts);
+    }
+
+abbrev pub decreases-loop-values : goal.decreases-loop-values
+decreases-loop-values l = length l.rest

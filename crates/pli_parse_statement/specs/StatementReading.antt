@@ -1,0 +1,493 @@
+-- Reading statements, blocks, groups and the unit: the tree, or the one fault. Tokens are counted from 0, and p is the place of the first;
+-- statements are numbered from 1, and k is the number of the next. A part that need not stand is passed over, so a fault is about what must stand next.
+use Rattle.std.specs.Prelude.{ℕ, zero, suc, ◌+◌, ◌-◌, Bool, true, false, ◌||◌, Option, Some, None, Result, Ok, Err, List, [], ◌∷◌, length, option_map, codes, if◌then◌else◌}
+use Rattle.pli_base.specs.Name.{Name}
+use Rattle.pli_base.specs.Words.{Tokens, same_name, is_word, is_open, is_semicolon}
+use Rattle.pli_base.specs.Reading.{◌>>=◌, at_fault, Front, misplaced}
+use Rattle.pli_base.specs.Syntax.{Expression, Reference}
+use Rattle.pli_base.specs.declared.syntax.Identifier.{Identifier}
+use Rattle.pli_base.specs.declared.code.Code.{Code}
+use Rattle.pli_base.specs.declared.code.Code.TheVariants.{NoProcedure, NotAStatement, ParenthesisExpected, SemicolonExpected, NameExpected, ThenExpected, WrongEndName, EndMissing, TextAfterEnd, BadDo, BadLabel, BadCondition, NestedTooDeep, MisplacedStatement, BadOption}
+use Rattle.pli_base.specs.declared.token.Fault.{Fault}
+use Rattle.pli_base.specs.declared.token.Sign.TheVariants.{Colon, OpenParenthesis, Equals}
+use Rattle.pli_base.specs.declared.token.TokenText.{TokenText}
+use Rattle.pli_base.specs.declared.token.TokenText.TheVariants.{Word, Sign}
+use Rattle.pli_grammar.specs.Operators.{nesting_limit}
+use Rattle.pli_grammar.specs.Reading.{expression_at, reference_at, arguments_at, argument_of}
+use Rattle.pli_grammar.specs.Reading as expressions
+use Rattle.pli_item.specs.DeclarationWords.{behind}
+use Rattle.pli_item.specs.DeclarationReading.{expected, read_as, mapped, taken, enclosed, if_open, or_none, Commas, list_at, declaration_at, returned_at}
+use Rattle.pli_base.specs.Statements.{ProcedureOption, Main, Returns, Recursive, Heading, Range, To, By, Repeat, Control, While, Iterate, Allocation, Statement, Numbered, Body, Statements, Ended, Before, Alternative, NoElse, Else, ExternalProcedure, count}
+use Rattle.pli_base.specs.Statements as body
+use Rattle.pli_parse_statement.specs.StatementWords.{Context, standing, the_unit, a_procedure, condition_of, behind_word, begins_assignment, Kind, Assigns, Empty, Keyed, Unknown, kind_of}
+use Rattle.pli_parse_statement.specs.declared.keyword.Keyword.{Keyword}
+use Rattle.pli_parse_statement.specs.declared.keyword.Keyword.TheVariants.{Procedure, Declare, End, Begin, Do, If, On, Revert, Signal, Stop, Allocate, Free, Call, Goto, GoTo, Return, Put}
+use Rattle.pli_parse_statement.specs.declared.keyword.Standing.{Standing}
+use Rattle.pli_parse_statement.specs.declared.keyword.Standing.TheVariants.{InBlock, InGroup, AsClause, AsUnit}
+use Rattle.pli_base.specs.declared.statement.Condition.{Condition}
+
+-- parts of statements; so many levels may still be opened in their expressions
+
+abbrev pub uncounted : {A : Type 0} → Result (expressions.Front A) Fault → Result (Front A) Fault
+uncounted (Ok x) = read_as x.value x.next x.rest
+uncounted (Err e) = Err e
+
+-- an outermost expression
+unfoldable pub expression_in : (levels p : ℕ) → Tokens → Result (Front Expression) Fault
+expression_in levels p ts = uncounted (expression_at levels 0 p ts)
+
+unfoldable pub reference_in : (levels p : ℕ) → Tokens → Result (Front Reference) Fault
+reference_in levels p ts = uncounted (reference_at levels p ts)
+
+-- a value, and the `;` behind it
+unfoldable pub stopped : {A : Type 0} → A → ℕ → Tokens → Result (Front A) Fault
+stopped value p ts = taken is_semicolon SemicolonExpected p ts >>= λ us. read_as value (p + 1) us
+
+abbrev pub closing : {A B : Type 0} → (A → B) → Result (Front A) Fault → Result (Front B) Fault
+closing f read = read >>= λ x. stopped (f x.value) x.next x.rest
+
+-- in parentheses
+unfoldable pub parenthesized : {A : Type 0} → (ℕ → Tokens → Result (Front A) Fault) → ℕ → Tokens → Result (Front A) Fault
+parenthesized read p ts = taken is_open ParenthesisExpected p ts >>= λ us. enclosed (read (p + 1) us)
+
+unfoldable pub identifier_at : ℕ → Tokens → Result (Front Identifier) Fault
+identifier_at p (Word n ∷ us) = read_as (record { name = n; at = p }) (p + 1) us
+identifier_at p ts = expected NameExpected p ts
+
+abbrev pub is_equals : TokenText → Bool
+is_equals (Sign Equals) = true
+is_equals t = false
+
+-- a reference, `=` and one expression
+unfoldable pub assignment_at : (levels p : ℕ) → Tokens → Result (Front Body) Fault
+assignment_at levels p ts = do
+  target ← reference_in levels p ts
+  us ← taken is_equals NotAStatement target.next target.rest
+  value ← expression_in levels (target.next + 1) us
+  stopped (body.Assign target.value target.next value.value) value.next value.rest
+
+abbrev pub condition_from : ℕ → Tokens → Option Condition → Result (Front Condition) Fault
+condition_from p us (Some c) = read_as c (p + 1) us
+condition_from p us None = at_fault BadCondition p
+
+unfoldable pub condition_at : ℕ → Tokens → Result (Front Condition) Fault
+condition_at p (Word n ∷ us) = condition_from p us (condition_of n)
+condition_at p ts = expected BadCondition p ts
+
+-- what is read behind a word, if the word stands there
+abbrev pub if_word : {A : Type 0} → (ℕ → Tokens → Result (Front A) Fault) → ℕ → Tokens → Option Tokens → Result (Front (Option A)) Fault
+if_word read p ts None = read_as None p ts
+if_word read p ts (Some us) = mapped Some (read (p + 1) us)
+
+unfoldable pub optional_at : {A : Type 0} → Name → (ℕ → Tokens → Result (Front A) Fault) → ℕ → Tokens → Result (Front (Option A)) Fault
+optional_at word read p ts = if_word read p ts (behind_word word ts)
+
+-- a word and what stands behind it
+abbrev pub paired : {A : Type 0} → Tokens → Option A → Option (A × Tokens)
+paired us (Some x) = Some (x, us)
+paired us None = None
+
+pub data RangeWord : Type 0 where
+  ToWord ByWord RepeatWord : RangeWord
+
+unfoldable pub range_word : Name → Option RangeWord
+range_word n =
+    if same_name n (codes "TO") then Some ToWord
+    else if same_name n (codes "BY") then Some ByWord
+    else if same_name n (codes "REPEAT") then Some RepeatWord
+    else None
+
+unfoldable pub range_first : Tokens → Option (RangeWord × Tokens)
+range_first (Word n ∷ us) = paired us (range_word n)
+range_first ts = None
+
+-- TO with or without BY, BY with or without TO, REPEAT, or none of them
+abbrev pub range_from : (levels p : ℕ) → Tokens → Option (RangeWord × Tokens) → Result (Front (Option Range)) Fault
+range_from levels p ts None = read_as None p ts
+range_from levels p ts (Some (ToWord, us)) = do
+  to ← expression_in levels (p + 1) us
+  by ← optional_at (codes "BY") (expression_in levels) to.next to.rest
+  read_as (Some (To to.value by.value)) by.next by.rest
+range_from levels p ts (Some (ByWord, us)) = do
+  by ← expression_in levels (p + 1) us
+  to ← optional_at (codes "TO") (expression_in levels) by.next by.rest
+  read_as (Some (By by.value to.value)) to.next to.rest
+range_from levels p ts (Some (RepeatWord, us)) = mapped (λ next. Some (Repeat next)) (expression_in levels (p + 1) us)
+
+unfoldable pub range_at : (levels p : ℕ) → Tokens → Result (Front (Option Range)) Fault
+range_at levels p ts = range_from levels p ts (range_first ts)
+
+-- how a specification begins: WHILE followed by `(` is the keyword, and any other word a variable's name
+pub data Specified : Type 0 where
+  Unspecified : Specified
+  Conditioned : (behind : Tokens) → Specified
+  Iterated : Specified
+
+unfoldable pub specified : Tokens → Specified
+specified (Word n ∷ Sign OpenParenthesis ∷ us) = if same_name n (codes "WHILE") then Conditioned (Sign OpenParenthesis ∷ us) else Iterated
+specified (Word n ∷ us) = Iterated
+specified ts = Unspecified
+
+abbrev pub control_from : (levels p : ℕ) → Tokens → Specified → Result (Front (Option Control)) Fault
+control_from levels p ts Unspecified = read_as None p ts
+control_from levels p ts (Conditioned us) = mapped (λ c. Some (While c)) (parenthesized (expression_in levels) (p + 1) us)
+control_from levels p ts Iterated = do
+  variable ← reference_in levels p ts
+  us ← taken is_equals BadDo variable.next variable.rest
+  first ← expression_in levels (variable.next + 1) us
+  range ← range_at levels first.next first.rest
+  condition ← optional_at (codes "WHILE") (parenthesized (expression_in levels)) range.next range.rest
+  read_as (Some (Iterate variable.value variable.next first.value range.value condition.value)) condition.next condition.rest
+
+-- behind DO
+unfoldable pub control_at : (levels p : ℕ) → Tokens → Result (Front (Option Control)) Fault
+control_at levels p ts = control_from levels p ts (specified ts)
+
+pub data PlaceWord : Type 0 where
+  InWord SetWord : PlaceWord
+
+unfoldable pub place_word : Name → Option PlaceWord
+place_word n = if same_name n (codes "IN") then Some InWord else if same_name n (codes "SET") then Some SetWord else None
+
+unfoldable pub place_first : Tokens → Option (PlaceWord × Tokens)
+place_first (Word n ∷ us) = paired us (place_word n)
+place_first ts = None
+
+-- IN and SET stand once
+abbrev pub placed_by : (levels : ℕ) → (more : Allocation → ℕ → Tokens → Result (Front Allocation) Fault) → Allocation → ℕ → Tokens → Option (PlaceWord × Tokens) → (area target : Option Reference) → Result (Front Allocation) Fault
+placed_by levels more x p ts None area target = read_as x p ts
+placed_by levels more x p ts (Some (InWord, us)) None target =
+    parenthesized (reference_in levels) (p + 1) us >>= λ r. more (record { name = x.name; area = Some r.value; target = target }) r.next r.rest
+placed_by levels more x p ts (Some (SetWord, us)) area None =
+    parenthesized (reference_in levels) (p + 1) us >>= λ r. more (record { name = x.name; area = area; target = Some r.value }) r.next r.rest
+placed_by levels more x p ts second area target = at_fault BadOption p
+
+-- each takes one of the bound
+unfoldable pub places_from : (levels bound : ℕ) → Allocation → ℕ → Tokens → Result (Front Allocation) Fault
+places_from levels zero x p ts = at_fault BadOption p
+places_from levels (suc bound) x p ts = placed_by levels (places_from levels bound) x p ts (place_first ts) x.area x.target
+
+unfoldable pub allocation_at : (levels p : ℕ) → Tokens → Result (Front Allocation) Fault
+allocation_at levels p ts = identifier_at p ts >>= λ n. places_from levels 3 (record { name = n.value; area = None; target = None }) n.next n.rest
+
+pub data PutWord : Type 0 where
+  SkipWord ListWord : PutWord
+
+unfoldable pub put_word : Name → Option PutWord
+put_word n = if same_name n (codes "SKIP") then Some SkipWord else if same_name n (codes "LIST") then Some ListWord else None
+
+unfoldable pub put_first : Tokens → Option (PutWord × Tokens)
+put_first (Word n ∷ us) = paired us (put_word n)
+put_first ts = None
+
+-- SKIP and LIST stand once
+abbrev pub put_by : (levels : ℕ) → (more : Bool → List Expression → ℕ → Tokens → Result (Front Body) Fault) → Bool → List Expression → ℕ → Tokens → Option (PutWord × Tokens) → Result (Front Body) Fault
+put_by levels more skip items p ts None = read_as (body.Put skip items) p ts
+put_by levels more false items p ts (Some (SkipWord, us)) = more true items (p + 1) us
+put_by levels more skip [] p ts (Some (ListWord, us)) =
+    parenthesized (list_at Commas (expression_in levels)) (p + 1) us >>= λ x. more skip x.value x.next x.rest
+put_by levels more skip items p ts (Some second) = at_fault BadOption p
+
+unfoldable pub put_from : (levels bound : ℕ) → Bool → List Expression → ℕ → Tokens → Result (Front Body) Fault
+put_from levels zero skip items p ts = at_fault BadOption p
+put_from levels (suc bound) skip items p ts = put_by levels (put_from levels bound) skip items p ts (put_first ts)
+
+-- behind PUT, where one of them must stand
+abbrev pub put_begun : (levels p : ℕ) → Tokens → Option (PutWord × Tokens) → Result (Front Body) Fault
+put_begun levels p ts None = expected BadOption p ts
+put_begun levels p ts (Some x) = put_from levels 3 false [] p ts
+
+unfoldable pub put_at : (levels p : ℕ) → Tokens → Result (Front Body) Fault
+put_at levels p ts = put_begun levels p ts (put_first ts)
+
+-- behind CALL: each argument is an outermost expression
+unfoldable pub call_at : (levels p : ℕ) → Tokens → Result (Front Body) Fault
+call_at levels p ts = do
+  name ← identifier_at p ts
+  arguments ← uncounted (arguments_at (option_map (argument_of true) (expressions.inside levels)) 0 name.next name.rest)
+  read_as (body.Call name.value arguments.value) arguments.next arguments.rest
+
+pub data OptionWord : Type 0 where
+  OptionsWord ReturnsWord RecursiveWord : OptionWord
+
+unfoldable pub option_word : Name → Option OptionWord
+option_word n =
+    if same_name n (codes "OPTIONS") then Some OptionsWord
+    else if same_name n (codes "RETURNS") then Some ReturnsWord
+    else if same_name n (codes "RECURSIVE") then Some RecursiveWord
+    else None
+
+unfoldable pub option_first : Tokens → Option (OptionWord × Tokens)
+option_first (Word n ∷ us) = paired us (option_word n)
+option_first ts = None
+
+-- behind OPTIONS
+unfoldable pub main_at : ℕ → Tokens → Result (Front ProcedureOption) Fault
+main_at p ts = parenthesized (λ p ts. taken (is_word (codes "MAIN")) BadOption p ts >>= λ us. read_as Main (p + 1) us) p ts
+
+-- options as long as they come
+abbrev pub options_by : (more : ℕ → Tokens → Result (Front (List ProcedureOption)) Fault) → ℕ → Tokens → Option (OptionWord × Tokens) → Result (Front (List ProcedureOption)) Fault
+options_by more p ts None = read_as [] p ts
+options_by more p ts (Some (OptionsWord, us)) = main_at (p + 1) us >>= λ x. mapped (λ xs. x.value ∷ xs) (more x.next x.rest)
+options_by more p ts (Some (ReturnsWord, us)) = returned_at (p + 1) us >>= λ x. mapped (λ xs. Returns x.value ∷ xs) (more x.next x.rest)
+options_by more p ts (Some (RecursiveWord, us)) = mapped (λ xs. Recursive ∷ xs) (more (p + 1) us)
+
+unfoldable pub options_from : (bound p : ℕ) → Tokens → Result (Front (List ProcedureOption)) Fault
+options_from zero p ts = at_fault SemicolonExpected p
+options_from (suc bound) p ts = options_by (options_from bound) p ts (option_first ts)
+
+-- behind PROCEDURE, of this name and number
+unfoldable pub heading_at : Identifier → (number p : ℕ) → Tokens → Result (Front Heading) Fault
+heading_at name number p ts = do
+  parameters ← if_open (list_at Commas identifier_at) p ts (behind is_open ts)
+  options ← options_from (length parameters.rest + 1) parameters.next parameters.rest
+  stopped (record { name = name; number = number; parameters = or_none parameters.value; options = options.value }) options.next options.rest
+
+-- statements
+
+abbrev pub StatementReader : Type 0
+StatementReader = Context → (p k : ℕ) → Tokens → Result (Front Statement) Fault
+
+-- what is one level deeper: how many levels may be opened there, and what reads a statement
+pub record Inside : Type 0 where
+  pub levels : ℕ
+  pub statement : StatementReader
+
+abbrev pub deeper : {A : Type 0} → Option Inside → (p : ℕ) → (Inside → Result A Fault) → Result A Fault
+deeper None p read = at_fault NestedTooDeep p
+deeper (Some i) p read = read i
+
+unfoldable pub has_semicolon : Tokens → Bool
+has_semicolon [] = false
+has_semicolon (t ∷ ts) = is_semicolon t || has_semicolon ts
+
+-- a name followed by `:`
+unfoldable pub label_at : ℕ → Tokens → Front (Option Identifier)
+label_at p (Word n ∷ Sign Colon ∷ us) = record { value = Some (record { name = n; at = p }); next = p + 2; rest = us }
+label_at p ts = record { value = None; next = p; rest = ts }
+
+abbrev pub is_labelled : Option Identifier → Bool
+is_labelled None = false
+is_labelled (Some l) = true
+
+-- the label that may not stand: behind THEN, ELSE and ON the first, elsewhere a second
+abbrev pub second_label : ℕ → Option Identifier → Option ℕ
+second_label p None = None
+second_label p (Some l) = Some p
+
+abbrev pub bad_label : Standing → Front (Option Identifier) → Option Identifier → Option ℕ
+bad_label s x None = None
+bad_label AsClause x (Some l) = Some l.at
+bad_label AsUnit x (Some l) = Some l.at
+bad_label s x (Some l) = second_label x.next (label_at x.next x.rest).value
+
+-- a statement that may not stand where it does: the fault is at its label, or at its first token behind that
+pub data Misplacement : Type 0 where
+  AtLabel AtStatement : (code : Code) → Misplacement
+
+-- an ON-unit is an assignment, a null statement, or one that begins with one of these
+abbrev pub unit_misplaced : Keyword → Option Misplacement
+unit_misplaced Allocate = None
+unit_misplaced Begin = None
+unit_misplaced Call = None
+unit_misplaced Free = None
+unit_misplaced Goto = None
+unit_misplaced GoTo = None
+unit_misplaced Put = None
+unit_misplaced Revert = None
+unit_misplaced Signal = None
+unit_misplaced Stop = None
+unit_misplaced keyword = Some (AtStatement MisplacedStatement)
+
+abbrev pub standing_misplaced : Standing → Keyword → (is_labelled : Bool) → Option Misplacement
+standing_misplaced AsUnit keyword l = unit_misplaced keyword
+standing_misplaced AsClause Procedure l = Some (AtStatement MisplacedStatement)
+standing_misplaced AsClause Declare l = Some (AtStatement MisplacedStatement)
+standing_misplaced AsClause End l = Some (AtStatement MisplacedStatement)
+standing_misplaced InBlock Procedure false = Some (AtStatement BadLabel)
+standing_misplaced InGroup Procedure false = Some (AtStatement MisplacedStatement)
+standing_misplaced InGroup Procedure true = Some (AtLabel MisplacedStatement)
+standing_misplaced s Declare true = Some (AtLabel BadLabel)
+standing_misplaced s End true = Some (AtLabel BadLabel)
+standing_misplaced s keyword l = None
+
+abbrev pub misplacement : Context → Keyword → (is_labelled : Bool) → (in_unit : Bool) → Option Misplacement
+misplacement c Return l true = Some (AtStatement MisplacedStatement)
+misplacement c keyword l in_unit = standing_misplaced c.standing keyword l
+
+abbrev pub at_label : {A : Type 0} → Code → ℕ → Option Identifier → Result A Fault
+at_label code p None = at_fault code p
+at_label code p (Some l) = at_fault code l.at
+
+-- the statements of a block or group, and the number of its END
+pub record Listing : Type 0 where
+  pub statements : Statements
+  pub end : ℕ
+
+abbrev pub is_label : Option Identifier → Name → Bool
+is_label None n = false
+is_label (Some l) n = same_name n l.name
+
+abbrev pub named_end : Bool → ℕ → Tokens → Result (Front (Unit {0})) Fault
+named_end true p us = stopped tt (p + 1) us
+named_end false p us = at_fault WrongEndName p
+
+-- behind END: nothing, or the label of the nearest open block or group
+unfoldable pub ending_at : Option Identifier → ℕ → Tokens → Result (Front (Unit {0})) Fault
+ending_at label p (Word n ∷ us) = named_end (is_label label n) p us
+ending_at label p ts = stopped tt p ts
+
+-- what comes next in a list: its END, or another statement
+pub data Next : Type 0 where
+  EndsHere : (behind : Tokens) → Next
+  Another : Next
+
+abbrev pub next_by : (has_semicolon : Bool) → Option Identifier → Kind → Next
+next_by true None (Keyed End us) = EndsHere us
+next_by s label kind = Another
+
+unfoldable pub next_of : Tokens → Next
+next_of ts = next_by (has_semicolon ts) (label_at 0 ts).value (kind_of ts)
+
+abbrev pub before : Statement → Front Listing → Result (Front Listing) Fault
+before s y = read_as (record { statements = Before s y.value.statements; end = y.value.end }) y.next y.rest
+
+abbrev pub list_by : StatementReader → Context → (label : Option Identifier) → (more : (p k : ℕ) → Tokens → Result (Front Listing) Fault) → (p k : ℕ) → Tokens → Next → Result (Front Listing) Fault
+list_by one c label more p k ts (EndsHere us) = mapped (λ nothing. record { statements = Ended; end = k }) (ending_at label (p + 1) us)
+list_by one c label more p k ts Another = one c p k ts >>= λ x. more x.next (k + count x.value) x.rest >>= before x.value
+
+-- statements up to an END, and that END; each takes one of the bound, which is more than the number of tokens
+unfoldable pub list_from : StatementReader → Context → (label : Option Identifier) → (bound p k : ℕ) → Tokens → Result (Front Listing) Fault
+list_from one c label zero p k ts = at_fault EndMissing p
+list_from one c label (suc bound) p k ts = list_by one c label (list_from one c label bound) p k ts (next_of ts)
+
+abbrev pub list_in : Inside → Context → (label : Option Identifier) → (p k : ℕ) → Tokens → Result (Front Listing) Fault
+list_in i c label p k ts = list_from i.statement c label (length ts + 1) p k ts
+
+-- ELSE, where neither a label nor an assignment begins with it: what stands behind it
+abbrev pub else_by : (is_label is_assignment : Bool) → Option Tokens → Option Tokens
+else_by false false behind = behind
+else_by l a behind = None
+
+unfoldable pub else_first : Tokens → Option Tokens
+else_first ts = else_by (is_labelled (label_at 0 ts).value) (begins_assignment ts) (behind_word (codes "ELSE") ts)
+
+-- an ELSE belongs to the nearest IF that has none
+abbrev pub alternative_from : Inside → Context → (p k : ℕ) → Tokens → Option Tokens → Result (Front Alternative) Fault
+alternative_from i c p k ts None = read_as NoElse p ts
+alternative_from i c p k ts (Some us) = mapped Else (i.statement (standing AsClause c) (p + 1) k us)
+
+unfoldable pub if_at : Inside → Context → (p k : ℕ) → Tokens → Result (Front Body) Fault
+if_at i c p k ts = do
+  condition ← expression_in i.levels p ts
+  us ← taken (is_word (codes "THEN")) ThenExpected condition.next condition.rest
+  consequence ← i.statement (standing AsClause c) (condition.next + 1) k us
+  alternative ← alternative_from i c consequence.next (k + count consequence.value) consequence.rest (else_first consequence.rest)
+  read_as (body.If condition.value consequence.value alternative.value) alternative.next alternative.rest
+
+unfoldable pub on_at : Inside → (p k : ℕ) → Tokens → Result (Front Body) Fault
+on_at i p k ts = do
+  condition ← condition_at p ts
+  unit ← i.statement the_unit condition.next k condition.rest
+  read_as (body.On condition.value unit.value) unit.next unit.rest
+
+unfoldable pub do_at : Inside → Context → (label : Option Identifier) → (p k : ℕ) → Tokens → Result (Front Body) Fault
+do_at i c label p k ts = do
+  control ← control_at i.levels p ts
+  us ← taken is_semicolon SemicolonExpected control.next control.rest
+  list ← list_in i (standing InGroup c) label (control.next + 1) k us
+  read_as (body.Do control.value list.value.statements list.value.end) list.next list.rest
+
+unfoldable pub begin_at : Inside → Context → (label : Option Identifier) → (p k : ℕ) → Tokens → Result (Front Body) Fault
+begin_at i c label p k ts = do
+  us ← taken is_semicolon SemicolonExpected p ts
+  list ← list_in i (standing InBlock c) label (p + 1) k us
+  read_as (body.Begin list.value.statements list.value.end) list.next list.rest
+
+-- the statements of a procedure behind its heading
+abbrev pub inner_list : Inside → Identifier → (p k : ℕ) → Tokens → Result (Front Listing) Fault
+inner_list i name p k ts = list_in i a_procedure (Some name) p k ts
+
+unfoldable pub procedure_at : Inside → (label : Option Identifier) → (number p : ℕ) → Tokens → Result (Front Body) Fault
+procedure_at i None number p ts = at_fault BadLabel p
+procedure_at i (Some name) number p ts = do
+  heading ← heading_at name number p ts
+  list ← inner_list i name heading.next (number + 1) heading.rest
+  read_as (body.Procedure heading.value list.value.statements list.value.end) list.next list.rest
+
+-- behind a keyword at p, which begins the statement of number k
+abbrev pub keyed_at : (levels : ℕ) → Option Inside → Context → (label : Option Identifier) → (p k : ℕ) → Tokens → Keyword → Result (Front Body) Fault
+keyed_at levels inside c label p k us Procedure = deeper inside p (λ i. procedure_at i label k (p + 1) us)
+keyed_at levels inside c label p k us Declare = mapped body.Declare (declaration_at (p + 1) us)
+keyed_at levels inside c label p k us End = at_fault MisplacedStatement p
+keyed_at levels inside c label p k us Begin = deeper inside p (λ i. begin_at i c label (p + 1) (k + 1) us)
+keyed_at levels inside c label p k us Do = deeper inside p (λ i. do_at i c label (p + 1) (k + 1) us)
+keyed_at levels inside c label p k us If = deeper inside p (λ i. if_at i c (p + 1) (k + 1) us)
+keyed_at levels inside c label p k us On = deeper inside p (λ i. on_at i (p + 1) (k + 1) us)
+keyed_at levels inside c label p k us Revert = closing body.Revert (condition_at (p + 1) us)
+keyed_at levels inside c label p k us Signal = closing body.Signal (condition_at (p + 1) us)
+keyed_at levels inside c label p k us Stop = stopped body.Stop (p + 1) us
+keyed_at levels inside c label p k us Allocate = closing body.Allocate (list_at Commas (allocation_at levels) (p + 1) us)
+keyed_at levels inside c label p k us Free = closing body.Free (list_at Commas (reference_in levels) (p + 1) us)
+keyed_at levels inside c label p k us Call = closing (λ x. x) (call_at levels (p + 1) us)
+keyed_at levels inside c label p k us Goto = closing body.Goto (identifier_at (p + 1) us)
+keyed_at levels inside c label p k us GoTo = closing body.Goto (identifier_at (p + 2) us)
+keyed_at levels inside c label p k us Return = closing body.Return (if_open (expression_in levels) (p + 1) us (behind is_open us))
+keyed_at levels inside c label p k us Put = closing (λ x. x) (put_at levels (p + 1) us)
+
+abbrev pub unless_misplaced : (levels : ℕ) → Option Inside → Context → (label : Option Identifier) → (p k : ℕ) → Tokens → Keyword → Option Misplacement → Result (Front Body) Fault
+unless_misplaced levels inside c label p k us keyword (Some (AtLabel code)) = at_label code p label
+unless_misplaced levels inside c label p k us keyword (Some (AtStatement code)) = at_fault code p
+unless_misplaced levels inside c label p k us keyword None = keyed_at levels inside c label p k us keyword
+
+-- a statement behind its label
+abbrev pub body_from : (levels : ℕ) → Option Inside → Context → (label : Option Identifier) → (p k : ℕ) → Tokens → Kind → Result (Front Body) Fault
+body_from levels inside c label p k ts Assigns = assignment_at levels p ts
+body_from levels inside c label p k ts (Empty us) = read_as body.Null (p + 1) us
+body_from levels inside c label p k ts (Keyed keyword us) =
+    unless_misplaced levels inside c label p k us keyword (misplacement c keyword (is_labelled label) c.in_unit)
+body_from levels inside c label p k ts Unknown = at_fault NotAStatement p
+
+abbrev pub behind_label : (levels : ℕ) → Option Inside → Context → (k : ℕ) → Front (Option Identifier) → Option ℕ → Result (Front Statement) Fault
+behind_label levels inside c k x (Some p) = at_fault BadLabel p
+behind_label levels inside c k x None = mapped (Numbered k x.value x.next) (body_from levels inside c x.value x.next k x.rest (kind_of x.rest))
+
+-- where no `;` is ahead the text has ended
+abbrev pub begun : (levels : ℕ) → Option Inside → Context → (p k : ℕ) → Tokens → (has_semicolon : Bool) → Result (Front Statement) Fault
+begun levels inside c p k ts false = at_fault EndMissing (p + length ts - 1)
+begun levels inside c p k ts true = behind_label levels inside c k (label_at p ts) (bad_label c.standing (label_at p ts) (label_at p ts).value)
+
+-- a statement with its label, where so many levels may be opened
+unfoldable pub statement_of : (levels : ℕ) → Option Inside → StatementReader
+statement_of levels inside c p k ts = begun levels inside c p k ts (has_semicolon ts)
+
+-- what reads one level deeper, where so many levels may be opened
+unfoldable pub inside_of : (levels : ℕ) → Option Inside
+inside_of zero = None
+inside_of (suc levels) = Some (record { levels = levels; statement = statement_of levels (inside_of levels) })
+
+-- a statement where so many levels may be opened
+abbrev pub statement_at : (levels : ℕ) → StatementReader
+statement_at levels = statement_of levels (inside_of levels)
+
+-- nothing may stand behind the unit's END
+abbrev pub finished : ExternalProcedure → ℕ → Tokens → Result ExternalProcedure Fault
+finished unit p [] = Ok unit
+finished unit p (t ∷ ts) = at_fault TextAfterEnd p
+
+-- the external procedure, behind PROCEDURE; it is the first level, and its PROCEDURE is statement 1
+unfoldable pub external_at : Identifier → Tokens → Result ExternalProcedure Fault
+external_at name ts = deeper (inside_of nesting_limit) 2 (λ i. do
+  heading ← heading_at name 1 3 ts
+  list ← inner_list i name heading.next 2 heading.rest
+  finished (record { heading = heading.value; statements = list.value.statements; end = list.value.end }) list.next list.rest)
+
+abbrev pub unit_from : Option ℕ → (has_semicolon : Bool) → Tokens → Result ExternalProcedure Fault
+unit_from (Some p) s ts = at_fault NoProcedure p
+unit_from None false ts = at_fault EndMissing (length ts - 1)
+unit_from None true (Word n ∷ Sign Colon ∷ procedure ∷ ts) = external_at (record { name = n; at = 0 }) ts
+unit_from None true ts = at_fault NoProcedure 0
+
+-- the tree of a unit, or its one fault. First of all, `name : PROCEDURE` must stand
+unfoldable pub unit_of : Tokens → Result ExternalProcedure Fault
+unit_of ts = unit_from (misplaced ts) (has_semicolon ts) ts

@@ -1,0 +1,228 @@
+//! The specification of a DO group.
+ghost use Rattle.std.specs.Prelude.{◌≡◌, ◌≤◌, ◌+◌, length, option_map, codes, IfOk};
+ghost use Rattle.pli_base.specs.SyntaxView.{expression_view};
+ghost use Rattle.pli_item.specs.DeclarationAnswers.{Gives, Advances, Continues, front_view};
+ghost use Rattle.pli_base.specs.StatementView.{control_view};
+ghost use Rattle.pli_base.specs.StatementView as views;
+ghost use Rattle.pli_parse_statement.specs.StatementReading.{expression_in, parenthesized, optional_at, range_at, specified, control_from, control_at};
+ghost use Rattle.pli_parse_statement.specs.StatementReading as reading;
+ghost use Rattle.pli_parse_statement.specs.StatementAnswers.{specified_view, BehindWhile};
+
+use crate::cursor::{
+    behind_word, equals_taken, expression_in, is_name, parenthesized_expression, reference_in,
+};
+use crate::word::{RangeWord, range_first};
+use pli_base::statement::{Control, Range};
+use pli_base::syntax::Expression;
+use pli_base::{Code, Sign, TokenText};
+use pli_item::{Front, ParseError};
+use std::alloc::Global;
+
+/// How a specification begins.
+enum Beginning<'a> {
+    Unspecified,
+    /// With the tokens behind WHILE, of which the first is `(`.
+    Conditioned(&'a [TokenText]),
+    Iterated,
+}
+
+/// How the specification begins: WHILE followed by `(` is the keyword, and any other word a variable's name.
+#[tactic(auto, unfolding(crate::specs::StatementReading::specified))]
+fn specified(texts: &[TokenText]) -> Beginning<'_>
+    ensures value { specified_view result ≡ specified texts.now }
+    ensures place { BehindWhile texts.now result }
+{
+    match texts {
+        [
+            TokenText::Word(name),
+            TokenText::Sign(Sign::OpenParenthesis),
+            ..
+        ] => {
+            if is_name(name, b"WHILE") {
+                Beginning::Conditioned(&texts[1..])
+            } else {
+                Beginning::Iterated
+            }
+        }
+        [TokenText::Word(_), ..] => Beginning::Iterated,
+        _ => Beginning::Unspecified,
+    }
+}
+
+/// The word and an expression, if the word stands there.
+#[tactic(auto, unfolding(crate::specs::StatementReading::optional_at))]
+fn optional_expression<'a>(
+    alloc: Global,
+    levels: u32,
+    word: &[u8],
+    at: u32,
+    texts: &'a [TokenText],
+) -> Result<Front<'a, Option<Expression>>, ParseError>
+    requires { at + length texts.now ≤ 200000 }
+    ensures value { Gives (front_view (option_map expression_view)) result (optional_at word.now (expression_in levels) at texts.now) }
+    ensures place { IfOk result (Continues at texts.now) }
+{
+    match behind_word(word, texts) {
+        Some(behind) => {
+            let read = expression_in(alloc, levels, at + 1, behind)?;
+            Ok(Front {
+                value: Some(read.value),
+                next: read.next,
+                rest: read.rest,
+            })
+        }
+        None => Ok(Front {
+            value: None,
+            next: at,
+            rest: texts,
+        }),
+    }
+}
+
+/// WHILE and an expression in parentheses, if WHILE stands there.
+#[tactic(auto, unfolding(crate::specs::StatementReading::optional_at))]
+fn optional_condition<'a>(
+    alloc: Global,
+    levels: u32,
+    at: u32,
+    texts: &'a [TokenText],
+) -> Result<Front<'a, Option<Expression>>, ParseError>
+    requires { at + length texts.now ≤ 200000 }
+    ensures value { Gives (front_view (option_map expression_view)) result (optional_at (codes "WHILE") (parenthesized (expression_in levels)) at texts.now) }
+    ensures place { IfOk result (Continues at texts.now) }
+{
+    match behind_word(b"WHILE", texts) {
+        Some(behind) => {
+            let read = parenthesized_expression(alloc, levels, at + 1, behind)?;
+            Ok(Front {
+                value: Some(read.value),
+                next: read.next,
+                rest: read.rest,
+            })
+        }
+        None => Ok(Front {
+            value: None,
+            next: at,
+            rest: texts,
+        }),
+    }
+}
+
+/// TO with or without BY, BY with or without TO, REPEAT, or none of them.
+#[tactic(auto, unfolding(crate::specs::StatementReading::range_at))]
+fn range_at<'a>(
+    alloc: Global,
+    levels: u32,
+    at: u32,
+    texts: &'a [TokenText],
+) -> Result<Front<'a, Option<Range>>, ParseError>
+    requires { at + length texts.now ≤ 200000 }
+    ensures value { Gives (front_view (option_map views.range_view)) result (range_at levels at texts.now) }
+    ensures place { IfOk result (Continues at texts.now) }
+{
+    match range_first(texts) {
+        None => Ok(Front {
+            value: None,
+            next: at,
+            rest: texts,
+        }),
+        Some((RangeWord::To, behind)) => {
+            let to = expression_in(alloc, levels, at + 1, behind)?;
+            let by = optional_expression(alloc, levels, b"BY", to.next, to.rest)?;
+            Ok(Front {
+                value: Some(Range::To {
+                    to: to.value,
+                    by: by.value,
+                }),
+                next: by.next,
+                rest: by.rest,
+            })
+        }
+        Some((RangeWord::By, behind)) => {
+            let by = expression_in(alloc, levels, at + 1, behind)?;
+            let to = optional_expression(alloc, levels, b"TO", by.next, by.rest)?;
+            Ok(Front {
+                value: Some(Range::By {
+                    by: by.value,
+                    to: to.value,
+                }),
+                next: to.next,
+                rest: to.rest,
+            })
+        }
+        Some((RangeWord::Repeat, behind)) => {
+            let next = expression_in(alloc, levels, at + 1, behind)?;
+            Ok(Front {
+                value: Some(Range::Repeat(next.value)),
+                next: next.next,
+                rest: next.rest,
+            })
+        }
+    }
+}
+
+/// An iteration: a variable, its first value, and what limits or continues it.
+#[tactic(auto)]
+fn iteration_at<'a>(
+    alloc: Global,
+    levels: u32,
+    at: u32,
+    texts: &'a [TokenText],
+) -> Result<Front<'a, Option<Control>>, ParseError>
+    requires { at + length texts.now ≤ 200000 }
+    ensures value { Gives (front_view (option_map control_view)) result (control_from levels at texts.now reading.Iterated) }
+    ensures place { IfOk result (Advances at texts.now) }
+{
+    let variable = reference_in(alloc, levels, at, texts)?;
+    let behind = equals_taken(Code::BadDo, variable.next, variable.rest)?;
+    let first = expression_in(alloc, levels, variable.next + 1, behind)?;
+    let range = range_at(alloc, levels, first.next, first.rest)?;
+    let condition = match optional_condition(alloc, levels, range.next, range.rest) {
+        Ok(condition) => condition,
+        Err(error) => {
+            drop(range);
+            return Err(error);
+        }
+    };
+    Ok(Front {
+        value: Some(Control::Iterate {
+            variable: variable.value,
+            equals: variable.next,
+            first: first.value,
+            range: range.value,
+            condition: condition.value,
+        }),
+        next: condition.next,
+        rest: condition.rest,
+    })
+}
+
+/// What stands behind DO: WHILE with its condition, an iteration, or nothing.
+#[tactic(auto, unfolding(crate::specs::StatementReading::control_at))]
+pub fn control_at<'a>(
+    alloc: Global,
+    levels: u32,
+    at: u32,
+    texts: &'a [TokenText],
+) -> Result<Front<'a, Option<Control>>, ParseError>
+    requires { at + length texts.now ≤ 200000 }
+    ensures value { Gives (front_view (option_map control_view)) result (control_at levels at texts.now) }
+    ensures place { IfOk result (Continues at texts.now) }
+{
+    match specified(texts) {
+        Beginning::Unspecified => Ok(Front {
+            value: None,
+            next: at,
+            rest: texts,
+        }),
+        Beginning::Conditioned(behind) => {
+            let condition = parenthesized_expression(alloc, levels, at + 1, behind)?;
+            Ok(Front {
+                value: Some(Control::While(condition.value)),
+                next: condition.next,
+                rest: condition.rest,
+            })
+        }
+        Beginning::Iterated => iteration_at(alloc, levels, at, texts),
+    }
+}

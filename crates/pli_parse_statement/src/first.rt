@@ -1,0 +1,272 @@
+//! What a statement begins with, and where it may stand.
+ghost use Rattle.std.specs.Option.{option_copied};
+ghost use Rattle.std.specs.Prelude.{◌≡◌, ◌≤◌, ◌+◌, length, position, option_map, is_some, IfOk, IfSome};
+ghost use Rattle.pli_base.specs.Words.{is_semicolon};
+ghost use Rattle.pli_item.specs.DeclarationAnswers.{Continues, front_view};
+ghost use Rattle.pli_parse_statement.specs.StatementWords.{up_to_semicolon, begins_assignment, keyword_of, word_kind, first_kind, kind_of};
+ghost use Rattle.pli_parse_statement.specs.StatementReading.{has_semicolon, label_at, bad_label, unit_misplaced, standing_misplaced, misplacement, else_first, next_of};
+ghost use Rattle.pli_parse_statement.specs.StatementAnswers.{context_view, kind_view, BehindKind, misplacement_view, next_view, BehindNext};
+
+use crate::cursor::{behind_word, is_name};
+use crate::keyword::{Keyword, Standing, statement_keyword};
+use pli_base::syntax::Identifier;
+use pli_base::{Code, Name, Sign, TokenText};
+use pli_expression::is_assignment;
+use pli_item::Front;
+use std::alloc::{AllocError, Global};
+
+/// Where a statement stands, and whether it belongs to an ON-unit, in which there is no RETURN.
+#[derive(Clone, Copy)]
+pub struct Context {
+    pub standing: Standing,
+    pub in_unit: bool,
+}
+
+/// What a statement is, by its tokens behind the label. Keyed and Empty have the tokens behind the keyword and the `;`.
+#[derive(Clone, Copy)]
+pub enum Kind<'a> {
+    Assigns,
+    Empty(&'a [TokenText]),
+    Keyed(Keyword, &'a [TokenText]),
+    Unknown,
+}
+
+/// Where the fault of a statement lies that may not stand where it does.
+#[derive(Clone, Copy)]
+pub enum Misplacement {
+    AtLabel(Code),
+    AtStatement(Code),
+}
+
+/// What comes next in a list of statements: its END, with the tokens behind it, or another statement.
+#[derive(Clone, Copy)]
+pub enum Next<'a> {
+    EndsHere(&'a [TokenText]),
+    Another,
+}
+
+/// Whether the token is `;`.
+fn is_semicolon(text: &TokenText) -> bool
+    ensures { result ≡ is_semicolon text.now }
+{
+    matches!(text, TokenText::Sign(Sign::Semicolon))
+}
+
+/// Where the first `;` stands.
+fn end_of(texts: &[TokenText]) -> Option<usize>
+    ensures { result ≡ position is_semicolon texts.now }
+{
+    texts.iter().position(|text| is_semicolon(text))
+}
+
+/// The tokens before the first `;`, if there is one.
+fn text_of(texts: &[TokenText]) -> Option<&[TokenText]>
+    ensures { up_to_semicolon texts.now ≡ option_copied result }
+{
+    let end = end_of(texts)?;
+    let (text, _) = texts.split_at(end);
+    Some(text)
+}
+
+/// Whether a `;` is ahead.
+#[tactic(auto, using(crate::proofs::StatementTexts::ahead))]
+pub fn has_semicolon(texts: &[TokenText]) -> bool
+    ensures { result ≡ has_semicolon texts.now }
+{
+    text_of(texts).is_some()
+}
+
+/// Whether the tokens up to the first `;` are an assignment, whatever the words are.
+#[tactic(auto, unfolding(crate::specs::StatementWords::begins_assignment))]
+fn begins_assignment(alloc: Global, texts: &[TokenText]) -> Result<bool, AllocError>
+    ensures { IfOk result (λ b. b ≡ begins_assignment texts.now) }
+{
+    match text_of(texts) {
+        Some(text) => is_assignment(alloc, text),
+        None => Ok(false),
+    }
+}
+
+/// What a statement is that begins with this name and is no assignment.
+#[tactic(auto)]
+fn word_kind<'a>(name: &Name, rest: &'a [TokenText]) -> Kind<'a>
+    ensures value { kind_view result ≡ word_kind (keyword_of name.now) name.now rest.now }
+    ensures place { BehindKind (length rest.now + 1) result }
+{
+    match statement_keyword(name) {
+        Some(keyword) => Kind::Keyed(keyword, rest),
+        None => {
+            if is_name(name, b"GO") {
+                match behind_word(b"TO", rest) {
+                    Some(behind) => Kind::Keyed(Keyword::GoTo, behind),
+                    None => Kind::Unknown,
+                }
+            } else {
+                Kind::Unknown
+            }
+        }
+    }
+}
+
+/// What a statement is that is no assignment.
+#[tactic(auto, unfolding(crate::specs::StatementWords::first_kind))]
+fn first_kind(texts: &[TokenText]) -> Kind<'_>
+    ensures value { kind_view result ≡ first_kind texts.now }
+    ensures place { BehindKind (length texts.now) result }
+{
+    match texts {
+        [TokenText::Sign(Sign::Semicolon), rest @ ..] => Kind::Empty(rest),
+        [TokenText::Word(name), rest @ ..] => word_kind(name, rest),
+        _ => Kind::Unknown,
+    }
+}
+
+/// What a statement is, by its tokens behind the label.
+#[tactic(auto, unfolding(crate::specs::StatementWords::kind_of))]
+pub fn kind_of(alloc: Global, texts: &[TokenText]) -> Result<Kind<'_>, AllocError>
+    ensures value { IfOk result (λ kind. kind_view kind ≡ kind_of texts.now) }
+    ensures place { IfOk result (BehindKind (length texts.now)) }
+{
+    if begins_assignment(alloc, texts)? {
+        Ok(Kind::Assigns)
+    } else {
+        Ok(first_kind(texts))
+    }
+}
+
+/// The label, if there is one.
+#[tactic(auto, unfolding(crate::specs::StatementReading::label_at))]
+pub fn label_at(at: u32, texts: &[TokenText]) -> Front<'_, Option<Identifier>>
+    requires { at + length texts.now ≤ 200000 }
+    ensures value { front_view (λ label. label) result ≡ label_at at texts.now }
+    ensures place { Continues at texts.now result }
+{
+    match texts {
+        [
+            TokenText::Word(name),
+            TokenText::Sign(Sign::Colon),
+            rest @ ..,
+        ] => Front {
+            value: Some(Identifier { name: *name, at }),
+            next: at + 2,
+            rest,
+        },
+        _ => Front {
+            value: None,
+            next: at,
+            rest: texts,
+        },
+    }
+}
+
+/// The place of a label that may not stand: behind THEN, ELSE and ON the first, elsewhere a second.
+#[tactic(auto)]
+pub fn bad_label(standing: Standing, at: u32, texts: &[TokenText]) -> Option<u32>
+    requires { at + length texts.now ≤ 200000 }
+    ensures { bad_label standing (label_at at texts.now) (label_at at texts.now).value ≡ result }
+{
+    let first = label_at(at, texts);
+    match (first.value, standing) {
+        (None, _) => None,
+        (Some(label), Standing::AsClause | Standing::AsUnit) => Some(label.at),
+        (Some(_), Standing::InBlock | Standing::InGroup) => {
+            match label_at(first.next, first.rest).value {
+                Some(_) => Some(first.next),
+                None => None,
+            }
+        }
+    }
+}
+
+/// Why a statement of this keyword is no ON-unit.
+#[tactic(auto)]
+fn unit_misplaced(keyword: Keyword) -> Option<Misplacement>
+    ensures { option_map misplacement_view result ≡ unit_misplaced keyword }
+{
+    match keyword {
+        Keyword::Allocate
+        | Keyword::Begin
+        | Keyword::Call
+        | Keyword::Free
+        | Keyword::Goto
+        | Keyword::GoTo
+        | Keyword::Put
+        | Keyword::Revert
+        | Keyword::Signal
+        | Keyword::Stop => None,
+        _ => Some(Misplacement::AtStatement(Code::MisplacedStatement)),
+    }
+}
+
+/// Why a statement of this keyword, with a label or without, may not stand here.
+#[tactic(auto)]
+fn standing_misplaced(standing: Standing, keyword: Keyword, labelled: bool) -> Option<Misplacement>
+    ensures { option_map misplacement_view result ≡ standing_misplaced standing keyword labelled }
+{
+    match (standing, keyword, labelled) {
+        (Standing::AsUnit, _, _) => unit_misplaced(keyword),
+        (Standing::AsClause, Keyword::Procedure | Keyword::Declare | Keyword::End, _) => {
+            Some(Misplacement::AtStatement(Code::MisplacedStatement))
+        }
+        (Standing::InBlock, Keyword::Procedure, false) => {
+            Some(Misplacement::AtStatement(Code::BadLabel))
+        }
+        (Standing::InGroup, Keyword::Procedure, false) => {
+            Some(Misplacement::AtStatement(Code::MisplacedStatement))
+        }
+        (Standing::InGroup, Keyword::Procedure, true) => {
+            Some(Misplacement::AtLabel(Code::MisplacedStatement))
+        }
+        (_, Keyword::Declare | Keyword::End, true) => Some(Misplacement::AtLabel(Code::BadLabel)),
+        _ => None,
+    }
+}
+
+/// Why a statement of this keyword may not stand here, if it may not.
+#[tactic(auto)]
+pub fn why_misplaced(context: Context, keyword: Keyword, labelled: bool) -> Option<Misplacement>
+    ensures { option_map misplacement_view result ≡ misplacement (context_view context) keyword labelled context.in_unit }
+{
+    match (keyword, context.in_unit) {
+        (Keyword::Return, true) => Some(Misplacement::AtStatement(Code::MisplacedStatement)),
+        _ => standing_misplaced(context.standing, keyword, labelled),
+    }
+}
+
+/// The tokens behind ELSE, where it begins neither a label nor an assignment.
+#[tactic(auto, unfolding(crate::specs::StatementReading::else_first))]
+pub fn else_first(alloc: Global, texts: &[TokenText]) -> Result<Option<&[TokenText]>, AllocError>
+    requires { length texts.now ≤ 200000 }
+    ensures value { IfOk result (λ rest. else_first texts.now ≡ option_copied rest) }
+    ensures place { IfOk result (λ found. IfSome found (λ rest. length rest.now + 1 ≡ length texts.now)) }
+{
+    let Some(behind) = behind_word(b"ELSE", texts) else {
+        return Ok(None);
+    };
+    if label_at(0, texts).value.is_some() {
+        return Ok(None);
+    }
+    if begins_assignment(alloc, texts)? {
+        return Ok(None);
+    }
+    Ok(Some(behind))
+}
+
+/// What comes next in a list of statements.
+#[tactic(auto, unfolding(crate::specs::StatementReading::next_of))]
+pub fn next_of(alloc: Global, texts: &[TokenText]) -> Result<Next<'_>, AllocError>
+    requires { length texts.now ≤ 200000 }
+    ensures value { IfOk result (λ next. next_view next ≡ next_of texts.now) }
+    ensures place { IfOk result (BehindNext (length texts.now)) }
+{
+    if !has_semicolon(texts) {
+        return Ok(Next::Another);
+    }
+    if label_at(0, texts).value.is_some() {
+        return Ok(Next::Another);
+    }
+    match kind_of(alloc, texts)? {
+        Kind::Keyed(Keyword::End, behind) => Ok(Next::EndsHere(behind)),
+        _ => Ok(Next::Another),
+    }
+}

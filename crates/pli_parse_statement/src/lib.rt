@@ -1,0 +1,23 @@
+//! The grammar of statements, blocks, groups and the unit, and the parser of what has no statement inside: first tokens,
+//! keywords, headings, what controls a group, and simple statements.
+#![tactic(auto)]
+
+mod control;
+mod counted;
+mod cursor;
+mod first;
+mod heading;
+mod keyword;
+mod simple;
+mod word;
+
+pub use control::control_at;
+pub use counted::{Counted, Listing};
+pub use cursor::{expression_in, fault, is_name};
+pub use first::{
+    Context, Kind, Misplacement, Next, bad_label, else_first, has_semicolon, kind_of, label_at,
+    next_of, why_misplaced,
+};
+pub use heading::{Heading, heading_at, word_taken};
+pub use keyword::{Keyword, Standing, named_condition, statement_keyword};
+pub use simple::{assignment_at, condition_at, simple_at};

@@ -1,0 +1,476 @@
+//! Statements with no statement inside.
+ghost use Rattle.std.specs.Prelude.{◌≡◌, ◌≤◌, ◌+◌, ◌<◌, length, map, is_some, IfOk, None};
+ghost use Rattle.pli_item.specs.DeclarationReading.{Commas, list_at, if_open, mapped, declaration_at};
+ghost use Rattle.pli_item.specs.DeclarationWords.{behind};
+ghost use Rattle.pli_base.specs.Words.{is_open};
+ghost use Rattle.pli_base.specs.SyntaxView.{expression_view};
+ghost use Rattle.pli_item.specs.DeclarationAnswers.{Gives, Advances, Continues, front_view};
+ghost use Rattle.pli_base.specs.Statements as tree;
+ghost use Rattle.pli_base.specs.Statements.{body_count};
+ghost use Rattle.pli_base.specs.StatementView.{allocation_view, body_view};
+ghost use Rattle.pli_parse_statement.specs.StatementAnswers.{words};
+ghost use Rattle.pli_parse_statement.specs.StatementWords.{the_unit};
+ghost use Rattle.pli_parse_statement.specs.StatementReading.{stopped, closing, identifier_at, condition_at, assignment_at, places_from, allocation_at, put_first, put_from, put_at, call_at, keyed_at, expression_in, reference_in};
+
+use crate::cursor::{
+    arguments_in, equals_taken, expression_in, fault, is_name, parenthesized_expressions,
+    parenthesized_reference, reference_in, references_listed,
+};
+use crate::keyword::{Keyword, named_condition};
+use crate::word::{PlaceWord, place_first};
+use pli_base::statement::{Allocation, Body, Condition};
+use pli_base::syntax::{Expression, Identifier};
+use pli_base::{Code, TokenText};
+use pli_item::{
+    Front, ParseError, behind_comma, behind_open, close_taken, declaration_at, fault_at,
+    semicolon_taken,
+};
+use std::alloc::Global;
+
+/// The statement's `;`, behind all else.
+#[tactic(auto, unfolding(crate::specs::StatementReading::stopped))]
+pub fn stopped(body: Body, at: u32, texts: &[TokenText]) -> Result<Front<'_, Body>, ParseError>
+    requires { at + length texts.now ≤ 200000 }
+    ensures value { Gives (front_view body_view) result (stopped (body_view body) at texts.now) }
+    ensures same { IfOk result (λ x. x.value ≡ body) }
+    ensures place { IfOk result (Advances at texts.now) }
+{
+    match semicolon_taken(at, texts) {
+        Ok(rest) => Ok(Front {
+            value: body,
+            next: at + 1,
+            rest,
+        }),
+        Err(error) => {
+            drop(body);
+            Err(error)
+        }
+    }
+}
+
+/// An assignment.
+#[tactic(auto, unfolding(crate::specs::StatementReading::assignment_at))]
+pub fn assignment_at<'a>(
+    alloc: Global,
+    levels: u32,
+    at: u32,
+    texts: &'a [TokenText],
+) -> Result<Front<'a, Body>, ParseError>
+    requires { at + length texts.now ≤ 200000 }
+    ensures value { Gives (front_view body_view) result (assignment_at levels at texts.now) }
+    ensures alone { IfOk result (λ x. body_count (body_view x.value) ≡ 0) }
+    ensures place { IfOk result (Advances at texts.now) }
+{
+    let target = reference_in(alloc, levels, at, texts)?;
+    let behind = equals_taken(Code::NotAStatement, target.next, target.rest)?;
+    let value = expression_in(alloc, levels, target.next + 1, behind)?;
+    let body = Body::Assign {
+        target: target.value,
+        equals: target.next,
+        value: value.value,
+    };
+    stopped(body, value.next, value.rest)
+}
+
+/// A condition.
+#[tactic(auto, unfolding(crate::specs::StatementReading::condition_at, pli_item::specs::DeclarationReading::fault_at))]
+pub fn condition_at(at: u32, texts: &[TokenText]) -> Result<Front<'_, Condition>, ParseError>
+    requires { at + length texts.now ≤ 200000 }
+    ensures value { Gives (front_view (λ c. c)) result (condition_at at texts.now) }
+    ensures place { IfOk result (Advances at texts.now) }
+{
+    let [TokenText::Word(name), rest @ ..] = texts else {
+        return Err(fault_at(Code::BadCondition, at, texts));
+    };
+    match named_condition(name) {
+        Some(condition) => Ok(Front {
+            value: condition,
+            next: at + 1,
+            rest,
+        }),
+        None => Err(fault(Code::BadCondition, at)),
+    }
+}
+
+/// IN and SET of an allocation, each at most once; `bound` is one more than how many of them may stand.
+#[tactic(auto, unfolding(crate::specs::StatementReading::places_from))]
+fn places_from<'a>(
+    alloc: Global,
+    levels: u32,
+    bound: u32,
+    allocation: Allocation,
+    at: u32,
+    texts: &'a [TokenText],
+) -> Result<Front<'a, Allocation>, ParseError>
+    requires { at + length texts.now ≤ 200000 }
+    ensures value { Gives (front_view allocation_view) result (places_from levels bound (allocation_view allocation) at texts.now) }
+    ensures place { IfOk result (Continues at texts.now) }
+{
+    if bound == 0 {
+        return Err(fault(Code::BadOption, at));
+    }
+    match (place_first(texts), allocation.area, allocation.target) {
+        (None, area, target) => Ok(Front {
+            value: Allocation {
+                name: allocation.name,
+                area,
+                target,
+            },
+            next: at,
+            rest: texts,
+        }),
+        (Some((PlaceWord::In, rest)), None, target) => {
+            let area = parenthesized_reference(alloc, levels, at + 1, rest)?;
+            let placed = Allocation {
+                name: allocation.name,
+                area: Some(area.value),
+                target,
+            };
+            places_from(alloc, levels, bound - 1, placed, area.next, area.rest)
+        }
+        (Some((PlaceWord::Set, rest)), area, None) => {
+            let target = parenthesized_reference(alloc, levels, at + 1, rest)?;
+            let placed = Allocation {
+                name: allocation.name,
+                area,
+                target: Some(target.value),
+            };
+            places_from(alloc, levels, bound - 1, placed, target.next, target.rest)
+        }
+        _ => Err(fault(Code::BadOption, at)),
+    }
+}
+
+/// A variable of ALLOCATE, with its area and its locator.
+#[tactic(auto, unfolding(crate::specs::StatementReading::allocation_at, crate::specs::StatementReading::identifier_at))]
+fn allocation_at<'a>(
+    alloc: Global,
+    levels: u32,
+    at: u32,
+    texts: &'a [TokenText],
+) -> Result<Front<'a, Allocation>, ParseError>
+    requires { at + length texts.now ≤ 200000 }
+    ensures value { Gives (front_view allocation_view) result (allocation_at levels at texts.now) }
+    ensures place { IfOk result (Advances at texts.now) }
+{
+    let [TokenText::Word(name), rest @ ..] = texts else {
+        return Err(fault_at(Code::NameExpected, at, texts));
+    };
+    let allocation = Allocation {
+        name: Identifier { name: *name, at },
+        area: None,
+        target: None,
+    };
+    places_from(alloc, levels, 3, allocation, at + 1, rest)
+}
+
+/// Variables of ALLOCATE with commas between.
+fn allocations_listed<'a>(
+    alloc: Global,
+    levels: u32,
+    at: u32,
+    texts: &'a [TokenText],
+) -> Result<Front<'a, Vec<Allocation>>, ParseError>
+    requires { at + length texts.now ≤ 200000 }
+    ensures value { Gives (front_view (λ v. map allocation_view v.items)) result (list_at Commas (allocation_at levels) at texts.now) }
+    ensures place { IfOk result (Advances at texts.now) }
+{
+    let mut values = Vec::new(alloc);
+    let mut next = at;
+    let mut rest = texts;
+    loop {
+        let read = allocation_at(alloc, levels, next, rest)?;
+        values.push(read.value)?;
+        match behind_comma(read.rest) {
+            Some(behind) => {
+                next = read.next + 1;
+                rest = behind;
+            }
+            None => {
+                return Ok(Front {
+                    value: values,
+                    next: read.next,
+                    rest: read.rest,
+                });
+            }
+        }
+    }
+}
+
+/// SKIP and LIST of PUT, each at most once; `bound` is one more than how many of them may stand.
+#[tactic(auto, unfolding(crate::specs::StatementReading::put_from, crate::specs::StatementReading::put_first, crate::specs::StatementReading::put_word))]
+fn put_from<'a>(
+    alloc: Global,
+    levels: u32,
+    bound: u32,
+    skip: bool,
+    items: Vec<Expression>,
+    at: u32,
+    texts: &'a [TokenText],
+) -> Result<Front<'a, Body>, ParseError>
+    requires { at + length texts.now ≤ 200000 }
+    ensures value { Gives (front_view body_view) result (put_from levels bound skip (map expression_view items.items) at texts.now) }
+    ensures alone { IfOk result (λ x. body_count (body_view x.value) ≡ 0) }
+    ensures place { IfOk result (Continues at texts.now) }
+{
+    if bound == 0 {
+        return Err(fault(Code::BadOption, at));
+    }
+    let [TokenText::Word(name), rest @ ..] = texts else {
+        return Ok(Front {
+            value: Body::Put { skip, items },
+            next: at,
+            rest: texts,
+        });
+    };
+    if is_name(name, b"SKIP") {
+        if skip {
+            return Err(fault(Code::BadOption, at));
+        }
+        put_from(alloc, levels, bound - 1, true, items, at + 1, rest)
+    } else if is_name(name, b"LIST") {
+        if !items.is_empty() {
+            return Err(fault(Code::BadOption, at));
+        }
+        let list = parenthesized_expressions(alloc, levels, at + 1, rest)?;
+        put_from(
+            alloc,
+            levels,
+            bound - 1,
+            skip,
+            list.value,
+            list.next,
+            list.rest,
+        )
+    } else {
+        Ok(Front {
+            value: Body::Put { skip, items },
+            next: at,
+            rest: texts,
+        })
+    }
+}
+
+/// Whether SKIP or LIST stands first.
+#[tactic(auto, unfolding(crate::specs::StatementReading::put_first, crate::specs::StatementReading::put_word))]
+fn begins_put(texts: &[TokenText]) -> bool
+    ensures { result ≡ is_some (put_first texts.now) }
+{
+    match texts {
+        [TokenText::Word(name), ..] => is_name(name, b"SKIP") || is_name(name, b"LIST"),
+        _ => false,
+    }
+}
+
+/// What stands behind PUT, without its `;`: SKIP, LIST or both.
+#[tactic(auto, unfolding(crate::specs::StatementReading::put_at))]
+fn put_at<'a>(
+    alloc: Global,
+    levels: u32,
+    at: u32,
+    texts: &'a [TokenText],
+) -> Result<Front<'a, Body>, ParseError>
+    requires { at + length texts.now ≤ 200000 }
+    ensures value { Gives (front_view body_view) result (put_at levels at texts.now) }
+    ensures alone { IfOk result (λ x. body_count (body_view x.value) ≡ 0) }
+    ensures place { IfOk result (Continues at texts.now) }
+{
+    if begins_put(texts) {
+        put_from(alloc, levels, 3, false, Vec::new(alloc), at, texts)
+    } else {
+        Err(fault_at(Code::BadOption, at, texts))
+    }
+}
+
+/// What stands behind CALL, without its `;`.
+#[tactic(auto, unfolding(crate::specs::StatementReading::call_at, crate::specs::StatementReading::identifier_at))]
+fn call_at<'a>(
+    alloc: Global,
+    levels: u32,
+    at: u32,
+    texts: &'a [TokenText],
+) -> Result<Front<'a, Body>, ParseError>
+    requires { at + length texts.now ≤ 200000 }
+    ensures value { Gives (front_view body_view) result (call_at levels at texts.now) }
+    ensures alone { IfOk result (λ x. body_count (body_view x.value) ≡ 0) }
+    ensures place { IfOk result (Advances at texts.now) }
+{
+    let [TokenText::Word(name), rest @ ..] = texts else {
+        return Err(fault_at(Code::NameExpected, at, texts));
+    };
+    let arguments = arguments_in(alloc, levels, at + 1, rest)?;
+    Ok(Front {
+        value: Body::Call {
+            name: Identifier { name: *name, at },
+            arguments: arguments.value,
+        },
+        next: arguments.next,
+        rest: arguments.rest,
+    })
+}
+
+/// What stands behind GOTO or GO TO.
+#[tactic(auto, unfolding(crate::specs::StatementReading::identifier_at))]
+fn goto_at(at: u32, texts: &[TokenText]) -> Result<Front<'_, Body>, ParseError>
+    requires { at + length texts.now ≤ 200000 }
+    ensures value { Gives (front_view body_view) result (closing tree.Goto (identifier_at at texts.now)) }
+    ensures alone { IfOk result (λ x. body_count (body_view x.value) ≡ 0) }
+    ensures place { IfOk result (Advances at texts.now) }
+{
+    let [TokenText::Word(name), rest @ ..] = texts else {
+        return Err(fault_at(Code::NameExpected, at, texts));
+    };
+    stopped(Body::Goto(Identifier { name: *name, at }), at + 1, rest)
+}
+
+/// What stands behind RETURN.
+#[tactic(auto)]
+fn return_at<'a>(
+    alloc: Global,
+    levels: u32,
+    at: u32,
+    texts: &'a [TokenText],
+) -> Result<Front<'a, Body>, ParseError>
+    requires { at + length texts.now ≤ 200000 }
+    ensures value { Gives (front_view body_view) result (closing tree.Return (if_open (expression_in levels) at texts.now (behind is_open texts.now))) }
+    ensures alone { IfOk result (λ x. body_count (body_view x.value) ≡ 0) }
+    ensures place { IfOk result (Advances at texts.now) }
+{
+    match behind_open(texts) {
+        Some(inside) => {
+            let value = expression_in(alloc, levels, at + 1, inside)?;
+            let rest = close_taken(value.next, value.rest)?;
+            stopped(Body::Return(Some(value.value)), value.next + 1, rest)
+        }
+        None => stopped(Body::Return(None), at, texts),
+    }
+}
+
+/// What stands behind DECLARE.
+#[tactic(auto)]
+fn declare_at(alloc: Global, at: u32, texts: &[TokenText]) -> Result<Front<'_, Body>, ParseError>
+    requires { at + length texts.now ≤ 200000 }
+    ensures value { Gives (front_view body_view) result (mapped tree.Declare (declaration_at at texts.now)) }
+    ensures alone { IfOk result (λ x. body_count (body_view x.value) ≡ 0) }
+    ensures place { IfOk result (Advances at texts.now) }
+{
+    let items = declaration_at(alloc, at, texts)?;
+    Ok(Front {
+        value: Body::Declare(items.value),
+        next: items.next,
+        rest: items.rest,
+    })
+}
+
+/// What stands behind REVERT.
+#[tactic(auto)]
+fn revert_at(at: u32, texts: &[TokenText]) -> Result<Front<'_, Body>, ParseError>
+    requires { at + length texts.now ≤ 200000 }
+    ensures value { Gives (front_view body_view) result (closing tree.Revert (condition_at at texts.now)) }
+    ensures alone { IfOk result (λ x. body_count (body_view x.value) ≡ 0) }
+    ensures place { IfOk result (Advances at texts.now) }
+{
+    let condition = condition_at(at, texts)?;
+    stopped(
+        Body::Revert(condition.value),
+        condition.next,
+        condition.rest,
+    )
+}
+
+/// What stands behind SIGNAL.
+#[tactic(auto)]
+fn signal_at(at: u32, texts: &[TokenText]) -> Result<Front<'_, Body>, ParseError>
+    requires { at + length texts.now ≤ 200000 }
+    ensures value { Gives (front_view body_view) result (closing tree.Signal (condition_at at texts.now)) }
+    ensures alone { IfOk result (λ x. body_count (body_view x.value) ≡ 0) }
+    ensures place { IfOk result (Advances at texts.now) }
+{
+    let condition = condition_at(at, texts)?;
+    stopped(
+        Body::Signal(condition.value),
+        condition.next,
+        condition.rest,
+    )
+}
+
+/// What stands behind ALLOCATE.
+#[tactic(auto)]
+fn allocate_at<'a>(
+    alloc: Global,
+    levels: u32,
+    at: u32,
+    texts: &'a [TokenText],
+) -> Result<Front<'a, Body>, ParseError>
+    requires { at + length texts.now ≤ 200000 }
+    ensures value { Gives (front_view body_view) result (closing tree.Allocate (list_at Commas (allocation_at levels) at texts.now)) }
+    ensures alone { IfOk result (λ x. body_count (body_view x.value) ≡ 0) }
+    ensures place { IfOk result (Advances at texts.now) }
+{
+    let allocations = allocations_listed(alloc, levels, at, texts)?;
+    stopped(
+        Body::Allocate(allocations.value),
+        allocations.next,
+        allocations.rest,
+    )
+}
+
+/// What stands behind FREE.
+#[tactic(auto)]
+fn free_at<'a>(
+    alloc: Global,
+    levels: u32,
+    at: u32,
+    texts: &'a [TokenText],
+) -> Result<Front<'a, Body>, ParseError>
+    requires { at + length texts.now ≤ 200000 }
+    ensures value { Gives (front_view body_view) result (closing tree.Free (list_at Commas (reference_in levels) at texts.now)) }
+    ensures alone { IfOk result (λ x. body_count (body_view x.value) ≡ 0) }
+    ensures place { IfOk result (Advances at texts.now) }
+{
+    let references = references_listed(alloc, levels, at, texts)?;
+    stopped(
+        Body::Free(references.value),
+        references.next,
+        references.rest,
+    )
+}
+
+/// A statement behind its keyword at `at`, where no level may be opened.
+#[tactic(auto)]
+pub fn simple_at<'a>(
+    alloc: Global,
+    levels: u32,
+    keyword: Keyword,
+    at: u32,
+    rest: &'a [TokenText],
+) -> Result<Front<'a, Body>, ParseError>
+    requires { at + words keyword + length rest.now ≤ 200000 }
+    ensures value { Gives (front_view body_view) result (keyed_at levels None the_unit None at 0 rest.now keyword) }
+    ensures alone { IfOk result (λ x. body_count (body_view x.value) ≡ 0) }
+    ensures place { IfOk result (λ x. (at < x.next) × (x.next + length x.rest.now ≡ at + words keyword + length rest.now)) }
+{
+    match keyword {
+        Keyword::Procedure | Keyword::Begin | Keyword::Do | Keyword::If | Keyword::On => {
+            Err(fault(Code::NestedTooDeep, at))
+        }
+        Keyword::End => Err(fault(Code::MisplacedStatement, at)),
+        Keyword::Declare => declare_at(alloc, at + 1, rest),
+        Keyword::Revert => revert_at(at + 1, rest),
+        Keyword::Signal => signal_at(at + 1, rest),
+        Keyword::Stop => stopped(Body::Stop, at + 1, rest),
+        Keyword::Allocate => allocate_at(alloc, levels, at + 1, rest),
+        Keyword::Free => free_at(alloc, levels, at + 1, rest),
+        Keyword::Call => {
+            let call = call_at(alloc, levels, at + 1, rest)?;
+            stopped(call.value, call.next, call.rest)
+        }
+        Keyword::Goto => goto_at(at + 1, rest),
+        Keyword::GoTo => goto_at(at + 2, rest),
+        Keyword::Return => return_at(alloc, levels, at + 1, rest),
+        Keyword::Put => {
+            let put = put_at(alloc, levels, at + 1, rest)?;
+            stopped(put.value, put.next, put.rest)
+        }
+    }
+}

@@ -1,0 +1,88 @@
+//! Words inside statements. No word is reserved: each is a keyword only where it may stand.
+ghost use Rattle.std.specs.Prelude.{◌≡◌, ◌+◌, length, option_map, IfSome};
+ghost use Rattle.pli_parse_statement.specs.StatementReading.{place_first, range_first, option_first};
+ghost use Rattle.pli_parse_statement.specs.StatementAnswers.{place_view, range_view, option_view};
+
+use crate::cursor::is_name;
+use pli_base::TokenText;
+
+/// A word behind a variable of ALLOCATE.
+#[derive(Clone, Copy)]
+pub enum PlaceWord {
+    In,
+    Set,
+}
+
+/// A word behind the first value of an iteration.
+#[derive(Clone, Copy)]
+pub enum RangeWord {
+    To,
+    By,
+    Repeat,
+}
+
+/// A word behind PROCEDURE and its parameters.
+#[derive(Clone, Copy)]
+pub enum OptionWord {
+    Options,
+    Returns,
+    Recursive,
+}
+
+/// IN or SET, if it stands first, and the tokens behind it.
+#[tactic(auto, unfolding(crate::specs::StatementReading::place_first, crate::specs::StatementReading::place_word))]
+pub fn place_first(texts: &[TokenText]) -> Option<(PlaceWord, &[TokenText])>
+    ensures value { place_first texts.now ≡ option_map (λ x. (place_view x.0, x.1.now)) result }
+    ensures place { IfSome result (λ x. length x.1.now + 1 ≡ length texts.now) }
+{
+    let [TokenText::Word(name), rest @ ..] = texts else {
+        return None;
+    };
+    if is_name(name, b"IN") {
+        Some((PlaceWord::In, rest))
+    } else if is_name(name, b"SET") {
+        Some((PlaceWord::Set, rest))
+    } else {
+        None
+    }
+}
+
+/// TO, BY or REPEAT, if it stands first, and the tokens behind it.
+#[tactic(auto, unfolding(crate::specs::StatementReading::range_first, crate::specs::StatementReading::range_word))]
+pub fn range_first(texts: &[TokenText]) -> Option<(RangeWord, &[TokenText])>
+    ensures value { range_first texts.now ≡ option_map (λ x. (range_view x.0, x.1.now)) result }
+    ensures place { IfSome result (λ x. length x.1.now + 1 ≡ length texts.now) }
+{
+    let [TokenText::Word(name), rest @ ..] = texts else {
+        return None;
+    };
+    if is_name(name, b"TO") {
+        Some((RangeWord::To, rest))
+    } else if is_name(name, b"BY") {
+        Some((RangeWord::By, rest))
+    } else if is_name(name, b"REPEAT") {
+        Some((RangeWord::Repeat, rest))
+    } else {
+        None
+    }
+}
+
+/// OPTIONS, RETURNS or RECURSIVE, if it stands first, and the tokens behind it.
+#[tactic(auto, unfolding(crate::specs::StatementReading::option_first, crate::specs::StatementReading::option_word))]
+pub fn option_first(texts: &[TokenText]) -> Option<(OptionWord, &[TokenText])>
+    ensures value { option_first texts.now ≡ option_map (λ x. (option_view x.0, x.1.now)) result }
+    ensures place { IfSome result (λ x. length x.1.now + 1 ≡ length texts.now) }
+{
+    let [TokenText::Word(name), rest @ ..] = texts else {
+        return None;
+    };
+    if is_name(name, b"OPTIONS") {
+        Some((OptionWord::Options, rest))
+    } else if is_name(name, b"RETURNS") {
+        Some((OptionWord::Returns, rest))
+    } else if is_name(name, b"RECURSIVE") {
+        Some((OptionWord::Recursive, rest))
+    } else {
+        None
+    }
+}

@@ -1,0 +1,533 @@
+use Go::{E1, E2, E3, M};
+use Word::{Ar, Bi, Ch, Di, Fb, Of, Pt, St, Va};
+use pli_map::{
+    Bounds, Description, Layout, Part, Step, alignment, areas_are_rounded,
+    elements_are_in_row_major_order, elements_are_within_bounds, four_alignments, measure,
+    parts_do_not_meet, parts_lie_within, parts_stand_aligned, place, same_is_equal, size,
+    worked_examples,
+};
+use std::alloc::{AllocError, Global};
+use std::process::Abort;
+use std::test::*;
+
+/// A word of a declaration, which is written from the inside out: `Di` makes an array of what stands before it, and `St(n)` a
+/// structure of the n descriptions before it.
+#[derive(Clone, Copy)]
+enum Word {
+    Fb(u8),
+    Ch(u16),
+    Va(u16),
+    Bi(u16),
+    Pt,
+    Of,
+    Ar(u32),
+    Di(&'static [(i16, i16)]),
+    St(usize),
+}
+
+/// A step of a path: to a member, or to an element at one, two or three subscripts.
+#[derive(Clone, Copy)]
+enum Go {
+    M(usize),
+    E1(i32),
+    E2(i32, i32),
+    E3(i32, i32, i32),
+}
+
+type Declaration = &'static [Word];
+
+/// A part and its offset.
+type Placed = (&'static [Go], u32);
+
+/// A declaration, its size, its alignment, and the offset of each part.
+type Row = (Declaration, Option<u32>, u32, &'static [Placed]);
+
+fn array(
+    alloc: Global,
+    bounds: &[(i16, i16)],
+    element: Description,
+) -> Result<Description, AllocError> {
+    let mut dimensions = Vec::new(alloc);
+    for (low, high) in bounds {
+        dimensions.push(Bounds {
+            low: *low,
+            high: *high,
+        })?;
+    }
+    Ok(Description::Array {
+        bounds: dimensions,
+        element: Box::new(alloc, element)?,
+    })
+}
+
+fn structure(
+    alloc: Global,
+    before: &mut Vec<Description>,
+    count: usize,
+) -> Result<Description, AllocError> {
+    let mut members = Vec::new(alloc);
+    for _ in 0..count {
+        if let Some(member) = before.pop() {
+            members.push(member)?;
+        }
+    }
+    members.reverse();
+    Ok(Description::Structure(members))
+}
+
+fn described(alloc: Global, declaration: &[Word]) -> Result<Description, AllocError> {
+    let mut last = Vec::new(alloc);
+    for word in declaration {
+        let description = match word {
+            Fb(precision) => Description::FixedBinary(*precision),
+            Ch(length) => Description::Character(*length),
+            Va(length) => Description::Varying(*length),
+            Bi(length) => Description::Bit(*length),
+            Pt => Description::Pointer,
+            Of => Description::Offset,
+            Ar(bytes) => Description::Area(*bytes),
+            Di(bounds) => array(alloc, bounds, last.pop().unwrap_or(Description::Pointer))?,
+            St(count) => structure(alloc, &mut last, *count)?,
+        };
+        last.push(description)?;
+    }
+    Ok(last.pop().unwrap_or(Description::Pointer))
+}
+
+fn path(alloc: Global, steps: &[Go]) -> Result<Vec<Step>, AllocError> {
+    let mut path = Vec::new(alloc);
+    for go in steps {
+        path.push(match *go {
+            M(number) => Step::Member(number),
+            E1(x) => Step::Element(vec![in alloc; x]?),
+            E2(x, y) => Step::Element(vec![in alloc; x, y]?),
+            E3(x, y, z) => Step::Element(vec![in alloc; x, y, z]?),
+        })?;
+    }
+    Ok(path)
+}
+
+fn placed<'a>(description: &'a Description, path: &[Step]) -> Option<Part<'a>> {
+    size(description)?;
+    place(description, path)
+}
+
+fn offset_of(
+    alloc: Global,
+    description: &Description,
+    steps: &[Go],
+) -> Result<Option<u32>, AllocError> {
+    let path = path(alloc, steps)?;
+    Ok(placed(description, &path).map(|part| part.offset))
+}
+
+fn check_parts(
+    rt: &impl Abort,
+    alloc: Global,
+    row: usize,
+    description: &Description,
+    parts: &[Placed],
+) -> Result<(), AllocError> {
+    for (steps, offset) in parts {
+        let found = offset_of(alloc, description, steps)?;
+        assert_eq!(rt; found, Some(*offset), "a part at {offset} of row {row}");
+    }
+    Ok(())
+}
+
+fn check(rt: &impl Abort, alloc: Global, rows: &[Row]) -> Result<(), AllocError> {
+    for (number, (declaration, bytes, aligned, parts)) in rows.iter().enumerate() {
+        let description = described(alloc, declaration)?;
+        assert_eq!(rt;
+            (size(&description), alignment(&description)),
+            (*bytes, *aligned),
+            "row {number}"
+        );
+        check_parts(rt, alloc, number, &description, parts)?;
+    }
+    Ok(())
+}
+
+static SCALARS: [Row; 23] = [
+    (&[Fb(1)], Some(2), 2, &[(&[], 0)]),
+    (&[Fb(15)], Some(2), 2, &[]),
+    (&[Fb(16)], Some(4), 4, &[]),
+    (&[Fb(31)], Some(4), 4, &[]),
+    (&[Ch(1)], Some(1), 1, &[]),
+    (&[Ch(3)], Some(3), 1, &[]),
+    (&[Ch(32767)], Some(32767), 1, &[]),
+    (&[Va(1)], Some(3), 2, &[]),
+    (&[Va(2)], Some(4), 2, &[]),
+    (&[Va(32767)], Some(32769), 2, &[]),
+    (&[Bi(1)], Some(1), 1, &[]),
+    (&[Bi(8)], Some(1), 1, &[]),
+    (&[Bi(9)], Some(2), 1, &[]),
+    (&[Bi(32767)], Some(4096), 1, &[]),
+    (&[Pt], Some(8), 4, &[]),
+    (&[Of], Some(4), 4, &[]),
+    (&[Ar(1)], Some(8), 8, &[]),
+    (&[Ar(8)], Some(8), 8, &[]),
+    (&[Ar(9)], Some(16), 8, &[]),
+    (&[Ar(1000)], Some(1000), 8, &[]),
+    (&[Ar(1000000)], Some(1000000), 8, &[]),
+    (&[Ar(1000001)], None, 8, &[]),
+    (&[Ar(4294967295)], None, 8, &[]),
+];
+
+#[test]
+fn scalars(rt: HostRuntime) -> Result<(), Fail> {
+    check(&rt, rt.alloc(), &SCALARS)?;
+    Ok(())
+}
+
+static ARRAYS: [Row; 15] = [
+    (
+        &[Fb(15), Di(&[(1, 3)])],
+        Some(6),
+        2,
+        &[(&[E1(1)], 0), (&[E1(2)], 2), (&[E1(3)], 4)],
+    ),
+    (
+        &[Ch(3), Di(&[(0, 2)])],
+        Some(9),
+        1,
+        &[(&[E1(0)], 0), (&[E1(1)], 3), (&[E1(2)], 6)],
+    ),
+    (
+        &[Va(2), Di(&[(-1, 1)])],
+        Some(12),
+        2,
+        &[(&[E1(-1)], 0), (&[E1(0)], 4), (&[E1(1)], 8)],
+    ),
+    // an element of 5 bytes every 6
+    (
+        &[Va(3), Di(&[(1, 3)])],
+        Some(18),
+        2,
+        &[(&[E1(1)], 0), (&[E1(2)], 6), (&[E1(3)], 12)],
+    ),
+    (
+        &[Fb(31), Di(&[(1, 2), (1, 3)])],
+        Some(24),
+        4,
+        &[
+            (&[E2(1, 1)], 0),
+            (&[E2(1, 2)], 4),
+            (&[E2(1, 3)], 8),
+            (&[E2(2, 1)], 12),
+            (&[E2(2, 2)], 16),
+            (&[E2(2, 3)], 20),
+        ],
+    ),
+    (
+        &[Bi(9), Di(&[(0, 1), (-2, 0), (5, 6)])],
+        Some(24),
+        1,
+        &[
+            (&[E3(0, -2, 5)], 0),
+            (&[E3(0, -2, 6)], 2),
+            (&[E3(0, -1, 5)], 4),
+            (&[E3(1, -2, 5)], 12),
+            (&[E3(1, 0, 6)], 22),
+        ],
+    ),
+    (&[Pt, Di(&[(1, 10)])], Some(80), 4, &[(&[E1(10)], 72)]),
+    (&[Ar(10), Di(&[(1, 2)])], Some(32), 8, &[(&[E1(2)], 16)]),
+    (
+        &[Ch(5), Di(&[(1, 3)]), Di(&[(1, 2)])],
+        Some(30),
+        1,
+        &[(&[E1(2), E1(3)], 25)],
+    ),
+    // no subscript lies between 2 and 1
+    (&[Ch(4), Di(&[(1, 3), (2, 1)])], Some(0), 1, &[]),
+    (
+        &[Fb(15), Di(&[(1, 1000), (1, 500)])],
+        Some(1000000),
+        2,
+        &[(&[E2(1000, 500)], 999998)],
+    ),
+    (&[Fb(15), Di(&[(1, 1000), (1, 501)])], None, 2, &[]),
+    (&[Fb(15), Di(&[(1, 1000), (1, 1000)])], None, 2, &[]),
+    // a count over 2 to the power of 127
+    (
+        &[
+            Ch(1),
+            Di(&[
+                (-32767, 32767),
+                (-32767, 32767),
+                (-32767, 32767),
+                (-32767, 32767),
+                (-32767, 32767),
+                (-32767, 32767),
+                (-32767, 32767),
+                (-32767, 32767),
+            ]),
+        ],
+        None,
+        1,
+        &[],
+    ),
+    // a size is not counted where there is no element
+    (&[Ar(4294967295), Di(&[(1, 0)])], Some(0), 8, &[]),
+];
+
+#[test]
+fn arrays(rt: HostRuntime) -> Result<(), Fail> {
+    check(&rt, rt.alloc(), &ARRAYS)?;
+    Ok(())
+}
+
+static STRUCTURES: [Row; 14] = [
+    (
+        &[Fb(15), Fb(31), St(2)],
+        Some(8),
+        4,
+        &[(&[M(0)], 0), (&[M(1)], 4)],
+    ),
+    // the size is not rounded up
+    (
+        &[Fb(31), Fb(15), St(2)],
+        Some(6),
+        4,
+        &[(&[M(0)], 0), (&[M(1)], 4)],
+    ),
+    (
+        &[Ch(1), Fb(31), Ch(1), St(3)],
+        Some(9),
+        4,
+        &[(&[M(0)], 0), (&[M(1)], 4), (&[M(2)], 8)],
+    ),
+    (
+        &[Fb(15), Fb(31), Ch(3), Va(5), Bi(9), St(5)],
+        Some(21),
+        4,
+        &[
+            (&[M(0)], 0),
+            (&[M(1)], 4),
+            (&[M(2)], 8),
+            (&[M(3)], 12),
+            (&[M(4)], 19),
+        ],
+    ),
+    (
+        &[Bi(1), Pt, Of, Ch(5), Of, St(5)],
+        Some(28),
+        4,
+        &[
+            (&[M(0)], 0),
+            (&[M(1)], 4),
+            (&[M(2)], 12),
+            (&[M(3)], 16),
+            (&[M(4)], 24),
+        ],
+    ),
+    (
+        &[Ch(1), Ar(9), Ch(1), St(3)],
+        Some(25),
+        8,
+        &[(&[M(0)], 0), (&[M(1)], 8), (&[M(2)], 24)],
+    ),
+    // one structure in another
+    (
+        &[Ch(1), Fb(15), Ch(1), St(2), Ch(1), St(3)],
+        Some(6),
+        2,
+        &[
+            (&[M(0)], 0),
+            (&[M(1)], 2),
+            (&[M(1), M(0)], 2),
+            (&[M(1), M(1)], 4),
+            (&[M(2)], 5),
+        ],
+    ),
+    // five levels
+    (
+        &[
+            Fb(15),
+            Bi(9),
+            Ch(1),
+            Ch(1),
+            Fb(31),
+            St(2),
+            St(2),
+            St(2),
+            Bi(1),
+            St(2),
+            St(2),
+        ],
+        Some(21),
+        4,
+        &[
+            (&[M(1)], 4),
+            (&[M(1), M(0), M(0)], 4),
+            (&[M(1), M(0), M(1)], 8),
+            (&[M(1), M(0), M(1), M(1)], 12),
+            (&[M(1), M(0), M(1), M(1), M(1)], 16),
+            (&[M(1), M(1)], 20),
+        ],
+    ),
+    // structures of 6 bytes every 8
+    (
+        &[Fb(31), Fb(15), St(2), Di(&[(1, 3)])],
+        Some(24),
+        4,
+        &[
+            (&[E1(2)], 8),
+            (&[E1(2), M(1)], 12),
+            (&[E1(3), M(0)], 16),
+            (&[E1(3), M(1)], 20),
+        ],
+    ),
+    (
+        &[Bi(1), Fb(31), Di(&[(1, 2)]), Bi(1), St(3)],
+        Some(13),
+        4,
+        &[
+            (&[M(1)], 4),
+            (&[M(1), E1(1)], 4),
+            (&[M(1), E1(2)], 8),
+            (&[M(2)], 12),
+        ],
+    ),
+    (
+        &[Ch(1), Va(3), Di(&[(1, 2), (1, 2)]), St(2), Di(&[(0, 1)])],
+        Some(52),
+        2,
+        &[
+            (&[E1(0), M(1), E2(1, 1)], 2),
+            (&[E1(0), M(1), E2(2, 2)], 20),
+            (&[E1(1)], 26),
+            (&[E1(1), M(0)], 26),
+            (&[E1(1), M(1), E2(2, 1)], 40),
+        ],
+    ),
+    (
+        &[Ch(1), Di(&[(1, 1000), (1, 999)]), Ch(1000), St(2)],
+        Some(1000000),
+        1,
+        &[(&[M(1)], 999000)],
+    ),
+    (
+        &[Ch(1), Di(&[(1, 1000), (1, 999)]), Ch(1001), St(2)],
+        None,
+        1,
+        &[],
+    ),
+    (&[Ar(999999), Bi(1), St(2)], None, 8, &[]),
+];
+
+#[test]
+fn structures(rt: HostRuntime) -> Result<(), Fail> {
+    check(&rt, rt.alloc(), &STRUCTURES)?;
+    Ok(())
+}
+
+/// Paths that lead to no part.
+static WRONG: [&[Go]; 9] = [
+    &[E1(1)],
+    &[E3(1, 0, 0)],
+    &[E2(0, 0)],
+    &[E2(4, 0)],
+    &[E2(1, -1)],
+    &[E2(1, 2)],
+    &[M(0)],
+    &[E2(1, 0), M(1)],
+    &[E2(1, 0), M(0), M(0)],
+];
+
+#[test]
+fn no_parts(rt: HostRuntime) -> Result<(), Fail> {
+    let alloc = rt.alloc();
+    let table = described(alloc, &[Bi(9), St(1), Di(&[(1, 3), (0, 1)])])?;
+    for steps in &WRONG {
+        assert_eq!(rt; offset_of(alloc, &table, steps)?, None);
+    }
+    let right = path(alloc, &[E2(3, 1), M(0)])?;
+    let found = placed(&table, &right).map(|part| part.description.equals(&Description::Bit(9)));
+    assert_eq!(rt; found, Some(true));
+    Ok(())
+}
+
+/// Descriptions of which none equals another.
+static UNEQUAL: [&[Word]; 12] = [
+    &[Fb(15)],
+    &[Fb(16)],
+    &[Ch(3)],
+    &[Va(3)],
+    &[Bi(3)],
+    &[Pt],
+    &[Of],
+    &[Ar(16)],
+    &[Bi(1), Pt, Di(&[(1, 3)]), St(2)],
+    &[Bi(1), Pt, Di(&[(0, 2)]), St(2)],
+    &[Bi(1), St(1)],
+    &[Bi(1), Pt, Di(&[(1, 3), (1, 1)]), St(2)],
+];
+
+/// Whether two declarations are equal, the first by a copy, in both ways of asking.
+fn are_equal(alloc: Global, left: &[Word], right: &[Word]) -> Result<(bool, bool), AllocError> {
+    let copy = described(alloc, left)?.copy(alloc)?;
+    let other = described(alloc, right)?;
+    Ok((copy.equals(&other), copy == other))
+}
+
+#[test]
+fn equality(rt: HostRuntime) -> Result<(), Fail> {
+    for (i, left) in UNEQUAL.iter().enumerate() {
+        for (j, right) in UNEQUAL.iter().enumerate() {
+            let equal = are_equal(rt.alloc(), left, right)?;
+            assert_eq!(rt; equal, (i == j, i == j), "{i} and {j}");
+        }
+    }
+    Ok(())
+}
+
+#[test]
+fn equality_of_areas(rt: HostRuntime) {
+    assert!(rt; Description::Area(9) == Description::Area(16));
+    assert!(rt; Description::Area(9) != Description::Area(17));
+    assert!(rt; Description::Area(u32::MAX) == Description::Area(u32::MAX - 6));
+}
+
+#[test]
+fn layouts(rt: HostRuntime) -> Result<(), Fail> {
+    let pair = described(rt.alloc(), &[Fb(31), Fb(15), St(2)])?;
+    let layout = measure(&pair).ok_or("a layout")?;
+    assert_eq!(rt;
+        (layout.bytes, layout.alignment, layout.stride()),
+        (6, 4, 8)
+    );
+    let three = layout.times(3).ok_or("a layout")?;
+    assert_eq!(rt; (three.bytes, three.alignment), (24, 4));
+    assert!(rt; layout.times(125_001).is_none());
+    let halfword = Layout::of(2, 2).ok_or("a layout")?;
+    let both = Layout::empty()
+        .and(halfword)
+        .and_then(|front| front.and(layout))
+        .ok_or("a layout")?;
+    assert_eq!(rt; (both.bytes, both.alignment), (10, 4));
+    Ok(())
+}
+
+#[test]
+fn dimensions(rt: HostRuntime) {
+    let dimension = Bounds { low: -2, high: 7 };
+    assert_eq!(rt; dimension.extent(), 10);
+    assert_eq!(rt; dimension.distance_to(7), Some(9));
+    assert_eq!(rt; dimension.distance_to(8), None);
+    assert_eq!(rt; dimension.distance_to(-3), None);
+}
+
+#[test]
+fn laws() {
+    areas_are_rounded();
+    elements_are_in_row_major_order();
+    elements_are_within_bounds();
+    four_alignments();
+    parts_do_not_meet();
+    parts_lie_within();
+    parts_stand_aligned();
+    same_is_equal();
+    worked_examples();
+}

@@ -1,0 +1,130 @@
+use pli_outline::{Region, RegionKind};
+use pli_region::Nesting;
+use std::alloc::Global;
+use std::test::Fail;
+
+/// A region: its kind, and the number of the one that it stands in.
+type Row = (RegionKind, Option<usize>);
+
+/// A procedure with a BEGIN block in a group, an ON-unit in a group of that block, and a procedure with nested groups.
+static REGIONS: [Row; 10] = [
+    (RegionKind::Procedure, None),
+    (RegionKind::Group, Some(0)),
+    (RegionKind::Begin, Some(1)),
+    (RegionKind::Group, Some(2)),
+    (RegionKind::Unit, Some(3)),
+    (RegionKind::Begin, Some(4)),
+    (RegionKind::Group, Some(5)),
+    (RegionKind::Procedure, Some(0)),
+    (RegionKind::Group, Some(7)),
+    (RegionKind::Group, Some(8)),
+];
+
+fn nesting(alloc: Global, rows: &[Row]) -> Result<Nesting, Fail> {
+    let mut regions = Vec::new(alloc);
+    for (kind, outer) in rows {
+        regions.push(Region {
+            kind: *kind,
+            outer: *outer,
+        })?;
+    }
+    Ok(Nesting::new(alloc, &regions)?)
+}
+
+/// Regions, with the block that each stands in.
+static INNERMOST: [(usize, Option<usize>); 11] = [
+    (0, Some(0)),
+    (1, Some(0)),
+    (2, Some(2)),
+    (3, Some(2)),
+    (4, Some(2)),
+    (5, Some(5)),
+    (6, Some(5)),
+    (7, Some(7)),
+    (8, Some(7)),
+    (9, Some(7)),
+    (10, None),
+];
+
+#[test]
+fn innermost_blocks(rt: HostRuntime) -> Result<(), Fail> {
+    let nesting = nesting(rt.alloc(), &REGIONS)?;
+    for (region, block) in &INNERMOST {
+        assert_eq!(rt; nesting.innermost(*region), *block, "at {region}");
+    }
+    Ok(())
+}
+
+/// Regions, with the block outside the one that each stands in.
+static OUTWARDS: [(usize, Option<usize>); 6] = [
+    (0, None),
+    (2, Some(0)),
+    (3, Some(0)),
+    (6, Some(2)),
+    (7, Some(0)),
+    (9, Some(0)),
+];
+
+#[test]
+fn blocks_outwards(rt: HostRuntime) -> Result<(), Fail> {
+    let nesting = nesting(rt.alloc(), &REGIONS)?;
+    for (region, next) in &OUTWARDS {
+        let block = nesting.innermost(*region).ok_or("a block")?;
+        assert_eq!(rt; nesting.outward(block), *next, "at {region}");
+    }
+    Ok(())
+}
+
+#[test]
+fn regions_in_none(rt: HostRuntime) -> Result<(), Fail> {
+    let nesting = nesting(
+        rt.alloc(),
+        &[
+            (RegionKind::Group, None),
+            (RegionKind::Begin, Some(2)),
+            (RegionKind::Group, Some(2)),
+        ],
+    )?;
+    assert_eq!(rt; nesting.innermost(0), None);
+    assert_eq!(rt; nesting.innermost(1), Some(1));
+    assert_eq!(rt; nesting.innermost(2), None);
+    assert!(rt; nesting.reaches(2, 2));
+    assert!(rt; !nesting.reaches(1, 2));
+    Ok(())
+}
+
+/// Regions of a GOTO and of a label, and whether it is reached.
+static REACHED: [(usize, usize, bool); 19] = [
+    (9, 9, true),
+    (9, 8, true),
+    (9, 7, true),
+    (9, 0, true),
+    (8, 9, false),
+    (9, 1, false),
+    (7, 1, false),
+    (3, 3, true),
+    (4, 4, true),
+    (4, 3, false),
+    (4, 2, true),
+    (4, 1, true),
+    (4, 0, true),
+    (6, 6, true),
+    (6, 5, true),
+    (6, 3, false),
+    (6, 2, true),
+    (6, 1, true),
+    (10, 10, false),
+];
+
+#[test]
+fn labels_reached(rt: HostRuntime) -> Result<(), Fail> {
+    let nesting = nesting(rt.alloc(), &REGIONS)?;
+    for (from, label, reached) in &REACHED {
+        assert_eq!(rt;
+            nesting.reaches(*from, *label),
+            *reached,
+            "from {from} to {label}"
+        );
+    }
+    Ok(())
+}
