@@ -287,17 +287,18 @@ fn found(alloc: Global, block: &Block, reference: &str) -> Result<Found, Fail> {
     Ok(block.find(&names))
 }
 
+/// Checks what each of those references fits in a block.
+fn check_found(rt: &impl Abort, alloc: Global, block: &Block) -> Result<(), Fail> {
+    for (reference, want) in &FITTED {
+        assert_eq!(rt; found(alloc, block, reference)?, *want, "at {reference}");
+    }
+    Ok(())
+}
+
 #[test]
 fn blocks(rt: HostRuntime) -> Result<(), Fail> {
     let block = block(rt.alloc(), &ONE_TO_FIVE)?;
-    for (reference, want) in &FITTED {
-        assert_eq!(rt;
-            found(rt.alloc(), &block, reference)?,
-            *want,
-            "at {reference}"
-        );
-    }
-    Ok(())
+    check_found(&rt, rt.alloc(), &block)
 }
 
 #[test]

@@ -16,6 +16,24 @@ pub fn show_name(shown: &mut String, identifier: &Identifier) -> Result<(), Allo
     Ok(())
 }
 
+/// How an operator between two operands is written.
+fn sign_of(operator: &InfixOperator) -> &'static str {
+    match operator {
+        InfixOperator::Or => "|",
+        InfixOperator::And => "&",
+        InfixOperator::Equal => "=",
+        InfixOperator::NotEqual => "^=",
+        InfixOperator::Less => "<",
+        InfixOperator::LessOrEqual => "<=",
+        InfixOperator::Greater => ">",
+        InfixOperator::GreaterOrEqual => ">=",
+        InfixOperator::Concatenate => "||",
+        InfixOperator::Add => "+",
+        InfixOperator::Subtract => "-",
+        InfixOperator::Multiply => "*",
+    }
+}
+
 /// Appends the expression, each operator's operands in parentheses, and the expression's own parentheses as brackets.
 #[cycle(show_value)]
 pub fn show_expression(shown: &mut String, expression: &Expression) -> Result<(), AllocError> {
@@ -29,9 +47,9 @@ pub fn show_expression(shown: &mut String, expression: &Expression) -> Result<()
             _ => shown.push('?')?,
         },
         Expression::Parenthesized { inner, .. } => {
-            shown.push_str("[")?;
+            shown.push('[')?;
             show_expression(shown, inner)?;
-            shown.push_str("]")?;
+            shown.push(']')?;
         }
         Expression::Prefix {
             operator,
@@ -44,7 +62,7 @@ pub fn show_expression(shown: &mut String, expression: &Expression) -> Result<()
                 PrefixOperator::Not => "(^",
             })?;
             show_expression(shown, operand)?;
-            shown.push_str(")")?;
+            shown.push(')')?;
         }
         Expression::Infix {
             operator,
@@ -52,24 +70,11 @@ pub fn show_expression(shown: &mut String, expression: &Expression) -> Result<()
             right,
             ..
         } => {
-            shown.push_str("(")?;
+            shown.push('(')?;
             show_expression(shown, left)?;
-            shown.push_str(match operator {
-                InfixOperator::Or => "|",
-                InfixOperator::And => "&",
-                InfixOperator::Equal => "=",
-                InfixOperator::NotEqual => "^=",
-                InfixOperator::Less => "<",
-                InfixOperator::LessOrEqual => "<=",
-                InfixOperator::Greater => ">",
-                InfixOperator::GreaterOrEqual => ">=",
-                InfixOperator::Concatenate => "||",
-                InfixOperator::Add => "+",
-                InfixOperator::Subtract => "-",
-                InfixOperator::Multiply => "*",
-            })?;
+            shown.push_str(sign_of(operator))?;
             show_expression(shown, right)?;
-            shown.push_str(")")?;
+            shown.push(')')?;
         }
     }
     Ok(())
@@ -94,12 +99,12 @@ pub fn show_reference(shown: &mut String, reference: &Reference) -> Result<(), A
 fn show_part(shown: &mut String, part: &Part) -> Result<(), AllocError> {
     show_name(shown, &part.name)?;
     if let Some(list) = &part.arguments {
-        shown.push_str("{")?;
+        shown.push('{')?;
         for argument in list {
             show_expression(shown, argument)?;
-            shown.push_str(";")?;
+            shown.push(';')?;
         }
-        shown.push_str("}")?;
+        shown.push('}')?;
     }
     Ok(())
 }

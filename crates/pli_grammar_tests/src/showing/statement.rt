@@ -117,25 +117,9 @@ fn show_heading(
     Ok(())
 }
 
-/// A statement with none inside.
-fn show_simple(shown: &mut String, body: &Body) -> Result<(), AllocError> {
+/// A statement about conditions or storage, or what ends the program.
+fn show_effect(shown: &mut String, body: &Body) -> Result<(), AllocError> {
     match body {
-        Body::Null => shown.push(';'),
-        Body::Assign {
-            target,
-            equals,
-            value,
-        } => {
-            show_reference(shown, target)?;
-            let equals = *equals;
-            write!(shown, " ={equals} ")?;
-            show_expression(shown, value)
-        }
-        Body::Declare(items) => {
-            let count = items.len();
-            write!(shown, "DECLARE {count}")?;
-            Ok(())
-        }
         Body::Revert(condition) => {
             shown.push_str("REVERT ")?;
             shown.push_str(word_of(*condition))
@@ -160,6 +144,29 @@ fn show_simple(shown: &mut String, body: &Body) -> Result<(), AllocError> {
             }
             Ok(())
         }
+        _ => Ok(()),
+    }
+}
+
+/// A statement with none inside.
+fn show_simple(shown: &mut String, body: &Body) -> Result<(), AllocError> {
+    match body {
+        Body::Null => shown.push(';'),
+        Body::Assign {
+            target,
+            equals,
+            value,
+        } => {
+            show_reference(shown, target)?;
+            let equals = *equals;
+            write!(shown, " ={equals} ")?;
+            show_expression(shown, value)
+        }
+        Body::Declare(items) => {
+            let count = items.len();
+            write!(shown, "DECLARE {count}")?;
+            Ok(())
+        }
         Body::Call { name, arguments } => {
             shown.push_str("CALL ")?;
             show_name(shown, name)?;
@@ -180,7 +187,7 @@ fn show_simple(shown: &mut String, body: &Body) -> Result<(), AllocError> {
             shown.push_str(if *skip { "PUT SKIP" } else { "PUT" })?;
             show_list(shown, items)
         }
-        _ => Ok(()),
+        _ => show_effect(shown, body),
     }
 }
 
@@ -196,16 +203,22 @@ fn show_ended(shown: &mut String, statements: &[Statement], end: u32) -> Result<
     Ok(())
 }
 
+/// `F@4 #2 ..`: the name, the number, the heading and what stands inside.
+#[cycle(show_tree)]
+fn show_procedure(shown: &mut String, procedure: &Procedure) -> Result<(), AllocError> {
+    show_name(shown, &procedure.name)?;
+    let number = procedure.number;
+    write!(shown, " #{number}")?;
+    show_heading(shown, &procedure.parameters, &procedure.options)?;
+    show_ended(shown, &procedure.statements, procedure.end)
+}
+
 #[cycle(show_tree)]
 fn show_body(shown: &mut String, body: &Body) -> Result<(), AllocError> {
     match body {
         Body::Procedure(procedure) => {
             shown.push_str("PROC ")?;
-            show_name(shown, &procedure.name)?;
-            let number = procedure.number;
-            write!(shown, " #{number}")?;
-            show_heading(shown, &procedure.parameters, &procedure.options)?;
-            show_ended(shown, &procedure.statements, procedure.end)
+            show_procedure(shown, procedure)
         }
         Body::Begin { statements, end } => {
             shown.push_str("BEGIN")?;
@@ -260,12 +273,9 @@ pub fn show_statement(shown: &mut String, statement: &Statement) -> Result<(), A
     show_body(shown, &statement.body)
 }
 
+/// The unit as text.
 pub fn show_unit(alloc: Global, unit: &Procedure) -> Result<String, AllocError> {
     let mut shown = String::new(alloc);
-    show_name(&mut shown, &unit.name)?;
-    let number = unit.number;
-    write!(shown, " #{number}")?;
-    show_heading(&mut shown, &unit.parameters, &unit.options)?;
-    show_ended(&mut shown, &unit.statements, unit.end)?;
+    show_procedure(&mut shown, unit)?;
     Ok(shown)
 }
