@@ -30,7 +30,8 @@ def read(path):
 class Watch:
     """What each process of the prover used, by crate and part."""
 
-    def __init__(self):
+    def __init__(self, room):
+        self.room = room
         self.used, self.part_of, self.times, self.memory, self.over = {}, {}, {}, 0, False
 
     def look(self, now):
@@ -46,6 +47,8 @@ class Watch:
                 try:
                     room = os.readlink(f'/proc/{pid}/cwd')
                 except OSError:
+                    continue
+                if not room.startswith(self.room) and 'rt-edit-' not in room:
                     continue
                 part = 'edits' if 'rt-edit-' in room else 'tests' if b'--test' in words else 'proof'
                 self.part_of[key] = words[words.index(b'--crate-name') + 1].decode(), part
@@ -142,9 +145,10 @@ def main():
     log = sys.argv[1] if len(sys.argv) > 1 else 'gate.log'
     if log.startswith('-'):
         sys.exit(__doc__)
-    watch, last = Watch(), ''
+    last = ''
     with tempfile.TemporaryDirectory(prefix='gate-') as room, open(log, 'w') as out:
         subprocess.run(['git', 'clone', '-q', TOP, f'{room}/juranikko'], check=True)
+        watch = Watch(room)
         started = time.monotonic()
         looking = threading.Thread(target=watch.run, args=(started,), daemon=True)
         looking.start()
