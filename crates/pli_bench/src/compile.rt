@@ -10,14 +10,14 @@ ghost use Rattle.pli_link.specs.Answers.{compiled_view};
 use crate::answer::append_parts;
 use itoa::Buffer;
 use pli_base::{Code, Fault, Name, Origin, TokenText, Unit};
-use pli_declare::{DeclareError, resolve};
+use pli_declare::faults;
 use pli_gen::{GenerateError, generate};
 use pli_include::{Expander, Expansion};
 use pli_link::Compiled;
 use pli_lower::{LowerError, lower};
+use pli_lower_names::{DeclareError, resolve};
 use pli_members::Members;
 use pli_parse::{ParseError, parse};
-use pli_resolve::faults;
 use std::alloc::{AllocError, Global};
 
 /// A unit's expansion and its tree.

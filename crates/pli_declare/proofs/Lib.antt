@@ -1,1 +1,14 @@
-pub mod Lemmas
+pub mod WorkedExamples
+pub mod ResolvedExamplesHold
+pub mod Looks
+pub mod Goodness
+pub mod Headings
+pub mod Numbered
+pub mod Numbers
+pub mod Gathered
+pub mod TableAt
+pub mod Names
+pub mod Walked
+pub mod NamedUses
+pub mod Faultless
+pub mod OfBlocks

@@ -1,1 +1,9 @@
+pub mod Resolution
 pub mod Answers
+pub mod Looking
+pub mod Walks
+pub mod ResolutionExamples
+pub mod ResolvedExamples
+pub mod Resolved
+pub mod ResolvedView
+pub mod Targets

@@ -1,6 +1,26 @@
-//! Declarations: the variables of a procedure, and the faults of their uses.
+//! What the names of a unit are and mean, or the faults of its declarations.
 #![tactic(auto)]
 
-mod declare;
+mod attributes;
+mod good;
+mod heading;
+mod item_codes;
+mod jumps;
+mod known;
+mod laws;
+mod least;
+mod look_up;
+mod marks;
+mod named;
+mod parameters;
+mod references;
+mod resolved;
+mod resolving;
+mod told;
+mod unit;
+mod uses;
 
-pub use declare::{DeclareError, Resolved, resolve};
+pub use laws::{resolved_examples, worked_examples};
+pub use resolved::{Block, Resolved, Target, Use};
+pub use resolving::{ResolveError, resolve};
+pub use unit::faults;

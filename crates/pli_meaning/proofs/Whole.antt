@@ -22,7 +22,7 @@ use Rattle.pli_lower.specs.Lowering.{lowered}
 use Rattle.pli_lower.proofs.LoweringNames.{lowers_to_faultless}
 use Rattle.pli_parse_statement.specs.StatementReading.{unit_of}
 use Rattle.pli_base.specs.Statements.{ExternalProcedure}
-use Rattle.pli_resolve.specs.Resolution.{resolution_faults}
+use Rattle.pli_declare.specs.Resolution.{resolution_faults}
 use Rattle.pli_meaning.specs.Scratch.{Diagnostic, read_or_fault, lowered_unless, program_from, program_of, Parsed, units_of, parsed_as, parsed_from, parsed_of, compiled_from, compiled_of, diagnostics_in, diagnostic_line, one, Made, built, linked, scratch, all_text, all_units, text_in, units_in, sources, source_in, has_main, main_units}
 
 -- a list with an element is not empty

@@ -19,7 +19,7 @@ use Rattle.pli_meaning.proofs.Simulation.{simulation}
 use Rattle.pli_lower.specs.Lowering.{lowered}
 use Rattle.pli_parse_statement.specs.StatementReading.{unit_of}
 use Rattle.pli_base.specs.Statements.{ExternalProcedure}
-use Rattle.pli_resolve.specs.Resolution.{resolution_faults}
+use Rattle.pli_declare.specs.Resolution.{resolution_faults}
 use Rattle.pli_lower.proofs.LoweringConstants.{lowers_to_language}
 use Rattle.pli_meaning.proofs.Whole.{program_made}
 

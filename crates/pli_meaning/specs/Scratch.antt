@@ -17,7 +17,7 @@ use Rattle.pli_members.specs.declared.kind.Kind.{Kind}
 use Rattle.pli_members.specs.declared.kind.Kind.TheVariants.{Source, Include}
 use Rattle.pli_parse_statement.specs.StatementReading.{unit_of}
 use Rattle.pli_base.specs.Statements.{ExternalProcedure}
-use Rattle.pli_resolve.specs.Resolution.{resolution_faults}
+use Rattle.pli_declare.specs.Resolution.{resolution_faults}
 use Rattle.pli_code.specs.Link.{Compiled, Place, LinkFault, NoMainProcedure, TwoMainProcedures, DefinedTwice, link_of}
 use Rattle.pli_code.specs.Machine.{Outcome}
 use Rattle.pli_code.specs.ModuleView.{Module}

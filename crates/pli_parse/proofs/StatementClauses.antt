@@ -4,10 +4,10 @@ use Rattle.pli_base.specs.Words.{Tokens, is_word}
 use Rattle.pli_base.specs.Reading.{Front}
 use Rattle.pli_base.specs.Syntax.{Expression}
 use Rattle.pli_base.specs.declared.code.Code.TheVariants.{ThenExpected}
-use Rattle.pli_item.specs.declared.answer.ParseError.{ParseError}
-use Rattle.pli_item.specs.declared.answer.ParseError.TheVariants as errors
-use Rattle.pli_item.specs.DeclarationAnswers.{Fails}
-use Rattle.pli_item.specs.DeclarationReading.{taken}
+use Rattle.pli_parse_declaration.specs.declared.answer.ParseError.{ParseError}
+use Rattle.pli_parse_declaration.specs.declared.answer.ParseError.TheVariants as errors
+use Rattle.pli_parse_declaration.specs.DeclarationAnswers.{Fails}
+use Rattle.pli_parse_declaration.specs.DeclarationReading.{taken}
 use Rattle.pli_base.specs.Statements.{Statement, count}
 use Rattle.pli_parse_statement.specs.StatementWords.{Context, standing}
 use Rattle.pli_parse_statement.specs.declared.keyword.Standing.TheVariants.{AsClause}

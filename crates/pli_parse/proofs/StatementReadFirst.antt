@@ -7,12 +7,12 @@ use Rattle.pli_base.specs.Reading.{Front}
 use Rattle.pli_base.specs.declared.token.Sign.TheVariants.{Colon, Semicolon}
 use Rattle.pli_base.specs.declared.token.TokenText.TheVariants.{Word, Sign}
 use Rattle.pli_base.specs.declared.syntax.Identifier.{Identifier}
-use Rattle.pli_grammar.specs.Assignments.{IsAssignment, Foreign, State, NameWanted, OperandWanted, ListBegun, BehindName, BehindList, BehindOperand, Frame, Target, Whole, Group, Arguments, Move, Stops, Goes, Enters, Leaves, Turns, move, moved, accepts, is_assignment}
-use Rattle.pli_grammar.specs.Assignments as assignments
-use Rattle.pli_grammar.proofs.SpelledIsAccepted.{assignment_accepted}
-use Rattle.pli_item.specs.DeclarationWords.{is_either}
-use Rattle.pli_item.specs.DeclarationGrammar.{SpellsFront}
-use Rattle.pli_item.proofs.DeclarationSteps.{some_same}
+use Rattle.pli_parse_expression.specs.Assignments.{IsAssignment, Foreign, State, NameWanted, OperandWanted, ListBegun, BehindName, BehindList, BehindOperand, Frame, Target, Whole, Group, Arguments, Move, Stops, Goes, Enters, Leaves, Turns, move, moved, accepts, is_assignment}
+use Rattle.pli_parse_expression.specs.Assignments as assignments
+use Rattle.pli_parse_expression.proofs.SpelledIsAccepted.{assignment_accepted}
+use Rattle.pli_parse_declaration.specs.DeclarationWords.{is_either}
+use Rattle.pli_parse_declaration.specs.DeclarationGrammar.{SpellsFront}
+use Rattle.pli_parse_declaration.proofs.DeclarationSteps.{some_same}
 use Rattle.pli_parse_statement.specs.StatementWords.{keyword_of, behind_word, up_to_semicolon, is_assigned, begins_assignment, Kind, Assigns, Empty, Keyed, Unknown, go_kind, word_kind, first_kind, kind_of}
 use Rattle.pli_parse_statement.specs.StatementReading.{has_semicolon, label_at, is_labelled, ending_at, is_label, named_end, EndsHere, next_by, next_of, else_by, else_first}
 use Rattle.pli_parse_statement.specs.StatementGrammar.{BeginsAssignment, SpellsLabel, SpellsEnd}

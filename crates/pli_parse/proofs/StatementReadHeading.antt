@@ -10,19 +10,19 @@ use Rattle.pli_base.specs.declared.token.Fault.{Fault}
 use Rattle.pli_base.specs.declared.token.Sign.TheVariants as signs
 use Rattle.pli_base.specs.declared.token.TokenText.TheVariants.{Word, Sign}
 use Rattle.pli_base.specs.declared.syntax.Identifier.{Identifier}
-use Rattle.pli_grammar.specs.Operators.{operator_limit}
-use Rattle.pli_grammar.specs.Expressions.{operators, SpellsArguments, SpellsExpression, GivenFits, Every, OutermostFits, Deeper}
-use Rattle.pli_grammar.specs.Reading.{arguments_at, argument_of, inside, expression_at, expression_of, list_at, outermost}
-use Rattle.pli_grammar.specs.Reading as expressions
-use Rattle.pli_grammar.proofs.ReadIsSpelled.{IsRead, IsReadBy, list_reads, expression_at_read}
-use Rattle.pli_grammar.proofs.ReadingTools as grammar
-use Rattle.pli_item.specs.DeclarationWords.{behind}
-use Rattle.pli_item.specs.DeclarationReading.{Commas, taken, mapped, returned_at, if_open, or_none}
-use Rattle.pli_item.specs.DeclarationReading as items
-use Rattle.pli_item.specs.DeclarationGrammar.{SpellsFront, SpellsListed}
-use Rattle.pli_item.proofs.DeclarationSteps.{same_ok, bind_ok, mapped_ok, taken_ok, two}
-use Rattle.pli_item.proofs.DeclarationRead.{Reads}
-use Rattle.pli_item.proofs.DeclarationItemsRead.{returned_reads}
+use Rattle.pli_parse_expression.specs.Operators.{operator_limit}
+use Rattle.pli_parse_expression.specs.Expressions.{operators, SpellsArguments, SpellsExpression, GivenFits, Every, OutermostFits, Deeper}
+use Rattle.pli_parse_expression.specs.Reading.{arguments_at, argument_of, inside, expression_at, expression_of, list_at, outermost}
+use Rattle.pli_parse_expression.specs.Reading as expressions
+use Rattle.pli_parse_expression.proofs.ReadIsSpelled.{IsRead, IsReadBy, list_reads, expression_at_read}
+use Rattle.pli_parse_expression.proofs.ReadingTools as grammar
+use Rattle.pli_parse_declaration.specs.DeclarationWords.{behind}
+use Rattle.pli_parse_declaration.specs.DeclarationReading.{Commas, taken, mapped, returned_at, if_open, or_none}
+use Rattle.pli_parse_declaration.specs.DeclarationReading as items
+use Rattle.pli_parse_declaration.specs.DeclarationGrammar.{SpellsFront, SpellsListed}
+use Rattle.pli_parse_declaration.proofs.DeclarationSteps.{same_ok, bind_ok, mapped_ok, taken_ok, two}
+use Rattle.pli_parse_declaration.proofs.DeclarationRead.{Reads}
+use Rattle.pli_parse_declaration.proofs.DeclarationItemsRead.{returned_reads}
 use Rattle.pli_base.specs.Statements.{ProcedureOption, Main, Returns, Recursive, Heading, Body, Call}
 use Rattle.pli_parse_statement.specs.StatementReading.{identifier_at, uncounted, call_at, OptionWord, OptionsWord, ReturnsWord, RecursiveWord, option_word, option_first, main_at, options_by, options_from, heading_at}
 use Rattle.pli_parse_statement.specs.StatementGrammar.{SpellsIdentifier, SpellsCall, SpellsParameters, SpellsOption, SpellsOptions, SpellsHeading}

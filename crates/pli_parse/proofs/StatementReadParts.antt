@@ -8,12 +8,12 @@ use Rattle.pli_base.specs.declared.code.Code.TheVariants.{BadDo}
 use Rattle.pli_base.specs.declared.token.Fault.{Fault}
 use Rattle.pli_base.specs.declared.token.Sign.TheVariants.{OpenParenthesis, Equals}
 use Rattle.pli_base.specs.declared.token.TokenText.TheVariants.{Word, Sign}
-use Rattle.pli_grammar.specs.Expressions.{SpellsOutermost}
-use Rattle.pli_item.specs.DeclarationWords.{behind}
-use Rattle.pli_item.specs.DeclarationReading.{taken, enclosed, if_open}
-use Rattle.pli_item.specs.DeclarationGrammar.{SpellsFront}
-use Rattle.pli_item.proofs.DeclarationSteps.{same_ok, some_same, bind_ok, mapped_ok, open_first, taken_ok, two}
-use Rattle.pli_item.proofs.DeclarationRead.{Reads, enclosed_spelled}
+use Rattle.pli_parse_expression.specs.Expressions.{SpellsOutermost}
+use Rattle.pli_parse_declaration.specs.DeclarationWords.{behind}
+use Rattle.pli_parse_declaration.specs.DeclarationReading.{taken, enclosed, if_open}
+use Rattle.pli_parse_declaration.specs.DeclarationGrammar.{SpellsFront}
+use Rattle.pli_parse_declaration.proofs.DeclarationSteps.{same_ok, some_same, bind_ok, mapped_ok, open_first, taken_ok, two}
+use Rattle.pli_parse_declaration.proofs.DeclarationRead.{Reads, enclosed_spelled}
 use Rattle.pli_base.specs.Statements.{Control}
 use Rattle.pli_parse_statement.specs.StatementWords.{condition_of}
 use Rattle.pli_parse_statement.specs.StatementReading.{expression_in, reference_in, parenthesized, is_equals, condition_from, condition_at, optional_at, RangeWord, ToWord, ByWord, RepeatWord, range_word, range_first, range_from, range_at, Specified, Unspecified, Conditioned, Iterated, specified, control_from, control_at}

@@ -7,10 +7,10 @@ use Rattle.pli_base.specs.Reading.{Front}
 use Rattle.pli_base.specs.Syntax.{Reference}
 use Rattle.pli_base.specs.declared.token.TokenText.TheVariants.{Word}
 use Rattle.pli_base.specs.declared.syntax.Identifier.{Identifier}
-use Rattle.pli_grammar.specs.Expressions.{SpellsReferenceAlone}
-use Rattle.pli_item.specs.DeclarationGrammar.{SpellsFront}
-use Rattle.pli_item.proofs.DeclarationSteps.{same_ok, bind_ok, two}
-use Rattle.pli_item.proofs.DeclarationRead.{Reads}
+use Rattle.pli_parse_expression.specs.Expressions.{SpellsReferenceAlone}
+use Rattle.pli_parse_declaration.specs.DeclarationGrammar.{SpellsFront}
+use Rattle.pli_parse_declaration.proofs.DeclarationSteps.{same_ok, bind_ok, two}
+use Rattle.pli_parse_declaration.proofs.DeclarationRead.{Reads}
 use Rattle.pli_base.specs.Statements.{Allocation}
 use Rattle.pli_parse_statement.specs.StatementReading.{reference_in, parenthesized, identifier_at, PlaceWord, InWord, SetWord, place_word, place_first, placed_by, places_from, allocation_at}
 use Rattle.pli_parse_statement.specs.StatementGrammar.{SpellsEnclosed, SpellsOptional, SpellsPlaced, SpellsAllocation}

@@ -6,11 +6,11 @@ use Rattle.pli_base.specs.Words.{Tokens, same_name}
 use Rattle.pli_base.specs.Reading.{Front}
 use Rattle.pli_base.specs.Syntax.{Expression}
 use Rattle.pli_base.specs.declared.token.TokenText.TheVariants.{Word}
-use Rattle.pli_grammar.specs.Expressions.{SpellsOutermost}
-use Rattle.pli_item.specs.DeclarationReading.{Commas, list_at}
-use Rattle.pli_item.specs.DeclarationGrammar.{SpellsFront, SpellsListed}
-use Rattle.pli_item.proofs.DeclarationSteps.{same_ok, bind_ok, two}
-use Rattle.pli_item.proofs.DeclarationRead.{Reads}
+use Rattle.pli_parse_expression.specs.Expressions.{SpellsOutermost}
+use Rattle.pli_parse_declaration.specs.DeclarationReading.{Commas, list_at}
+use Rattle.pli_parse_declaration.specs.DeclarationGrammar.{SpellsFront, SpellsListed}
+use Rattle.pli_parse_declaration.proofs.DeclarationSteps.{same_ok, bind_ok, two}
+use Rattle.pli_parse_declaration.proofs.DeclarationRead.{Reads}
 use Rattle.pli_base.specs.Statements.{Body, Put}
 use Rattle.pli_parse_statement.specs.StatementReading.{expression_in, parenthesized, PutWord, SkipWord, ListWord, put_word, put_first, put_by, put_from, put_begun, put_at}
 use Rattle.pli_parse_statement.specs.StatementGrammar.{SpellsEnclosed, SpellsSkip, SpellsItems, SpellsPut}

@@ -9,13 +9,13 @@ use Rattle.pli_base.specs.declared.token.Fault.{Fault}
 use Rattle.pli_base.specs.declared.token.Sign.TheVariants.{Semicolon, Equals}
 use Rattle.pli_base.specs.declared.token.TokenText.TheVariants.{Word, Sign}
 use Rattle.pli_base.specs.declared.syntax.Identifier.{Identifier}
-use Rattle.pli_grammar.specs.Expressions.{SpellsOutermost, SpellsReferenceAlone}
-use Rattle.pli_item.specs.DeclarationWords.{behind}
-use Rattle.pli_item.specs.DeclarationReading.{Commas, read_as, taken, mapped, if_open, list_at, declaration_at}
-use Rattle.pli_item.specs.DeclarationGrammar.{SpellsFront, SpellsListed}
-use Rattle.pli_item.proofs.DeclarationSteps.{same_ok, bind_ok, mapped_ok, taken_ok, two}
-use Rattle.pli_item.proofs.DeclarationRead.{Reads}
-use Rattle.pli_item.proofs.DeclarationItemsRead.{declaration_reads}
+use Rattle.pli_parse_expression.specs.Expressions.{SpellsOutermost, SpellsReferenceAlone}
+use Rattle.pli_parse_declaration.specs.DeclarationWords.{behind}
+use Rattle.pli_parse_declaration.specs.DeclarationReading.{Commas, read_as, taken, mapped, if_open, list_at, declaration_at}
+use Rattle.pli_parse_declaration.specs.DeclarationGrammar.{SpellsFront, SpellsListed}
+use Rattle.pli_parse_declaration.proofs.DeclarationSteps.{same_ok, bind_ok, mapped_ok, taken_ok, two}
+use Rattle.pli_parse_declaration.proofs.DeclarationRead.{Reads}
+use Rattle.pli_parse_declaration.proofs.DeclarationItemsRead.{declaration_reads}
 use Rattle.pli_base.specs.Statements as body
 use Rattle.pli_base.specs.Statements.{Body, BodyAwaitsElse}
 use Rattle.pli_parse_statement.specs.StatementWords.{Context, keyword_of}

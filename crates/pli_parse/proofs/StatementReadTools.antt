@@ -9,14 +9,14 @@ use Rattle.pli_base.specs.declared.token.Fault.{Fault}
 use Rattle.pli_base.specs.declared.token.Sign.TheVariants.{Semicolon, Equals}
 use Rattle.pli_base.specs.declared.token.TokenText.{TokenText}
 use Rattle.pli_base.specs.declared.token.TokenText.TheVariants.{Word, Sign}
-use Rattle.pli_grammar.specs.Reading as expressions
-use Rattle.pli_grammar.specs.Expressions.{SpellsOutermost, SpellsReferenceAlone}
-use Rattle.pli_grammar.proofs.ReadIsSpelled.{expression_spelled, reference_spelled}
-use Rattle.pli_item.specs.DeclarationWords.{behind}
-use Rattle.pli_item.specs.DeclarationReading.{taken, Commas, list_at}
-use Rattle.pli_item.specs.DeclarationGrammar.{SpellsFront, SpellsListed}
-use Rattle.pli_item.proofs.DeclarationSteps.{same_ok, some_same, bind_ok, mapped_ok, first_is, open_first, semicolon_first, taken_ok}
-use Rattle.pli_item.proofs.DeclarationRead.{Reads, enclosed_spelled, listed_reads}
+use Rattle.pli_parse_expression.specs.Reading as expressions
+use Rattle.pli_parse_expression.specs.Expressions.{SpellsOutermost, SpellsReferenceAlone}
+use Rattle.pli_parse_expression.proofs.ReadIsSpelled.{expression_spelled, reference_spelled}
+use Rattle.pli_parse_declaration.specs.DeclarationWords.{behind}
+use Rattle.pli_parse_declaration.specs.DeclarationReading.{taken, Commas, list_at}
+use Rattle.pli_parse_declaration.specs.DeclarationGrammar.{SpellsFront, SpellsListed}
+use Rattle.pli_parse_declaration.proofs.DeclarationSteps.{same_ok, some_same, bind_ok, mapped_ok, first_is, open_first, semicolon_first, taken_ok}
+use Rattle.pli_parse_declaration.proofs.DeclarationRead.{Reads, enclosed_spelled, listed_reads}
 use Rattle.pli_parse_statement.specs.StatementWords.{behind_word}
 use Rattle.pli_parse_statement.specs.StatementReading.{uncounted, expression_in, reference_in, stopped, parenthesized, identifier_at, is_equals, if_word, optional_at, paired}
 use Rattle.pli_parse_statement.specs.StatementGrammar.{SpellsIdentifier, SpellsEnclosed, SpellsOptional}

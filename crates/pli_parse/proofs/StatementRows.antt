@@ -4,10 +4,10 @@ use Rattle.pli_base.specs.Words.{Tokens}
 use Rattle.pli_base.specs.Reading.{◌>>=◌, Front}
 use Rattle.pli_base.specs.declared.syntax.Identifier.{Identifier}
 use Rattle.pli_base.specs.declared.token.Fault.{Fault}
-use Rattle.pli_item.specs.declared.answer.ParseError.{ParseError}
-use Rattle.pli_item.specs.declared.answer.ParseError.TheVariants as errors
-use Rattle.pli_item.specs.DeclarationAnswers.{Fails}
-use Rattle.pli_item.specs.DeclarationReading.{read_as}
+use Rattle.pli_parse_declaration.specs.declared.answer.ParseError.{ParseError}
+use Rattle.pli_parse_declaration.specs.declared.answer.ParseError.TheVariants as errors
+use Rattle.pli_parse_declaration.specs.DeclarationAnswers.{Fails}
+use Rattle.pli_parse_declaration.specs.DeclarationReading.{read_as}
 use Rattle.pli_base.specs.Statements as tree
 use Rattle.pli_base.specs.Statements.{count, list_count}
 use Rattle.pli_parse_statement.specs.StatementWords.{Context}

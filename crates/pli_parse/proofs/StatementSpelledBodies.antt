@@ -5,9 +5,9 @@ use Rattle.pli_base.specs.Words.{Tokens}
 use Rattle.pli_base.specs.declared.syntax.Identifier.{Identifier}
 use Rattle.pli_base.specs.declared.token.Sign.TheVariants.{Semicolon, Equals}
 use Rattle.pli_base.specs.declared.token.TokenText.TheVariants.{Word, Sign}
-use Rattle.pli_item.specs.DeclarationReading.{Commas}
-use Rattle.pli_item.specs.DeclarationGrammar.{SpellsListed}
-use Rattle.pli_grammar.specs.Expressions.{SpellsReferenceAlone}
+use Rattle.pli_parse_declaration.specs.DeclarationReading.{Commas}
+use Rattle.pli_parse_declaration.specs.DeclarationGrammar.{SpellsListed}
+use Rattle.pli_parse_expression.specs.Expressions.{SpellsReferenceAlone}
 use Rattle.pli_base.specs.Statements.{Statement, Numbered, Body, Null, Assign, Declare, Procedure, Begin, Do, If, On, Revert, Signal, Stop, Allocate, Free, Call, Goto, Return, Put}
 use Rattle.pli_parse_statement.specs.StatementGrammar.{SpellsKeyed, SpellsClosed, SpellsCondition, SpellsAllocation, SpellsCall, SpellsValue, SpellsPut, IsOfItsKind, SpellsStatement, SpellsBody}
 use Rattle.pli_parse_statement.specs.StatementWords.{Context}

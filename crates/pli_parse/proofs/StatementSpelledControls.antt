@@ -8,10 +8,10 @@ use Rattle.pli_base.specs.declared.code.Code.TheVariants.{BadDo}
 use Rattle.pli_base.specs.declared.token.Fault.{Fault}
 use Rattle.pli_base.specs.declared.token.Sign.TheVariants.{Semicolon, Equals, OpenParenthesis, CloseParenthesis}
 use Rattle.pli_base.specs.declared.token.TokenText.TheVariants.{Word, Sign}
-use Rattle.pli_grammar.specs.Expressions.{SpellsOutermost, SpellsReferenceAlone, EndsExpression}
-use Rattle.pli_item.specs.DeclarationWords.{behind}
-use Rattle.pli_item.specs.DeclarationReading.{read_as, mapped, taken}
-use Rattle.pli_item.proofs.DeclarationReadAgain.{Anyhow, placed}
+use Rattle.pli_parse_expression.specs.Expressions.{SpellsOutermost, SpellsReferenceAlone, EndsExpression}
+use Rattle.pli_parse_declaration.specs.DeclarationWords.{behind}
+use Rattle.pli_parse_declaration.specs.DeclarationReading.{read_as, mapped, taken}
+use Rattle.pli_parse_declaration.proofs.DeclarationReadAgain.{Anyhow, placed}
 use Rattle.pli_base.specs.Statements.{Range, To, By, Repeat, Control, While, Iterate}
 use Rattle.pli_parse_statement.specs.StatementGrammar.{SpellsOptional, SpellsEnclosed, SpellsRange, BeginsWithWhile, SpellsControl}
 use Rattle.pli_parse_statement.specs.StatementReading.{expression_in, parenthesized, is_equals, optional_at, ToWord, ByWord, RepeatWord, range_word, range_first, range_from, range_at, Conditioned, Iterated, specified, control_from, control_at}

@@ -7,11 +7,11 @@ use Rattle.pli_base.specs.declared.syntax.Identifier.{Identifier}
 use Rattle.pli_base.specs.declared.token.Fault.{Fault}
 use Rattle.pli_base.specs.declared.token.Sign.TheVariants.{Semicolon, OpenParenthesis, CloseParenthesis}
 use Rattle.pli_base.specs.declared.token.TokenText.TheVariants.{Word, Sign}
-use Rattle.pli_item.specs.DeclarationWords.{behind}
-use Rattle.pli_item.specs.DeclarationGrammar.{SpellsListed}
-use Rattle.pli_item.specs.DeclarationReading.{read_as, mapped, taken, if_open, or_none, Commas, list_at}
-use Rattle.pli_item.proofs.DeclarationReadAgain.{Anyhow, NoOpen, ListEnds, placed, open_behind, no_open_word, enclosed_again, commas_close}
-use Rattle.pli_item.proofs.DeclarationItemsAgain.{returned_again}
+use Rattle.pli_parse_declaration.specs.DeclarationWords.{behind}
+use Rattle.pli_parse_declaration.specs.DeclarationGrammar.{SpellsListed}
+use Rattle.pli_parse_declaration.specs.DeclarationReading.{read_as, mapped, taken, if_open, or_none, Commas, list_at}
+use Rattle.pli_parse_declaration.proofs.DeclarationReadAgain.{Anyhow, NoOpen, ListEnds, placed, open_behind, no_open_word, enclosed_again, commas_close}
+use Rattle.pli_parse_declaration.proofs.DeclarationItemsAgain.{returned_again}
 use Rattle.pli_base.specs.Statements.{ProcedureOption, Main, Returns, Recursive, Heading}
 use Rattle.pli_parse_statement.specs.StatementGrammar.{SpellsIdentifier, SpellsParameters, SpellsOption, SpellsOptions, SpellsHeading}
 use Rattle.pli_parse_statement.specs.StatementReading.{stopped, parenthesized, identifier_at, OptionsWord, ReturnsWord, RecursiveWord, option_word, option_first, main_at, options_by, options_from, heading_at, named_end, ending_at}

@@ -7,8 +7,8 @@ use Rattle.pli_base.specs.Syntax.{Expression}
 use Rattle.pli_base.specs.declared.syntax.Identifier.{Identifier}
 use Rattle.pli_base.specs.declared.token.Sign.TheVariants.{Colon}
 use Rattle.pli_base.specs.declared.token.TokenText.TheVariants.{Word, Sign}
-use Rattle.pli_item.specs.DeclarationReading.{read_as, mapped}
-use Rattle.pli_item.proofs.DeclarationReadAgain.{placed}
+use Rattle.pli_parse_declaration.specs.DeclarationReading.{read_as, mapped}
+use Rattle.pli_parse_declaration.proofs.DeclarationReadAgain.{placed}
 use Rattle.pli_base.specs.Statements.{Heading, Control, Alternative, AlternativeAwaitsElse, Statement, Numbered, Body, Null, Assign, Declare, Procedure, Begin, Do, If, On, Revert, Signal, Stop, Allocate, Free, Call, Goto, Return, Put, Statements, BodyAwaitsElse}
 use Rattle.pli_parse_statement.specs.StatementGrammar.{IsOfItsKind, StandsIn, MayReturn, SpellsLabel, SpellsEnd, SpellsStatement, SpellsBody, SpellsStatements}
 use Rattle.pli_parse_statement.specs.StatementReading.{StatementReader, Inside, deeper, has_semicolon, label_at, bad_label, second_label, begin_at, do_at, if_at, on_at, procedure_at, behind_label, begun, statement_of, inside_of, else_first}

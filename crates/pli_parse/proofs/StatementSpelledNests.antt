@@ -9,11 +9,11 @@ use Rattle.pli_base.specs.declared.syntax.Identifier.{Identifier}
 use Rattle.pli_base.specs.declared.token.Fault.{Fault}
 use Rattle.pli_base.specs.declared.token.Sign.TheVariants.{Colon, Semicolon}
 use Rattle.pli_base.specs.declared.token.TokenText.TheVariants.{Word, Sign}
-use Rattle.pli_grammar.specs.Assignments.{accepts, is_assignment}
-use Rattle.pli_grammar.specs.Expressions.{SpellsOutermost}
-use Rattle.pli_item.specs.DeclarationWords.{behind}
-use Rattle.pli_item.specs.DeclarationReading.{read_as, mapped, taken}
-use Rattle.pli_item.proofs.DeclarationReadAgain.{placed}
+use Rattle.pli_parse_expression.specs.Assignments.{accepts, is_assignment}
+use Rattle.pli_parse_expression.specs.Expressions.{SpellsOutermost}
+use Rattle.pli_parse_declaration.specs.DeclarationWords.{behind}
+use Rattle.pli_parse_declaration.specs.DeclarationReading.{read_as, mapped, taken}
+use Rattle.pli_parse_declaration.proofs.DeclarationReadAgain.{placed}
 use Rattle.pli_base.specs.Statements.{Heading, Control, Statement, Numbered, Body, If, On, Do, Begin, Procedure, Statements, Ended, Before, Alternative, NoElse, Else, count, list_count, AwaitsElse, BodyAwaitsElse, AlternativeAwaitsElse}
 use Rattle.pli_parse_statement.specs.StatementGrammar.{SpellsCondition, SpellsControl, SpellsHeading, SpellsEnd, IsUnitBody, SpellsStatement, SpellsStatements, SpellsAlternative}
 use Rattle.pli_parse_statement.specs.StatementReading.{heading_at, StatementReader, Inside, has_semicolon, label_at, Listing, ending_at, EndsHere, Another, next_of, before, list_by, list_from, list_in, else_by, else_first, alternative_from, if_at, on_at, do_at, begin_at, inner_list, procedure_at}

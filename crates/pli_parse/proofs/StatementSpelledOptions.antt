@@ -11,14 +11,14 @@ use Rattle.pli_base.specs.declared.code.Code.TheVariants.{NameExpected}
 use Rattle.pli_base.specs.declared.token.Fault.{Fault}
 use Rattle.pli_base.specs.declared.token.Sign.TheVariants.{Comma, Semicolon}
 use Rattle.pli_base.specs.declared.token.TokenText.TheVariants.{Word, Sign}
-use Rattle.pli_grammar.specs.Expressions.{SpellsReferenceAlone, EndsReference}
-use Rattle.pli_grammar.specs.Operators.{joining_at, name_at}
-use Rattle.pli_grammar.specs.Reading as expressions
-use Rattle.pli_grammar.specs.Reading.{Reader, arguments_at, argument_of, joined_from, parts_behind, part_behind, reference_of, reference_at}
-use Rattle.pli_grammar.proofs.SpelledIsRead.{reference_is_read}
-use Rattle.pli_grammar.proofs.ReadingTools as tools
-use Rattle.pli_item.specs.DeclarationReading.{read_as, Commas, list_at}
-use Rattle.pli_item.proofs.DeclarationReadAgain.{placed}
+use Rattle.pli_parse_expression.specs.Expressions.{SpellsReferenceAlone, EndsReference}
+use Rattle.pli_parse_expression.specs.Operators.{joining_at, name_at}
+use Rattle.pli_parse_expression.specs.Reading as expressions
+use Rattle.pli_parse_expression.specs.Reading.{Reader, arguments_at, argument_of, joined_from, parts_behind, part_behind, reference_of, reference_at}
+use Rattle.pli_parse_expression.proofs.SpelledIsRead.{reference_is_read}
+use Rattle.pli_parse_expression.proofs.ReadingTools as tools
+use Rattle.pli_parse_declaration.specs.DeclarationReading.{read_as, Commas, list_at}
+use Rattle.pli_parse_declaration.proofs.DeclarationReadAgain.{placed}
 use Rattle.pli_base.specs.Statements.{Allocation, Body}
 use Rattle.pli_base.specs.Statements as body
 use Rattle.pli_parse_statement.specs.StatementGrammar.{SpellsOptional, SpellsEnclosed, SpellsPlaced, SpellsAllocation, SpellsSkip, SpellsItems, SpellsPut, SpellsCall}

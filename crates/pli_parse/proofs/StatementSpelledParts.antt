@@ -8,13 +8,13 @@ use Rattle.pli_base.specs.declared.code.Code.TheVariants.{SemicolonExpected}
 use Rattle.pli_base.specs.declared.token.Fault.{Fault}
 use Rattle.pli_base.specs.declared.token.Sign.TheVariants.{Comma, Semicolon, OpenParenthesis, CloseParenthesis}
 use Rattle.pli_base.specs.declared.token.TokenText.TheVariants.{Word, Sign}
-use Rattle.pli_grammar.specs.Operators.{infix_sign}
-use Rattle.pli_grammar.specs.Expressions.{SpellsExpression, SpellsOutermost, SpellsReferenceAlone, EndsExpression, EndsReference}
-use Rattle.pli_grammar.proofs.SpelledIsRead.{expression_is_read, reference_is_read}
-use Rattle.pli_item.specs.DeclarationWords.{behind}
-use Rattle.pli_item.specs.DeclarationGrammar.{Anywhere, SpellsListed}
-use Rattle.pli_item.specs.DeclarationReading.{read_as, mapped, taken, enclosed, Commas, list_at, separated}
-use Rattle.pli_item.proofs.DeclarationReadAgain.{ReadAgain, Anyhow, ListEnds, placed, open_taken, enclosed_again, listed_again, comma_goes, commas_close}
+use Rattle.pli_parse_expression.specs.Operators.{infix_sign}
+use Rattle.pli_parse_expression.specs.Expressions.{SpellsExpression, SpellsOutermost, SpellsReferenceAlone, EndsExpression, EndsReference}
+use Rattle.pli_parse_expression.proofs.SpelledIsRead.{expression_is_read, reference_is_read}
+use Rattle.pli_parse_declaration.specs.DeclarationWords.{behind}
+use Rattle.pli_parse_declaration.specs.DeclarationGrammar.{Anywhere, SpellsListed}
+use Rattle.pli_parse_declaration.specs.DeclarationReading.{read_as, mapped, taken, enclosed, Commas, list_at, separated}
+use Rattle.pli_parse_declaration.proofs.DeclarationReadAgain.{ReadAgain, Anyhow, ListEnds, placed, open_taken, enclosed_again, listed_again, comma_goes, commas_close}
 use Rattle.pli_parse_statement.specs.StatementGrammar.{SpellsIdentifier, SpellsCondition, SpellsClosed, SpellsEnclosed, SpellsOptional}
 use Rattle.pli_parse_statement.specs.StatementReading.{uncounted, expression_in, reference_in, stopped, closing, parenthesized, identifier_at, condition_from, condition_at, if_word, optional_at}
 use Rattle.pli_parse_statement.specs.StatementWords.{behind_word}

@@ -9,13 +9,13 @@ use Rattle.pli_base.specs.declared.syntax.Identifier.{Identifier}
 use Rattle.pli_base.specs.declared.token.Fault.{Fault}
 use Rattle.pli_base.specs.declared.token.Sign.TheVariants.{Semicolon, Equals, OpenParenthesis, CloseParenthesis}
 use Rattle.pli_base.specs.declared.token.TokenText.TheVariants.{Word, Sign}
-use Rattle.pli_grammar.specs.Expressions.{SpellsOutermost, SpellsReferenceAlone, EndsExpression}
+use Rattle.pli_parse_expression.specs.Expressions.{SpellsOutermost, SpellsReferenceAlone, EndsExpression}
 use Rattle.pli_base.specs.Declarations.{Item}
-use Rattle.pli_item.specs.DeclarationWords.{behind}
-use Rattle.pli_item.specs.DeclarationGrammar.{Anywhere, SpellsListed, SpellsDeclaration}
-use Rattle.pli_item.specs.DeclarationReading.{read_as, mapped, taken, if_open, Commas, list_at}
-use Rattle.pli_item.proofs.DeclarationReadAgain.{Anyhow, ListEnds, placed, open_behind, enclosed_again}
-use Rattle.pli_item.proofs.DeclarationItemsAgain.{declaration_again}
+use Rattle.pli_parse_declaration.specs.DeclarationWords.{behind}
+use Rattle.pli_parse_declaration.specs.DeclarationGrammar.{Anywhere, SpellsListed, SpellsDeclaration}
+use Rattle.pli_parse_declaration.specs.DeclarationReading.{read_as, mapped, taken, if_open, Commas, list_at}
+use Rattle.pli_parse_declaration.proofs.DeclarationReadAgain.{Anyhow, ListEnds, placed, open_behind, enclosed_again}
+use Rattle.pli_parse_declaration.proofs.DeclarationItemsAgain.{declaration_again}
 use Rattle.pli_base.specs.Statements.{Allocation, Heading, Control, Statement, Statements, Alternative, Body, Null, Assign, Declare, Procedure, Do, If, On, Revert, Signal, Stop, Allocate, Free, Call, Goto, Return, Put}
 use Rattle.pli_parse_statement.specs.StatementGrammar.{BeginsAssignment, SpellsIdentifier, SpellsKeyed, SpellsClosed, SpellsCondition, SpellsAllocation, SpellsCall, SpellsGoto, SpellsValue, SpellsPut, IsUnitBody, StandsIn, MayReturn}
 use Rattle.pli_parse_statement.specs.StatementReading.{expression_in, reference_in, stopped, closing, identifier_at, is_equals, assignment_at, condition_at, allocation_at, put_at, call_at, Inside, is_labelled, unit_misplaced, standing_misplaced, misplacement, keyed_at, unless_misplaced, body_from}

@@ -9,11 +9,11 @@ use Rattle.pli_base.specs.declared.syntax.Identifier.{Identifier}
 use Rattle.pli_base.specs.declared.syntax.Joining.TheVariants.{Member, Located}
 use Rattle.pli_base.specs.declared.token.Sign.TheVariants.{Colon, Semicolon}
 use Rattle.pli_base.specs.declared.token.TokenText.TheVariants.{Word, Sign}
-use Rattle.pli_grammar.specs.Operators.{infix_sign}
-use Rattle.pli_grammar.specs.Expressions.{SpellsExpression, SpellsArguments, SpellsJoined, SpellsReferenceAlone}
+use Rattle.pli_parse_expression.specs.Operators.{infix_sign}
+use Rattle.pli_parse_expression.specs.Expressions.{SpellsExpression, SpellsArguments, SpellsJoined, SpellsReferenceAlone}
 use Rattle.pli_base.specs.Declarations.{Item}
-use Rattle.pli_item.specs.DeclarationReading.{Commas}
-use Rattle.pli_item.specs.DeclarationGrammar.{SpellsListed, SpellsLevel, SpellsItem, SpellsNames, SpellsDeclaration}
+use Rattle.pli_parse_declaration.specs.DeclarationReading.{Commas}
+use Rattle.pli_parse_declaration.specs.DeclarationGrammar.{SpellsListed, SpellsLevel, SpellsItem, SpellsNames, SpellsDeclaration}
 use Rattle.pli_base.specs.Statements.{Heading, Control, While, Iterate, Allocation, ProcedureOption, Main, Returns, Recursive}
 use Rattle.pli_parse_statement.specs.StatementGrammar.{BeginsAssignment, SpellsKeyed, SpellsClosed, SpellsIdentifier, SpellsParameters, SpellsOptions, SpellsHeading, SpellsControl, SpellsAllocation, SpellsSkip, SpellsItems, SpellsPut, SpellsValue, SpellsGoto}
 use Rattle.pli_parse_statement.specs.StatementReading.{label_at, has_semicolon, is_labelled, Another, next_by, next_of, else_by, else_first}

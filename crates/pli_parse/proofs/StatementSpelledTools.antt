@@ -6,10 +6,10 @@ use Rattle.pli_base.specs.Words.{Tokens, same_name, is_semicolon}
 use Rattle.pli_base.specs.declared.token.Sign.TheVariants as signs
 use Rattle.pli_base.specs.declared.token.TokenText.{TokenText}
 use Rattle.pli_base.specs.declared.token.TokenText.TheVariants as tokens
-use Rattle.pli_grammar.specs.Assignments.{IsAssignment, State, NameWanted, OperandWanted, ListBegun, BehindName, BehindList, BehindOperand, Frame, Target, Whole, Group, Arguments, Move, Stops, Goes, Enters, Leaves, Turns, kind_of, Kind, move, moved, behind_frame, accepts, is_assignment}
-use Rattle.pli_grammar.specs.Assignments as kinds
-use Rattle.pli_grammar.proofs.AcceptedIsSpelled.{accepted_is_assignment}
-use Rattle.pli_grammar.proofs.SpelledIsAccepted.{assignment_accepted}
+use Rattle.pli_parse_expression.specs.Assignments.{IsAssignment, State, NameWanted, OperandWanted, ListBegun, BehindName, BehindList, BehindOperand, Frame, Target, Whole, Group, Arguments, Move, Stops, Goes, Enters, Leaves, Turns, kind_of, Kind, move, moved, behind_frame, accepts, is_assignment}
+use Rattle.pli_parse_expression.specs.Assignments as kinds
+use Rattle.pli_parse_expression.proofs.AcceptedIsSpelled.{accepted_is_assignment}
+use Rattle.pli_parse_expression.proofs.SpelledIsAccepted.{assignment_accepted}
 use Rattle.pli_parse_statement.specs.StatementGrammar.{BeginsAssignment}
 use Rattle.pli_parse_statement.specs.StatementReading.{has_semicolon}
 use Rattle.pli_parse_statement.specs.StatementWords.{up_to_semicolon, is_assigned, begins_assignment}

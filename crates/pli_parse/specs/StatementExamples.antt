@@ -13,7 +13,7 @@ use Rattle.pli_base.specs.declared.token.Sign.TheVariants.{Colon, Semicolon, Ope
 use Rattle.pli_base.specs.declared.token.TokenText.{TokenText}
 use Rattle.pli_base.specs.declared.token.TokenText.TheVariants.{Word, Decimal, Sign}
 use Rattle.pli_base.specs.Declarations as declarations
-use Rattle.pli_item.specs.DeclarationReading.{read_as}
+use Rattle.pli_parse_declaration.specs.DeclarationReading.{read_as}
 use Rattle.pli_base.specs.Statements.{Main, Returns, Recursive, To, By, Iterate, While, Statement, Numbered, Body, Statements, Ended, Before, NoElse, Else, ExternalProcedure}
 use Rattle.pli_base.specs.Statements as body
 use Rattle.pli_parse_statement.specs.StatementReading.{statement_at, unit_of}

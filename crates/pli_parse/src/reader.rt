@@ -1,6 +1,6 @@
 //! Statements, with those inside them.
 ghost use Rattle.std.specs.Prelude.{◌≡◌, ◌≤◌, ◌<◌, ◌+◌, ◌-◌, length, codes, IfOk};
-ghost use Rattle.pli_item.specs.DeclarationAnswers.{Gives, Advances, front_view};
+ghost use Rattle.pli_parse_declaration.specs.DeclarationAnswers.{Gives, Advances, front_view};
 ghost use Rattle.pli_base.specs.Statements.{count, body_count, list_count, alternative_count};
 ghost use Rattle.pli_base.specs.StatementLaws.{boxed_view};
 ghost use Rattle.pli_base.specs.StatementView.{body_view, statement_view, statements_view};
@@ -13,7 +13,7 @@ ghost use Rattle.pli_parse_statement.specs.StatementAnswers.{heading_view, count
 use pli_base::statement::{Body, Procedure, Statement};
 use pli_base::syntax::Identifier;
 use pli_base::{Code, Name, TokenText};
-use pli_item::{Front, ParseError, semicolon_taken};
+use pli_parse_declaration::{Front, ParseError, semicolon_taken};
 use pli_parse_statement::{
     Context, Counted, Heading, Keyword, Kind, Listing, Misplacement, Next, Standing, assignment_at,
     bad_label, condition_at, control_at, else_first, expression_in, fault, has_semicolon,

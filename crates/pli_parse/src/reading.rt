@@ -2,7 +2,7 @@
 ghost use Rattle.std.specs.Prelude.{◌≡◌, ℕ, Ok, None};
 ghost use Rattle.pli_base.specs.Words.{Tokens};
 ghost use Rattle.pli_base.specs.Reading.{Front};
-ghost use Rattle.pli_item.specs.DeclarationGrammar.{SpellsFront};
+ghost use Rattle.pli_parse_declaration.specs.DeclarationGrammar.{SpellsFront};
 ghost use Rattle.pli_base.specs.Statements as tree;
 ghost use Rattle.pli_base.specs.Statements.{AwaitsElse};
 ghost use Rattle.pli_parse_statement.specs.StatementWords.{Context};

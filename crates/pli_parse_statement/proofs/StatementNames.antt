@@ -4,10 +4,10 @@ use Rattle.pli_base.specs.Name.{Name}
 use Rattle.pli_base.specs.Words.{Tokens}
 use Rattle.pli_base.specs.declared.code.Code.TheVariants.{NameExpected}
 use Rattle.pli_base.specs.declared.token.TokenText.TheVariants.{Word}
-use Rattle.pli_item.specs.DeclarationWords.{name_first}
-use Rattle.pli_item.specs.DeclarationReading.{expected, read_as}
-use Rattle.pli_item.specs.DeclarationReading as items
-use Rattle.pli_item.proofs.DeclarationNames as names
+use Rattle.pli_parse_declaration.specs.DeclarationWords.{name_first}
+use Rattle.pli_parse_declaration.specs.DeclarationReading.{expected, read_as}
+use Rattle.pli_parse_declaration.specs.DeclarationReading as items
+use Rattle.pli_parse_declaration.proofs.DeclarationNames as names
 use Rattle.pli_parse_statement.specs.StatementReading.{identifier_at}
 
 same : (p : ℕ) (ts : Tokens) → identifier_at p ts ≡ items.identifier_at p ts

@@ -3,11 +3,11 @@ use Rattle.std.proofs.Common.{◌≡◌, ◌<◌, ℕ, ◌+◌, suc, zero, List,
 use Rattle.pli_base.specs.Words.{Tokens}
 use Rattle.pli_base.specs.Reading.{◌>>=◌, Front}
 use Rattle.pli_base.specs.declared.token.Fault.{Fault}
-use Rattle.pli_item.specs.declared.answer.ParseError.{ParseError}
-use Rattle.pli_item.specs.declared.answer.ParseError.TheVariants as errors
-use Rattle.pli_item.specs.DeclarationAnswers.{Fails}
-use Rattle.pli_item.specs.DeclarationReading.{read_as, mapped, returned_at}
-use Rattle.pli_item.proofs.DeclarationLists.{with_done}
+use Rattle.pli_parse_declaration.specs.declared.answer.ParseError.{ParseError}
+use Rattle.pli_parse_declaration.specs.declared.answer.ParseError.TheVariants as errors
+use Rattle.pli_parse_declaration.specs.DeclarationAnswers.{Fails}
+use Rattle.pli_parse_declaration.specs.DeclarationReading.{read_as, mapped, returned_at}
+use Rattle.pli_parse_declaration.proofs.DeclarationLists.{with_done}
 use Rattle.pli_base.specs.Statements.{ProcedureOption}
 use Rattle.pli_parse_statement.specs.StatementReading.{OptionWord, OptionsWord, ReturnsWord, RecursiveWord, option_first, options_by, options_from}
 use Rattle.pli_parse_statement.specs.StatementAnswers.{option_of}

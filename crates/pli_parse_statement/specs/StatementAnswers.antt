@@ -4,7 +4,7 @@ use Rattle.pli_base.specs.Words.{Tokens}
 use Rattle.pli_base.specs.Reading.{Front}
 use Rattle.pli_base.specs.declared.token.Fault.{Fault}
 use Rattle.pli_base.specs.declared.syntax.Identifier.{Identifier}
-use Rattle.pli_item.specs.DeclarationReading.{mapped, read_as, returned_at}
+use Rattle.pli_parse_declaration.specs.DeclarationReading.{mapped, read_as, returned_at}
 use Rattle.pli_base.specs.Statements as tree
 use Rattle.pli_base.specs.StatementView as views
 use Rattle.pli_parse_statement.specs.StatementWords.{Context}
@@ -17,10 +17,10 @@ use Rattle.pli_parse_statement.specs.declared.first.Misplacement.TheVariants as 
 use Rattle.pli_parse_statement.specs.declared.first.Next.{Next}
 use Rattle.pli_parse_statement.specs.declared.first.Next.TheVariants as nexts
 use Rattle.pli_parse_statement.specs.declared.heading.Heading.{Heading}
-use Rattle.pli_expression.specs.declared.front.ParseError.TheVariants as expressions
-use Rattle.pli_expression.specs.declared.front.ParseError as expression
-use Rattle.pli_item.specs.declared.answer.ParseError.{ParseError}
-use Rattle.pli_item.specs.declared.answer.ParseError.TheVariants as errors
+use Rattle.pli_parse_expression.specs.declared.front.ParseError.TheVariants as expressions
+use Rattle.pli_parse_expression.specs.declared.front.ParseError as expression
+use Rattle.pli_parse_declaration.specs.declared.answer.ParseError.{ParseError}
+use Rattle.pli_parse_declaration.specs.declared.answer.ParseError.TheVariants as errors
 use Rattle.pli_parse_statement.specs.StatementReading as reading
 use Rattle.pli_parse_statement.specs.declared.keyword.Keyword.{Keyword}
 use Rattle.pli_parse_statement.specs.declared.keyword.Keyword.TheVariants.{GoTo}

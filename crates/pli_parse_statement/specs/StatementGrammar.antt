@@ -7,11 +7,11 @@ use Rattle.pli_base.specs.Syntax.{Expression, Reference, Arguments}
 use Rattle.pli_base.specs.declared.syntax.Identifier.{Identifier}
 use Rattle.pli_base.specs.declared.token.Sign.TheVariants.{Colon, Semicolon, OpenParenthesis, CloseParenthesis, Equals}
 use Rattle.pli_base.specs.declared.token.TokenText.TheVariants.{Word, Sign}
-use Rattle.pli_grammar.specs.Operators.{nesting_limit}
-use Rattle.pli_grammar.specs.Assignments.{IsAssignment}
-use Rattle.pli_grammar.specs.Expressions.{SpellsArguments, SpellsOutermost, SpellsReferenceAlone, GivenFits, Every, OutermostFits, Deeper}
-use Rattle.pli_item.specs.DeclarationReading.{Commas}
-use Rattle.pli_item.specs.DeclarationGrammar.{SpellsListed, SpellsReturned, SpellsDeclaration}
+use Rattle.pli_parse_expression.specs.Operators.{nesting_limit}
+use Rattle.pli_parse_expression.specs.Assignments.{IsAssignment}
+use Rattle.pli_parse_expression.specs.Expressions.{SpellsArguments, SpellsOutermost, SpellsReferenceAlone, GivenFits, Every, OutermostFits, Deeper}
+use Rattle.pli_parse_declaration.specs.DeclarationReading.{Commas}
+use Rattle.pli_parse_declaration.specs.DeclarationGrammar.{SpellsListed, SpellsReturned, SpellsDeclaration}
 use Rattle.pli_base.specs.Statements.{ProcedureOption, Main, Returns, Recursive, Heading, Range, To, By, Repeat, Control, While, Iterate, Allocation, Statement, Numbered, Body, Null, Assign, Declare, Procedure, Begin, Do, If, On, Revert, Signal, Stop, Allocate, Free, Call, Goto, Return, Put, Statements, Ended, Before, Alternative, NoElse, Else, ExternalProcedure, count, list_count, AwaitsElse}
 use Rattle.pli_parse_statement.specs.StatementWords.{Context, standing, the_unit, a_procedure, keyword_of, condition_of}
 use Rattle.pli_parse_statement.specs.declared.keyword.Keyword.{Keyword}

@@ -12,11 +12,11 @@ use Rattle.pli_base.specs.declared.token.Fault.{Fault}
 use Rattle.pli_base.specs.declared.token.Sign.TheVariants.{Colon, OpenParenthesis, Equals}
 use Rattle.pli_base.specs.declared.token.TokenText.{TokenText}
 use Rattle.pli_base.specs.declared.token.TokenText.TheVariants.{Word, Sign}
-use Rattle.pli_grammar.specs.Operators.{nesting_limit}
-use Rattle.pli_grammar.specs.Reading.{expression_at, reference_at, arguments_at, argument_of}
-use Rattle.pli_grammar.specs.Reading as expressions
-use Rattle.pli_item.specs.DeclarationWords.{behind}
-use Rattle.pli_item.specs.DeclarationReading.{expected, read_as, mapped, taken, enclosed, if_open, or_none, Commas, list_at, declaration_at, returned_at}
+use Rattle.pli_parse_expression.specs.Operators.{nesting_limit}
+use Rattle.pli_parse_expression.specs.Reading.{expression_at, reference_at, arguments_at, argument_of}
+use Rattle.pli_parse_expression.specs.Reading as expressions
+use Rattle.pli_parse_declaration.specs.DeclarationWords.{behind}
+use Rattle.pli_parse_declaration.specs.DeclarationReading.{expected, read_as, mapped, taken, enclosed, if_open, or_none, Commas, list_at, declaration_at, returned_at}
 use Rattle.pli_base.specs.Statements.{ProcedureOption, Main, Returns, Recursive, Heading, Range, To, By, Repeat, Control, While, Iterate, Allocation, Statement, Numbered, Body, Statements, Ended, Before, Alternative, NoElse, Else, ExternalProcedure, count}
 use Rattle.pli_base.specs.Statements as body
 use Rattle.pli_parse_statement.specs.StatementWords.{Context, standing, the_unit, a_procedure, condition_of, behind_word, begins_assignment, Kind, Assigns, Empty, Keyed, Unknown, kind_of}

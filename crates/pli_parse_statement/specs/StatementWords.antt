@@ -4,8 +4,8 @@ use Rattle.pli_base.specs.Name.{Name}
 use Rattle.pli_base.specs.Words.{Tokens, same_name}
 use Rattle.pli_base.specs.declared.token.Sign.TheVariants as signs
 use Rattle.pli_base.specs.declared.token.TokenText.TheVariants as tokens
-use Rattle.pli_grammar.specs.Assignments.{is_assignment}
-use Rattle.pli_item.specs.DeclarationWords.{is_either}
+use Rattle.pli_parse_expression.specs.Assignments.{is_assignment}
+use Rattle.pli_parse_declaration.specs.DeclarationWords.{is_either}
 use Rattle.pli_parse_statement.specs.declared.keyword.Keyword.{Keyword}
 use Rattle.pli_parse_statement.specs.declared.keyword.Keyword.TheVariants.{Procedure, Declare, End, Begin, Do, If, On, Revert, Signal, Stop, Allocate, Free, Call, Goto, GoTo, Return, Put}
 use Rattle.pli_parse_statement.specs.declared.keyword.Standing.{Standing}

@@ -3,17 +3,19 @@ ghost use Rattle.std.specs.Option.{option_copied};
 ghost use Rattle.std.specs.Prelude.{◌≡◌, ◌≤◌, ◌+◌, length, map, option_map, true, IfOk, IfSome};
 ghost use Rattle.pli_base.specs.Words.{same_name};
 ghost use Rattle.pli_base.specs.SyntaxView.{expression_view, reference_view, arguments_view};
-ghost use Rattle.pli_grammar.specs.Reading.{arguments_at, argument_of, inside};
-ghost use Rattle.pli_item.specs.DeclarationReading.{Commas, list_at, taken};
-ghost use Rattle.pli_item.specs.DeclarationAnswers.{Gives, Advances, Continues, front_view};
+ghost use Rattle.pli_parse_expression.specs.Reading.{arguments_at, argument_of, inside};
+ghost use Rattle.pli_parse_declaration.specs.DeclarationReading.{Commas, list_at, taken};
+ghost use Rattle.pli_parse_declaration.specs.DeclarationAnswers.{Gives, Advances, Continues, front_view};
 ghost use Rattle.pli_parse_statement.specs.StatementWords.{behind_word};
 ghost use Rattle.pli_parse_statement.specs.StatementReading.{uncounted, expression_in, reference_in, parenthesized, identifier_at, is_equals};
 ghost use Rattle.pli_parse_statement.specs.StatementAnswers.{error_view};
 
 use pli_base::syntax::{Expression, Identifier, Reference};
 use pli_base::{Code, Fault, Name, Sign, TokenText};
-use pli_expression::{outermost_arguments_at, outermost_expression_at};
-use pli_item::{Front, ParseError, behind_comma, close_taken, fault_at, name_first, open_taken};
+use pli_parse_declaration::{
+    Front, ParseError, behind_comma, close_taken, fault_at, name_first, open_taken,
+};
+use pli_parse_expression::{outermost_arguments_at, outermost_expression_at};
 use std::alloc::Global;
 
 /// The fault at the token `at`.
@@ -24,12 +26,12 @@ pub fn fault(code: Code, at: u32) -> ParseError
 }
 
 /// The same error, as the parser of statements has it.
-fn converted(error: pli_expression::ParseError) -> ParseError
+fn converted(error: pli_parse_expression::ParseError) -> ParseError
     ensures { result ≡ error_view error }
 {
     match error {
-        pli_expression::ParseError::Fault(fault) => ParseError::Fault(fault),
-        pli_expression::ParseError::OutOfMemory => ParseError::OutOfMemory,
+        pli_parse_expression::ParseError::Fault(fault) => ParseError::Fault(fault),
+        pli_parse_expression::ParseError::OutOfMemory => ParseError::OutOfMemory,
     }
 }
 
@@ -57,7 +59,7 @@ pub fn behind_word<'a>(word: &[u8], texts: &'a [TokenText]) -> Option<&'a [Token
 }
 
 /// The tokens behind `=`, which must stand.
-#[tactic(auto, unfolding(pli_item::specs::DeclarationReading::taken, pli_item::specs::DeclarationWords::behind))]
+#[tactic(auto, unfolding(pli_parse_declaration::specs::DeclarationReading::taken, pli_parse_declaration::specs::DeclarationWords::behind))]
 pub fn equals_taken(code: Code, at: u32, texts: &[TokenText]) -> Result<&[TokenText], ParseError>
     ensures value { Gives (λ rest. rest.now) result (taken is_equals code at texts.now) }
     ensures place { IfOk result (λ rest. length rest.now + 1 ≡ length texts.now) }
@@ -102,7 +104,7 @@ pub fn reference_in<'a>(
     ensures value { Gives (front_view reference_view) result (reference_in levels at texts.now) }
     ensures place { IfOk result (Advances at texts.now) }
 {
-    match pli_expression::reference_at(alloc, levels, at, texts) {
+    match pli_parse_expression::reference_at(alloc, levels, at, texts) {
         Ok(read) => Ok(Front {
             value: read.value,
             next: read.next,

@@ -2,9 +2,9 @@
 ghost use Rattle.std.specs.Prelude.{◌≡◌, ℕ, ◌≤◌, ◌<◌, ◌+◌, length, map, IfOk};
 ghost use Rattle.pli_base.specs.Words.{is_word, is_open};
 ghost use Rattle.pli_base.specs.declared.syntax.Identifier as identifier;
-ghost use Rattle.pli_item.specs.DeclarationReading.{taken, mapped, or_none, if_open, list_at, Commas};
-ghost use Rattle.pli_item.specs.DeclarationWords.{behind};
-ghost use Rattle.pli_item.specs.DeclarationAnswers.{Gives, Advances, Continues, front_view};
+ghost use Rattle.pli_parse_declaration.specs.DeclarationReading.{taken, mapped, or_none, if_open, list_at, Commas};
+ghost use Rattle.pli_parse_declaration.specs.DeclarationWords.{behind};
+ghost use Rattle.pli_parse_declaration.specs.DeclarationAnswers.{Gives, Advances, Continues, front_view};
 ghost use Rattle.pli_base.specs.StatementView as views;
 ghost use Rattle.pli_parse_statement.specs.StatementReading.{identifier_at, main_at, options_from, heading_at};
 ghost use Rattle.pli_parse_statement.specs.StatementAnswers.{heading_view, option_view, option_of};
@@ -14,7 +14,7 @@ use crate::word::{OptionWord, option_first};
 use pli_base::statement::ProcedureOption;
 use pli_base::syntax::Identifier;
 use pli_base::{Code, TokenText};
-use pli_item::{
+use pli_parse_declaration::{
     Front, ParseError, behind_open, close_taken, fault_at, open_taken, returned_at, semicolon_taken,
 };
 use std::alloc::Global;
@@ -37,7 +37,7 @@ fn is_word(text: &TokenText, word: &[u8]) -> bool
 }
 
 /// The tokens behind the word, which must stand.
-#[tactic(auto, unfolding(pli_item::specs::DeclarationReading::taken, pli_item::specs::DeclarationWords::behind))]
+#[tactic(auto, unfolding(pli_parse_declaration::specs::DeclarationReading::taken, pli_parse_declaration::specs::DeclarationWords::behind))]
 pub fn word_taken<'a>(
     word: &[u8],
     code: Code,

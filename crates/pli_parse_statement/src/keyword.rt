@@ -1,6 +1,6 @@
 //! The keywords with which statements begin, and where statements stand.
 ghost use Rattle.std.specs.Prelude.{◌≡◌, IfSome};
-ghost use Rattle.pli_item.specs.DeclarationWords.{is_either};
+ghost use Rattle.pli_parse_declaration.specs.DeclarationWords.{is_either};
 ghost use Rattle.pli_parse_statement.specs.StatementWords.{keyword_of, condition_of};
 ghost use Rattle.pli_parse_statement.specs.StatementAnswers.{words};
 

@@ -1,10 +1,10 @@
 //! Statements with no statement inside.
 ghost use Rattle.std.specs.Prelude.{◌≡◌, ◌≤◌, ◌+◌, ◌<◌, length, map, is_some, IfOk, None};
-ghost use Rattle.pli_item.specs.DeclarationReading.{Commas, list_at, if_open, mapped, declaration_at};
-ghost use Rattle.pli_item.specs.DeclarationWords.{behind};
+ghost use Rattle.pli_parse_declaration.specs.DeclarationReading.{Commas, list_at, if_open, mapped, declaration_at};
+ghost use Rattle.pli_parse_declaration.specs.DeclarationWords.{behind};
 ghost use Rattle.pli_base.specs.Words.{is_open};
 ghost use Rattle.pli_base.specs.SyntaxView.{expression_view};
-ghost use Rattle.pli_item.specs.DeclarationAnswers.{Gives, Advances, Continues, front_view};
+ghost use Rattle.pli_parse_declaration.specs.DeclarationAnswers.{Gives, Advances, Continues, front_view};
 ghost use Rattle.pli_base.specs.Statements as tree;
 ghost use Rattle.pli_base.specs.Statements.{body_count};
 ghost use Rattle.pli_base.specs.StatementView.{allocation_view, body_view};
@@ -21,7 +21,7 @@ use crate::word::{PlaceWord, place_first};
 use pli_base::statement::{Allocation, Body, Condition};
 use pli_base::syntax::{Expression, Identifier};
 use pli_base::{Code, TokenText};
-use pli_item::{
+use pli_parse_declaration::{
     Front, ParseError, behind_comma, behind_open, close_taken, declaration_at, fault_at,
     semicolon_taken,
 };
@@ -73,7 +73,7 @@ pub fn assignment_at<'a>(
 }
 
 /// A condition.
-#[tactic(auto, unfolding(crate::specs::StatementReading::condition_at, pli_item::specs::DeclarationReading::fault_at))]
+#[tactic(auto, unfolding(crate::specs::StatementReading::condition_at, pli_parse_declaration::specs::DeclarationReading::fault_at))]
 pub fn condition_at(at: u32, texts: &[TokenText]) -> Result<Front<'_, Condition>, ParseError>
     requires { at + length texts.now ≤ 200000 }
     ensures value { Gives (front_view (λ c. c)) result (condition_at at texts.now) }

@@ -1,5 +1,5 @@
-use pli_outline::{Region, RegionKind};
-use pli_region::Nesting;
+use pli_declare_constructs::Nesting;
+use pli_declare_outline::{Region, RegionKind};
 use std::alloc::Global;
 use std::test::Fail;
 

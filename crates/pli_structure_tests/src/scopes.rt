@@ -1,5 +1,5 @@
 use pli_base::Name;
-use pli_scope::{
+use pli_declare_scopes::{
     Block, Declared, Found, Meant, Scope, Standing, Verdict, Written, bad_levels_are_found,
     examples_of_levels, examples_of_references, examples_of_repeats, later_is_fault,
     meant_is_means, owners_are_nearest, standings, verdicts,

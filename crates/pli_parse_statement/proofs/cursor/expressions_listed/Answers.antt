@@ -2,9 +2,9 @@ use Rattle.std.proofs.Common.{arith, map, ◌≡◌, ◌++◌, ◌∷◌, []}
 use Rattle.std.proofs.lemmas.Result.{err_from_is_err_and}
 use Rattle.std.proofs.lemmas.List.{map_push}
 use Rattle.pli_base.specs.SyntaxView.{expression_view}
-use Rattle.pli_item.specs.DeclarationReading.{Commas, list_at}
-use Rattle.pli_item.specs.DeclarationAnswers.{front_view}
-use Rattle.pli_item.proofs.DeclarationLists.{fails, goes_on, is_done}
+use Rattle.pli_parse_declaration.specs.DeclarationReading.{Commas, list_at}
+use Rattle.pli_parse_declaration.specs.DeclarationAnswers.{front_view}
+use Rattle.pli_parse_declaration.proofs.DeclarationLists.{fails, goes_on, is_done}
 use Rattle.pli_parse_statement.specs.StatementReading.{expression_in}
 use Rattle.pli_parse_statement.proofs.cursor.expressions_listed.Goals as goal
 

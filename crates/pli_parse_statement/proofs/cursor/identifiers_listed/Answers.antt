@@ -3,10 +3,10 @@ use Rattle.std.specs.Option.{option_map}
 use Rattle.pli_base.specs.Reading.{Front}
 use Rattle.pli_base.specs.declared.code.Code.TheVariants.{NameExpected}
 use Rattle.pli_base.specs.declared.syntax.Identifier.{Identifier}
-use Rattle.pli_item.specs.DeclarationReading.{Commas, fault_at, list_at}
-use Rattle.pli_item.specs.declared.answer.ParseError.TheVariants as errors
+use Rattle.pli_parse_declaration.specs.DeclarationReading.{Commas, fault_at, list_at}
+use Rattle.pli_parse_declaration.specs.declared.answer.ParseError.TheVariants as errors
 use Rattle.pli_parse_statement.proofs.StatementNames.{no_identifier, identifier_read}
-use Rattle.pli_item.proofs.DeclarationLists.{Left, fails, goes_on, is_done}
+use Rattle.pli_parse_declaration.proofs.DeclarationLists.{Left, fails, goes_on, is_done}
 use Rattle.pli_parse_statement.specs.StatementReading.{identifier_at}
 use Rattle.pli_parse_statement.proofs.cursor.identifiers_listed.Goals as goal
 

@@ -1,6 +1,6 @@
 use Rattle.std.proofs.Common.{◌≡◌, ◌≤◌, ◌+◌, length}
-use Rattle.pli_item.specs.DeclarationReading.{Commas, list_at}
-use Rattle.pli_item.proofs.DeclarationLists.{Left}
+use Rattle.pli_parse_declaration.specs.DeclarationReading.{Commas, list_at}
+use Rattle.pli_parse_declaration.proofs.DeclarationLists.{Left}
 use Rattle.pli_parse_statement.specs.StatementReading.{identifier_at}
 use Rattle.pli_parse_statement.proofs.cursor.identifiers_listed.Given as goal
 

@@ -1,7 +1,7 @@
 use Rattle.std.proofs.Common.{◌≡◌, ◌≤◌, ◌+◌, length, map}
 use Rattle.pli_base.specs.SyntaxView.{reference_view}
-use Rattle.pli_item.specs.DeclarationReading.{Commas, list_at}
-use Rattle.pli_item.proofs.DeclarationLists.{Left}
+use Rattle.pli_parse_declaration.specs.DeclarationReading.{Commas, list_at}
+use Rattle.pli_parse_declaration.proofs.DeclarationLists.{Left}
 use Rattle.pli_parse_statement.specs.StatementReading.{reference_in}
 use Rattle.pli_parse_statement.proofs.cursor.references_listed.Given as goal
 

@@ -1,7 +1,7 @@
 use Rattle.std.proofs.Common.{arith, map, ◌≡◌, ◌+◌, ◌++◌, ◌∷◌, [], length}
 use Rattle.std.proofs.lemmas.Result.{err_from_is_err_and}
 use Rattle.std.proofs.lemmas.List.{map_push}
-use Rattle.pli_item.specs.DeclarationAnswers.{front_view}
+use Rattle.pli_parse_declaration.specs.DeclarationAnswers.{front_view}
 use Rattle.pli_parse_statement.specs.StatementReading.{options_from}
 use Rattle.pli_parse_statement.specs.StatementAnswers as answers
 use Rattle.pli_base.specs.StatementView.{option_view}

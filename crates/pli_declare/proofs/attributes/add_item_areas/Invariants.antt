@@ -1,0 +1,12 @@
+use Rattle.std.proofs.Common.{◌≡◌, ◌++◌, drop, map}
+use Rattle.std.specs.List.{flat_map}
+use Rattle.pli_base.specs.DeclarationView.{item_view}
+use Rattle.pli_declare_outline.specs.OutlineView.{outline_view}
+use Rattle.pli_declare.specs.Resolved.{item_names, area_in}
+use Rattle.pli_declare.proofs.attributes.add_item_areas.Given as goal
+
+-- the uses so far in front of those of what is left
+abbrev pub invariant-loop-item : goal.invariant-loop-item
+invariant-loop-item l =
+    let named = item_names (outline_view l.outline) l.here area_in in
+    l.areas.items ++ flat_map named (map item_view (drop l.item-index l.items)) ≡ l.initial.areas.items ++ flat_map named (map item_view l.items)

@@ -1,0 +1,11 @@
+use Rattle.std.proofs.Common.{◌≡◌, ◌++◌, List, drop, map}
+use Rattle.std.specs.List.{flat_map}
+use Rattle.pli_base.specs.Declarations.{SimpleAttribute as Said}
+use Rattle.pli_base.specs.DeclarationView.{described_view}
+use Rattle.pli_declare.specs.Resolved.{plain_of, locator_in}
+use Rattle.pli_declare.proofs.named.described_locator.Given as goal
+
+-- what is left names what all of it names
+abbrev pub invariant-loop-attribute : goal.invariant-loop-attribute
+invariant-loop-attribute l =
+    (more : List Said) → locator_in (flat_map plain_of (map described_view (drop l.attribute-index l.attributes)) ++ more) ≡ locator_in (flat_map plain_of (map described_view l.attributes) ++ more)

@@ -1,0 +1,111 @@
+-- A unit whose declarations have no faults: what each block declares, and what each use of a name means.
+use Rattle.std.specs.Prelude.{ℕ, Option, Some, List, [], ◌∷◌, map, length, if◌then◌else◌}
+use Rattle.std.specs.List.{flat_map, slice_get}
+use Rattle.pli_base.specs.Name.{Name}
+use Rattle.pli_base.specs.Declarations.{Item, SimpleAttribute, Offset, Based, DescribedAttribute, Plain, Attribute, Simple, Entry, Returns}
+use Rattle.pli_base.specs.Statements.{ExternalProcedure}
+use Rattle.pli_base.specs.declared.syntax.Identifier.{Identifier}
+use Rattle.pli_declare_outline.specs.Outlines.{Region, Mark, Declared, Entered, Used, Jumped, Placed, Outline, outline_of}
+use Rattle.pli_declare_constructs.specs.Regions.{blocks_round}
+use Rattle.pli_declare_scopes.specs.Scopes.{meant}
+use Rattle.pli_declare_scopes.specs.declared.found.Meant.{Meant}
+use Rattle.pli_declare_scopes.specs.declared.found.Meant.TheVariants.{Item as Means, Ambiguous as Several, NotDeclared as Nothing}
+use Rattle.pli_declare_tables.specs.Tables.{entries_in, unit_entries, inner_marks, numbers_from, scope_of}
+use Rattle.pli_declare_variables.specs.Declarations.{Declaration, declared_in, returned_by}
+use Rattle.pli_declare.specs.Resolution.{is_function, names_of, parameters_of}
+use Rattle.pli_declare.specs.declared.resolved.Use.{Use}
+use Rattle.pli_declare.specs.declared.resolved.Target.TheVariants.{Name as AName, Function as AFunction}
+
+-- what a block declares, and the names of its parameters, if it is a procedure
+pub record Block : Type 0 where
+  pub parameters : List Name
+  pub declarations : List Declaration
+
+-- the outermost block, which declares the unit's own name; for each region what it declares, if it is a block; what each use means; for each
+-- declared name the area of its OFFSET, or of that in its RETURNS, and the locator of its BASED; all in the order of the text
+pub record Resolved : Type 0 where
+  pub regions : List Region
+  pub outermost : List Declaration
+  pub blocks : List Block
+  pub uses : List Use
+  pub areas : List Use
+  pub locators : List Use
+
+abbrev pub block_at : Outline → ℕ → Block
+block_at o block = record { parameters = parameters_of o block; declarations = declared_in (entries_in o block) (parameters_of o block) }
+
+-- uses
+
+abbrev pub use_of : (at : ℕ) → (block : Option ℕ) → (number : ℕ) → Use
+use_of at block number = record { at = at; target = AName block number }
+
+-- what is meant where a name that is not declared is used as this; names that are ambiguous are a fault
+abbrev pub used_as : Outline → (here at : ℕ) → (otherwise : List Use) → Meant → List Use
+used_as o here at otherwise (Means number out) = use_of at (slice_get (blocks_round o.regions here) out) number ∷ []
+used_as o here at otherwise Several = []
+used_as o here at otherwise Nothing = otherwise
+
+abbrev pub function_use : (at : ℕ) → List Identifier → List Use
+function_use at names = if is_function names then record { at = at; target = AFunction } ∷ [] else []
+
+-- references, at their first names, and the labels of GOTO
+abbrev pub uses_at : Outline → (here : ℕ) → Mark → List Use
+uses_at o here (Used (i ∷ is)) = used_as o here i.at (function_use i.at (i ∷ is)) (meant (scope_of o here) (names_of (i ∷ is)))
+uses_at o here (Jumped label) = used_as o here label.at [] (meant (scope_of o here) (label.name ∷ []))
+uses_at o here mark = []
+
+-- names in declarations, at the declared names
+
+abbrev pub named_at : Outline → (here : ℕ) → List Name → Identifier → List Use
+named_at o here names i = used_as o here i.at [] (meant (scope_of o here) names)
+
+-- the attributes of a result
+abbrev pub plain_of : DescribedAttribute → List SimpleAttribute
+plain_of (Plain attribute) = attribute ∷ []
+plain_of other = []
+
+abbrev pub simple_of : Attribute → List SimpleAttribute
+simple_of (Simple attribute) = attribute ∷ []
+simple_of (Entry parameters) = []
+simple_of (Returns attributes) = flat_map plain_of attributes
+
+-- the first area that is named; without any there are no names
+abbrev pub area_in : List SimpleAttribute → List Name
+area_in [] = []
+area_in (Offset (Some name) ∷ more) = name ∷ []
+area_in (attribute ∷ more) = area_in more
+
+abbrev pub locator_in : List SimpleAttribute → List Name
+locator_in [] = []
+locator_in (Based (Some names) ∷ more) = names
+locator_in (attribute ∷ more) = locator_in more
+
+abbrev pub item_names : Outline → (here : ℕ) → (List SimpleAttribute → List Name) → Item → List Use
+item_names o here names_in item = flat_map (named_at o here (names_in (flat_map simple_of item.attributes))) item.names
+
+abbrev pub areas_at : Outline → (here : ℕ) → Mark → List Use
+areas_at o here (Declared items) = flat_map (item_names o here area_in) items
+areas_at o here (Entered heading region) = named_at o here (area_in (flat_map plain_of (flat_map (λ attributes. attributes) (returned_by heading.options)))) heading.name
+areas_at o here mark = []
+
+abbrev pub locators_at : Outline → (here : ℕ) → Mark → List Use
+locators_at o here (Declared items) = flat_map (item_names o here locator_in) items
+locators_at o here mark = []
+
+-- of all marks behind the first
+abbrev pub of_marks : (ℕ → Mark → List Use) → List Placed → List Use
+of_marks uses ps = flat_map (λ p. uses p.region p.mark) ps
+
+abbrev pub resolution_of : Outline → Resolved
+resolution_of o = record {
+  regions = o.regions;
+  outermost = declared_in (unit_entries o.marks) [];
+  blocks = map (block_at o) (numbers_from 0 (length o.regions));
+  uses = of_marks (uses_at o) (inner_marks o.marks);
+  areas = of_marks (areas_at o) (inner_marks o.marks);
+  locators = of_marks (locators_at o) (inner_marks o.marks);
+}
+
+-- the unit, resolved
+unfoldable pub resolved_of : ExternalProcedure → Resolved
+resolved_of u = resolution_of (outline_of u)

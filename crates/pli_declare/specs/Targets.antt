@@ -1,0 +1,9 @@
+-- What a name means, as a use of it.
+use Rattle.std.specs.Prelude.{ℕ, Option, Some, None, List, [], ◌∷◌}
+use Rattle.pli_declare.specs.declared.resolved.Target.{Target}
+use Rattle.pli_declare.specs.declared.resolved.Use.{Use}
+
+-- what the name at a token means, if it means anything
+abbrev pub target_uses : (at : ℕ) → Option Target → List Use
+target_uses at None = []
+target_uses at (Some target) = record { at = at; target = target } ∷ []

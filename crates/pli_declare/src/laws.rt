@@ -1,0 +1,26 @@
+//! Worked examples of the faults of declarations, and of resolved units.
+ghost use Rattle.pli_declare.specs.ResolutionExamples.{OfOneName, OfItems, TwoMembers, UndeclaredNames, Groups, Units, Blocks, Locators, Parameters};
+ghost use Rattle.pli_declare.specs.ResolvedExamples.{OneVariable, Hiding, Jump, Located, Areas, OfMembers};
+
+/// Outlines of units with their faults.
+pub fn worked_examples()
+    ensures of_one_name { OfOneName }
+    ensures of_items { OfItems }
+    ensures two_members { TwoMembers }
+    ensures undeclared_names { UndeclaredNames }
+    ensures groups { Groups }
+    ensures units { Units }
+    ensures blocks { Blocks }
+    ensures locators { Locators }
+    ensures parameters { Parameters }
+{}
+
+/// Units without faults, resolved.
+pub fn resolved_examples()
+    ensures one_variable { OneVariable }
+    ensures hiding { Hiding }
+    ensures jump { Jump }
+    ensures located { Located }
+    ensures areas { Areas }
+    ensures of_members { OfMembers }
+{}

@@ -1,0 +1,82 @@
+//! What names mean where they stand.
+ghost use Rattle.std.specs.Prelude.{◌≡◌};
+ghost use Rattle.pli_declare_outline.specs.OutlineView.{outline_view, regions_view};
+ghost use Rattle.pli_declare_scopes.specs.Scopes.{found_in};
+ghost use Rattle.pli_declare_tables.specs.Answers.{AreOf};
+ghost use Rattle.pli_declare_tables.specs.TableView.{entries_view};
+ghost use Rattle.pli_declare.specs.Answers.{IsLookedUp, IsWithin, entries_at};
+ghost use Rattle.pli_declare.specs.Looking.{looked_there};
+
+use pli_base::Name;
+use pli_declare_constructs::Nesting;
+use pli_declare_outline::Outline;
+use pli_declare_scopes::{Block, Found};
+use pli_declare_tables::{Table, Tables};
+
+/// What names mean.
+#[derive(Clone, Copy, Debug, PartialEq, Eq)]
+pub enum Looked {
+    /// The name of this number in a block, by its region; or the unit's own name, which the outermost block declares.
+    Found { block: Option<usize>, number: usize },
+    /// A10 AMBIGUOUS.
+    Ambiguous,
+    /// A1 NOT DECLARED.
+    NotDeclared,
+}
+
+/// What names mean in the block that decides, which has this region, or none if it is the outermost.
+fn decided(items: &Block, names: &[Name], block: Option<usize>) -> Looked
+    ensures { result ≡ looked_there block (found_in items.now names.now) }
+{
+    match items.find(names) {
+        Found::Nothing => Looked::NotDeclared,
+        Found::One(number) => Looked::Found { block, number },
+        Found::Several => Looked::Ambiguous,
+    }
+}
+
+/// What names that stand in a region mean: the innermost block round it that declares the first of them decides (X3.74), and at
+/// last the outermost, which declares the unit's own name.
+pub(crate) fn look_up(
+    outline: &Outline,
+    nesting: &Nesting,
+    tables: &Tables,
+    region: usize,
+    names: &[Name],
+) -> Looked
+    requires nested { nesting.now ≡ regions_view outline.now.regions.items }
+    requires tabled { AreOf tables.now (outline_view outline.now) }
+    ensures { IsLookedUp result (outline_view outline.now) region names.now }
+{
+    let Some(first) = names.first() else {
+        return Looked::NotDeclared;
+    };
+    let mut here = nesting.innermost(region);
+    while let Some(block) = here {
+        let items = &tables.blocks[block].block;
+        if items.declares(*first) {
+            return decided(items, names, here);
+        }
+        here = nesting.outward(block);
+    }
+    if tables.unit.block.declares(*first) {
+        return decided(&tables.unit.block, names, None);
+    }
+    Looked::NotDeclared
+}
+
+/// The table of a block by its region, or that of the outermost one.
+pub(crate) fn table_at<'t, 'a>(
+    outline: &Outline,
+    tables: &'t Tables<'a>,
+    block: Option<usize>,
+) -> &'t Table<'a>
+    requires tabled { AreOf tables.now (outline_view outline.now) }
+    requires within { IsWithin (outline_view outline.now) block }
+    ensures { entries_view result.now.entries.items ≡ entries_at (outline_view outline.now) block }
+{
+    match block {
+        Some(block) => &tables.blocks[block],
+        None => &tables.unit,
+    }
+}

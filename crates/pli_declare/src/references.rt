@@ -1,0 +1,58 @@
+//! The faults of references.
+ghost use Rattle.std.specs.Prelude.{◌≡◌, IfOk};
+ghost use Rattle.pli_declare_outline.specs.OutlineView.{outline_view, regions_view};
+ghost use Rattle.pli_declare_scopes.specs.Scopes.{meant};
+ghost use Rattle.pli_declare_tables.specs.Tables.{scope_of};
+ghost use Rattle.pli_declare_tables.specs.Answers.{AreOf};
+ghost use Rattle.pli_declare.specs.Resolution.{is_function, names_of, reference_code};
+
+use crate::look_up::{Looked, look_up};
+use pli_base::syntax::Identifier;
+use pli_base::{Code, Name};
+use pli_declare_constructs::Nesting;
+use pli_declare_outline::Outline;
+use pli_declare_tables::Tables;
+use pli_declare_variables::is_built_in;
+use std::alloc::{AllocError, Global};
+
+/// Whether names are one name that is a built-in function's.
+pub(crate) fn is_function(names: &[Identifier]) -> bool
+    ensures { result ≡ is_function names.now }
+{
+    match names {
+        [name] => is_built_in(name.name),
+        _ => false,
+    }
+}
+
+/// The names of identifiers.
+pub(crate) fn names_of(alloc: Global, identifiers: &[Identifier]) -> Result<Vec<Name>, AllocError>
+    ensures { IfOk result (λ names. names.items ≡ names_of identifiers.now) }
+{
+    identifiers
+        .iter()
+        .map(|identifier| identifier.name)
+        .collect(alloc)
+}
+
+/// The code of a reference in a region, by the names that are joined in it.
+pub(crate) fn reference_code(
+    alloc: Global,
+    outline: &Outline,
+    nesting: &Nesting,
+    tables: &Tables,
+    here: usize,
+    names: &[Identifier],
+) -> Result<Option<Code>, AllocError>
+    requires nested { nesting.now ≡ regions_view outline.now.regions.items }
+    requires tabled { AreOf tables.now (outline_view outline.now) }
+    ensures { IfOk result (λ code. code ≡ reference_code names.now (meant (scope_of (outline_view outline.now) here) (names_of names.now))) }
+{
+    let joined = names_of(alloc, names)?;
+    Ok(match look_up(outline, nesting, tables, here, &joined) {
+        Looked::Found { .. } => None,
+        Looked::Ambiguous => Some(Code::Ambiguous),
+        Looked::NotDeclared if is_function(names) => None,
+        Looked::NotDeclared => Some(Code::NotDeclared),
+    })
+}

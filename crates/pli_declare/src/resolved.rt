@@ -1,0 +1,102 @@
+//! Resolved units.
+ghost use Rattle.std.specs.Prelude.{◌≡◌, map, IfOk};
+ghost use Rattle.pli_declare_variables.specs.DeclarationView.{declaration_view};
+ghost use Rattle.pli_declare.specs.ResolvedView.{block_view, resolved_view};
+
+use pli_base::Name;
+use pli_declare_outline::Region;
+use pli_declare_variables::Declaration;
+use std::alloc::{AllocError, Global};
+
+/// What a name means.
+#[derive(Clone, Copy, Debug, PartialEq, Eq)]
+pub enum Target {
+    /// The name of this number in a block, by its region; or the unit's own name, which the outermost block declares.
+    Name { block: Option<usize>, number: usize },
+    /// A built-in function.
+    Function,
+}
+
+/// What the name at a token means. Tokens are counted from 0.
+#[derive(Clone, Copy, Debug, PartialEq, Eq)]
+pub struct Use {
+    pub at: u32,
+    pub target: Target,
+}
+
+/// What a block declares.
+#[derive(Drop)]
+pub struct Block {
+    /// The names of its parameters, if it is a procedure.
+    pub parameters: Vec<Name>,
+    pub declarations: Vec<Declaration>,
+}
+
+/// A unit whose declarations have no faults.
+#[derive(Drop)]
+pub struct Resolved {
+    pub regions: Vec<Region>,
+    /// The outermost block, which declares the unit's own name.
+    pub outermost: Vec<Declaration>,
+    /// For each region what it declares; that of a group or an ON-unit is empty.
+    pub blocks: Vec<Block>,
+    /// What each reference, at its first name, and the label of each GOTO mean, in the order of the text.
+    pub uses: Vec<Use>,
+    /// For each declared name the area of its OFFSET, or of that in its RETURNS, if it names one; in the order of the text.
+    pub areas: Vec<Use>,
+    /// For each declared name the locator of its BASED, if it names one; in the order of the text.
+    pub locators: Vec<Use>,
+}
+
+/// Declarations that say the same.
+fn copied_declarations(
+    alloc: Global,
+    declarations: &[Declaration],
+) -> Result<Vec<Declaration>, AllocError>
+    ensures { IfOk result (λ copied. map declaration_view copied.items ≡ map declaration_view declarations.now) }
+{
+    let mut copied = Vec::new(alloc);
+    for declaration in declarations {
+        copied.push(declaration.copy(alloc)?)?;
+    }
+    Ok(copied)
+}
+
+impl Block {
+    /// A block that says the same.
+    pub fn copy(&self, alloc: Global) -> Result<Block, AllocError>
+        ensures { IfOk result (λ copied. block_view copied ≡ block_view self.now) }
+    {
+        Ok(Block {
+            parameters: Vec::from_slice(alloc, &self.parameters)?,
+            declarations: copied_declarations(alloc, &self.declarations)?,
+        })
+    }
+}
+
+/// Blocks that say the same.
+fn copied_blocks(alloc: Global, blocks: &[Block]) -> Result<Vec<Block>, AllocError>
+    ensures { IfOk result (λ copied. map block_view copied.items ≡ map block_view blocks.now) }
+{
+    let mut copied = Vec::new(alloc);
+    for block in blocks {
+        copied.push(block.copy(alloc)?)?;
+    }
+    Ok(copied)
+}
+
+impl Resolved {
+    /// A resolved unit that says the same.
+    pub fn copy(&self, alloc: Global) -> Result<Resolved, AllocError>
+        ensures { IfOk result (λ copied. resolved_view copied ≡ resolved_view self.now) }
+    {
+        Ok(Resolved {
+            regions: Vec::from_slice(alloc, &self.regions)?,
+            outermost: copied_declarations(alloc, &self.outermost)?,
+            blocks: copied_blocks(alloc, &self.blocks)?,
+            uses: Vec::from_slice(alloc, &self.uses)?,
+            areas: Vec::from_slice(alloc, &self.areas)?,
+            locators: Vec::from_slice(alloc, &self.locators)?,
+        })
+    }
+}

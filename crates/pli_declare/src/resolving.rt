@@ -1,0 +1,164 @@
+//! From a unit to the resolved unit.
+ghost use Rattle.std.specs.Prelude.{◌≡◌, ◌<◌, [], length, map, IfOk};
+ghost use Rattle.pli_base.specs.StatementView.{unit_view};
+ghost use Rattle.pli_declare_outline.specs.OutlineView.{outline_view, regions_view, marks_view};
+ghost use Rattle.pli_declare_tables.specs.Tables.{numbers_from, inner_marks, unit_entries};
+ghost use Rattle.pli_declare_tables.specs.Answers.{AreOf};
+ghost use Rattle.pli_declare_variables.specs.Declarations.{declared_in};
+ghost use Rattle.pli_declare_variables.specs.DeclarationView.{declaration_view};
+ghost use Rattle.pli_declare.specs.Resolution.{outline_faults};
+ghost use Rattle.pli_declare.specs.Resolved.{block_at, resolution_of};
+ghost use Rattle.pli_declare.specs.ResolvedView.{block_view, resolved_view, IsResolved, IsResolvedOutline};
+ghost use Rattle.pli_declare.specs.Walks.{AreParameters};
+ghost use Rattle.pli_declare.specs.declared.resolving.ResolveError.TheVariants.{OutOfMemory};
+
+use crate::attributes::{areas, locators};
+use crate::parameters::parameters;
+use crate::resolved::{Block, Resolved};
+use crate::unit::faults_told;
+use crate::uses::uses;
+use pli_base::statement::Procedure;
+use pli_base::{Fault, Name};
+use pli_declare_constructs::Nesting;
+use pli_declare_outline::{Outline, Placed};
+use pli_declare_tables::{Tables, owners_stand_before};
+use pli_declare_variables::{Declaration, declare};
+use std::alloc::{AllocError, Global};
+
+/// Why there is no resolved unit.
+#[derive(Drop)]
+pub enum ResolveError {
+    /// All faults of declarations and uses, in the order of their tokens.
+    Faulty(Vec<Fault>),
+    OutOfMemory,
+}
+
+impl From<AllocError> for ResolveError {
+    ghost from_gives = { λ _ error. error ≡ OutOfMemory };
+
+    fn from(_error: AllocError) -> ResolveError {
+        ResolveError::OutOfMemory
+    }
+}
+
+/// What a region declares, where no declaration has a fault.
+fn declared_block(
+    alloc: Global,
+    outline: &Outline,
+    tables: &Tables,
+    parameters: &[Vec<Name>],
+    block: usize,
+) -> Result<Block, AllocError>
+    requires tabled { AreOf tables.now (outline_view outline.now) }
+    requires faultless { outline_faults (outline_view outline.now) (outline_view outline.now).marks ≡ [] }
+    requires parameters { AreParameters (map (λ list. list.items) parameters.now) (outline_view outline.now) }
+    requires within { block < length outline.now.regions.items }
+    ensures { IfOk result (λ made. block_view made ≡ block_at (outline_view outline.now) block) }
+{
+    owners_stand_before();
+    let names = &parameters[block];
+    let declarations = declare(alloc, &tables.blocks[block].entries, names)?;
+    Ok(Block {
+        parameters: Vec::from_slice(alloc, names)?,
+        declarations,
+    })
+}
+
+/// What each region declares, where no declaration has a fault.
+fn blocks(alloc: Global, outline: &Outline, tables: &Tables) -> Result<Vec<Block>, AllocError>
+    requires tabled { AreOf tables.now (outline_view outline.now) }
+    requires faultless { outline_faults (outline_view outline.now) (outline_view outline.now).marks ≡ [] }
+    ensures { IfOk result (λ blocks. map block_view blocks.items
+        ≡ map (block_at (outline_view outline.now)) (numbers_from 0 (length (outline_view outline.now).regions))) }
+{
+    let parameters = parameters(alloc, outline)?;
+    let mut blocks = Vec::new(alloc);
+    for block in 0..outline.regions.len() {
+        blocks.push(declared_block(alloc, outline, tables, &parameters, block)?)?;
+    }
+    Ok(blocks)
+}
+
+/// The marks of an outline but the first.
+fn marks_behind<'a, 'b>(outline: &'a Outline<'b>) -> &'a [Placed<'b>]
+    ensures { marks_view result.now ≡ inner_marks (outline_view outline.now).marks }
+{
+    let Some((_first, marks)) = outline.marks.split_first() else {
+        return &outline.marks;
+    };
+    marks
+}
+
+/// What the outermost block declares: the unit's own name, where its heading has no fault.
+fn outermost(
+    alloc: Global,
+    outline: &Outline,
+    tables: &Tables,
+) -> Result<Vec<Declaration>, AllocError>
+    requires tabled { AreOf tables.now (outline_view outline.now) }
+    requires faultless { outline_faults (outline_view outline.now) (outline_view outline.now).marks ≡ [] }
+    ensures { IfOk result (λ declarations. map declaration_view declarations.items ≡ declared_in (unit_entries (outline_view outline.now).marks) []) }
+{
+    declare(alloc, &tables.unit.entries, &[])
+}
+
+/// The resolved unit of an outline without faults.
+fn resolved(
+    alloc: Global,
+    outline: &Outline,
+    nesting: &Nesting,
+    tables: &Tables,
+) -> Result<Resolved, AllocError>
+    requires nested { nesting.now ≡ regions_view outline.now.regions.items }
+    requires tabled { AreOf tables.now (outline_view outline.now) }
+    requires faultless { outline_faults (outline_view outline.now) (outline_view outline.now).marks ≡ [] }
+    ensures { IfOk result (λ r. resolved_view r ≡ resolution_of (outline_view outline.now)) }
+{
+    let marks = marks_behind(outline);
+    Ok(Resolved {
+        regions: Vec::from_slice(alloc, &outline.regions)?,
+        outermost: outermost(alloc, outline, tables)?,
+        blocks: blocks(alloc, outline, tables)?,
+        uses: uses(alloc, outline, nesting, tables, marks)?,
+        areas: areas(alloc, outline, nesting, tables, marks)?,
+        locators: locators(alloc, outline, nesting, tables, marks)?,
+    })
+}
+
+/// The resolved unit of an outline, or all its faults, by the tables of what its blocks declare.
+fn resolve_told(
+    alloc: Global,
+    outline: &Outline,
+    nesting: &Nesting,
+    tables: &Tables,
+) -> Result<Resolved, ResolveError>
+    requires nested { nesting.now ≡ regions_view outline.now.regions.items }
+    requires tabled { AreOf tables.now (outline_view outline.now) }
+    ensures { IsResolvedOutline result (outline_view outline.now) }
+{
+    let faults = faults_told(alloc, outline, nesting, tables)?;
+    if faults.is_empty() {
+        Ok(resolved(alloc, outline, nesting, tables)?)
+    } else {
+        Err(ResolveError::Faulty(faults))
+    }
+}
+
+/// The resolved unit of an outline, or all its faults.
+fn resolve_outline(alloc: Global, outline: &Outline) -> Result<Resolved, ResolveError>
+    ensures { IsResolvedOutline result (outline_view outline.now) }
+{
+    let nesting = Nesting::new(alloc, &outline.regions)?;
+    let tables = Tables::new(alloc, outline, &nesting)?;
+    resolve_told(alloc, outline, &nesting, &tables)
+}
+
+/// The resolved unit, or all faults of its declarations and uses: for each declared name and each reference the least code, in the
+/// order of their tokens.
+#[tactic(auto, unfolding(crate::specs::Resolution::resolution_faults, crate::specs::Resolved::resolved_of))]
+pub fn resolve(alloc: Global, unit: &Procedure) -> Result<Resolved, ResolveError>
+    ensures { IsResolved result (unit_view unit.now) }
+{
+    let outline = pli_declare_outline::outline(alloc, unit)?;
+    resolve_outline(alloc, &outline)
+}

@@ -1,0 +1,7 @@
+use Rattle.std.proofs.Common.{◌≡◌, drop, map}
+use Rattle.pli_base.specs.DeclarationView.{attribute_view}
+use Rattle.pli_declare_attributes.specs.Initials.{values_in}
+use Rattle.pli_declare_attributes.proofs.initials.values_of.Given as goal
+
+abbrev pub invariant-loop-attribute : goal.invariant-loop-attribute
+invariant-loop-attribute l = values_in (map attribute_view (drop l.attribute-index l.attributes)) ≡ values_in (map attribute_view l.attributes)

@@ -1,0 +1,5 @@
+use Rattle.pli_declare_attributes.proofs.Bits.{has_all}
+use Rattle.pli_declare_attributes.proofs.laws.sets_are_of_what_stands.Goals as goal
+
+pub returns : goal.returns
+returns c = has_all

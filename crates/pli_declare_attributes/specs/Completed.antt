@@ -1,0 +1,65 @@
+-- What attributes without a fault are completed to.
+use Rattle.std.specs.Prelude.{ℕ, if◌then◌else◌, Option, Some, None, option_map, List, map}
+use Rattle.pli_base.specs.Declarations as tree
+use Rattle.pli_base.specs.declared.declaration.InitialValue.{InitialValue}
+use Rattle.pli_map.specs.Description.{Description}
+use Rattle.pli_map.specs.declared.description.Bounds.{Bounds}
+use Rattle.pli_declare_attributes.specs.Sets.{static, based, controlled, external, built_in, entry, has, set_of, outermost}
+use Rattle.pli_declare_attributes.specs.Types.{number_of, scalar_of}
+use Rattle.pli_declare_attributes.specs.Extents.{all_bounds}
+use Rattle.pli_declare_attributes.specs.Initials.{values_in}
+use Rattle.pli_declare_attributes.specs.Faults.{parameters_in, returned_in, parameter_of, described_scalar}
+use Rattle.pli_declare_attributes.specs.declared.place.Place.{Place}
+use Rattle.pli_declare_attributes.specs.declared.place.Position.{Position}
+use Rattle.pli_declare_attributes.specs.declared.place.Position.TheVariants.{AtLevelOne, Member, Parameter, Result}
+use Rattle.pli_declare_attributes.specs.declared.completed.Storage.{Storage}
+use Rattle.pli_declare_attributes.specs.declared.completed.Storage.TheVariants.{Automatic, Static, Based, Controlled}
+use Rattle.pli_declare_attributes.specs.declared.completed.Scope.{Scope}
+use Rattle.pli_declare_attributes.specs.declared.completed.Scope.TheVariants.{Internal, External}
+
+-- a variable, or a member of one: its type unless it has members, its own dimensions, its storage, its scope and its first values
+pub record Variable : Type 0 where
+  pub description : Option Description
+  pub bounds : List Bounds
+  pub storage : Option Storage
+  pub scope : Scope
+  pub initial : List InitialValue
+
+pub data Completed : Type 0 where
+  OfVariable : (variable : Variable) → Completed
+  OfEntry : (parameters : List Description) (result : Option Description) → Completed
+  OfBuiltIn : Completed
+
+-- AUTOMATIC by default; EXTERNAL implies STATIC unless CONTROLLED stands
+abbrev pub storage_of : ℕ → Storage
+storage_of s = if has s controlled then Controlled else if has s based then Based else if has s static then Static else if has s external then Static else Automatic
+
+-- a member has the storage of the whole, a parameter that of its argument
+abbrev pub storage_at : Position → ℕ → Option Storage
+storage_at AtLevelOne s = Some (storage_of s)
+storage_at Member s = None
+storage_at Parameter s = None
+storage_at Result s = None
+
+-- INTERNAL by default
+abbrev pub scope_of : ℕ → Scope
+scope_of s = if has s external then External else Internal
+
+unfoldable pub variable_of : Place → tree.Item → Variable
+variable_of p i =
+    let attributes = map outermost i.attributes in
+    record {
+      description = if p.has_members then None else Some (scalar_of (set_of attributes) (number_of attributes));
+      bounds = all_bounds i.dimensions;
+      storage = storage_at p.position (set_of attributes);
+      scope = scope_of (set_of attributes);
+      initial = values_in i.attributes;
+    }
+
+-- what an item is
+unfoldable pub completed_of : Place → tree.Item → Completed
+completed_of p i =
+    let s = set_of (map outermost i.attributes) in
+    if has s entry then OfEntry (map parameter_of (parameters_in i.attributes)) (option_map described_scalar (returned_in i.attributes))
+    else if has s built_in then OfBuiltIn
+    else OfVariable (variable_of p i)

@@ -1,0 +1,134 @@
+-- The least fault of the attributes of an item, and of a result, apart from faults of names and levels.
+use Rattle.std.specs.Prelude.{ℕ, Bool, false, not, ◌&&◌, ◌||◌, nat_lt, if◌then◌else◌, Option, Some, None, List, [], ◌∷◌, length, map}
+use Rattle.std.specs.Option.{option_or}
+use Rattle.std.specs.List.{list_any}
+use Rattle.std.specs.Ordering.{nat_cmp}
+use Rattle.std.specs.declared.cmp.Ordering.{Ordering}
+use Rattle.std.specs.declared.cmp.Ordering.TheVariants.{Less, Equal, Greater}
+use Rattle.pli_base.specs.Codes.{code_place}
+use Rattle.pli_base.specs.declared.code.Code.{Code}
+use Rattle.pli_base.specs.declared.code.Code.TheVariants.{AttributesConflict, AttributesMissing, BadPrecision, BadLength, BadBounds, BadInitial, AreaNotAllowedHere, TooManyParameters, GenerationTooLarge}
+use Rattle.pli_base.specs.Declarations as tree
+use Rattle.pli_base.specs.declared.declaration.Bounds.{Bounds}
+use Rattle.pli_map.specs.Description as described
+use Rattle.pli_map.specs.declared.description.Bounds as whole
+use Rattle.pli_map.specs.Sizes.{size_of}
+use Rattle.pli_declare_attributes.specs.Sets.{area, based, has, each_once, set_of, outermost}
+use Rattle.pli_declare_attributes.specs.Agreement.{is_member, set_agrees, is_missing}
+use Rattle.pli_declare_attributes.specs.Types.{number_of, is_bad_precision, is_bad_length, scalar_of}
+use Rattle.pli_declare_attributes.specs.Extents.{are_bad_bounds, all_bounds, is_array}
+use Rattle.pli_declare_attributes.specs.Initials.{values_in, is_bad_initial}
+use Rattle.pli_declare_attributes.specs.declared.place.Place.{Place}
+use Rattle.pli_declare_attributes.specs.declared.place.Position.TheVariants.{Parameter, Result}
+
+-- the first of these faults that holds
+abbrev pub first_of : List (Bool × Code) → Option Code
+first_of [] = None
+first_of (fault ∷ others) = if fault.0 then Some fault.1 else first_of others
+
+-- the one of the lower number, the first of equal ones
+abbrev pub first_in_order : Ordering → Code → Code → Code
+first_in_order Less c d = c
+first_in_order Equal c d = c
+first_in_order Greater c d = d
+
+abbrev pub lesser : Option Code → Option Code → Option Code
+lesser None fault = fault
+lesser (Some c) None = Some c
+lesser (Some c) (Some d) = Some (first_in_order (nat_cmp (code_place c) (code_place d)) c d)
+
+-- an AREA is no member, stands in no array and is not BASED
+unfoldable pub is_bad_area : Place → List Bounds → ℕ → Bool
+is_bad_area p dimensions s = has s area && (is_member p.position || is_array dimensions || p.in_array || has s based)
+
+-- faults of attributes that stand once each, or do not, of this set and with this precision, length or size
+unfoldable pub shape_fault : Place → List Bounds → Bool → ℕ → Option ℕ → Option Code
+shape_fault p dimensions once s n =
+    first_of (
+    (not (once && set_agrees p (is_array dimensions) s), AttributesConflict)
+    ∷ (is_missing p s, AttributesMissing)
+    ∷ (is_bad_precision s n, BadPrecision)
+    ∷ (is_bad_length s n, BadLength)
+    ∷ (are_bad_bounds dimensions, BadBounds) ∷ [])
+
+-- faults of an AREA
+abbrev pub area_fault : Place → List Bounds → ℕ → Option Code
+area_fault p dimensions s = first_of ((is_bad_area p dimensions s, AreaNotAllowedHere) ∷ [])
+
+-- the fault of the description of a parameter or of a result, at its place
+unfoldable pub description_fault : Place → List Bounds → List tree.DescribedAttribute → Option Code
+description_fault p dimensions attributes =
+    option_or (shape_fault p dimensions (each_once 0 attributes) (set_of attributes) (number_of attributes)) (area_fault p dimensions (set_of attributes))
+
+-- the fault of an item's own attributes
+unfoldable pub own_fault : Place → tree.Item → Option Code
+own_fault p i =
+    let attributes = map outermost i.attributes in
+    option_or (shape_fault p i.dimensions (each_once 0 attributes) (set_of attributes) (number_of attributes))
+    (option_or (first_of ((is_bad_initial p i.dimensions (set_of attributes) (number_of attributes) (values_in i.attributes), BadInitial) ∷ []))
+    (area_fault p i.dimensions (set_of attributes)))
+
+-- the description of a parameter or of a result stands nowhere else, and a result is a scalar
+abbrev pub parameter_place : Place
+parameter_place = record { position = Parameter; has_members = false; in_array = false; elements_above = Some 1; built_in_name = false }
+
+abbrev pub result_place : Place
+result_place = record { position = Result; has_members = false; in_array = false; elements_above = Some 1; built_in_name = false }
+
+-- the fault of RETURNS, of a procedure and of an ENTRY
+abbrev pub result_fault : List tree.DescribedAttribute → Option Code
+result_fault attributes = description_fault result_place [] attributes
+
+abbrev pub parameter_fault : tree.ParameterDescription → Option Code
+parameter_fault d = description_fault parameter_place d.dimensions d.attributes
+
+-- the least fault of descriptions of parameters
+abbrev pub parameters_fault : List tree.ParameterDescription → Option Code
+parameters_fault [] = None
+parameters_fault (d ∷ ds) = lesser (parameter_fault d) (parameters_fault ds)
+
+-- the descriptions that an item's ENTRY has
+abbrev pub parameters_in : List tree.Attribute → List tree.ParameterDescription
+parameters_in [] = []
+parameters_in (tree.Entry (Some ds) ∷ attributes) = ds
+parameters_in (a ∷ attributes) = parameters_in attributes
+
+-- the attributes in an item's RETURNS
+abbrev pub returned_in : List tree.Attribute → Option (List tree.DescribedAttribute)
+returned_in [] = None
+returned_in (tree.Returns result ∷ attributes) = Some result
+returned_in (a ∷ attributes) = returned_in attributes
+
+abbrev pub returned_fault : Option (List tree.DescribedAttribute) → Option Code
+returned_fault None = None
+returned_fault (Some attributes) = result_fault attributes
+
+-- a type with dimensions before it, if there are any
+abbrev pub with_bounds : List whole.Bounds → described.Description → described.Description
+with_bounds [] element = element
+with_bounds (b ∷ bs) element = described.Array (b ∷ bs) element
+
+-- what attributes that agree describe
+abbrev pub described_scalar : List tree.DescribedAttribute → described.Description
+described_scalar attributes = scalar_of (set_of attributes) (number_of attributes)
+
+unfoldable pub parameter_of : tree.ParameterDescription → described.Description
+parameter_of d = with_bounds (all_bounds d.dimensions) (described_scalar d.attributes)
+
+-- a generation is at most 1,000,000 bytes
+abbrev pub is_too_large : described.Description → Bool
+is_too_large d = nat_lt 1000000 (size_of d)
+
+-- more than 64 parameters, or one that is too large
+abbrev pub entry_fault : List tree.ParameterDescription → Option Code
+entry_fault ds =
+    first_of ((nat_lt 64 (length ds), TooManyParameters) ∷ (list_any is_too_large (map parameter_of ds), GenerationTooLarge) ∷ [])
+
+-- the least fault of the attributes, of those in the descriptions of an ENTRY's parameters and of those in RETURNS
+unfoldable pub attributes_fault : Place → tree.Item → Option Code
+attributes_fault p i =
+    lesser (own_fault p i) (lesser (parameters_fault (parameters_in i.attributes)) (returned_fault (returned_in i.attributes)))
+
+-- the least fault of an item
+unfoldable pub item_fault : Place → tree.Item → Option Code
+item_fault p i = option_or (attributes_fault p i) (entry_fault (parameters_in i.attributes))

@@ -1,0 +1,237 @@
+//! What the attributes of an item and of a result are completed to, or their least fault.
+ghost use Rattle.std.specs.Prelude.{◌≡◌, true, false, None, map, option_map, IfOk};
+ghost use Rattle.std.specs.List.{list_any};
+ghost use Rattle.pli_base.specs.DeclarationView.{described_view, parameter_view, attribute_view, item_view};
+ghost use Rattle.pli_map.specs.DescriptionView.{description_view};
+ghost use Rattle.pli_declare_attributes.specs.Extents.{are_bad_bounds};
+ghost use Rattle.pli_declare_attributes.specs.Faults.{parameter_of, parameter_fault, parameters_fault, described_scalar, is_too_large, with_bounds, own_fault, returned_fault, returned_in};
+ghost use Rattle.pli_declare_attributes.specs.Faults as spec;
+ghost use Rattle.pli_declare_attributes.specs.Completed.{storage_at, storage_of, scope_of, variable_of, completed_of};
+ghost use Rattle.pli_declare_attributes.specs.CompletedView.{variable_view, completed_view, IsCompleted, IsResult};
+ghost use Rattle.pli_declare_attributes.specs.declared.complete.AttributeError.TheVariants.{OutOfMemory};
+
+use crate::completed::{Completed, Scope, Storage, Variable};
+use crate::extents::all_described;
+use crate::faults::{attributes_fault, result_fault};
+use crate::initials::{copied, values_of};
+use crate::parts::{parameters_of, returned_of};
+use crate::place::{Place, Position};
+use crate::set::AttributeSet;
+use crate::summary::Summary;
+use crate::types::scalar;
+use pli_base::Code;
+use pli_base::declaration::{Attribute, DescribedAttribute, Item, ParameterDescription};
+use pli_map::{Bounds, Description, size};
+use std::alloc::{AllocError, Global};
+
+/// How many parameters an entry may have (own).
+const PARAMETER_LIMIT: usize = 64;
+
+/// Why there is nothing to which an item's attributes are completed.
+#[derive(Debug, Drop)]
+pub enum AttributeError {
+    /// The least fault of the item.
+    Faulty(Code),
+    OutOfMemory,
+}
+
+impl From<AllocError> for AttributeError {
+    ghost from_gives = { λ _ error. error ≡ OutOfMemory };
+
+    fn from(_error: AllocError) -> AttributeError {
+        AttributeError::OutOfMemory
+    }
+}
+
+/// The storage class: AUTOMATIC by default; EXTERNAL implies STATIC unless CONTROLLED stands.
+fn storage(set: AttributeSet) -> Storage
+    ensures { result ≡ storage_of set.0 }
+{
+    if set.has(AttributeSet::CONTROLLED) {
+        Storage::Controlled
+    } else if set.has(AttributeSet::BASED) {
+        Storage::Based
+    } else if set.has(AttributeSet::STATIC) || set.has(AttributeSet::EXTERNAL) {
+        Storage::Static
+    } else {
+        Storage::Automatic
+    }
+}
+
+/// The storage class at level 1; none of members and of parameters.
+fn storage_there(position: Position, set: AttributeSet) -> Option<Storage>
+    ensures { result ≡ storage_at position set.0 }
+{
+    match position {
+        Position::AtLevelOne => Some(storage(set)),
+        Position::Member | Position::Parameter | Position::Result => None,
+    }
+}
+
+/// The scope, INTERNAL by default.
+fn scope(set: AttributeSet) -> Scope
+    ensures { result ≡ scope_of set.0 }
+{
+    if set.has(AttributeSet::EXTERNAL) {
+        Scope::External
+    } else {
+        Scope::Internal
+    }
+}
+
+/// A type with dimensions before it, if there are any.
+pub(crate) fn bounded(
+    alloc: Global,
+    bounds: Vec<Bounds>,
+    element: Description,
+) -> Result<Description, AllocError>
+    ensures { IfOk result (λ d. description_view d ≡ with_bounds bounds.items (description_view element)) }
+{
+    if bounds.is_empty() {
+        return Ok(element);
+    }
+    Ok(Description::Array {
+        bounds,
+        element: Box::new(alloc, element)?,
+    })
+}
+
+/// What the description of a parameter says, where it has no fault.
+fn parameter(alloc: Global, description: &ParameterDescription) -> Result<Description, AllocError>
+    requires { parameter_fault (parameter_view description.now) ≡ None }
+    ensures { IfOk result (λ d. description_view d ≡ parameter_of (parameter_view description.now)) }
+{
+    let summary = Summary::of_description(description.attributes.as_slice());
+    let bounds = all_described(alloc, description.dimensions.as_slice())?;
+    bounded(alloc, bounds, scalar(summary))
+}
+
+/// What descriptions of parameters say, where they have no fault.
+fn parameters(
+    alloc: Global,
+    descriptions: &[ParameterDescription],
+) -> Result<Vec<Description>, AllocError>
+    requires { parameters_fault (map parameter_view descriptions.now) ≡ None }
+    ensures { IfOk result (λ ds. map description_view ds.items ≡ map parameter_of (map parameter_view descriptions.now)) }
+{
+    let mut all = Vec::with_capacity(alloc, descriptions.len())?;
+    for description in descriptions {
+        all.push(parameter(alloc, description)?)?;
+    }
+    Ok(all)
+}
+
+/// Whether one takes more than 1,000,000 bytes.
+fn any_too_large(descriptions: &[Description]) -> bool
+    ensures { result ≡ list_any is_too_large (map description_view descriptions.now) }
+{
+    for description in descriptions {
+        if size(description).is_none() {
+            return true;
+        }
+    }
+    false
+}
+
+/// What the attributes of a result say, where they have no fault.
+fn result_type(attributes: &[DescribedAttribute]) -> Description
+    requires { spec.result_fault (map described_view attributes.now) ≡ None }
+    ensures { description_view result ≡ described_scalar (map described_view attributes.now) }
+{
+    scalar(Summary::of_description(attributes))
+}
+
+/// What the attributes in an item's RETURNS say, where they have no fault.
+fn returned_type(attributes: &[Attribute]) -> Option<Description>
+    requires { returned_fault (returned_in (map attribute_view attributes.now)) ≡ None }
+    ensures { option_map description_view result ≡ option_map described_scalar (returned_in (map attribute_view attributes.now)) }
+{
+    match returned_of(attributes) {
+        Some(returned) => Some(result_type(returned)),
+        None => None,
+    }
+}
+
+/// The type of what a procedure returns, by the attributes in its RETURNS, with their defaults; or their least fault.
+pub fn completed_result(attributes: &[DescribedAttribute]) -> Result<Description, Code>
+    ensures { IsResult result (map described_view attributes.now) }
+{
+    match result_fault(attributes) {
+        Some(code) => Err(code),
+        None => Ok(result_type(attributes)),
+    }
+}
+
+/// What the attributes of a variable or member say, where they have no fault.
+#[tactic(auto, unfolding(crate::specs::Completed::variable_of))]
+fn variable(alloc: Global, place: Place, item: &Item) -> Result<Variable, AllocError>
+    requires { own_fault place (item_view item.now) ≡ None }
+    ensures { IfOk result (λ v. variable_view v ≡ variable_of place (item_view item.now)) }
+{
+    let attributes = item.attributes.as_slice();
+    let summary = Summary::of_item(attributes);
+    let bounds = all_described(alloc, item.dimensions.as_slice())?;
+    let initial = copied(alloc, values_of(attributes))?;
+    let description = if place.has_members {
+        None
+    } else {
+        Some(scalar(summary))
+    };
+    Ok(Variable {
+        description,
+        bounds,
+        storage: storage_there(place.position, summary.set),
+        scope: scope(summary.set),
+        initial,
+    })
+}
+
+/// The least of A3 to A7, A9 and A13 to A15 that holds of an item, apart from faults of the names and the level that stand in it
+/// (own). Memory is taken only for the parameters of an entry whose attributes have no fault.
+pub fn item_fault(alloc: Global, place: Place, item: &Item) -> Result<Option<Code>, AllocError>
+    ensures { IfOk result (λ fault. fault ≡ spec.item_fault place (item_view item.now)) }
+{
+    if let Some(code) = attributes_fault(place, item) {
+        return Ok(Some(code));
+    }
+    let attributes = item.attributes.as_slice();
+    let descriptions = parameters_of(attributes);
+    if descriptions.len() > PARAMETER_LIMIT {
+        return Ok(Some(Code::TooManyParameters));
+    }
+    let parameters = parameters(alloc, descriptions)?;
+    if any_too_large(parameters.as_slice()) {
+        return Ok(Some(Code::GenerationTooLarge));
+    }
+    Ok(None)
+}
+
+/// What an item is, by its attributes with their defaults; or the least of A3 to A7, A9 and A13 to A15 that holds, apart from
+/// faults of the names and the level that stand in it (own). Memory is taken only where the attributes have no fault.
+pub fn completed_item(alloc: Global, place: Place, item: &Item) -> Result<Completed, AttributeError>
+    ensures { IsCompleted result place (item_view item.now) }
+{
+    if let Some(code) = attributes_fault(place, item) {
+        return Err(AttributeError::Faulty(code));
+    }
+    let attributes = item.attributes.as_slice();
+    let descriptions = parameters_of(attributes);
+    if descriptions.len() > PARAMETER_LIMIT {
+        return Err(AttributeError::Faulty(Code::TooManyParameters));
+    }
+    let parameters = parameters(alloc, descriptions)?;
+    if any_too_large(parameters.as_slice()) {
+        return Err(AttributeError::Faulty(Code::GenerationTooLarge));
+    }
+    let set = Summary::of_item(attributes).set;
+    if set.has(AttributeSet::ENTRY) {
+        Ok(Completed::Entry {
+            parameters,
+            result: returned_type(attributes),
+        })
+    } else if set.has(AttributeSet::BUILTIN) {
+        Ok(Completed::BuiltIn)
+    } else {
+        Ok(Completed::Variable(variable(alloc, place, item)?))
+    }
+}

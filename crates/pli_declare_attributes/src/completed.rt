@@ -1,0 +1,109 @@
+//! What the attributes of a name are completed to.
+ghost use Rattle.std.specs.Prelude.{◌≡◌, map, option_map, IfOk};
+ghost use Rattle.pli_map.specs.DescriptionView.{description_view};
+ghost use Rattle.pli_declare_attributes.specs.CompletedView.{variable_view, completed_view};
+
+use crate::initials::copied;
+use pli_base::declaration::InitialValue;
+use pli_map::{Bounds, Description};
+use std::alloc::{AllocError, Global};
+
+/// Where the generations of a variable come from.
+#[derive(Clone, Copy, Debug, PartialEq, Eq)]
+pub enum Storage {
+    Automatic,
+    Static,
+    Based,
+    Controlled,
+}
+
+/// Whether a name means the same in every unit.
+#[derive(Clone, Copy, Debug, PartialEq, Eq)]
+pub enum Scope {
+    Internal,
+    External,
+}
+
+/// A variable, or a member of one.
+#[derive(Drop)]
+pub struct Variable {
+    /// Its type, apart from its own dimensions; `None` where it has members.
+    pub description: Option<Description>,
+    /// Its own dimensions, none where it is no array.
+    pub bounds: Vec<Bounds>,
+    /// `None` of members and of parameters, which have their storage from elsewhere.
+    pub storage: Option<Storage>,
+    pub scope: Scope,
+    /// The values in INITIAL, none without it.
+    pub initial: Vec<InitialValue>,
+}
+
+/// What a name is.
+#[derive(Drop)]
+pub enum Completed {
+    Variable(Variable),
+    /// An entry, which is external. Without descriptions it has no parameters.
+    Entry {
+        parameters: Vec<Description>,
+        result: Option<Description>,
+    },
+    BuiltIn,
+}
+
+/// Copies a description, if there is one.
+pub fn copied_description(
+    alloc: Global,
+    description: &Option<Description>,
+) -> Result<Option<Description>, AllocError>
+    ensures { IfOk result (λ copied. option_map description_view copied ≡ option_map description_view description.now) }
+{
+    match description {
+        Some(description) => Ok(Some(description.copy(alloc)?)),
+        None => Ok(None),
+    }
+}
+
+/// Copies descriptions of parameters.
+fn copied_parameters(
+    alloc: Global,
+    parameters: &[Description],
+) -> Result<Vec<Description>, AllocError>
+    ensures { IfOk result (λ copied. map description_view copied.items ≡ map description_view parameters.now) }
+{
+    let mut copied = Vec::with_capacity(alloc, parameters.len())?;
+    for parameter in parameters {
+        copied.push(parameter.copy(alloc)?)?;
+    }
+    Ok(copied)
+}
+
+impl Variable {
+    /// A variable that says the same.
+    pub fn copy(&self, alloc: Global) -> Result<Variable, AllocError>
+        ensures { IfOk result (λ copied. variable_view copied ≡ variable_view self.now) }
+    {
+        Ok(Variable {
+            description: copied_description(alloc, &self.description)?,
+            bounds: Vec::from_slice(alloc, self.bounds.as_slice())?,
+            storage: self.storage,
+            scope: self.scope,
+            initial: copied(alloc, self.initial.as_slice())?,
+        })
+    }
+}
+
+impl Completed {
+    /// What says the same.
+    pub fn copy(&self, alloc: Global) -> Result<Completed, AllocError>
+        ensures { IfOk result (λ copied. completed_view copied ≡ completed_view self.now) }
+    {
+        match self {
+            Completed::Variable(variable) => Ok(Completed::Variable(variable.copy(alloc)?)),
+            Completed::Entry { parameters, result } => Ok(Completed::Entry {
+                parameters: copied_parameters(alloc, parameters.as_slice())?,
+                result: copied_description(alloc, result)?,
+            }),
+            Completed::BuiltIn => Ok(Completed::BuiltIn),
+        }
+    }
+}

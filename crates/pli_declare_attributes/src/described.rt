@@ -1,0 +1,39 @@
+//! What attributes and dimensions describe, for those who put descriptions together of their parts.
+ghost use Rattle.std.specs.Prelude.{◌≡◌, false, map, IfOk};
+ghost use Rattle.pli_base.specs.DeclarationView.{attribute_view};
+ghost use Rattle.pli_map.specs.DescriptionView.{description_view};
+ghost use Rattle.pli_declare_attributes.specs.Sets.{set_of, outermost};
+ghost use Rattle.pli_declare_attributes.specs.Extents.{are_bad_bounds, all_bounds};
+ghost use Rattle.pli_declare_attributes.specs.Faults.{with_bounds, described_scalar};
+ghost use Rattle.pli_declare_attributes.specs.Types.{number_of, is_bad_precision, is_bad_length};
+
+use crate::complete::bounded;
+use crate::extents::all_described;
+use crate::summary::Summary;
+use crate::types::scalar;
+use pli_base::declaration::{Attribute, Bounds};
+use pli_map::Description;
+use std::alloc::{AllocError, Global};
+
+/// The type that an item's attributes say, with its defaults, where precision and length are good.
+pub fn scalar_description(attributes: &[Attribute]) -> Description
+    requires precision { let stood = map outermost (map attribute_view attributes.now) in is_bad_precision (set_of stood) (number_of stood) ≡ false }
+    requires length { let stood = map outermost (map attribute_view attributes.now) in is_bad_length (set_of stood) (number_of stood) ≡ false }
+    ensures { description_view result ≡ described_scalar (map outermost (map attribute_view attributes.now)) }
+{
+    scalar(Summary::of_item(attributes))
+}
+
+/// An array of these dimensions, which are good, and of this element; or the element itself where there are none.
+#[tactic(auto, using(crate::proofs::Shapes::bounds_good))]
+pub fn array_description(
+    alloc: Global,
+    dimensions: &[Bounds],
+    element: Description,
+) -> Result<Description, AllocError>
+    requires { are_bad_bounds dimensions.now ≡ false }
+    ensures { IfOk result (λ d. description_view d ≡ with_bounds (all_bounds dimensions.now) (description_view element)) }
+{
+    let bounds = all_described(alloc, dimensions)?;
+    bounded(alloc, bounds, element)
+}

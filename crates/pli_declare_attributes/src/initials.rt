@@ -1,0 +1,143 @@
+//! The values in INITIAL.
+ghost use Rattle.std.specs.Prelude.{◌≡◌, ◌≤◌, ◌^◌, ◌*◌, true, min, map, nat_lt, IfOk};
+ghost use Rattle.std.specs.List.{list_all};
+ghost use Rattle.pli_base.specs.DeclarationView.{attribute_view};
+ghost use Rattle.pli_map.specs.Sizes.{count_of};
+ghost use Rattle.pli_map.specs.DescriptionView.{description_view};
+ghost use Rattle.pli_declare_attributes.specs.Extents.{are_good, all_bounds};
+ghost use Rattle.pli_declare_attributes.specs.Initials.{values_in, fits, elements_given, all_given, is_more_than, elements_of, elements_inside};
+
+use crate::extents::{bad_bounds, described};
+use crate::place::Place;
+use pli_base::declaration::{Attribute, Bounds, InitialValue, SimpleAttribute};
+use pli_map::Description;
+use std::alloc::{AllocError, Global};
+
+/// A number of elements that is over the number of all values, however many there are.
+const ELEMENT_LIMIT: u128 = 79_228_162_514_264_337_593_543_950_336;
+
+/// The values of an item's INITIAL, none without one.
+pub(crate) fn values_of(attributes: &[Attribute]) -> &[InitialValue]
+    ensures { result.now ≡ values_in (map attribute_view attributes.now) }
+{
+    for attribute in attributes {
+        if let Attribute::Simple(SimpleAttribute::Initial(values)) = attribute {
+            return values.as_slice();
+        }
+    }
+    &[]
+}
+
+/// Copies values.
+pub(crate) fn copied(
+    alloc: Global,
+    values: &[InitialValue],
+) -> Result<Vec<InitialValue>, AllocError>
+    ensures { IfOk result (λ copied. copied.items ≡ values.now) }
+{
+    let mut copied = Vec::with_capacity(alloc, values.len())?;
+    for value in values {
+        copied.push(value.copy(alloc)?)?;
+    }
+    Ok(copied)
+}
+
+/// Whether a number of this many binary digits can be as great.
+fn within_precision(value: u32, precision: u8) -> bool
+    ensures { result ≡ nat_lt value (2 ^ precision) }
+{
+    precision >= 32 || u64::from(value) < 1_u64 << precision
+}
+
+/// Whether a value is of a type: an integer within the precision, a string of any length, NULL for a locator.
+fn value_fits(description: &Description, value: &InitialValue) -> bool
+    ensures { result ≡ fits (description_view description.now) value.now }
+{
+    match (description, value) {
+        (Description::FixedBinary(precision), InitialValue::Integer { factor: _, value }) => {
+            within_precision(value.value, *precision)
+        }
+        (Description::Character(_), InitialValue::Characters(_)) => true,
+        (Description::Varying(_), InitialValue::Characters(_)) => true,
+        (Description::Bit(_), InitialValue::Bits(_)) => true,
+        (Description::Pointer, InitialValue::Null) => true,
+        (Description::Offset, InitialValue::Null) => true,
+        _ => false,
+    }
+}
+
+/// Whether each value is of a type.
+pub(crate) fn all_fit(description: &Description, values: &[InitialValue]) -> bool
+    ensures { result ≡ list_all (fits (description_view description.now)) values.now }
+{
+    for value in values {
+        if !value_fits(description, value) {
+            return false;
+        }
+    }
+    true
+}
+
+/// How many elements have a value.
+fn factor_of(value: &InitialValue) -> u32
+    ensures { result ≡ elements_given value.now }
+{
+    match value {
+        InitialValue::Integer {
+            factor: Some(factor),
+            value: _,
+        } => *factor,
+        _ => 1,
+    }
+}
+
+/// How many elements have one of these values.
+fn given(values: &[InitialValue]) -> u128
+    ensures value { result ≡ all_given values.now }
+    ensures limit { result ≤ 79228162514264337593543950336 }
+{
+    let count = values.len();
+    let mut given = 0;
+    for value in values {
+        given += u128::from(factor_of(value));
+    }
+    given
+}
+
+/// How many elements there are; a number over the limit stands for every greater one.
+pub(crate) fn elements(above: u64, dimensions: &[Bounds]) -> u128
+    requires { list_all are_good dimensions.now ≡ true }
+    ensures { result ≡ min (above * count_of (all_bounds dimensions.now)) 79228162514264337593543950336 }
+{
+    let mut count = u128::from(above);
+    for bounds in dimensions {
+        count = (count * u128::from(described(*bounds).extent())).min(ELEMENT_LIMIT);
+    }
+    count
+}
+
+/// Whether there are more values than elements, where the number of elements is known.
+pub(crate) fn too_many(place: Place, dimensions: &[Bounds], values: &[InitialValue]) -> bool
+    requires { list_all are_good dimensions.now ≡ true }
+    ensures { result ≡ is_more_than (elements_of place dimensions.now) (all_given values.now) }
+{
+    match place.elements_above {
+        Some(above) => elements(above, dimensions) < given(values),
+        None => false,
+    }
+}
+
+/// How many elements the levels above and these dimensions make together, up to `u64::MAX`; `None` where one of them has bad
+/// bounds.
+#[tactic(auto, using(crate::proofs::Shapes::bounds_good))]
+pub fn elements_within(above: Option<u64>, dimensions: &[Bounds]) -> Option<u64>
+    ensures { result ≡ elements_inside above dimensions.now }
+{
+    if bad_bounds(dimensions) {
+        return None;
+    }
+    match above {
+        Some(above) => Some(elements(above, dimensions).min(u128::from(u64::MAX)) as u64),
+        None => None,
+    }
+}

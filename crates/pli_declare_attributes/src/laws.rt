@@ -1,0 +1,32 @@
+//! Laws of attributes, and worked examples.
+ghost use Rattle.pli_declare_attributes.specs.Laws.{SetsAreOfWhatStands, ResultsAreScalars, ParametersAreOfScalars, VariablesAreOfScalars};
+ghost use Rattle.pli_declare_attributes.specs.Examples.{Defaults, StorageClasses, Arrays, Structures, Entries, TypesConflict, StorageConflicts, OtherConflicts, Missing, BadNumbers, BadInitials, BadAreas, PartsOfEntries};
+
+/// Items with their faults, and what they are completed to.
+pub fn worked_examples()
+    ensures defaults { Defaults }
+    ensures storage_classes { StorageClasses }
+    ensures arrays { Arrays }
+    ensures structures { Structures }
+    ensures entries { Entries }
+    ensures types_conflict { TypesConflict }
+    ensures storage_conflicts { StorageConflicts }
+    ensures other_conflicts { OtherConflicts }
+    ensures missing { Missing }
+    ensures bad_numbers { BadNumbers }
+    ensures bad_initials { BadInitials }
+    ensures bad_areas { BadAreas }
+    ensures parts_of_entries { PartsOfEntries }
+{}
+
+/// A law: an attribute is in the set exactly where it stands.
+pub fn sets_are_of_what_stands()
+    ensures { SetsAreOfWhatStands }
+{}
+
+/// A law: what has no fault has a type with its precision, length or size within the limits.
+pub fn types_are_within_limits()
+    ensures results { ResultsAreScalars }
+    ensures parameters { ParametersAreOfScalars }
+    ensures variables { VariablesAreOfScalars }
+{}

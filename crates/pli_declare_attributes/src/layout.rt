@@ -1,0 +1,73 @@
+//! What items take by their attributes and dimensions alone, without a tree.
+ghost use Rattle.std.specs.Prelude.{◌≡◌, ◌*◌, false, map, if◌then◌else◌, nat_le};
+ghost use Rattle.std.specs.Int.{next_multiple_of};
+ghost use Rattle.pli_base.specs.DeclarationView.{attribute_view};
+ghost use Rattle.pli_map.specs.Layouts.{IsLayout};
+ghost use Rattle.pli_map.specs.Sizes.{count_of, size_of, alignment_of};
+ghost use Rattle.pli_declare_attributes.specs.Sets.{outermost};
+ghost use Rattle.pli_declare_attributes.specs.Extents.{are_bad_bounds, all_bounds};
+ghost use Rattle.pli_declare_attributes.specs.Faults.{described_scalar};
+ghost use Rattle.pli_declare_attributes.specs.Types.{number_or, scalar_of};
+
+use crate::initials::elements;
+use crate::set::AttributeSet;
+use crate::summary::Summary;
+use pli_base::declaration::{Attribute, Bounds};
+use pli_map::Layout;
+
+/// Bytes and alignment of FIXED BINARY: a halfword up to 15 digits.
+fn fixed_binary_size(precision: u32) -> u32
+    ensures { result ≡ (if nat_le precision 15 then 2 else 4) }
+{
+    if precision <= 15 { 2 } else { 4 }
+}
+
+/// A number in parentheses, or else the default.
+fn number_or_default(number: Option<u32>, default: u32) -> u64
+    ensures { result ≡ number_or default number }
+{
+    u64::from(number.unwrap_or(default))
+}
+
+/// What a type takes, whatever the number in it is, or `None` where it is over the limit.
+#[tactic(auto, unfolding(crate::specs::Types::scalar_of))]
+fn summary_layout(summary: Summary) -> Option<Layout>
+    ensures { IsLayout result (size_of (scalar_of summary.set.0 summary.number)) (alignment_of (scalar_of summary.set.0 summary.number)) }
+{
+    let set = summary.set;
+    let number = summary.number;
+    if set.has(AttributeSet::FIXED) {
+        let bytes = fixed_binary_size(number.unwrap_or(15));
+        Layout::of(u64::from(bytes), bytes)
+    } else if set.has(AttributeSet::VARYING) {
+        Layout::of(2 + number_or_default(number, 1), 2)
+    } else if set.has(AttributeSet::CHARACTER) {
+        Layout::of(number_or_default(number, 1), 1)
+    } else if set.has(AttributeSet::BIT) {
+        Layout::of(number_or_default(number, 1).div_ceil(8), 1)
+    } else if set.has(AttributeSet::POINTER) {
+        Layout::of(8, 4)
+    } else if set.has(AttributeSet::OFFSET) {
+        Layout::of(4, 4)
+    } else {
+        Layout::of(number_or_default(number, 1_000).next_multiple_of(8), 8)
+    }
+}
+
+/// What the type takes that an item's attributes say, or `None` where it is over the limit.
+pub fn scalar_layout(attributes: &[Attribute]) -> Option<Layout>
+    ensures { let d = described_scalar (map outermost (map attribute_view attributes.now)) in
+        IsLayout result (size_of d) (alignment_of d) }
+{
+    summary_layout(Summary::of_item(attributes))
+}
+
+/// What an array takes of these dimensions, which are good, and of elements of this layout; or `None` where it is over the limit.
+#[tactic(auto, using(crate::proofs::Shapes::bounds_good, crate::proofs::Counts::enough))]
+pub fn array_layout(element: Layout, dimensions: &[Bounds]) -> Option<Layout>
+    requires { are_bad_bounds dimensions.now ≡ false }
+    ensures { IsLayout result (count_of (all_bounds dimensions.now) * next_multiple_of element.bytes element.alignment) element.alignment }
+{
+    let count = elements(1, dimensions).min(u128::from(u64::MAX)) as u64;
+    element.times(count)
+}

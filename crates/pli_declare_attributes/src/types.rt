@@ -1,0 +1,96 @@
+//! The type that data attributes say.
+ghost use Rattle.std.specs.Prelude.{◌≡◌, true, false};
+ghost use Rattle.pli_map.specs.DescriptionView.{description_view};
+ghost use Rattle.pli_declare_attributes.specs.Types.{is_up_to, number_or, is_bad_precision, is_bad_length, scalar_of};
+
+use crate::set::AttributeSet;
+use crate::summary::Summary;
+use pli_map::Description;
+
+/// Digits of FIXED BINARY where no precision is written (own).
+const DEFAULT_PRECISION: u8 = 15;
+
+/// The length of a string where none is written (X3.74).
+const DEFAULT_LENGTH: u16 = 1;
+
+/// Bytes of an AREA where no size is written (own).
+const DEFAULT_SIZE: u32 = 1_000;
+
+/// Whether a number is from 1 to a limit, where it is written.
+fn up_to(limit: u32, number: Option<u32>) -> bool
+    ensures { result ≡ is_up_to limit number }
+{
+    match number {
+        Some(number) => 1 <= number && number <= limit,
+        None => true,
+    }
+}
+
+/// Whether there is a precision that is not from 1 to 31.
+#[tactic(auto, unfolding(crate::specs::Types::is_bad_precision))]
+pub(crate) fn bad_precision(summary: Summary) -> bool
+    ensures { result ≡ is_bad_precision summary.set.0 summary.number }
+{
+    summary.set.has(AttributeSet::FIXED) && !up_to(31, summary.number)
+}
+
+/// Whether there is a length that is not from 1 to 32,767, or an area's size that is not from 1 to 1,000,000.
+#[tactic(auto, unfolding(crate::specs::Types::is_bad_length))]
+pub(crate) fn bad_length(summary: Summary) -> bool
+    ensures { result ≡ is_bad_length summary.set.0 summary.number }
+{
+    let set = summary.set;
+    let is_string = set.has(AttributeSet::CHARACTER)
+        || set.has(AttributeSet::VARYING)
+        || set.has(AttributeSet::BIT);
+    is_string && !up_to(32_767, summary.number)
+        || set.has(AttributeSet::AREA) && !up_to(1_000_000, summary.number)
+}
+
+/// A precision, or else the default.
+fn precision(number: Option<u32>) -> u8
+    requires { is_up_to 31 number ≡ true }
+    ensures { result ≡ number_or 15 number }
+{
+    match number {
+        Some(number) => number as u8,
+        None => DEFAULT_PRECISION,
+    }
+}
+
+/// A length, or else the default.
+fn length(number: Option<u32>) -> u16
+    requires { is_up_to 32767 number ≡ true }
+    ensures { result ≡ number_or 1 number }
+{
+    match number {
+        Some(number) => number as u16,
+        None => DEFAULT_LENGTH,
+    }
+}
+
+/// The type that data attributes say, with its defaults.
+#[tactic(auto, unfolding(crate::specs::Types::is_bad_precision, crate::specs::Types::is_bad_length, crate::specs::Types::scalar_of))]
+pub(crate) fn scalar(summary: Summary) -> Description
+    requires precision { is_bad_precision summary.set.0 summary.number ≡ false }
+    requires length { is_bad_length summary.set.0 summary.number ≡ false }
+    ensures { description_view result ≡ scalar_of summary.set.0 summary.number }
+{
+    let set = summary.set;
+    let number = summary.number;
+    if set.has(AttributeSet::FIXED) {
+        Description::FixedBinary(precision(number))
+    } else if set.has(AttributeSet::VARYING) {
+        Description::Varying(length(number))
+    } else if set.has(AttributeSet::CHARACTER) {
+        Description::Character(length(number))
+    } else if set.has(AttributeSet::BIT) {
+        Description::Bit(length(number))
+    } else if set.has(AttributeSet::POINTER) {
+        Description::Pointer
+    } else if set.has(AttributeSet::OFFSET) {
+        Description::Offset
+    } else {
+        Description::Area(number.unwrap_or(DEFAULT_SIZE))
+    }
+}

@@ -1,0 +1,204 @@
+//! The regions and marks of statements with statements inside them.
+ghost use Rattle.std.specs.Prelude.{◌≡◌, ◌++◌, ◌+◌, ◌∷◌, [], length, OnOk, IfOk};
+ghost use Rattle.pli_base.specs.StatementView.{body_view, statement_view, statements_view, unit_view};
+ghost use Rattle.pli_base.specs.StatementLaws.{boxed_view};
+ghost use Rattle.pli_declare_outline.specs.Outlines.{region_in, regions_in, regions_of, regions_among, regions_else, statement_marks, statement_regions, statements_marks, statements_regions, body_marks, body_regions, alternative_marks, alternative_regions, outline_of};
+ghost use Rattle.pli_declare_outline.specs.OutlineView.{region_view, regions_view, marks_view, outline_view};
+
+use crate::expressions::{mark, mark_expression};
+use crate::region::{Mark, Outline, Placed, Region, RegionKind};
+use crate::statements::{mark_head, mark_label, mark_specification};
+use pli_base::statement::{Body, Procedure, Statement};
+use std::alloc::{AllocError, Global};
+
+/// The regions and marks of a statement.
+#[cycle(walk)]
+fn walk_statement<'a>(
+    alloc: Global,
+    here: usize,
+    statement: &'a Statement,
+    regions: &mut Vec<Region>,
+    marks: &mut Vec<Placed<'a>>,
+) -> Result<(), AllocError>
+    ensures regions { OnOk result (regions_view regions.new.items
+        ≡ regions_view regions.old.items ++ statement_regions here (length regions.old.items) (statement_view statement.now)) }
+    ensures marks { OnOk result (marks_view marks.new.items
+        ≡ marks_view marks.old.items ++ statement_marks here (length regions.old.items) (statement_view statement.now)) }
+    ensures count { OnOk result (length regions.new.items ≡ length regions.old.items + regions_in (statement_view statement.now)) }
+{
+    mark_label(here, statement, marks)?;
+    walk_body(alloc, here, &statement.body, regions, marks)
+}
+
+/// The regions and marks of statements.
+#[cycle(walk)]
+fn walk_statements<'a>(
+    alloc: Global,
+    here: usize,
+    statements: &'a [Statement],
+    regions: &mut Vec<Region>,
+    marks: &mut Vec<Placed<'a>>,
+) -> Result<(), AllocError>
+    ensures regions { OnOk result (regions_view regions.new.items
+        ≡ regions_view regions.old.items ++ statements_regions here (length regions.old.items) (statements_view statements.now)) }
+    ensures marks { OnOk result (marks_view marks.new.items
+        ≡ marks_view marks.old.items ++ statements_marks here (length regions.old.items) (statements_view statements.now)) }
+    ensures count { OnOk result (length regions.new.items ≡ length regions.old.items + regions_among (statements_view statements.now)) }
+{
+    for statement in statements {
+        walk_statement(alloc, here, statement, regions, marks)?;
+    }
+    Ok(())
+}
+
+/// A region, with the regions and marks of the statements in it.
+#[cycle(walk)]
+fn walk_region<'a>(
+    alloc: Global,
+    region: Region,
+    statements: &'a [Statement],
+    regions: &mut Vec<Region>,
+    marks: &mut Vec<Placed<'a>>,
+) -> Result<(), AllocError>
+    ensures regions { OnOk result (regions_view regions.new.items
+        ≡ regions_view regions.old.items ++ region_view region ∷ statements_regions (length regions.old.items) (length regions.old.items + 1) (statements_view statements.now)) }
+    ensures marks { OnOk result (marks_view marks.new.items
+        ≡ marks_view marks.old.items ++ statements_marks (length regions.old.items) (length regions.old.items + 1) (statements_view statements.now)) }
+    ensures count { OnOk result (length regions.new.items ≡ length regions.old.items + (1 + regions_among (statements_view statements.now))) }
+{
+    let number = regions.len();
+    regions.push(region)?;
+    walk_statements(alloc, number, statements, regions, marks)
+}
+
+/// The region of an ON-unit, with the regions and marks of its statement.
+#[cycle(walk)]
+fn walk_unit<'a>(
+    alloc: Global,
+    region: Region,
+    statement: &'a Statement,
+    regions: &mut Vec<Region>,
+    marks: &mut Vec<Placed<'a>>,
+) -> Result<(), AllocError>
+    ensures regions { OnOk result (regions_view regions.new.items
+        ≡ regions_view regions.old.items ++ region_view region ∷ statement_regions (length regions.old.items) (length regions.old.items + 1) (statement_view statement.now)) }
+    ensures marks { OnOk result (marks_view marks.new.items
+        ≡ marks_view marks.old.items ++ statement_marks (length regions.old.items) (length regions.old.items + 1) (statement_view statement.now)) }
+    ensures count { OnOk result (length regions.new.items ≡ length regions.old.items + (1 + regions_in (statement_view statement.now))) }
+{
+    let number = regions.len();
+    regions.push(region)?;
+    walk_statement(alloc, number, statement, regions, marks)
+}
+
+/// The regions and marks of what a statement says.
+#[cycle(walk)]
+fn walk_body<'a>(
+    alloc: Global,
+    here: usize,
+    body: &'a Body,
+    regions: &mut Vec<Region>,
+    marks: &mut Vec<Placed<'a>>,
+) -> Result<(), AllocError>
+    ensures regions { OnOk result (regions_view regions.new.items
+        ≡ regions_view regions.old.items ++ body_regions here (length regions.old.items) (body_view body.now)) }
+    ensures marks { OnOk result (marks_view marks.new.items
+        ≡ marks_view marks.old.items ++ body_marks here (length regions.old.items) (body_view body.now)) }
+    ensures count { OnOk result (length regions.new.items ≡ length regions.old.items + regions_of (body_view body.now)) }
+{
+    match body {
+        Body::Procedure(procedure) => {
+            let region = regions.len();
+            mark(here, Mark::Entered { procedure, region }, marks)?;
+            let region = Region {
+                kind: RegionKind::Procedure,
+                outer: Some(here),
+            };
+            walk_region(
+                alloc,
+                region,
+                procedure.statements.as_slice(),
+                regions,
+                marks,
+            )
+        }
+        Body::Begin { statements, .. } => {
+            let region = Region {
+                kind: RegionKind::Begin,
+                outer: Some(here),
+            };
+            walk_region(alloc, region, statements.as_slice(), regions, marks)
+        }
+        Body::Do {
+            control,
+            statements,
+            ..
+        } => {
+            mark_specification(alloc, here, control, marks)?;
+            let region = Region {
+                kind: RegionKind::Group,
+                outer: Some(here),
+            };
+            walk_region(alloc, region, statements.as_slice(), regions, marks)
+        }
+        Body::If {
+            condition,
+            consequence,
+            alternative,
+        } => {
+            mark_expression(alloc, here, condition, marks)?;
+            walk_statement(alloc, here, consequence, regions, marks)?;
+            match alternative {
+                None => Ok(()),
+                Some(statement) => walk_statement(alloc, here, statement, regions, marks),
+            }
+        }
+        Body::On { unit, .. } => {
+            let region = Region {
+                kind: RegionKind::Unit,
+                outer: Some(here),
+            };
+            walk_unit(alloc, region, unit, regions, marks)
+        }
+        Body::Null
+        | Body::Assign { .. }
+        | Body::Declare(_)
+        | Body::Revert(_)
+        | Body::Signal(_)
+        | Body::Stop
+        | Body::Allocate(_)
+        | Body::Free(_)
+        | Body::Call { .. }
+        | Body::Goto(_)
+        | Body::Return(_)
+        | Body::Put { .. } => mark_head(alloc, here, body, marks),
+    }
+}
+
+/// The outline of a unit.
+pub fn outline(alloc: Global, unit: &Procedure) -> Result<Outline<'_>, AllocError>
+    ensures { IfOk result (λ outline. outline_view outline ≡ outline_of (unit_view unit.now)) }
+{
+    let mut regions = Vec::new(alloc);
+    let mut marks = Vec::new(alloc);
+    mark(
+        0,
+        Mark::Entered {
+            procedure: unit,
+            region: 0,
+        },
+        &mut marks,
+    )?;
+    let region = Region {
+        kind: RegionKind::Procedure,
+        outer: None,
+    };
+    walk_region(
+        alloc,
+        region,
+        unit.statements.as_slice(),
+        &mut regions,
+        &mut marks,
+    )?;
+    Ok(Outline { regions, marks })
+}

@@ -1,0 +1,201 @@
+-- Only items of a reference's last name fit it, and how they are found.
+use Rattle.std.proofs.Common.{◌≡◌, ℕ, zero, suc, ◌+◌, ◌-◌, ◌<◌, ◌≤◌, Bool, true, false, ◌&&◌, List, [], ◌∷◌, length, get_or, take, Option, None, Some, IfSome, if◌then◌else◌, refl, sym, ap, subst, ◌∙◌, arith}
+use Rattle.std.specs.Prelude.{reverse}
+use Rattle.std.proofs.Math.Seq.{take-length}
+use Rattle.std.specs.Cmp.Lexicographic.{same_text}
+use Rattle.pli_base.specs.Name.{Name}
+use Rattle.pli_base.specs.NameLaws.{pointwise-refl}
+use Rattle.pli_base.specs.Words.{same_name}
+use Rattle.pli_declare_scopes.specs.declared.found.Found.{Found}
+use Rattle.pli_declare_scopes.specs.declared.found.Found.TheVariants.{Nothing}
+use Rattle.pli_declare_scopes.specs.Scopes.{Block, item_at, is_named, chain_at, chain_over, is_part, fits_chain, is_chain, fits, fits_fully, with_number, found_below, preferred, found_in}
+use Rattle.pli_declare_scopes.specs.Indexes.{last_below, OwnersBefore}
+use Rattle.pli_declare_scopes.proofs.IndexKept.{both_true}
+use Rattle.pli_declare_scopes.proofs.Chains.{rank, chain_is, backwards}
+
+and_false : (b : Bool) → (b && false) ≡ false
+and_false true = refl
+and_false false = refl
+
+same_turned : (x y : Name) → same_name x y ≡ true → same_name y x ≡ true
+same_turned x y h = subst (λ z. same_name z x ≡ true) (same_text x y (sym h)) (pointwise-refl x)
+
+-- nothing is found where nothing passes
+none_found : (test : ℕ → Bool) (k : ℕ) (found : Found) → ((j : ℕ) → j < k → test j ≡ false) → found_below test k found ≡ found
+none_found test zero found none = refl
+none_found test (suc k) found none =
+    ap (λ b. found_below test k (if b then with_number k found else found)) (none k (omega arith))
+    ∙ none_found test k found (λ j lt. none j (omega arith))
+
+skipped_step : (test named : ℕ → Bool) (k : ℕ) (found : Found) (b : Bool) → named k ≡ b → (test k ≡ true → named k ≡ true)
+    → found_below test k found ≡ found_below test (rank (last_below named k)) found
+    → found_below test (suc k) found ≡ found_below test (rank (if b then Some k else last_below named k)) found
+skipped_step test named k found true e only rest = ap (λ n. found_below test n found) (let on : suc k ≡ k + 1 = omega arith in on)
+skipped_step test named k found false e only rest = by (test k) refl ∙ rest
+  where
+    by : (t : Bool) → test k ≡ t → found_below test (suc k) found ≡ found_below test k found
+    by true f = let bad : true ≡ false = sym (only f) ∙ e in cc
+    by false f = ap (λ t. found_below test k (if t then with_number k found else found)) f
+
+-- numbers behind the last that is named add nothing
+pub skipped : (test named : ℕ → Bool) (k : ℕ) (found : Found) → ((j : ℕ) → j < k → test j ≡ true → named j ≡ true)
+    → found_below test k found ≡ found_below test (rank (last_below named k)) found
+skipped test named zero found only = refl
+skipped test named (suc k) found only =
+    skipped_step test named k found (named k) refl (only k (omega arith)) (skipped test named k found (λ j lt. only j (omega arith)))
+
+-- a number that is looked at
+pub looked_at : (test named : ℕ → Bool) (n : ℕ) (b : Bool) (found next : Found) → test n ≡ b → next ≡ (if b then with_number n found else found)
+    → ((j : ℕ) → j < n → test j ≡ true → named j ≡ true)
+    → found_below test (rank (last_below named n)) next ≡ found_below test (n + 1) found
+looked_at test named n b found next e f only =
+    sym (skipped test named n next only) ∙ ap (found_below test n) (f ∙ ap (λ t. if t then with_number n found else found) (sym e))
+    ∙ ap (λ m. found_below test m found) (let on : suc n ≡ n + 1 = omega arith in on)
+
+-- the last that is named lies below, and is named
+pub last_within : (named : ℕ → Bool) (k : ℕ) → IfSome (last_below named k) (λ n. n < k)
+last_within named zero = tt
+last_within named (suc k) = by (named k) (last_within named k)
+  where
+    wider : (o : Option ℕ) → IfSome o (λ n. n < k) → IfSome o (λ n. n < suc k)
+    wider None h = tt
+    wider (Some n) h = omega (arith, h)
+
+    by : (b : Bool) → IfSome (last_below named k) (λ n. n < k) → IfSome (if b then Some k else last_below named k) (λ n. n < suc k)
+    by true h = omega arith
+    by false h = wider (last_below named k) h
+
+pub last_passes : (named : ℕ → Bool) (k : ℕ) → IfSome (last_below named k) (λ n. named n ≡ true)
+last_passes named zero = tt
+last_passes named (suc k) = by (named k) refl (last_passes named k)
+  where
+    by : (b : Bool) → named k ≡ b → IfSome (last_below named k) (λ n. named n ≡ true) → IfSome (if b then Some k else last_below named k) (λ n. named n ≡ true)
+    by true e h = e
+    by false e h = h
+
+module _ (items : Block) (owners : OwnersBefore items) where
+  -- no names fit nothing
+  pub no_names : found_in items [] ≡ Nothing
+  no_names =
+      let fully : found_below (fits_fully items []) (length items) Nothing ≡ Nothing = none_found (fits_fully items []) (length items) Nothing
+      (λ j lt. ap (λ chain. (item_at items j).counts && is_chain [] chain) (chain_is items j owners lt) ∙ and_false (item_at items j).counts) in
+      let partly : found_below (fits items []) (length items) Nothing ≡ Nothing = none_found (fits items []) (length items) Nothing (λ j lt. and_false (item_at items j).counts) in
+      ap (λ f. preferred f (found_below (fits items []) (length items) Nothing)) fully ∙ partly
+
+  module _ (names : List Name) (some : 0 < length names) where
+    abbrev pub own : Name
+    own = get_or names (length names - 1) []
+
+    abbrev pub front : List Name
+    front = reverse (take (length names - 1) names)
+
+    turned : reverse names ≡ own ∷ front
+    turned =
+        let whole : (length names - 1) + 1 ≡ length names = omega arith in
+        sym (ap reverse (ap (λ n. take n names) whole ∙ take-length names)) ∙ backwards names (length names - 1) [] (omega arith)
+
+    chained : (n : ℕ) → n < length items → (item_at items n).counts ≡ true → (same_name own (item_at items n).name ≡ true)
+        → fits_chain (reverse names) (chain_at items n) ≡ is_part front (chain_over items (item_at items n).owner)
+    chained n lt counts same =
+        ap (λ ns. fits_chain ns (chain_at items n)) turned ∙ ap (fits_chain (own ∷ front)) (chain_is items n owners lt)
+        ∙ ap (λ b. b && is_part front (chain_over items (item_at items n).owner)) same
+
+    -- an item of the last name fits by the names before it
+    pub fits_named : (n : ℕ) → n < length items → is_named items own n ≡ true → fits items names n ≡ is_part front (chain_over items (item_at items n).owner)
+    fits_named n lt named =
+        let t = both_true (item_at items n).counts (same_name (item_at items n).name own) named in
+        ap (λ b. b && fits_chain (reverse names) (chain_at items n)) t.0
+        ∙ chained n lt t.0 (same_turned (item_at items n).name own t.1)
+
+    pub fully_named : (n : ℕ) → n < length items → is_named items own n ≡ true → fits_fully items names n ≡ is_chain front (chain_over items (item_at items n).owner)
+    fully_named n lt named =
+        let t = both_true (item_at items n).counts (same_name (item_at items n).name own) named in
+        ap (λ b. b && is_chain (reverse names) (chain_at items n)) t.0
+        ∙ ap (λ ns. is_chain ns (chain_at items n)) turned ∙ ap (is_chain (own ∷ front)) (chain_is items n owners lt)
+        ∙ ap (λ b. b && is_chain front (chain_over items (item_at items n).owner)) (same_turned (item_at items n).name own t.1)
+
+    -- what fits is of the last name
+    pub only_named : (n : ℕ) → n < length items → fits items names n ≡ true → is_named items own n ≡ true
+    only_named n lt h =
+        let t = both_true (item_at items n).counts (fits_chain (reverse names) (chain_at items n)) h in
+        let split : fits_chain (own ∷ front) ((item_at items n).name ∷ chain_over items (item_at items n).owner) ≡ true =
+        sym (ap (λ ns. fits_chain ns (chain_at items n)) turned ∙ ap (fits_chain (own ∷ front)) (chain_is items n owners lt)) ∙ t.1 in
+        let u = both_true (same_name own (item_at items n).name) (is_part front (chain_over items (item_at items n).owner)) split in
+        ap (λ b. b && same_name (item_at items n).name own) t.0 ∙ same_turned own (item_at items n).name u.0
+
+    pub only_fully : (n : ℕ) → n < length items → fits_fully items names n ≡ true → is_named items own n ≡ true
+    only_fully n lt h =
+        let t = both_true (item_at items n).counts (is_chain (reverse names) (chain_at items n)) h in
+        let split : is_chain (own ∷ front) ((item_at items n).name ∷ chain_over items (item_at items n).owner) ≡ true =
+        sym (ap (λ ns. is_chain ns (chain_at items n)) turned ∙ ap (is_chain (own ∷ front)) (chain_is items n owners lt)) ∙ t.1 in
+        let u = both_true (same_name own (item_at items n).name) (is_chain front (chain_over items (item_at items n).owner)) split in
+        ap (λ b. b && same_name (item_at items n).name own) t.0 ∙ same_turned own (item_at items n).name u.0
+
+-- the items of a name are walked from the last: what is found so far, and what those from the next on give, is what all give
+pub record Looking (items : Block) (names : List Name) (next : Option ℕ) (partly fully : Found) : Type 0 where
+  pub within : IfSome next (λ n. n < length items)
+  pub named : IfSome next (λ n. is_named items (get_or names (length names - 1) []) n ≡ true)
+  pub part : found_below (fits items names) (rank next) partly ≡ found_below (fits items names) (length items) Nothing
+  pub whole : found_below (fits_fully items names) (rank next) fully ≡ found_below (fits_fully items names) (length items) Nothing
+
+wider_next : (next : Option ℕ) (m n : ℕ) → m ≤ n → IfSome next (λ o. o < m) → IfSome next (λ o. o < n)
+wider_next None m n le h = tt
+wider_next (Some o) m n le h = omega (arith, h)
+
+rank_below : (next : Option ℕ) (n : ℕ) → IfSome next (λ o. o < n) → rank next < n + 1
+rank_below None n h = omega arith
+rank_below (Some o) n h = omega (arith, h)
+
+module _ (items : Block) (owners : OwnersBefore items) (names : List Name) (some : 0 < length names) where
+  -- the walk begins
+  pub looking_first : (next : Option ℕ) → next ≡ last_below (is_named items (get_or names (length names - 1) [])) (length items) → Looking items names next Nothing Nothing
+  looking_first next e =
+      let named : ℕ → Bool = is_named items (get_or names (length names - 1) []) in
+      rw e (record {
+        within = last_within named (length items);
+        named = last_passes named (length items);
+        part = sym (skipped (fits items names) named (length items) Nothing (only_named items owners names some));
+        whole = sym (skipped (fits_fully items names) named (length items) Nothing (only_fully items owners names some));
+      })
+
+  module _ (at : Option ℕ) (n : ℕ) (partly fully : Found) (so_far : Looking items names at partly fully) (is : at ≡ Some n) where
+    pub stands : n < length items
+    stands = subst (λ a. IfSome a (λ o. o < length items)) is so_far.within
+
+    pub is_there : is_named items (get_or names (length names - 1) []) n ≡ true
+    is_there = subst (λ a. IfSome a (λ o. is_named items (get_or names (length names - 1) []) o ≡ true)) is so_far.named
+
+    module _ (next : Option ℕ) (further : next ≡ last_below (is_named items (get_or names (length names - 1) [])) n) where
+      -- the walk ends
+      pub looking_ends : rank next < rank at
+      looking_ends =
+          let named : ℕ → Bool = is_named items (get_or names (length names - 1) []) in
+          let less : rank next < n + 1 = rw further (rank_below (last_below named n) n (last_within named n)) in
+          rw is less
+
+      -- one more item is looked at
+      pub looking_on : (now_partly now_fully : Found) (p f : Bool)
+          → p ≡ is_part (reverse (take (length names - 1) names)) (chain_over items (item_at items n).owner)
+          → f ≡ is_chain (reverse (take (length names - 1) names)) (chain_over items (item_at items n).owner)
+          → now_partly ≡ (if p then with_number n partly else partly) → now_fully ≡ (if f then with_number n fully else fully)
+          → Looking items names next now_partly now_fully
+      looking_on now_partly now_fully p f is_p is_f found_p found_f =
+          let named : ℕ → Bool = is_named items (get_or names (length names - 1) []) in
+          let one : fits items names n ≡ p = fits_named items owners names some n stands is_there ∙ sym is_p in
+          let two : fits_fully items names n ≡ f = fully_named items owners names some n stands is_there ∙ sym is_f in
+          let below : n ≤ length items = omega (arith, stands) in
+          rw further (record {
+            within = wider_next (last_below named n) n (length items) below (last_within named n);
+            named = last_passes named n;
+            part = looked_at (fits items names) named n p partly now_partly one found_p (λ j lt. only_named items owners names some j (omega (arith, stands)))
+                ∙ ap (λ a. found_below (fits items names) (rank a) partly) (sym is) ∙ so_far.part;
+            whole = looked_at (fits_fully items names) named n f fully now_fully two found_f (λ j lt. only_fully items owners names some j (omega (arith, stands)))
+                ∙ ap (λ a. found_below (fits_fully items names) (rank a) fully) (sym is) ∙ so_far.whole;
+          })
+
+-- a branch taken or not
+pub if_taken : (b : Bool) (x y z : Found) → b ≡ true → z ≡ x → z ≡ (if b then x else y)
+if_taken b x y z e f = f ∙ sym (ap (λ c. if c then x else y) e)
+
+pub if_passed : (b : Bool) (x y z : Found) → b ≡ false → z ≡ y → z ≡ (if b then x else y)
+if_passed b x y z e f = f ∙ sym (ap (λ c. if c then x else y) e)

@@ -1,0 +1,34 @@
+-- Levels: which item each declared item belongs to.
+use Rattle.std.specs.Prelude.{ℕ, ◌+◌, Bool, ◌||◌, ◌&&◌, nat_eq, nat_lt, List, [], ◌∷◌, ◌++◌, map, Option, None, Some, if◌then◌else◌}
+use Rattle.std.specs.Option.{is_none, unwrap_or}
+use Rattle.pli_declare_scopes.specs.declared.level.Numbered.{Numbered}
+use Rattle.pli_declare_scopes.specs.declared.level.Standing.{Standing}
+
+-- an item without a level has level 1
+abbrev pub level_of : Option ℕ → ℕ
+level_of written = unwrap_or written 1
+
+-- the last of some items that has a lesser level, or else the one found before
+abbrev pub nearest_after : Option ℕ → ℕ → List Numbered → Option ℕ
+nearest_after found level [] = found
+nearest_after found level (i ∷ is) = nearest_after (if nat_lt i.level level then Some i.number else found) level is
+
+abbrev pub nearest : ℕ → List Numbered → Option ℕ
+nearest level items = nearest_after None level items
+
+-- a level is bad that is 0, over 255, or over 1 where no item before it has a lesser level
+abbrev pub is_bad : ℕ → Option ℕ → Bool
+is_bad level owner = nat_eq level 0 || nat_lt 255 level || nat_lt 1 level && is_none owner
+
+abbrev pub standing : ℕ → Option ℕ → Standing
+standing level owner = record { owner = owner; is_bad = is_bad level owner }
+
+-- how further items stand, the first of which has this number: each belongs to the last item before it with a lesser level
+abbrev pub standings_after : List Numbered → ℕ → List ℕ → List Standing
+standings_after before number [] = []
+standings_after before number (l ∷ ls) =
+    standing l (nearest l before) ∷ standings_after (before ++ record { number = number; level = l } ∷ []) (number + 1) ls
+
+-- how the items of a list stand, numbered from 0
+abbrev pub standings_of : List (Option ℕ) → List Standing
+standings_of levels = standings_after [] 0 (map level_of levels)

@@ -1,0 +1,55 @@
+//! What a reference means.
+ghost use Rattle.std.specs.Prelude.{◌≡◌};
+ghost use Rattle.pli_declare_scopes.specs.Scopes.{with_number, preferred, meant_there};
+
+/// What items of a block fit a reference: none, just one, by its number, or several.
+#[derive(Clone, Copy, Debug, PartialEq, Eq)]
+pub enum Found {
+    Nothing,
+    One(usize),
+    Several,
+}
+
+/// What a reference means. Names of built-in functions are the caller's.
+#[derive(Clone, Copy, Debug, PartialEq, Eq)]
+pub enum Meant {
+    /// The item of this number in a block, and how many blocks outwards that is: 0 for the innermost.
+    Item { number: usize, block: usize },
+    /// A10 AMBIGUOUS: two items or more, with nothing to prefer one.
+    Ambiguous,
+    /// A1 NOT DECLARED.
+    NotDeclared,
+}
+
+impl Found {
+    /// With one more number.
+    pub fn with_number(self, number: usize) -> Found
+        ensures { result ≡ with_number number self }
+    {
+        match self {
+            Found::Nothing => Found::One(number),
+            Found::One(_) | Found::Several => Found::Several,
+        }
+    }
+
+    /// What is found by full qualification, or else what is found by partial.
+    pub fn preferred(fully: Found, partly: Found) -> Found
+        ensures { result ≡ preferred fully partly }
+    {
+        match fully {
+            Found::Nothing => partly,
+            Found::One(_) | Found::Several => fully,
+        }
+    }
+
+    /// What this means in the block that is so many blocks outwards.
+    pub fn meant(self, block: usize) -> Meant
+        ensures { result ≡ meant_there block self }
+    {
+        match self {
+            Found::Nothing => Meant::NotDeclared,
+            Found::One(number) => Meant::Item { number, block },
+            Found::Several => Meant::Ambiguous,
+        }
+    }
+}

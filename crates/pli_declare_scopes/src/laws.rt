@@ -1,0 +1,58 @@
+//! Laws and worked examples of levels and references.
+ghost use Rattle.pli_declare_scopes.specs.ScopeLaws.{MeantIsMeans, MeansOne};
+ghost use Rattle.pli_declare_scopes.specs.Examples.{MembersOfMembers, LevelZero, LevelOneAfterZero, NoLesserLevel, LevelsOver255, PartialQualification, FullBeforePartial, InnermostBlock, ItemsThatCount, SecondIsTwice, MembersOfSecond};
+ghost use Rattle.pli_declare_scopes.specs.RepeatLaws.{AllAreJudged, CountsOnce, LaterIsFault, MembersArePassedOver};
+ghost use Rattle.pli_declare_scopes.specs.LevelLaws.{AllStand, OwnersAreNearest, OwnersAreMissed, BadLevelsAreFound};
+
+/// A law: an item's owner is the nearest item before it with a lesser level, and none where there is none.
+#[tactic(auto, using(crate::proofs::OwnersFound::all_stand, crate::proofs::OwnersFound::owners_are_nearest, crate::proofs::OwnersFound::owners_are_missed))]
+pub fn owners_are_nearest()
+    ensures all { AllStand }
+    ensures found { OwnersAreNearest }
+    ensures missed { OwnersAreMissed }
+{}
+
+/// A law: a level is bad that is 0, over 255, or over 1 with no lesser level before it.
+#[tactic(auto, using(crate::proofs::OwnersFound::bad_levels_are_found))]
+pub fn bad_levels_are_found()
+    ensures { BadLevelsAreFound }
+{}
+
+/// A law: what is looked up is what a reference means, both ways, and a reference means one thing.
+#[tactic(auto, using(crate::proofs::MeantMeans::meant_is_means, crate::proofs::MeantMeans::means_one))]
+pub fn meant_is_means()
+    ensures both_ways { MeantIsMeans }
+    ensures one { MeansOne }
+{}
+
+/// Worked examples of levels.
+pub fn examples_of_levels()
+    ensures members { MembersOfMembers }
+    ensures zero { LevelZero }
+    ensures one { LevelOneAfterZero }
+    ensures none_lesser { NoLesserLevel }
+    ensures over { LevelsOver255 }
+{}
+
+/// Worked examples of references.
+pub fn examples_of_references()
+    ensures partial { PartialQualification }
+    ensures full { FullBeforePartial }
+    ensures innermost { InnermostBlock }
+    ensures counting { ItemsThatCount }
+{}
+
+/// A law: an item counts where its owner does and no item before it is its like, and of those that are alike the later are faults.
+#[tactic(auto, using(crate::proofs::Judged::all_are_judged, crate::proofs::Judged::counts_once, crate::proofs::Judged::later_is_fault, crate::proofs::Judged::members_are_passed_over))]
+pub fn later_is_fault()
+    ensures all { AllAreJudged }
+    ensures counts { CountsOnce }
+    ensures fault { LaterIsFault }
+    ensures passed { MembersArePassedOver }
+{}
+
+/// Worked examples of names that are declared twice.
+pub fn examples_of_repeats()
+    ensures second { SecondIsTwice }
+    ensures members { MembersOfSecond }
+{}

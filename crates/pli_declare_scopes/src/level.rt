@@ -1,0 +1,61 @@
+//! Levels: which item each declared item belongs to.
+ghost use Rattle.std.specs.Prelude.{◌≡◌, ℕ, ◌≤◌, IfOk};
+ghost use Rattle.pli_declare_scopes.specs.Levels.{level_of, is_bad, nearest, standing, standings_of};
+
+use std::alloc::{AllocError, Global};
+
+/// An item of a list, by its number, with its level.
+#[derive(Clone, Copy, Debug)]
+pub struct Numbered {
+    pub number: usize,
+    pub level: u32,
+}
+
+/// How an item stands in its list.
+#[derive(Clone, Copy, Debug, PartialEq, Eq)]
+pub struct Standing {
+    /// The number of the item that it is a member of; none where it is a variable of its own.
+    pub owner: Option<usize>,
+    /// Whether its level is a fault, A8 BAD LEVEL: 0, over 255, or over 1 with no lesser level before it (own).
+    pub is_bad: bool,
+}
+
+/// How an item of this level stands below this owner.
+fn standing_below(level: u32, owner: Option<usize>) -> Standing
+    ensures { result ≡ standing level owner }
+{
+    Standing {
+        owner,
+        is_bad: level == 0 || level > 255 || level > 1 && owner.is_none(),
+    }
+}
+
+/// The item to which one of this level belongs. Items that no later one can belong to are taken out.
+fn owner_among(before: &mut Vec<Numbered>, level: u32) -> Option<usize>
+    ensures owner { result ≡ nearest level before.old.items }
+    ensures kept { (l : ℕ) → l ≤ level → nearest l before.new.items ≡ nearest l before.old.items }
+{
+    while let Some(item) = before.last() {
+        if item.level < level {
+            return Some(item.number);
+        }
+        before.pop();
+    }
+    None
+}
+
+/// How the items of a list stand, from their levels: each belongs to the nearest item before it with a lesser level (X3.74).
+/// An item without a level has level 1; one of level 0 is a variable of its own, to which later items may belong (own).
+pub fn standings(alloc: Global, levels: &[Option<u32>]) -> Result<Vec<Standing>, AllocError>
+    ensures { IfOk result (λ standings. standings.items ≡ standings_of levels.now) }
+{
+    let mut before = Vec::new(alloc);
+    let mut standings = Vec::new(alloc);
+    for (number, written) in levels.iter().enumerate() {
+        let level = written.unwrap_or(1);
+        let owner = owner_among(&mut before, level);
+        standings.push(standing_below(level, owner))?;
+        before.push(Numbered { number, level })?;
+    }
+    Ok(standings)
+}

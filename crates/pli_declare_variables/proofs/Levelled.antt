@@ -1,0 +1,46 @@
+-- What the levels above an item make, by what is known of its owner.
+use Rattle.std.proofs.Common.{◌≡◌, ℕ, ◌<◌, ◌||◌, Option, Some, None, List, length, get_or, map, sym, ap, subst, ◌∙◌, arith}
+use Rattle.std.proofs.lemmas.List.{get_or-map, length-map}
+use Rattle.pli_declare_attributes.specs.Extents.{is_array}
+use Rattle.pli_declare_attributes.specs.Initials.{elements_inside}
+use Rattle.pli_declare_tables.specs.Answers.{AreBehindOwners}
+use Rattle.pli_declare_tables.specs.TableView.{entry_view, entries_view}
+use Rattle.pli_declare_tables.specs.Tables as plain
+use Rattle.pli_declare_tables.specs.Tables.{no_entry, numbers_from}
+use Rattle.pli_declare_tables.specs.declared.entry.Entry.{Entry}
+use Rattle.pli_declare_variables.specs.Places.{item_of}
+use Rattle.pli_declare_variables.specs.Walks.{made_by, above_at, above_owner, nothing_above}
+use Rattle.pli_declare_variables.specs.declared.places.Surroundings.{Surroundings}
+use Rattle.pli_declare_variables.proofs.Numbers.{mapped_at}
+use Rattle.pli_declare_variables.proofs.Owners.{Below, owner_below, owners_next, owners_none}
+
+-- an entry of the program, as it is seen
+pub view_at : (entries : List Entry) (i : ℕ) (e : Entry) → i < length entries → e ≡ get_or entries i e → get_or (entries_view entries) i no_entry ≡ entry_view e
+view_at entries i e lt is = get_or-map entry_view entries i e no_entry lt ∙ ap entry_view (sym is)
+
+-- its owner stands before it
+pub owner_before : (entries : List Entry) → AreBehindOwners (entries_view entries) → (i : ℕ) (e : Entry) → i < length entries → e ≡ get_or entries i e → Below e.owner i
+owner_before entries behind i e lt is =
+    subst (λ (x : plain.Entry). Below x.owner i) (view_at entries i e lt is) (owner_below (entries_view entries) behind i (omega (arith, length-map entries entry_view)))
+
+-- a level more
+abbrev with_level : List plain.Entry → ℕ → Surroundings → Surroundings
+with_level entries o above =
+    let dimensions = (item_of entries o).dimensions in
+    record { in_array = is_array dimensions || above.in_array; elements = elements_inside above.elements dimensions }
+
+one_above : (entries : List plain.Entry) → AreBehindOwners entries → (i : ℕ) → i < length entries → (aboves : List Surroundings)
+    → aboves ≡ map (above_at entries) (numbers_from 0 i) → (owner : Option ℕ) → (get_or entries i no_entry).owner ≡ owner → Below owner i
+    → above_owner aboves entries owner ≡ above_at entries i
+one_above entries behind i lt aboves known None is below = ap (made_by entries) (sym (owners_none entries i is))
+one_above entries behind i lt aboves known (Some o) is below =
+    let here : get_or aboves o nothing_above ≡ above_at entries o = ap (λ (as_known : List Surroundings). get_or as_known o nothing_above) known ∙ mapped_at (above_at entries) i o nothing_above below in
+    ap (with_level entries o) here ∙ ap (made_by entries) (sym (owners_next entries behind i o (omega arith) is))
+
+-- what is above an entry of the program
+pub above_more : (entries : List Entry) → AreBehindOwners (entries_view entries) → (i : ℕ) (e : Entry) → i < length entries → e ≡ get_or entries i e
+    → (aboves : List Surroundings) → aboves ≡ map (above_at (entries_view entries)) (numbers_from 0 i)
+    → above_owner aboves (entries_view entries) e.owner ≡ above_at (entries_view entries) i
+above_more entries behind i e lt is aboves known =
+    one_above (entries_view entries) behind i (omega (arith, length-map entries entry_view)) aboves known e.owner
+    (ap (λ (x : plain.Entry). x.owner) (view_at entries i e lt is)) (owner_before entries behind i e lt is)

@@ -1,0 +1,108 @@
+-- The items of a block as variables: where each stands, and its least fault apart from names.
+use Rattle.std.specs.Prelude.{ℕ, zero, suc, ◌+◌, ◌*◌, ◌^◌, ◌-◌, min, Bool, true, false, not, ◌&&◌, ◌||◌, ◌==◌, Option, Some, None, option_map, List, [], ◌∷◌, map, length, get_or, if◌then◌else◌, codes}
+use Rattle.std.specs.List.{list_any, list_all, filter}
+use Rattle.std.specs.Option.{unwrap_or}
+use Rattle.pli_base.specs.Name.{Name}
+use Rattle.pli_base.specs.Words.{same_name}
+use Rattle.pli_base.specs.declared.code.Code.{Code}
+use Rattle.pli_base.specs.Declarations.{Item}
+use Rattle.pli_map.specs.Sizes.{count_of}
+use Rattle.pli_declare_attributes.specs.Extents.{all_bounds, are_bad_bounds, is_array}
+use Rattle.pli_declare_attributes.specs.Faults.{item_fault}
+use Rattle.pli_declare_attributes.specs.Sets.{outermost, set_of, has, none_of, entry, built_in, based, area, pointer, offset}
+use Rattle.pli_declare_attributes.specs.declared.place.Place.{Place}
+use Rattle.pli_declare_attributes.specs.declared.place.Position.{Position}
+use Rattle.pli_declare_attributes.specs.declared.place.Position.TheVariants.{AtLevelOne, Member, Parameter}
+use Rattle.pli_declare_scopes.specs.Levels.{level_of}
+use Rattle.pli_declare_tables.specs.Tables.{Entity, AsItem, AsLabel, AsProcedure, Entry, no_entry, numbers_from}
+
+-- the items that an entry is a member of, the nearest first; each stands before it
+abbrev pub above : (bound : ℕ) → List Entry → Option ℕ → List ℕ
+above zero entries owner = []
+above (suc bound) entries None = []
+above (suc bound) entries (Some n) = n ∷ above bound entries (get_or entries n no_entry).owner
+
+abbrev pub owners_of : List Entry → ℕ → List ℕ
+owners_of entries n = above (length entries) entries (get_or entries n no_entry).owner
+
+abbrev pub owner_is : ℕ → Entry → Bool
+owner_is n e = unwrap_or (option_map (λ o. o == n) e.owner) false
+
+-- the members of an item
+abbrev pub members_of : List Entry → ℕ → List ℕ
+members_of entries n = filter (λ k. owner_is n (get_or entries k no_entry)) (numbers_from 0 (length entries))
+
+abbrev pub no_item : Item
+no_item = record { level = None; names = []; dimensions = []; attributes = [] }
+
+abbrev pub item_in : Entity → Item
+item_in (AsItem item is_bad) = item
+item_in (AsLabel region) = no_item
+item_in (AsProcedure heading region) = no_item
+
+abbrev pub item_of : List Entry → ℕ → Item
+item_of entries n = item_in (get_or entries n no_entry).entity
+
+-- the names of built-in functions
+abbrev pub built_in_names : List Name
+built_in_names =
+    codes "ABS" ∷ codes "MAX" ∷ codes "MIN" ∷ codes "MOD" ∷ codes "DIVIDE" ∷ codes "SIGN" ∷ codes "LENGTH" ∷ codes "INDEX" ∷ codes "ALLOCATION" ∷ codes "LBOUND" ∷ codes "HBOUND"
+    ∷ codes "SUBSTR" ∷ codes "ADDR" ∷ codes "NULL" ∷ codes "EMPTY" ∷ codes "POINTER" ∷ codes "OFFSET" ∷ []
+
+unfoldable pub is_built_in : Name → Bool
+is_built_in name = list_any (same_name name) built_in_names
+
+abbrev pub position_of : (is_parameter : Bool) → (level : ℕ) → Position
+position_of true level = Parameter
+position_of false level = if level == 1 then AtLevelOne else Member
+
+-- elements are counted up to here; no text gives as many values
+abbrev pub most_elements : ℕ
+most_elements = 2 ^ 64 - 1
+
+-- how many elements the levels above make, where none of them has bad bounds
+abbrev pub elements_through : List Entry → List ℕ → Option ℕ
+elements_through entries [] = Some 1
+elements_through entries (n ∷ ns) =
+    let dimensions = (item_of entries n).dimensions in
+    if are_bad_bounds dimensions then None else option_map (λ count. min (count * count_of (all_bounds dimensions)) most_elements) (elements_through entries ns)
+
+-- where an item stands; the parameters are those of the procedure that is the block
+abbrev pub place_in : List Entry → (parameters : List Name) → ℕ → Place
+place_in entries parameters n =
+    let name = (get_or entries n no_entry).identifier.name in
+    let level = level_of (item_of entries n).level in
+    record {
+      position = position_of ((level == 1) && list_any (same_name name) parameters) level;
+      has_members = not (length (members_of entries n) == 0);
+      in_array = list_any (λ k. is_array (item_of entries k).dimensions) (owners_of entries n);
+      elements_above = elements_through entries (owners_of entries n);
+      built_in_name = is_built_in name;
+    }
+
+abbrev pub own_code : List Entry → (parameters : List Name) → ℕ → Option Code
+own_code entries parameters n = item_fault (place_in entries parameters n) (item_of entries n)
+
+-- the attributes of an item as a set
+abbrev pub set_in : List Entry → ℕ → ℕ
+set_in entries n = set_of (map outermost (item_of entries n).attributes)
+
+-- an entry or a built-in function is no variable
+abbrev pub is_variable : Entity → Bool
+is_variable (AsItem item is_bad) = none_of (set_of (map outermost item.attributes)) (entry + built_in)
+is_variable (AsLabel region) = false
+is_variable (AsProcedure heading region) = false
+
+-- neither it nor an item that it is a member of has dimensions
+abbrev pub is_unsubscripted : List Entry → ℕ → Bool
+is_unsubscripted entries n = list_all (λ k. not (is_array (item_of entries k).dimensions)) (n ∷ owners_of entries n)
+
+-- a locator that BASED may name: a variable with POINTER or OFFSET, unsubscripted, that is not BASED
+abbrev pub is_locator : List Entry → ℕ → Bool
+is_locator entries n =
+    is_variable (get_or entries n no_entry).entity && (has (set_in entries n) pointer || has (set_in entries n) offset) && is_unsubscripted entries n
+    && list_all (λ k. none_of (set_in entries k) based) (n ∷ owners_of entries n)
+
+-- an area that OFFSET may name: a variable with AREA; one with dimensions, or in a structure, has a fault of its own
+abbrev pub is_area : List Entry → ℕ → Bool
+is_area entries n = is_variable (get_or entries n no_entry).entity && has (set_in entries n) area

@@ -1,0 +1,60 @@
+//! The least fault of each item of a block, apart from names.
+ghost use Rattle.std.specs.Prelude.{◌≡◌, map, length, IfOk};
+ghost use Rattle.pli_base.specs.DeclarationView.{item_view};
+ghost use Rattle.pli_declare_attributes.specs.Faults as fault;
+ghost use Rattle.pli_declare_tables.specs.Tables.{numbers_from};
+ghost use Rattle.pli_declare_tables.specs.TableView.{entry_view, entries_view};
+ghost use Rattle.pli_declare_tables.specs.Answers.{AreBehindOwners};
+ghost use Rattle.pli_declare_variables.specs.Places.{no_item, item_in};
+ghost use Rattle.pli_declare_variables.specs.Places as place;
+
+use crate::places;
+use pli_base::declaration::Item;
+use pli_base::{Code, Name};
+use pli_declare_attributes::{Place, item_fault};
+use pli_declare_tables::{Entity, Entry};
+use std::alloc::{AllocError, Global};
+
+/// The fault of an entry at its place, where a label and a procedure are as an item without anything.
+fn own_code(
+    alloc: Global,
+    place: Place,
+    entry: &Entry,
+    nothing: &Item,
+) -> Result<Option<Code>, AllocError>
+    requires { item_view nothing.now ≡ no_item }
+    ensures { IfOk result (λ code. code ≡ fault.item_fault place (item_in (entry_view entry.now).entity)) }
+{
+    match entry.entity {
+        Entity::Item {
+            item,
+            is_bad_level: _,
+        } => item_fault(alloc, place, item),
+        Entity::Label { .. } | Entity::Procedure { .. } => item_fault(alloc, place, nothing),
+    }
+}
+
+/// The least of A3 to A7, A9 and A13 to A15 of each entry, but for the sizes of whole variables, where the parameters are those
+/// of the procedure that is the block.
+pub(crate) fn own_codes(
+    alloc: Global,
+    entries: &[Entry],
+    parameters: &[Name],
+) -> Result<Vec<Option<Code>>, AllocError>
+    requires { AreBehindOwners (entries_view entries.now) }
+    ensures { IfOk result (λ codes. codes.items ≡ map (place.own_code (entries_view entries.now) parameters.now) (numbers_from 0 (length entries.now))) }
+{
+    let places = places::places(alloc, entries, parameters)?;
+    let nothing = Item {
+        level: None,
+        names: Vec::new(alloc),
+        dimensions: Vec::new(alloc),
+        attributes: Vec::new(alloc),
+    };
+    let mut codes = Vec::with_capacity(alloc, entries.len())?;
+    for number in 0..entries.len() {
+        let code = own_code(alloc, places[number], &entries[number], &nothing)?;
+        codes.push(code)?;
+    }
+    Ok(codes)
+}

@@ -1,0 +1,71 @@
+//! What the names of a block are declared as.
+ghost use Rattle.std.specs.Prelude.{◌≡◌, IfOk};
+ghost use Rattle.pli_declare_variables.specs.DeclarationView.{kind_view, declaration_view};
+
+use pli_base::syntax::Identifier;
+use pli_declare_attributes::{Completed, copied_description};
+use pli_map::Description;
+use std::alloc::{AllocError, Global};
+
+/// What a name is declared as.
+#[derive(Drop)]
+pub enum Kind {
+    /// An item. A variable of its own has its description; a member's is a part of it.
+    Item {
+        completed: Completed,
+        description: Option<Description>,
+    },
+    /// A label of a statement in the region of this number.
+    Label {
+        region: usize,
+    },
+    /// A procedure, what it returns, if it does, and the number of its own region.
+    Procedure {
+        returned: Option<Description>,
+        region: usize,
+    },
+}
+
+/// A declared name.
+#[derive(Drop)]
+pub struct Declaration {
+    pub identifier: Identifier,
+    /// The number in its block of the item that it is a member of.
+    pub owner: Option<usize>,
+    pub kind: Kind,
+}
+
+impl Kind {
+    /// What says the same.
+    pub fn copy(&self, alloc: Global) -> Result<Kind, AllocError>
+        ensures { IfOk result (λ copied. kind_view copied ≡ kind_view self.now) }
+    {
+        Ok(match self {
+            Kind::Item {
+                completed,
+                description,
+            } => Kind::Item {
+                completed: completed.copy(alloc)?,
+                description: copied_description(alloc, description)?,
+            },
+            Kind::Label { region } => Kind::Label { region: *region },
+            Kind::Procedure { returned, region } => Kind::Procedure {
+                returned: copied_description(alloc, returned)?,
+                region: *region,
+            },
+        })
+    }
+}
+
+impl Declaration {
+    /// A declaration that says the same.
+    pub fn copy(&self, alloc: Global) -> Result<Declaration, AllocError>
+        ensures { IfOk result (λ copied. declaration_view copied ≡ declaration_view self.now) }
+    {
+        Ok(Declaration {
+            identifier: self.identifier,
+            owner: self.owner,
+            kind: self.kind.copy(alloc)?,
+        })
+    }
+}

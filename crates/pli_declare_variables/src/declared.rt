@@ -1,0 +1,116 @@
+//! What the names of a block are declared as, where none of them has a fault of its own.
+ghost use Rattle.std.specs.Prelude.{◌≡◌, ◌<◌, None, map, option_map, length, IfOk};
+ghost use Rattle.pli_base.specs.DeclarationView.{item_view};
+ghost use Rattle.pli_map.specs.DescriptionView.{description_view};
+ghost use Rattle.pli_declare_attributes.specs.Completed.{completed_of};
+ghost use Rattle.pli_declare_attributes.specs.CompletedView.{completed_view};
+ghost use Rattle.pli_declare_attributes.specs.Faults.{item_fault};
+ghost use Rattle.pli_declare_tables.specs.Tables.{numbers_from};
+ghost use Rattle.pli_declare_tables.specs.TableView.{entry_view, entries_view};
+ghost use Rattle.pli_declare_tables.specs.Answers.{AreBehindOwners};
+ghost use Rattle.pli_declare_variables.specs.Places.{members_of};
+ghost use Rattle.pli_declare_variables.specs.Descriptions.{ShapesAreSound};
+ghost use Rattle.pli_declare_variables.specs.Declarations.{AreGood, declared_in};
+ghost use Rattle.pli_declare_variables.specs.DeclarationView.{kind_view, declaration_view};
+ghost use Rattle.pli_declare_variables.specs.Declaring.{kind_with, whole_at, IsFaultless};
+
+use crate::codes::own_codes;
+use crate::declaration::{Declaration, Kind};
+use crate::descriptions::describe;
+use crate::items::is_variable;
+use crate::places;
+use crate::returned::returned;
+use crate::sizes::members_by_owner;
+use pli_base::declaration::Item;
+use pli_base::{Code, Name};
+use pli_declare_attributes::{AttributeError, Completed, Place, completed_item};
+use pli_declare_tables::{Entity, Entry};
+use pli_map::Description;
+use std::alloc::{AllocError, Global};
+
+/// What the attributes of an item are completed to, where it has no fault.
+fn completed(alloc: Global, place: Place, item: &Item) -> Result<Completed, AllocError>
+    requires { item_fault place (item_view item.now) ≡ None }
+    ensures { IfOk result (λ completed. completed_view completed ≡ completed_of place (item_view item.now)) }
+{
+    match completed_item(alloc, place, item) {
+        Ok(completed) => Ok(completed),
+        Err(AttributeError::OutOfMemory) => Err(AllocError),
+        Err(AttributeError::Faulty(_)) => unreachable!(),
+    }
+}
+
+/// The description of an entry that is a variable of its own.
+fn whole_description(
+    alloc: Global,
+    entries: &[Entry],
+    members: &[Vec<usize>],
+    codes: &[Option<Code>],
+    number: usize,
+) -> Result<Option<Description>, AllocError>
+    requires owners { AreBehindOwners (entries_view entries.now) }
+    requires members { map (λ v. v.items) members.now ≡ map (members_of (entries_view entries.now)) (numbers_from 0 (length entries.now)) }
+    requires sound { ShapesAreSound (entries_view entries.now) codes.now }
+    requires within { number < length entries.now }
+    ensures { IfOk result (λ d. option_map description_view d ≡ whole_at (length entries.now) (entries_view entries.now) codes.now number) }
+{
+    let entry = &entries[number];
+    if entry.owner.is_none() && is_variable(entry) {
+        describe(alloc, entries, members, codes, number)
+    } else {
+        Ok(None)
+    }
+}
+
+/// What a name without a fault is declared as, at its place, where its description is known.
+fn kind(
+    alloc: Global,
+    place: Place,
+    entry: &Entry,
+    description: Option<Description>,
+) -> Result<Kind, AllocError>
+    requires { IsFaultless place (entry_view entry.now).entity }
+    ensures { IfOk result (λ kind. kind_view kind ≡ kind_with place (option_map description_view description) (entry_view entry.now).entity) }
+{
+    match entry.entity {
+        Entity::Item {
+            item,
+            is_bad_level: _,
+        } => Ok(Kind::Item {
+            completed: completed(alloc, place, item)?,
+            description,
+        }),
+        Entity::Label { region } => Ok(Kind::Label { region }),
+        Entity::Procedure { procedure, region } => Ok(Kind::Procedure {
+            returned: returned(procedure),
+            region,
+        }),
+    }
+}
+
+/// What each name of a block is declared as, where the parameters are those of the procedure that is the block. Structures nest no
+/// deeper than levels go, which is at most 255 where no level is a fault.
+pub fn declare(
+    alloc: Global,
+    entries: &[Entry],
+    parameters: &[Name],
+) -> Result<Vec<Declaration>, AllocError>
+    requires owners { AreBehindOwners (entries_view entries.now) }
+    requires good { AreGood (entries_view entries.now) parameters.now }
+    ensures { IfOk result (λ declarations. map declaration_view declarations.items ≡ declared_in (entries_view entries.now) parameters.now) }
+{
+    let places = places::places(alloc, entries, parameters)?;
+    let codes = own_codes(alloc, entries, parameters)?;
+    let members = members_by_owner(alloc, entries)?;
+    let mut declarations = Vec::with_capacity(alloc, entries.len())?;
+    for number in 0..entries.len() {
+        let entry = &entries[number];
+        let description = whole_description(alloc, entries, &members, &codes, number)?;
+        declarations.push(Declaration {
+            identifier: entry.identifier,
+            owner: entry.owner,
+            kind: kind(alloc, places[number], entry, description)?,
+        })?;
+    }
+    Ok(declarations)
+}

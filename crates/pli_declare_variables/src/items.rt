@@ -1,0 +1,63 @@
+//! What an entry has as an item. A label and a procedure have nothing.
+ghost use Rattle.std.specs.Prelude.{◌≡◌, map};
+ghost use Rattle.pli_base.specs.DeclarationView.{attribute_view};
+ghost use Rattle.pli_declare_scopes.specs.Levels.{level_of};
+ghost use Rattle.pli_declare_tables.specs.TableView.{entry_view};
+ghost use Rattle.pli_declare_variables.specs.Places.{item_in};
+ghost use Rattle.pli_declare_variables.specs.Places as places;
+
+use pli_base::declaration::{Attribute, Bounds};
+use pli_declare_attributes::Named;
+use pli_declare_tables::{Entity, Entry};
+
+/// The level number, 1 without one (X3.74).
+pub(crate) fn level(entry: &Entry) -> u32
+    ensures { result ≡ level_of (item_in (entry_view entry.now).entity).level }
+{
+    match entry.entity {
+        Entity::Item {
+            item,
+            is_bad_level: _,
+        } => item.level.unwrap_or(1),
+        Entity::Label { .. } | Entity::Procedure { .. } => 1,
+    }
+}
+
+/// The dimensions of its own.
+pub(crate) fn dimensions<'a>(entry: &Entry<'a>) -> &'a [Bounds]
+    ensures { result.now ≡ (item_in (entry_view entry.now).entity).dimensions }
+{
+    match entry.entity {
+        Entity::Item {
+            item,
+            is_bad_level: _,
+        } => item.dimensions.as_slice(),
+        Entity::Label { .. } | Entity::Procedure { .. } => &[],
+    }
+}
+
+/// The attributes.
+pub(crate) fn attributes<'a>(entry: &Entry<'a>) -> &'a [Attribute]
+    ensures { map attribute_view result.now ≡ (item_in (entry_view entry.now).entity).attributes }
+{
+    match entry.entity {
+        Entity::Item {
+            item,
+            is_bad_level: _,
+        } => item.attributes.as_slice(),
+        Entity::Label { .. } | Entity::Procedure { .. } => &[],
+    }
+}
+
+/// Whether it is a variable: an item that is neither an entry nor a built-in function.
+pub(crate) fn is_variable(entry: &Entry) -> bool
+    ensures { result ≡ places.is_variable (entry_view entry.now).entity }
+{
+    match entry.entity {
+        Entity::Item {
+            item,
+            is_bad_level: _,
+        } => Named::of_item(item.attributes.as_slice()).is_variable,
+        Entity::Label { .. } | Entity::Procedure { .. } => false,
+    }
+}

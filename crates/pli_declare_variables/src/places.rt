@@ -1,0 +1,150 @@
+//! Where the items of a block stand.
+ghost use Rattle.std.specs.Prelude.{◌≡◌, ◌<◌, ◌≤◌, ◌||◌, ◌&&◌, ◌==◌, Bool, false, map, length, get_or, IfOk, IfSome};
+ghost use Rattle.std.specs.List.{list_any};
+ghost use Rattle.pli_base.specs.Name.{Name};
+ghost use Rattle.pli_base.specs.Words.{same_name};
+ghost use Rattle.pli_declare_attributes.specs.Extents.{is_array};
+ghost use Rattle.pli_declare_attributes.specs.Initials.{elements_inside};
+ghost use Rattle.pli_declare_scopes.specs.Levels.{level_of};
+ghost use Rattle.pli_declare_tables.specs.Tables.{no_entry, numbers_from};
+ghost use Rattle.pli_declare_tables.specs.TableView.{entry_view, entries_view};
+ghost use Rattle.pli_declare_tables.specs.Answers.{AreBehindOwners};
+ghost use Rattle.pli_declare_variables.specs.Places.{item_in, is_built_in, position_of, place_in};
+ghost use Rattle.pli_declare_variables.specs.Walks.{has_members_at, above_at, above_owner, placed};
+
+use crate::items::{dimensions, level};
+use crate::words::is_built_in;
+use indexmap::IndexSet;
+use pli_base::Name;
+use pli_base::declaration::Bounds;
+use pli_declare_attributes::{Place, Position, elements_within};
+use pli_declare_tables::Entry;
+use std::alloc::{AllocError, AllocFailed, Global};
+
+/// What the levels above an item make.
+#[derive(Clone, Copy)]
+pub(crate) struct Surroundings {
+    /// Whether one of them has dimensions.
+    in_array: bool,
+    /// How many elements they make, where none of them has bad bounds.
+    elements: Option<u64>,
+}
+
+impl Surroundings {
+    /// With a level more, which is the next one below.
+    fn and(self, dimensions: &[Bounds]) -> Surroundings
+        ensures in_array { result.in_array ≡ (is_array dimensions.now || self.in_array) }
+        ensures elements { result.elements ≡ elements_inside self.elements dimensions.now }
+    {
+        Surroundings {
+            in_array: !dimensions.is_empty() || self.in_array,
+            elements: elements_within(self.elements, dimensions),
+        }
+    }
+}
+
+/// What the levels above a member of this owner make, where it is known of each item before.
+fn above(aboves: &[Surroundings], entries: &[Entry], owner: Option<usize>) -> Surroundings
+    requires before { IfSome owner (λ o. o < length aboves.now) }
+    requires within { length aboves.now ≤ length entries.now }
+    ensures { result ≡ above_owner aboves.now (entries_view entries.now) owner }
+{
+    match owner {
+        None => Surroundings {
+            in_array: false,
+            elements: Some(1),
+        },
+        Some(owner) => aboves[owner].and(dimensions(&entries[owner])),
+    }
+}
+
+/// What the levels above each item make.
+fn aboves(alloc: Global, entries: &[Entry]) -> Result<Vec<Surroundings>, AllocError>
+    requires { AreBehindOwners (entries_view entries.now) }
+    ensures { IfOk result (λ aboves. aboves.items ≡ map (above_at (entries_view entries.now)) (numbers_from 0 (length entries.now))) }
+{
+    let mut aboves = Vec::with_capacity(alloc, entries.len())?;
+    for entry in entries {
+        let above = above(&aboves, entries, entry.owner);
+        aboves.push(above)?;
+    }
+    Ok(aboves)
+}
+
+/// Which items have members.
+fn with_members(alloc: Global, entries: &[Entry]) -> Result<Vec<bool>, AllocError>
+    requires { AreBehindOwners (entries_view entries.now) }
+    ensures { IfOk result (λ marks. marks.items ≡ map (has_members_at (entries_view entries.now)) (numbers_from 0 (length entries.now))) }
+{
+    let mut marks = vec![in alloc; false; entries.len()]?;
+    for entry in entries {
+        if let Some(owner) = entry.owner {
+            marks[owner] = true;
+        }
+    }
+    Ok(marks)
+}
+
+/// Names, to be looked up.
+fn set_of(alloc: Global, names: &[Name]) -> Result<IndexSet<Name>, AllocError>
+    ensures { IfOk result (λ set. (name : Name) → list_any (same_name name) set.keys ≡ list_any (same_name name) names.now) }
+{
+    let mut set = IndexSet::new(alloc);
+    for name in names {
+        set.insert(*name)?;
+    }
+    Ok(set)
+}
+
+/// Which rules hold for a name.
+fn position(is_parameter: bool, level: u32) -> Position
+    ensures { result ≡ position_of is_parameter level }
+{
+    if is_parameter {
+        Position::Parameter
+    } else if level == 1 {
+        Position::AtLevelOne
+    } else {
+        Position::Member
+    }
+}
+
+/// Where an item stands.
+fn place(
+    entry: &Entry,
+    parameters: &IndexSet<Name>,
+    has_members: bool,
+    above: Surroundings,
+) -> Place
+    ensures { result ≡ placed (entry_view entry.now) parameters.now.keys has_members above }
+{
+    let name = entry.identifier.name;
+    let level = level(entry);
+    Place {
+        position: position(level == 1 && parameters.contains(&name), level),
+        has_members,
+        in_array: above.in_array,
+        elements_above: above.elements,
+        built_in_name: is_built_in(name),
+    }
+}
+
+/// Where each item stands, where the parameters are those of the procedure that is the block.
+pub(crate) fn places(
+    alloc: Global,
+    entries: &[Entry],
+    parameters: &[Name],
+) -> Result<Vec<Place>, AllocError>
+    requires { AreBehindOwners (entries_view entries.now) }
+    ensures { IfOk result (λ places. places.items ≡ map (place_in (entries_view entries.now) parameters.now) (numbers_from 0 (length entries.now))) }
+{
+    let parameters = set_of(alloc, parameters)?;
+    let aboves = aboves(alloc, entries)?;
+    let marks = with_members(alloc, entries)?;
+    let mut places = Vec::with_capacity(alloc, entries.len())?;
+    for number in 0..entries.len() {
+        let place = place(&entries[number], &parameters, marks[number], aboves[number]);
+        places.push(place)?;
+    }
+    Ok(places)
+}

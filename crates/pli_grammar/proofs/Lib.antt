@@ -1,5 +1,0 @@
-pub mod ReadingTools
-pub mod ReadIsSpelled
-pub mod SpelledIsRead
-pub mod SpelledIsAccepted
-pub mod AcceptedIsSpelled

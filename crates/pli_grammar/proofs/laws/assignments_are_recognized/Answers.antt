@@ -1,5 +1,0 @@
-use Rattle.pli_grammar.proofs.SpelledIsAccepted.{assignment_accepted}
-use Rattle.pli_grammar.proofs.laws.assignments_are_recognized.Goals as goal
-
-pub returns-clause-spelled : goal.returns-clause-spelled
-returns-clause-spelled c = assignment_accepted

@@ -1,6 +1,0 @@
-pub mod Examples
-pub mod Operators
-pub mod Expressions
-pub mod Reading
-pub mod Laws
-pub mod Assignments

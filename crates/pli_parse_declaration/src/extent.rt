@@ -1,0 +1,217 @@
+//! Dimensions, lengths and precisions.
+ghost use Rattle.std.specs.Prelude.{◌≡◌, ◌≤◌, ◌+◌, length, IfOk};
+ghost use Rattle.pli_parse_declaration.specs.DeclarationReading.{Commas, list_at, integer_at, bounds_at, dimensions_at, length_at, scaled_at, precision_at};
+ghost use Rattle.pli_parse_declaration.specs.DeclarationAnswers.{Gives, Advances, Continues, front_view};
+
+use crate::answer::{Front, ParseError};
+use crate::front::{behind_colon, behind_comma, behind_open, close_taken, number_at, zero_taken};
+use pli_base::declaration::{Bounds, Integer};
+use pli_base::{Sign, TokenText};
+use std::alloc::Global;
+
+/// A constant with or without a sign.
+#[tactic(auto, unfolding(crate::specs::DeclarationReading::integer_at))]
+pub fn integer_at(at: u32, texts: &[TokenText]) -> Result<Front<'_, Integer>, ParseError>
+    requires { at + length texts.now ≤ 200000 }
+    ensures value { Gives (front_view (λ n. n)) result (integer_at at texts.now) }
+    ensures place { IfOk result (Advances at texts.now) }
+{
+    match texts {
+        [TokenText::Sign(Sign::Plus), rest @ ..] => {
+            let number = number_at(at + 1, rest)?;
+            Ok(Front {
+                value: Integer {
+                    negative: false,
+                    value: number.value,
+                },
+                next: number.next,
+                rest: number.rest,
+            })
+        }
+        [TokenText::Sign(Sign::Minus), rest @ ..] => {
+            let number = number_at(at + 1, rest)?;
+            Ok(Front {
+                value: Integer {
+                    negative: true,
+                    value: number.value,
+                },
+                next: number.next,
+                rest: number.rest,
+            })
+        }
+        _ => {
+            let number = number_at(at, texts)?;
+            Ok(Front {
+                value: Integer {
+                    negative: false,
+                    value: number.value,
+                },
+                next: number.next,
+                rest: number.rest,
+            })
+        }
+    }
+}
+
+/// The bounds of a dimension.
+#[tactic(auto, unfolding(crate::specs::DeclarationReading::bounds_at))]
+fn bounds_at(at: u32, texts: &[TokenText]) -> Result<Front<'_, Bounds>, ParseError>
+    requires { at + length texts.now ≤ 200000 }
+    ensures value { Gives (front_view (λ n. n)) result (bounds_at at texts.now) }
+    ensures place { IfOk result (Advances at texts.now) }
+{
+    let first = integer_at(at, texts)?;
+    match behind_colon(first.rest) {
+        Some(rest) => {
+            let high = integer_at(first.next + 1, rest)?;
+            Ok(Front {
+                value: Bounds {
+                    low: Some(first.value),
+                    high: high.value,
+                },
+                next: high.next,
+                rest: high.rest,
+            })
+        }
+        None => Ok(Front {
+            value: Bounds {
+                low: None,
+                high: first.value,
+            },
+            next: first.next,
+            rest: first.rest,
+        }),
+    }
+}
+
+/// Bounds with commas between.
+fn bounds_listed<'a>(
+    alloc: Global,
+    at: u32,
+    texts: &'a [TokenText],
+) -> Result<Front<'a, Vec<Bounds>>, ParseError>
+    requires { at + length texts.now ≤ 200000 }
+    ensures value { Gives (front_view (λ v. v.items)) result (list_at Commas bounds_at at texts.now) }
+    ensures place { IfOk result (Advances at texts.now) }
+{
+    let mut values = Vec::new(alloc);
+    let mut next = at;
+    let mut rest = texts;
+    loop {
+        let read = bounds_at(next, rest)?;
+        values.push(read.value)?;
+        match behind_comma(read.rest) {
+            Some(behind) => {
+                next = read.next + 1;
+                rest = behind;
+            }
+            None => {
+                return Ok(Front {
+                    value: values,
+                    next: read.next,
+                    rest: read.rest,
+                });
+            }
+        }
+    }
+}
+
+/// Dimensions in parentheses, or none.
+#[tactic(auto, unfolding(crate::specs::DeclarationReading::dimensions_at))]
+pub fn dimensions_at<'a>(
+    alloc: Global,
+    at: u32,
+    texts: &'a [TokenText],
+) -> Result<Front<'a, Vec<Bounds>>, ParseError>
+    requires { at + length texts.now ≤ 200000 }
+    ensures value { Gives (front_view (λ v. v.items)) result (dimensions_at at texts.now) }
+    ensures place { IfOk result (Continues at texts.now) }
+{
+    match behind_open(texts) {
+        Some(inside) => {
+            let bounds = bounds_listed(alloc, at + 1, inside)?;
+            let rest = close_taken(bounds.next, bounds.rest)?;
+            Ok(Front {
+                value: bounds.value,
+                next: bounds.next + 1,
+                rest,
+            })
+        }
+        None => Ok(Front {
+            value: Vec::new(alloc),
+            next: at,
+            rest: texts,
+        }),
+    }
+}
+
+/// A length or a size in parentheses, or none.
+#[tactic(auto, unfolding(crate::specs::DeclarationReading::length_at))]
+pub fn length_at(at: u32, texts: &[TokenText]) -> Result<Front<'_, Option<u32>>, ParseError>
+    requires { at + length texts.now ≤ 200000 }
+    ensures value { Gives (front_view (λ n. n)) result (length_at at texts.now) }
+    ensures place { IfOk result (Continues at texts.now) }
+{
+    match behind_open(texts) {
+        Some(inside) => {
+            let number = number_at(at + 1, inside)?;
+            let rest = close_taken(number.next, number.rest)?;
+            Ok(Front {
+                value: Some(number.value),
+                next: number.next + 1,
+                rest,
+            })
+        }
+        None => Ok(Front {
+            value: None,
+            next: at,
+            rest: texts,
+        }),
+    }
+}
+
+/// A number of digits, and a scale of 0 or none.
+#[tactic(auto, unfolding(crate::specs::DeclarationReading::scaled_at))]
+fn scaled_at(at: u32, texts: &[TokenText]) -> Result<Front<'_, u32>, ParseError>
+    requires { at + length texts.now ≤ 200000 }
+    ensures value { Gives (front_view (λ n. n)) result (scaled_at at texts.now) }
+    ensures place { IfOk result (Advances at texts.now) }
+{
+    let number = number_at(at, texts)?;
+    match behind_comma(number.rest) {
+        Some(scale) => {
+            let rest = zero_taken(number.next + 1, scale)?;
+            Ok(Front {
+                value: number.value,
+                next: number.next + 2,
+                rest,
+            })
+        }
+        None => Ok(number),
+    }
+}
+
+/// A precision in parentheses, or none.
+#[tactic(auto, unfolding(crate::specs::DeclarationReading::precision_at))]
+pub fn precision_at(at: u32, texts: &[TokenText]) -> Result<Front<'_, Option<u32>>, ParseError>
+    requires { at + length texts.now ≤ 200000 }
+    ensures value { Gives (front_view (λ n. n)) result (precision_at at texts.now) }
+    ensures place { IfOk result (Continues at texts.now) }
+{
+    match behind_open(texts) {
+        Some(inside) => {
+            let number = scaled_at(at + 1, inside)?;
+            let rest = close_taken(number.next, number.rest)?;
+            Ok(Front {
+                value: Some(number.value),
+                next: number.next + 1,
+                rest,
+            })
+        }
+        None => Ok(Front {
+            value: None,
+            next: at,
+            rest: texts,
+        }),
+    }
+}

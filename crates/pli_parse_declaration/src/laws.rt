@@ -1,0 +1,51 @@
+//! Laws of the grammar of declarations: what it spells and what is read are one.
+ghost use Rattle.std.specs.Prelude.{◌≡◌, ◌+◌, ◌++◌, ℕ, List, Ok, length};
+ghost use Rattle.pli_base.specs.Words.{Tokens};
+ghost use Rattle.pli_base.specs.Reading.{Front};
+ghost use Rattle.pli_base.specs.Declarations as tree;
+ghost use Rattle.pli_parse_declaration.specs.DeclarationReading.{read_as, items_at, declaration_at, returned_at};
+ghost use Rattle.pli_parse_declaration.specs.DeclarationGrammar.{SpellsFront, SpellsItems, SpellsDeclaration, SpellsReturned, Anywhere, EndsItems};
+ghost use Rattle.pli_parse_declaration.specs.DeclarationExamples.{NameThatIsKeyword, Levels, Nest, Values, WrongWord, NoLevelInParentheses, NoScaleButZero, NoFactorOfString, NoDescription, NoDescriptionBehindComma, NoAttributeInNest, TextEnds};
+
+/// Worked examples of what is read behind DECLARE, and of faults.
+pub fn worked_examples()
+    ensures name_that_is_keyword { NameThatIsKeyword }
+    ensures levels { Levels }
+    ensures nest { Nest }
+    ensures values { Values }
+    ensures wrong_word { WrongWord }
+    ensures no_level_in_parentheses { NoLevelInParentheses }
+    ensures no_scale_but_zero { NoScaleButZero }
+    ensures no_factor_of_string { NoFactorOfString }
+    ensures no_description { NoDescription }
+    ensures no_description_behind_comma { NoDescriptionBehindComma }
+    ensures no_attribute_in_nest { NoAttributeInNest }
+    ensures text_ends { TextEnds }
+{}
+
+/// A law: what is read is spelled so, of items, of all that stands behind DECLARE, and of what stands behind RETURNS.
+pub fn declarations_read_are_spelled()
+    ensures items { (p : ℕ) (ts : Tokens) (x : Front (List tree.Item)) →
+        items_at p ts ≡ Ok x → SpellsFront SpellsItems p ts x }
+    ensures declaration { (p : ℕ) (ts : Tokens) (x : Front (List tree.Item)) →
+        declaration_at p ts ≡ Ok x → SpellsFront SpellsDeclaration p ts x }
+    ensures returned { (p : ℕ) (ts : Tokens) (x : Front (List tree.DescribedAttribute)) →
+        returned_at p ts ≡ Ok x → SpellsFront (Anywhere SpellsReturned) p ts x }
+{}
+
+/// A law: what is spelled so is read, in front of any tokens; of items alone, in front of tokens that continue none. So a list
+/// of tokens spells at most one tree.
+pub fn declarations_spelled_are_read()
+    ensures items { (p : ℕ) (ts more : Tokens) (items : List tree.Item) →
+        SpellsItems p ts items → EndsItems more → items_at p (ts ++ more) ≡ read_as items (p + length ts) more }
+    ensures declaration { (p : ℕ) (ts more : Tokens) (items : List tree.Item) →
+        SpellsDeclaration p ts items → declaration_at p (ts ++ more) ≡ read_as items (p + length ts) more }
+    ensures returned { (p : ℕ) (ts more : Tokens) (attributes : List tree.DescribedAttribute) →
+        SpellsReturned ts attributes → returned_at p (ts ++ more) ≡ read_as attributes (p + length ts) more }
+{}
+
+/// A law: tokens spell at most one list of items.
+pub fn one_declaration()
+    ensures { (p : ℕ) (ts : Tokens) (items others : List tree.Item) →
+        SpellsDeclaration p ts items → SpellsDeclaration p ts others → items ≡ others }
+{}

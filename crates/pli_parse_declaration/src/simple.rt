@@ -1,0 +1,322 @@
+//! Attributes other than ENTRY and RETURNS, behind their keywords.
+ghost use Rattle.std.specs.Prelude.{◌≡◌, ◌≤◌, ◌+◌, length, IfOk};
+ghost use Rattle.pli_base.specs.Declarations as tree;
+ghost use Rattle.pli_base.specs.DeclarationView.{simple_view};
+ghost use Rattle.pli_parse_declaration.specs.DeclarationReading.{Commas, Periods, mapped, list_at, name_at, area_at, locator_at, repeated_at, null_from, value_at, values_at, simple_of};
+ghost use Rattle.pli_parse_declaration.specs.DeclarationAnswers.{Gives, Advances, Continues, front_view};
+ghost use Rattle.pli_parse_declaration.specs.DeclarationWords.{behind};
+ghost use Rattle.pli_base.specs.Words.{is_open};
+
+use crate::answer::{Front, ParseError};
+use crate::extent::{integer_at, length_at, precision_at};
+use crate::front::{
+    behind_comma, behind_open, behind_period, close_taken, fault_at, name_first, number_at,
+    open_taken,
+};
+use crate::word::SimpleWord;
+use pli_base::declaration::{InitialValue, SimpleAttribute};
+use pli_base::{Code, Name, Sign, TokenText};
+use std::alloc::Global;
+
+/// The name of an area in parentheses, or none: what stands behind OFFSET.
+#[tactic(auto, unfolding(crate::specs::DeclarationReading::area_at, crate::specs::DeclarationReading::name_at))]
+fn offset_at(at: u32, texts: &[TokenText]) -> Result<Front<'_, SimpleAttribute>, ParseError>
+    requires { at + length texts.now ≤ 200000 }
+    ensures value { Gives (front_view simple_view) result (mapped tree.Offset (area_at at texts.now)) }
+    ensures place { IfOk result (Continues at texts.now) }
+{
+    match behind_open(texts) {
+        Some(inside) => match name_first(inside) {
+            Some((name, behind)) => {
+                let rest = close_taken(at + 2, behind)?;
+                Ok(Front {
+                    value: SimpleAttribute::Offset(Some(name)),
+                    next: at + 3,
+                    rest,
+                })
+            }
+            None => Err(fault_at(Code::NameExpected, at + 1, inside)),
+        },
+        None => Ok(Front {
+            value: SimpleAttribute::Offset(None),
+            next: at,
+            rest: texts,
+        }),
+    }
+}
+
+/// Names with periods between.
+fn names_qualified<'a>(
+    alloc: Global,
+    at: u32,
+    texts: &'a [TokenText],
+) -> Result<Front<'a, Vec<Name>>, ParseError>
+    requires { at + length texts.now ≤ 200000 }
+    ensures value { Gives (front_view (λ v. v.items)) result (list_at Periods name_at at texts.now) }
+    ensures place { IfOk result (Advances at texts.now) }
+{
+    let mut values = Vec::new(alloc);
+    let mut next = at;
+    let mut rest = texts;
+    loop {
+        let Some(first) = name_first(rest) else {
+            return Err(fault_at(Code::NameExpected, next, rest));
+        };
+        let (name, read) = first;
+        values.push(name)?;
+        match behind_period(read) {
+            Some(behind) => {
+                next += 2;
+                rest = behind;
+            }
+            None => {
+                return Ok(Front {
+                    value: values,
+                    next: next + 1,
+                    rest: read,
+                });
+            }
+        }
+    }
+}
+
+/// A locator in parentheses, or none: what stands behind BASED.
+#[tactic(auto, unfolding(crate::specs::DeclarationReading::locator_at))]
+fn based_at<'a>(
+    alloc: Global,
+    at: u32,
+    texts: &'a [TokenText],
+) -> Result<Front<'a, SimpleAttribute>, ParseError>
+    requires { at + length texts.now ≤ 200000 }
+    ensures value { Gives (front_view simple_view) result (mapped tree.Based (locator_at at texts.now)) }
+    ensures place { IfOk result (Continues at texts.now) }
+{
+    match behind_open(texts) {
+        Some(inside) => {
+            let names = names_qualified(alloc, at + 1, inside)?;
+            let rest = close_taken(names.next, names.rest)?;
+            Ok(Front {
+                value: SimpleAttribute::Based(Some(names.value)),
+                next: names.next + 1,
+                rest,
+            })
+        }
+        None => Ok(Front {
+            value: SimpleAttribute::Based(None),
+            next: at,
+            rest: texts,
+        }),
+    }
+}
+
+/// A factor and its `)`, behind the `(`, and the integer that is repeated.
+#[tactic(auto, unfolding(crate::specs::DeclarationReading::repeated_at))]
+fn repeated_at(at: u32, texts: &[TokenText]) -> Result<Front<'_, InitialValue>, ParseError>
+    requires { at + length texts.now ≤ 200000 }
+    ensures value { Gives (front_view (λ n. n)) result (repeated_at at texts.now) }
+    ensures place { IfOk result (Advances at texts.now) }
+{
+    let factor = number_at(at, texts)?;
+    let rest = close_taken(factor.next, factor.rest)?;
+    let integer = integer_at(factor.next + 1, rest)?;
+    Ok(Front {
+        value: InitialValue::Integer {
+            factor: Some(factor.value),
+            value: integer.value,
+        },
+        next: integer.next,
+        rest: integer.rest,
+    })
+}
+
+/// What stands behind NULL: `()` or nothing.
+fn null_at(at: u32, texts: &[TokenText]) -> Result<Front<'_, InitialValue>, ParseError>
+    requires { at + length texts.now ≤ 200000 }
+    ensures value { Gives (front_view (λ n. n)) result (null_from at texts.now (behind is_open texts.now)) }
+    ensures place { IfOk result (Continues at texts.now) }
+{
+    match behind_open(texts) {
+        Some(inside) => {
+            let rest = close_taken(at + 1, inside)?;
+            Ok(Front {
+                value: InitialValue::Null,
+                next: at + 2,
+                rest,
+            })
+        }
+        None => Ok(Front {
+            value: InitialValue::Null,
+            next: at,
+            rest: texts,
+        }),
+    }
+}
+
+/// A value in INITIAL.
+#[tactic(auto, unfolding(crate::specs::DeclarationReading::value_at))]
+fn value_at<'a>(
+    alloc: Global,
+    at: u32,
+    texts: &'a [TokenText],
+) -> Result<Front<'a, InitialValue>, ParseError>
+    requires { at + length texts.now ≤ 200000 }
+    ensures value { Gives (front_view (λ n. n)) result (value_at at texts.now) }
+    ensures place { IfOk result (Advances at texts.now) }
+{
+    match texts {
+        [TokenText::Characters(string), rest @ ..] => Ok(Front {
+            value: InitialValue::Characters(string.copy(alloc)?),
+            next: at + 1,
+            rest,
+        }),
+        [TokenText::Bits(string), rest @ ..] => Ok(Front {
+            value: InitialValue::Bits(string.copy(alloc)?),
+            next: at + 1,
+            rest,
+        }),
+        [TokenText::Sign(Sign::OpenParenthesis), rest @ ..] => repeated_at(at + 1, rest),
+        [TokenText::Word(name), rest @ ..] => {
+            if name.is(b"NULL") {
+                null_at(at + 1, rest)
+            } else {
+                Err(fault_at(Code::ConstantExpected, at, texts))
+            }
+        }
+        _ => {
+            let integer = integer_at(at, texts)?;
+            Ok(Front {
+                value: InitialValue::Integer {
+                    factor: None,
+                    value: integer.value,
+                },
+                next: integer.next,
+                rest: integer.rest,
+            })
+        }
+    }
+}
+
+/// Values with commas between.
+fn values_listed<'a>(
+    alloc: Global,
+    at: u32,
+    texts: &'a [TokenText],
+) -> Result<Front<'a, Vec<InitialValue>>, ParseError>
+    requires { at + length texts.now ≤ 200000 }
+    ensures value { Gives (front_view (λ v. v.items)) result (list_at Commas value_at at texts.now) }
+    ensures place { IfOk result (Advances at texts.now) }
+{
+    let mut values = Vec::new(alloc);
+    let mut next = at;
+    let mut rest = texts;
+    loop {
+        let read = value_at(alloc, next, rest)?;
+        values.push(read.value)?;
+        match behind_comma(read.rest) {
+            Some(behind) => {
+                next = read.next + 1;
+                rest = behind;
+            }
+            None => {
+                return Ok(Front {
+                    value: values,
+                    next: read.next,
+                    rest: read.rest,
+                });
+            }
+        }
+    }
+}
+
+/// Values in parentheses: what stands behind INITIAL.
+#[tactic(auto, unfolding(crate::specs::DeclarationReading::values_at))]
+fn initial_at<'a>(
+    alloc: Global,
+    at: u32,
+    texts: &'a [TokenText],
+) -> Result<Front<'a, SimpleAttribute>, ParseError>
+    requires { at + length texts.now ≤ 200000 }
+    ensures value { Gives (front_view simple_view) result (mapped tree.Initial (values_at at texts.now)) }
+    ensures place { IfOk result (Advances at texts.now) }
+{
+    let inside = open_taken(at, texts)?;
+    let values = values_listed(alloc, at + 1, inside)?;
+    let rest = close_taken(values.next, values.rest)?;
+    Ok(Front {
+        value: SimpleAttribute::Initial(values.value),
+        next: values.next + 1,
+        rest,
+    })
+}
+
+/// An attribute that is a keyword alone.
+fn bare(attribute: SimpleAttribute, at: u32, texts: &[TokenText]) -> Front<'_, SimpleAttribute>
+    ensures { front_view (λ a. a) result ≡ record { value = attribute; next = at; rest = texts.now } }
+{
+    Front {
+        value: attribute,
+        next: at,
+        rest: texts,
+    }
+}
+
+/// An attribute with what was read behind its keyword.
+fn numbered<'a>(
+    attribute: SimpleAttribute,
+    read: &Front<'a, Option<u32>>,
+) -> Front<'a, SimpleAttribute>
+    ensures { front_view (λ a. a) result ≡ record { value = attribute; next = read.now.next; rest = read.now.rest.now } }
+{
+    Front {
+        value: attribute,
+        next: read.next,
+        rest: read.rest,
+    }
+}
+
+/// What stands behind the keyword of a simple attribute.
+#[tactic(auto, unfolding(crate::specs::DeclarationReading::simple_of))]
+pub fn simple_of<'a>(
+    alloc: Global,
+    word: SimpleWord,
+    at: u32,
+    texts: &'a [TokenText],
+) -> Result<Front<'a, SimpleAttribute>, ParseError>
+    requires { at + length texts.now ≤ 200000 }
+    ensures value { Gives (front_view simple_view) result (simple_of word at texts.now) }
+    ensures place { IfOk result (Continues at texts.now) }
+{
+    match word {
+        SimpleWord::Fixed => {
+            let precision = precision_at(at, texts)?;
+            Ok(numbered(SimpleAttribute::Fixed(precision.value), &precision))
+        }
+        SimpleWord::Binary => {
+            let precision = precision_at(at, texts)?;
+            Ok(numbered(SimpleAttribute::Binary(precision.value), &precision))
+        }
+        SimpleWord::Character => {
+            let length = length_at(at, texts)?;
+            Ok(numbered(SimpleAttribute::Character(length.value), &length))
+        }
+        SimpleWord::Bit => {
+            let length = length_at(at, texts)?;
+            Ok(numbered(SimpleAttribute::Bit(length.value), &length))
+        }
+        SimpleWord::Area => {
+            let size = length_at(at, texts)?;
+            Ok(numbered(SimpleAttribute::Area(size.value), &size))
+        }
+        SimpleWord::Offset => offset_at(at, texts),
+        SimpleWord::Based => based_at(alloc, at, texts),
+        SimpleWord::Initial => initial_at(alloc, at, texts),
+        SimpleWord::Varying => Ok(bare(SimpleAttribute::Varying, at, texts)),
+        SimpleWord::Pointer => Ok(bare(SimpleAttribute::Pointer, at, texts)),
+        SimpleWord::Controlled => Ok(bare(SimpleAttribute::Controlled, at, texts)),
+        SimpleWord::Static => Ok(bare(SimpleAttribute::Static, at, texts)),
+        SimpleWord::Automatic => Ok(bare(SimpleAttribute::Automatic, at, texts)),
+        SimpleWord::External => Ok(bare(SimpleAttribute::External, at, texts)),
+        SimpleWord::Internal => Ok(bare(SimpleAttribute::Internal, at, texts)),
+        SimpleWord::Builtin => Ok(bare(SimpleAttribute::Builtin, at, texts)),
+    }
+}

@@ -1,0 +1,144 @@
+use Rattle.std.proofs.Common.{◌≡◌, ◌++◌, ◌∷◌, [], ◌+◌, option_map, Ok, Vec, Global, refl, ap, ◌∙◌, sym, arith}
+use Rattle.std.proofs.lemmas.Result.{err_from_is_err_and}
+use Rattle.pli_base.specs.SyntaxView.{expression_view, joined_view}
+use Rattle.pli_base.specs.SyntaxLaws.{reference_made}
+use Rattle.pli_base.specs.declared.syntax.JoinedPart.{JoinedPart, roll-JoinedPart}
+use Rattle.pli_base.specs.declared.syntax.Part.{roll-Part}
+use Rattle.pli_parse_expression.specs.Reading.{infix_from, operand_at, inside, argument_of, listed_at, joined_from}
+use Rattle.pli_parse_expression.specs.Answers.{front_view}
+use Rattle.pli_base.specs.SyntaxView.{arguments_view}
+use Rattle.pli_parse_expression.proofs.Loops.{too_many, operand_fails, right_fails, goes_on, operators_end, no_name, arguments_fail, part_goes_on, parts_begin, parts_end, one_fails, list_goes_on, first_fails, list_begins, close_fails, list_ends, reference_done}
+use Rattle.pli_parse_expression.proofs.expression.+expression.Goals as goal
+
+pub infix_from-returns-then-operators-ge-OPERATOR_LIMIT-clause-value : goal.infix_from-returns-then-operators-ge-OPERATOR_LIMIT-clause-value
+infix_from-returns-then-operators-ge-OPERATOR_LIMIT-clause-value t c = λ bound small.
+    rw c.fault.ensures
+    (too_many (operand_at c.args.levels) c.args.min c.loop-operator.operators (expression_view c.loop-operator.sum) c.loop-operator.next c.loop-operator.rest.now (c.in-Some.operator, c.in-Some.behind.now)
+    (infix_from (operand_at c.args.levels) bound c.args.min c.args.operators (expression_view c.args.left) c.args.at c.args.texts.now) c.in-Some.ensures.value (omega arith) (c.loop-operator.invariant.value bound small))
+
+pub infix_from-returns-in_err-operand-clause-value : goal.infix_from-returns-in_err-operand-clause-value
+infix_from-returns-in_err-operand-clause-value t c = λ bound small.
+    let p = err_from_is_err_and c.from_residual.result c.from_residual.ensures.1 in
+    rw (p.1, p.2)
+    (operand_fails (operand_at c.args.levels) c.args.min c.loop-operator.operators (expression_view c.loop-operator.sum) c.loop-operator.next c.loop-operator.rest.now (c.in-Some.operator, c.in-Some.behind.now)
+    (infix_from (operand_at c.args.levels) bound c.args.min c.args.operators (expression_view c.args.left) c.args.at c.args.texts.now) c.in-Some.ensures.value
+    c.in_err-operand.field-0.0 (omega arith) c.in_err-operand.ensures.value (c.loop-operator.invariant.value bound small))
+
+pub infix_from-returns-in_err-right-clause-value : goal.infix_from-returns-in_err-right-clause-value
+infix_from-returns-in_err-right-clause-value t c = λ bound small.
+    let p = err_from_is_err_and c.from_residual-in_err-right.result c.from_residual-in_err-right.ensures.1 in
+    rw (p.1, p.2)
+    (right_fails (operand_at c.args.levels) c.args.min c.loop-operator.operators (expression_view c.loop-operator.sum) c.loop-operator.next c.loop-operator.rest.now (c.in-Some.operator, c.in-Some.behind.now)
+    (infix_from (operand_at c.args.levels) bound c.args.min c.args.operators (expression_view c.args.left) c.args.at c.args.texts.now) c.in-Some.ensures.value
+    (front_view expression_view c.in_ok-operand.operand) (c.level_of.result + 1) (ap (λ n. n + 1) c.level_of.ensures.value) c.in_ok-operand.ensures.value (omega (arith, c.in_ok-operand.ensures.place, c.in-Some.ensures.place))
+    c.in_err-right.field-0.0 (omega arith) c.in_err-right.ensures.value (c.loop-operator.invariant.value bound small))
+
+pub infix_from-loop-operator-preserved : goal.infix_from-loop-operator-preserved
+infix_from-loop-operator-preserved t c =
+    record {
+      value = λ bound small.
+          rw (c.in_ok-new.ensures.ok, c.in_ok-new-2.ensures.ok)
+          (goes_on (operand_at c.args.levels) c.args.min c.loop-operator.operators (expression_view c.loop-operator.sum) c.loop-operator.next c.loop-operator.rest.now (c.in-Some.operator, c.in-Some.behind.now)
+          (infix_from (operand_at c.args.levels) bound c.args.min c.args.operators (expression_view c.args.left) c.args.at c.args.texts.now) c.in-Some.ensures.value
+          (front_view expression_view c.in_ok-operand.operand) (c.level_of.result + 1) (ap (λ n. n + 1) c.level_of.ensures.value) c.in_ok-operand.ensures.value (omega (arith, c.in_ok-operand.ensures.place, c.in-Some.ensures.place))
+          (front_view expression_view c.in_ok-right.right) (omega arith) (omega (arith, c.in_ok-right.ensures.place, c.in_ok-operand.ensures.place, c.in-Some.ensures.place)) c.in_ok-right.ensures.value (c.loop-operator.invariant.value bound small));
+      place = (omega (arith, c.in_ok-right.ensures.place, c.in_ok-operand.ensures.place, c.in-Some.ensures.place), omega (arith, c.in_ok-right.ensures.place, c.in_ok-operand.ensures.place, c.in-Some.ensures.place));
+    }
+
+pub infix_from-returns-clause-value : goal.infix_from-returns-clause-value
+infix_from-returns-clause-value t c = λ bound small.
+    operators_end (operand_at c.args.levels) c.args.min c.loop-operator.operators (expression_view c.loop-operator.sum) c.loop-operator.next c.loop-operator.rest.now
+    (infix_from (operand_at c.args.levels) bound c.args.min c.args.operators (expression_view c.args.left) c.args.at c.args.texts.now) c.in_default.ensures.value (c.loop-operator.invariant.value bound small)
+
+pub joined_from-loop-joining-init : goal.joined_from-loop-joining-init
+joined_from-loop-joining-init t c =
+    record {
+      value = λ bound small. parts_begin (option_map (argument_of c.args.outermost) (inside c.args.levels)) c.new-parts.result.items bound c.args.operators c.args.at c.args.texts.now c.new-parts.ensures.items small;
+      place = (omega arith, refl);
+    }
+
+pub joined_from-returns-in_default-name_at-clause-value : goal.joined_from-returns-in_default-name_at-clause-value
+joined_from-returns-in_default-name_at-clause-value t c = λ bound small.
+    rw c.misfit.ensures
+    (no_name (option_map (argument_of c.args.outermost) (inside c.args.levels)) c.loop-joining.parts.items c.loop-joining.operators c.loop-joining.next c.loop-joining.rest.now (c.in-Some.joining, c.in-Some.behind.now)
+    (joined_from (option_map (argument_of c.args.outermost) (inside c.args.levels)) bound c.args.operators c.args.at c.args.texts.now) c.in-Some.ensures.value
+    c.in_default-name_at.ensures.value (c.loop-joining.invariant.value bound small))
+
+pub joined_from-returns-in_err-list-clause-value : goal.joined_from-returns-in_err-list-clause-value
+joined_from-returns-in_err-list-clause-value t c = λ bound small.
+    let p = err_from_is_err_and c.from_residual.result c.from_residual.ensures.1 in
+    rw (p.1, p.2)
+    (arguments_fail (option_map (argument_of c.args.outermost) (inside c.args.levels)) c.loop-joining.parts.items c.loop-joining.operators c.loop-joining.next c.loop-joining.rest.now (c.in-Some.joining, c.in-Some.behind.now)
+    (joined_from (option_map (argument_of c.args.outermost) (inside c.args.levels)) bound c.args.operators c.args.at c.args.texts.now) c.in-Some.ensures.value
+    (c.in-Some-name_at.named.0, c.in-Some-name_at.named.1.now) c.in-Some-name_at.ensures.value c.in_err-list.field-0.0 c.in_err-list.ensures.value (c.loop-joining.invariant.value bound small))
+
+pub joined_from-loop-joining-preserved : goal.joined_from-loop-joining-preserved
+joined_from-loop-joining-preserved t c =
+    let x = roll-JoinedPart (record { joining = c.in-Some.joining; part = roll-Part (record { name = record { name = c.in-Some-name_at.named.0; at = c.loop-joining.next + 1 }; arguments = c.in_ok-list.list.value }) }) in
+    record {
+      value = λ bound small.
+          rw c.in_ok-push.ensures.items
+          (part_goes_on (option_map (argument_of c.args.outermost) (inside c.args.levels)) c.loop-joining.parts.items c.loop-joining.operators c.loop-joining.next c.loop-joining.rest.now (c.in-Some.joining, c.in-Some.behind.now)
+          (joined_from (option_map (argument_of c.args.outermost) (inside c.args.levels)) bound c.args.operators c.args.at c.args.texts.now) c.in-Some.ensures.value
+          (c.in-Some-name_at.named.0, c.in-Some-name_at.named.1.now) c.in-Some-name_at.ensures.value x (front_view arguments_view c.in_ok-list.list) refl c.in_ok-list.ensures.value
+          (omega (arith, c.in_ok-list.ensures.place, c.in-Some-name_at.ensures.place, c.in-Some.ensures.place)) (c.loop-joining.invariant.value bound small));
+      place = (
+        omega (arith, c.in_ok-list.ensures.place, c.in-Some-name_at.ensures.place, c.in-Some.ensures.place),
+        omega (arith, c.in_ok-list.ensures.place, c.in-Some-name_at.ensures.place, c.in-Some.ensures.place),
+      );
+    }
+
+pub joined_from-returns-clause-value : goal.joined_from-returns-clause-value
+joined_from-returns-clause-value t c = λ bound small.
+    parts_end (option_map (argument_of c.args.outermost) (inside c.args.levels)) c.loop-joining.parts.items c.loop-joining.operators c.loop-joining.next c.loop-joining.rest.now
+    (joined_from (option_map (argument_of c.args.outermost) (inside c.args.levels)) bound c.args.operators c.args.at c.args.texts.now) c.in_default.ensures.value (c.loop-joining.invariant.value bound small)
+
+pub listed_at-returns-in_err-first-clause-value : goal.listed_at-returns-in_err-first-clause-value
+listed_at-returns-in_err-first-clause-value t c =
+    let p = err_from_is_err_and c.from_residual.result c.from_residual.ensures.1 in
+    rw (p.1, p.2) (first_fails (argument_of c.args.outermost (operand_at c.args.levels)) c.args.operators c.args.at c.args.texts.now c.in_err-first.field-0.0 c.in_err-first.ensures.value)
+
+pub listed_at-loop-behind-init : goal.listed_at-loop-behind-init
+listed_at-loop-behind-init t c =
+    let e : c.push.new.self.items ≡ c.in_ok-first.first.value ∷ [] = c.in_ok-push.ensures.items ∙ ap (λ es. es ++ c.in_ok-first.first.value ∷ []) c.new-list.ensures.items in
+    record {
+      value = list_begins (argument_of c.args.outermost (operand_at c.args.levels)) c.args.operators c.args.at c.args.texts.now c.push.new.self.items c.in_ok-first.first.value
+          (front_view expression_view c.in_ok-first.first) e refl c.in_ok-first.ensures.value;
+      place = (omega (arith, c.in_ok-first.ensures.place), omega (arith, c.in_ok-first.ensures.place));
+    }
+
+pub listed_at-returns-in_err-one-clause-value : goal.listed_at-returns-in_err-one-clause-value
+listed_at-returns-in_err-one-clause-value t c =
+    let p = err_from_is_err_and c.from_residual-in_err-one.result c.from_residual-in_err-one.ensures.1 in
+    rw (p.1, p.2)
+    (one_fails (argument_of c.args.outermost (operand_at c.args.levels)) c.loop-behind.list.items c.loop-behind.operators c.loop-behind.next c.loop-behind.rest.now c.in-Some.behind.now
+    (listed_at (argument_of c.args.outermost (operand_at c.args.levels)) c.args.operators c.args.at c.args.texts.now) c.in-Some.ensures.value c.in_err-one.field-0.0 c.in_err-one.ensures.value c.loop-behind.invariant.value)
+
+pub listed_at-loop-behind-preserved : goal.listed_at-loop-behind-preserved
+listed_at-loop-behind-preserved t c =
+    record {
+      value = rw c.in_ok-push-2.ensures.items
+          (list_goes_on (argument_of c.args.outermost (operand_at c.args.levels)) c.loop-behind.list.items c.loop-behind.operators c.loop-behind.next c.loop-behind.rest.now c.in-Some.behind.now
+          (listed_at (argument_of c.args.outermost (operand_at c.args.levels)) c.args.operators c.args.at c.args.texts.now) c.in-Some.ensures.value c.in_ok-one.one.value (front_view expression_view c.in_ok-one.one)
+          refl c.in_ok-one.ensures.value (omega (arith, c.in_ok-one.ensures.place, c.in-Some.ensures.place)) c.loop-behind.invariant.value);
+      place = (omega (arith, c.in_ok-one.ensures.place, c.in-Some.ensures.place), omega (arith, c.in_ok-one.ensures.place, c.in-Some.ensures.place));
+    }
+
+pub listed_at-returns-in_err-behind-clause-value : goal.listed_at-returns-in_err-behind-clause-value
+listed_at-returns-in_err-behind-clause-value t c =
+    let p = err_from_is_err_and c.from_residual-in_err-behind.result c.from_residual-in_err-behind.ensures.1 in
+    rw (p.1, p.2)
+    (close_fails (argument_of c.args.outermost (operand_at c.args.levels)) c.loop-behind.list.items c.loop-behind.operators c.loop-behind.next c.loop-behind.rest.now
+    (listed_at (argument_of c.args.outermost (operand_at c.args.levels)) c.args.operators c.args.at c.args.texts.now) c.in_default.ensures.value c.in_err-behind.field-0.0 c.in_err-behind.ensures.value c.loop-behind.invariant.value)
+
+pub listed_at-returns-clause-value : goal.listed_at-returns-clause-value
+listed_at-returns-clause-value t c =
+    list_ends (argument_of c.args.outermost (operand_at c.args.levels)) c.loop-behind.list.items c.loop-behind.operators c.loop-behind.next c.loop-behind.rest.now
+    (listed_at (argument_of c.args.outermost (operand_at c.args.levels)) c.args.operators c.args.at c.args.texts.now) c.in_default.ensures.value c.in_ok-behind.behind.now c.in_ok-behind.ensures.value c.loop-behind.invariant.value
+
+pub reference_of-returns-clause-value : goal.reference_of-returns-clause-value
+reference_of-returns-clause-value t c =
+    reference_done (option_map (argument_of c.args.outermost) (inside c.args.levels)) c.args.operators c.args.at c.args.texts.now (c.in-Some.named.0, c.in-Some.named.1.now) (front_view arguments_view c.in_ok-list.list)
+    (front_view (λ (v : Vec JoinedPart Global). joined_view v.items) c.in_ok-joined.joined) c.in-Some.ensures.value c.in_ok-list.ensures.value c.in_ok-joined.ensures.value
+    ∙ ap (λ v. Ok (record { value = v; count = c.in_ok-joined.joined.operators; next = c.in_ok-joined.joined.next; rest = c.in_ok-joined.joined.rest.now }))
+    (sym (reference_made (record { name = c.in-Some.named.0; at = c.args.at }) c.in_ok-list.list.value c.in_ok-joined.joined.value))

@@ -1,0 +1,140 @@
+-- The kind of a statement: it is an assignment exactly where its tokens are a reference, `=` and one expression. The test knows no limits.
+use Rattle.std.specs.Prelude.{◌≡◌, ℕ, ◌+◌, Bool, true, false, List, [], ◌∷◌, ◌++◌, length}
+use Rattle.pli_base.specs.Syntax.{Expression, Reference}
+use Rattle.pli_base.specs.declared.token.Sign.TheVariants as signs
+use Rattle.pli_base.specs.declared.token.TokenText.{TokenText}
+use Rattle.pli_base.specs.declared.token.TokenText.TheVariants as tokens
+use Rattle.pli_parse_expression.specs.Operators.{Tokens}
+use Rattle.pli_parse_expression.specs.Expressions.{SpellsReference, SpellsExpression}
+
+-- the tokens are a reference, `=` and one expression; no word is reserved
+abbrev pub IsAssignment : ℕ → Tokens → Type 0
+IsAssignment p ts =
+    (ls : Tokens) × (rs : Tokens) × (target : Reference) × (value : Expression) × (ts ≡ ls ++ tokens.Sign signs.Equals ∷ rs)
+    × SpellsReference p ls target × SpellsExpression (p + length ls + 1) rs value
+
+-- what a token can be in an expression
+pub data Kind : Type 0 where
+  Name : Kind
+  Value : Kind
+  Opens : Kind
+  Closes : Kind
+  Separates : Kind
+  Joins : Kind
+  Equal : Kind
+  Sign : Kind
+  Negates : Kind
+  Operates : Kind
+  Foreign : Kind
+
+-- a constant is a value; `+` and `-` are signs, prefix or infix; `^` negates; the other infix operators operate
+abbrev pub kind_of : TokenText → Kind
+kind_of (tokens.Word n) = Name
+kind_of (tokens.Sign signs.OpenParenthesis) = Opens
+kind_of (tokens.Sign signs.CloseParenthesis) = Closes
+kind_of (tokens.Sign signs.Comma) = Separates
+kind_of (tokens.Sign signs.Period) = Joins
+kind_of (tokens.Sign signs.Arrow) = Joins
+kind_of (tokens.Sign signs.Equals) = Equal
+kind_of (tokens.Sign signs.Plus) = Sign
+kind_of (tokens.Sign signs.Minus) = Sign
+kind_of (tokens.Sign signs.Not) = Negates
+kind_of (tokens.Sign signs.Or) = Operates
+kind_of (tokens.Sign signs.And) = Operates
+kind_of (tokens.Sign signs.NotEqual) = Operates
+kind_of (tokens.Sign signs.Less) = Operates
+kind_of (tokens.Sign signs.LessOrEqual) = Operates
+kind_of (tokens.Sign signs.Greater) = Operates
+kind_of (tokens.Sign signs.GreaterOrEqual) = Operates
+kind_of (tokens.Sign signs.Concatenate) = Operates
+kind_of (tokens.Sign signs.Times) = Operates
+kind_of (tokens.Sign s) = Foreign
+kind_of t = Value
+
+-- where the test stands: a name must come; an operand must; an operand or `)` must, right behind the `(` of a list;
+-- or it is behind a name, behind a list of arguments, or behind another operand
+pub data State : Type 0 where
+  NameWanted : State
+  OperandWanted : State
+  ListBegun : State
+  BehindName : State
+  BehindList : State
+  BehindOperand : State
+
+-- what it stands in: the target, the expression behind `=`, the parentheses of an expression, or those of a list
+pub data Frame : Type 0 where
+  Target : Frame
+  Whole : Frame
+  Group : Frame
+  Arguments : Frame
+
+-- what a token does: it cannot stand there; the test goes on; parentheses begin; they end; or the expression begins
+pub data Move : Type 0 where
+  Stops : Move
+  Goes : (state : State) → Move
+  Enters : (frame : Frame) (state : State) → Move
+  Leaves : Move
+  Turns : Move
+
+-- where an operand must come
+abbrev pub operand_move : Kind → Move
+operand_move Name = Goes BehindName
+operand_move Value = Goes BehindOperand
+operand_move Opens = Enters Group OperandWanted
+operand_move Sign = Goes OperandWanted
+operand_move Negates = Goes OperandWanted
+operand_move k = Stops
+
+-- behind an operand that nothing joins any more
+abbrev pub behind_move : Frame → Kind → Move
+behind_move Target Equal = Turns
+behind_move Target k = Stops
+behind_move Group Closes = Leaves
+behind_move Arguments Closes = Leaves
+behind_move Arguments Separates = Goes OperandWanted
+behind_move f Equal = Goes OperandWanted
+behind_move f Sign = Goes OperandWanted
+behind_move f Operates = Goes OperandWanted
+behind_move f k = Stops
+
+abbrev pub move : State → Frame → Kind → Move
+move NameWanted f Name = Goes BehindName
+move NameWanted f k = Stops
+move OperandWanted f k = operand_move k
+move ListBegun f Closes = Leaves
+move ListBegun f k = operand_move k
+move BehindName f Opens = Enters Arguments ListBegun
+move BehindName f Joins = Goes NameWanted
+move BehindName f k = behind_move f k
+move BehindList f Joins = Goes NameWanted
+move BehindList f k = behind_move f k
+move BehindOperand f k = behind_move f k
+
+-- behind the parenthesis that ends the frame
+abbrev pub behind_frame : Frame → State
+behind_frame Arguments = BehindList
+behind_frame f = BehindOperand
+
+-- the tokens may end there
+abbrev pub may_end : State → Frame → Bool
+may_end BehindName Whole = true
+may_end BehindList Whole = true
+may_end BehindOperand Whole = true
+may_end s f = false
+
+-- what a move leads to, in a frame and those around it
+abbrev pub moved : Move → (more : State → Frame → List Frame → Bool) → Frame → List Frame → Bool
+moved Stops more f fs = false
+moved (Goes s) more f fs = more s f fs
+moved (Enters g s) more f fs = more s g (f ∷ fs)
+moved Leaves more f [] = false
+moved Leaves more f (g ∷ fs) = more (behind_frame f) g fs
+moved Turns more f fs = more OperandWanted Whole fs
+
+-- one pass over the tokens, with the frames that are open, the innermost first
+unfoldable pub accepts : State → Frame → List Frame → Tokens → Bool
+accepts s f fs [] = may_end s f
+accepts s f fs (t ∷ ts) = moved (move s f (kind_of t)) (λ s f fs. accepts s f fs ts) f fs
+
+unfoldable pub is_assignment : Tokens → Bool
+is_assignment ts = accepts NameWanted Target [] ts

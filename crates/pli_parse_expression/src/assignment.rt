@@ -1,0 +1,196 @@
+//! The test for an assignment: a reference, `=` and one expression. It is one pass over the tokens, with a stack of the
+//! parentheses that are open, so that no number of them is a depth of calls.
+ghost use Rattle.std.specs.Prelude.{◌≡◌, IfOk, List, [], Bool};
+ghost use Rattle.pli_parse_expression.specs.Assignments.{kind_of, move, operand_move, behind_move, behind_frame, may_end, moved, is_assignment};
+ghost use Rattle.pli_parse_expression.specs.Assignments as test;
+ghost use Rattle.pli_parse_expression.specs.Tests.{kind_view, state_view, frame_view, move_view, onto, answered};
+
+use pli_base::{Sign, TokenText};
+use std::alloc::{AllocError, AllocFailed, Global};
+
+/// What a token can be in an expression.
+#[derive(Clone, Copy)]
+enum Kind {
+    Name,
+    Value,
+    Opens,
+    Closes,
+    Separates,
+    Joins,
+    Equal,
+    /// `+` or `-`, prefix or infix.
+    Sign,
+    Negates,
+    /// Another infix operator.
+    Operates,
+    Foreign,
+}
+
+/// Where the test stands.
+#[derive(Clone, Copy)]
+enum State {
+    NameWanted,
+    OperandWanted,
+    /// Right behind the `(` of a list: an operand or `)` must come.
+    ListBegun,
+    BehindName,
+    BehindList,
+    BehindOperand,
+}
+
+/// What the test stands in.
+#[derive(Clone, Copy)]
+enum Frame {
+    Target,
+    /// The expression behind `=`.
+    Whole,
+    /// The parentheses of an expression.
+    Group,
+    /// The parentheses of a list.
+    Arguments,
+}
+
+/// What a token does.
+#[derive(Clone, Copy)]
+enum Move {
+    Stops,
+    Goes(State),
+    Enters(Frame, State),
+    Leaves,
+    Turns,
+}
+
+/// What the token can be.
+fn kind_of(text: &TokenText) -> Kind
+    ensures { kind_view result ≡ kind_of text.now }
+{
+    match text {
+        TokenText::Word(_) => Kind::Name,
+        TokenText::Sign(sign) => match sign {
+            Sign::OpenParenthesis => Kind::Opens,
+            Sign::CloseParenthesis => Kind::Closes,
+            Sign::Comma => Kind::Separates,
+            Sign::Period | Sign::Arrow => Kind::Joins,
+            Sign::Equals => Kind::Equal,
+            Sign::Plus | Sign::Minus => Kind::Sign,
+            Sign::Not => Kind::Negates,
+            Sign::Or
+            | Sign::And
+            | Sign::NotEqual
+            | Sign::Less
+            | Sign::LessOrEqual
+            | Sign::Greater
+            | Sign::GreaterOrEqual
+            | Sign::Concatenate
+            | Sign::Times => Kind::Operates,
+            Sign::Colon | Sign::Semicolon | Sign::Percent => Kind::Foreign,
+        },
+        _ => Kind::Value,
+    }
+}
+
+/// What a token does where an operand must come.
+fn operand_move(kind: Kind) -> Move
+    ensures { move_view result ≡ operand_move (kind_view kind) }
+{
+    match kind {
+        Kind::Name => Move::Goes(State::BehindName),
+        Kind::Value => Move::Goes(State::BehindOperand),
+        Kind::Opens => Move::Enters(Frame::Group, State::OperandWanted),
+        Kind::Sign | Kind::Negates => Move::Goes(State::OperandWanted),
+        _ => Move::Stops,
+    }
+}
+
+/// What a token does behind an operand that nothing joins any more.
+fn behind_move(frame: Frame, kind: Kind) -> Move
+    ensures { move_view result ≡ behind_move (frame_view frame) (kind_view kind) }
+{
+    match (frame, kind) {
+        (Frame::Target, Kind::Equal) => Move::Turns,
+        (Frame::Target, _) => Move::Stops,
+        (Frame::Group | Frame::Arguments, Kind::Closes) => Move::Leaves,
+        (Frame::Arguments, Kind::Separates) => Move::Goes(State::OperandWanted),
+        (_, Kind::Equal | Kind::Sign | Kind::Operates) => Move::Goes(State::OperandWanted),
+        _ => Move::Stops,
+    }
+}
+
+/// What a token does.
+fn movement(state: State, frame: Frame, kind: Kind) -> Move
+    ensures { move_view result ≡ move (state_view state) (frame_view frame) (kind_view kind) }
+{
+    match (state, kind) {
+        (State::NameWanted, Kind::Name) => Move::Goes(State::BehindName),
+        (State::NameWanted, _) => Move::Stops,
+        (State::ListBegun, Kind::Closes) => Move::Leaves,
+        (State::OperandWanted | State::ListBegun, _) => operand_move(kind),
+        (State::BehindName, Kind::Opens) => Move::Enters(Frame::Arguments, State::ListBegun),
+        (State::BehindName | State::BehindList, Kind::Joins) => Move::Goes(State::NameWanted),
+        _ => behind_move(frame, kind),
+    }
+}
+
+/// Where the test stands behind the parenthesis that ends the frame.
+fn behind_frame(frame: Frame) -> State
+    ensures { state_view result ≡ behind_frame (frame_view frame) }
+{
+    match frame {
+        Frame::Arguments => State::BehindList,
+        _ => State::BehindOperand,
+    }
+}
+
+/// Whether the tokens may end here.
+fn may_end(state: State, frame: Frame) -> bool
+    ensures { result ≡ may_end (state_view state) (frame_view frame) }
+{
+    matches!(
+        (state, frame),
+        (
+            State::BehindName | State::BehindList | State::BehindOperand,
+            Frame::Whole
+        )
+    )
+}
+
+/// Where a move leads: the state and the frame, `around` having the frames about it; or nowhere.
+fn moved(
+    step: Move,
+    frame: Frame,
+    around: &mut Vec<Frame>,
+) -> Result<Option<(State, Frame)>, AllocFailed<Frame>>
+    ensures { (more : test.State → test.Frame → List test.Frame → Bool) → IfOk result
+        (λ o. moved (move_view step) more (frame_view frame) (onto around.old.items []) ≡ answered more (onto around.new.items []) o) }
+{
+    match step {
+        Move::Stops => Ok(None),
+        Move::Goes(next) => Ok(Some((next, frame))),
+        Move::Enters(inner, next) => {
+            around.push(frame)?;
+            Ok(Some((next, inner)))
+        }
+        Move::Leaves => match around.pop() {
+            Some(outer) => Ok(Some((behind_frame(frame), outer))),
+            None => Ok(None),
+        },
+        Move::Turns => Ok(Some((State::OperandWanted, Frame::Whole))),
+    }
+}
+
+/// Whether the tokens are a reference, `=` and one expression, however long and however deep.
+pub fn is_assignment(alloc: Global, texts: &[TokenText]) -> Result<bool, AllocError>
+    ensures { IfOk result (λ b. b ≡ is_assignment texts.now) }
+{
+    let mut state = State::NameWanted;
+    let mut frame = Frame::Target;
+    let mut around = Vec::new(alloc);
+    for text in texts {
+        let step = movement(state, frame, kind_of(text));
+        let Some(there) = moved(step, frame, &mut around)? else {
+            return Ok(false);
+        };
+        (state, frame) = there;
+    }
+    Ok(may_end(state, frame))
+}

@@ -1,0 +1,85 @@
+//! Laws of the grammar.
+ghost use Rattle.std.specs.Prelude.{◌≡◌, ℕ, ◌+◌, ◌++◌, Ok, length, true};
+ghost use Rattle.pli_base.specs.Syntax.{Expression, Reference};
+ghost use Rattle.pli_parse_expression.specs.Operators.{Tokens};
+ghost use Rattle.pli_parse_expression.specs.Expressions.{operators, SpellsOutermost, SpellsReferenceAlone, EndsExpression, EndsReference};
+ghost use Rattle.pli_parse_expression.specs.Reading.{Front, expression_at, reference_at};
+ghost use Rattle.pli_parse_expression.specs.Laws.{FrontSpells};
+ghost use Rattle.pli_parse_expression.specs.Assignments.{IsAssignment, is_assignment};
+ghost use Rattle.pli_parse_expression.specs.Examples.{SignAndSum, Differences, AllLevels, Comparisons, Alternatives, LocatedMember, NoArguments, InParentheses, TwoLists, TextEnds, NoOperand, NotClosed, NoListThere, NothingBehindComma, NoMember, NothingLocated, DeepestList, TooDeepList, TooDeepSign, LastOperator, TooManyOperators, Target};
+
+/// Worked examples: what is read at the front of tokens, and the faults.
+#[tactic(auto, unfolding(crate::specs::Reading::misfit, crate::specs::Reading::behind_close, crate::specs::Reading::infix_from, crate::specs::Reading::expression_of, crate::specs::Reading::further_from, crate::specs::Reading::listed_at, crate::specs::Reading::list_at, crate::specs::Reading::arguments_at, crate::specs::Reading::joined_from, crate::specs::Reading::reference_of, crate::specs::Reading::prefix_of, crate::specs::Reading::parenthesis_of, crate::specs::Reading::constant_at, crate::specs::Reading::operand_of, crate::specs::Reading::inside, crate::specs::Reading::expression_at, crate::specs::Reading::reference_at, crate::specs::Operators::operator_at, crate::specs::Operators::joining_at, crate::specs::Operators::name_at, crate::specs::Operators::comma_at, crate::specs::Operators::begins_expression))]
+pub fn worked_examples()
+    ensures sign_and_sum { SignAndSum }
+    ensures differences { Differences }
+    ensures all_levels { AllLevels }
+    ensures comparisons { Comparisons }
+    ensures alternatives { Alternatives }
+    ensures located_member { LocatedMember }
+    ensures no_arguments { NoArguments }
+    ensures in_parentheses { InParentheses }
+    ensures two_lists { TwoLists }
+    ensures text_ends { TextEnds }
+    ensures no_operand { NoOperand }
+    ensures not_closed { NotClosed }
+    ensures no_list_there { NoListThere }
+    ensures nothing_behind_comma { NothingBehindComma }
+    ensures no_member { NoMember }
+    ensures nothing_located { NothingLocated }
+    ensures deepest_list { DeepestList }
+    ensures too_deep_list { TooDeepList }
+    ensures too_deep_sign { TooDeepSign }
+    ensures last_operator { LastOperator }
+    ensures too_many_operators { TooManyOperators }
+    ensures target { Target }
+{}
+
+/// A law: the front of the tokens spells the expression that is read there, within the limits.
+#[tactic(auto, using(crate::proofs::ReadIsSpelled::expression_spelled))]
+pub fn expressions_read_are_spelled()
+    ensures { (levels p : ℕ) (ts : Tokens) (x : Front Expression) →
+        expression_at levels 0 p ts ≡ Ok x → FrontSpells (SpellsOutermost levels) p ts x }
+{}
+
+/// A law: an expression that is spelled within the limits, before tokens that cannot continue it, is read.
+#[tactic(auto, using(crate::proofs::SpelledIsRead::expression_is_read))]
+pub fn expressions_spelled_are_read()
+    ensures { (levels p : ℕ) (ts more : Tokens) (e : Expression) → SpellsOutermost levels p ts e → EndsExpression more →
+        expression_at levels 0 p (ts ++ more) ≡ Ok (record { value = e; count = operators e; next = p + length ts; rest = more }) }
+{}
+
+/// A law: tokens spell one expression at most.
+#[tactic(auto, using(crate::proofs::SpelledIsRead::at_most_one))]
+pub fn one_expression()
+    ensures { (levels p : ℕ) (ts : Tokens) (e f : Expression) →
+        SpellsOutermost levels p ts e → SpellsOutermost levels p ts f → e ≡ f }
+{}
+
+/// A law: the front of the tokens spells the reference that is read there, within the limits.
+#[tactic(auto, using(crate::proofs::ReadIsSpelled::reference_spelled))]
+pub fn references_read_are_spelled()
+    ensures { (levels p : ℕ) (ts : Tokens) (x : Front Reference) →
+        reference_at levels p ts ≡ Ok x → FrontSpells (SpellsReferenceAlone levels) p ts x }
+{}
+
+/// A law: a reference that is spelled within the limits, before tokens that cannot continue it, is read.
+#[tactic(auto, using(crate::proofs::SpelledIsRead::reference_is_read))]
+pub fn references_spelled_are_read()
+    ensures { (levels p : ℕ) (ts more : Tokens) (r : Reference) → SpellsReferenceAlone levels p ts r → EndsReference more →
+        reference_at levels p (ts ++ more) ≡ Ok (record { value = r; count = 0; next = p + length ts; rest = more }) }
+{}
+
+/// A law: tokens spell one reference at most.
+#[tactic(auto, using(crate::proofs::SpelledIsRead::at_most_one_reference))]
+pub fn one_reference()
+    ensures { (levels p : ℕ) (ts : Tokens) (r s : Reference) →
+        SpellsReferenceAlone levels p ts r → SpellsReferenceAlone levels p ts s → r ≡ s }
+{}
+
+/// A law: the test for an assignment accepts tokens exactly where they are a reference, `=` and one expression.
+#[tactic(auto, using(crate::proofs::AcceptedIsSpelled::accepted_is_assignment, crate::proofs::SpelledIsAccepted::assignment_accepted))]
+pub fn assignments_are_recognized()
+    ensures accepted { (p : ℕ) (ts : Tokens) → is_assignment ts ≡ true → IsAssignment p ts }
+    ensures spelled { (p : ℕ) (ts : Tokens) → IsAssignment p ts → is_assignment ts ≡ true }
+{}

@@ -1,0 +1,17 @@
+//! Expressions and references: which tokens spell which tree, the laws that make spelling and reading one, and the parser
+//! of references, expressions and of the test for an assignment.
+#![tactic(auto)]
+
+mod assignment;
+mod expression;
+mod front;
+mod laws;
+
+pub use assignment::is_assignment;
+pub use expression::{outermost_arguments_at, outermost_expression_at, reference_at};
+pub use front::{Front, ParseError};
+pub use laws::{
+    assignments_are_recognized, expressions_read_are_spelled, expressions_spelled_are_read,
+    one_expression, one_reference, references_read_are_spelled, references_spelled_are_read,
+    worked_examples,
+};

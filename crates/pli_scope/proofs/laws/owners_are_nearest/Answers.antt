@@ -1,5 +1,0 @@
-use Rattle.pli_scope.proofs.OwnersFound.{owners_are_nearest}
-use Rattle.pli_scope.proofs.laws.owners_are_nearest.Goals as goal
-
-pub returns-clause-found : goal.returns-clause-found
-returns-clause-found c = owners_are_nearest

@@ -1,9 +1,0 @@
-use Rattle.std.proofs.Common.{List, sym, ◌∙◌, subst}
-use Rattle.pli_scope.specs.declared.level.Standing.{Standing}
-use Rattle.pli_table.specs.Answers.{StandBehindOwners}
-use Rattle.pli_table.proofs.Standings.{stand_behind}
-use Rattle.pli_table.proofs.entries.declare_items.Goals as goal
-
-pub add_items-requires : goal.add_items-requires
-add_items-requires c =
-    subst (λ (ss : List Standing). StandBehindOwners ss) (sym (c.deref-4.ensures.value ∙ c.in_ok-standings.ensures)) (stand_behind c.deref-2.result.now)

@@ -1,6 +1,0 @@
-use Rattle.std.proofs.Common.{◌≡◌, [], replicate}
-use Rattle.pli_table.specs.TableView.{blocks_view}
-use Rattle.pli_table.proofs.table.empty_blocks.Given as goal
-
-abbrev pub invariant-loop : goal.invariant-loop
-invariant-loop l = blocks_view l.blocks.items ≡ replicate l.counter []

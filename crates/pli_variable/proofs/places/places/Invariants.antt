@@ -1,8 +1,0 @@
-use Rattle.std.proofs.Common.{◌≡◌, map}
-use Rattle.pli_table.specs.Tables.{numbers_from}
-use Rattle.pli_table.specs.TableView.{entries_view}
-use Rattle.pli_variable.specs.Places.{place_in}
-use Rattle.pli_variable.proofs.places.places.Given as goal
-
-abbrev pub invariant-loop-number : goal.invariant-loop-number
-invariant-loop-number l = l.places.items ≡ map (place_in (entries_view l.entries) l.fn.parameters) (numbers_from 0 l.number)

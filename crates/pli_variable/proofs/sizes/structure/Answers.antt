@@ -1,6 +1,0 @@
-use Rattle.pli_variable.specs.Descriptions.{members_made}
-use Rattle.pli_variable.proofs.Measuring.{begins}
-use Rattle.pli_variable.proofs.sizes.structure.Goals as goal
-
-pub loop-number-init : goal.loop-number-init
-loop-number-init c = λ describe measured. begins c.empty.result c.empty.ensures.bytes c.empty.ensures.alignment (members_made describe c.args.members.now)
