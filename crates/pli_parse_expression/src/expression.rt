@@ -60,7 +60,7 @@ fn level_of(operator: InfixOperator) -> u32
 }
 
 /// The infix operator of level `min` or more that the tokens begin with, and the tokens behind it.
-#[tactic(auto, unfolding(pli_parse_expression::specs::Operators::operator_at))]
+#[tactic(auto, unfolding(crate::specs::Operators::operator_at))]
 fn operator_at(min: u32, texts: &[TokenText]) -> Option<(InfixOperator, &[TokenText])>
     ensures value { operator_at min texts.now ≡ option_map (λ x. (x.0, x.1.now)) result }
     ensures place { IfSome result (λ x. length x.1.now + 1 ≡ length texts.now) }
@@ -77,7 +77,7 @@ fn operator_at(min: u32, texts: &[TokenText]) -> Option<(InfixOperator, &[TokenT
 }
 
 /// How the part that comes next is joined, and the tokens behind `.` or `->`.
-#[tactic(auto, unfolding(pli_parse_expression::specs::Operators::joining_at))]
+#[tactic(auto, unfolding(crate::specs::Operators::joining_at))]
 fn joining_at(texts: &[TokenText]) -> Option<(Joining, &[TokenText])>
     ensures value { joining_at texts.now ≡ option_map (λ x. (x.0, x.1.now)) result }
     ensures place { IfSome result (λ x. length x.1.now + 1 ≡ length texts.now) }
@@ -90,7 +90,7 @@ fn joining_at(texts: &[TokenText]) -> Option<(Joining, &[TokenText])>
 }
 
 /// The name that the tokens begin with, and the tokens behind it.
-#[tactic(auto, unfolding(pli_parse_expression::specs::Operators::name_at))]
+#[tactic(auto, unfolding(crate::specs::Operators::name_at))]
 fn name_at(texts: &[TokenText]) -> Option<(Name, &[TokenText])>
     ensures value { name_at texts.now ≡ option_map (λ x. (x.0, x.1.now)) result }
     ensures place { IfSome result (λ x. length x.1.now + 1 ≡ length texts.now) }
@@ -102,7 +102,7 @@ fn name_at(texts: &[TokenText]) -> Option<(Name, &[TokenText])>
 }
 
 /// The tokens behind `,`, if they begin with it.
-#[tactic(auto, unfolding(pli_parse_expression::specs::Operators::comma_at))]
+#[tactic(auto, unfolding(crate::specs::Operators::comma_at))]
 fn comma_at(texts: &[TokenText]) -> Option<&[TokenText]>
     ensures value { comma_at texts.now ≡ option_copied result }
     ensures place { IfSome result (λ rest. length rest.now + 1 ≡ length texts.now) }
@@ -114,7 +114,7 @@ fn comma_at(texts: &[TokenText]) -> Option<&[TokenText]>
 }
 
 /// The tokens behind `)`.
-#[tactic(auto, unfolding(pli_parse_expression::specs::Reading::behind_close))]
+#[tactic(auto, unfolding(crate::specs::Reading::behind_close))]
 fn behind_close(at: u32, texts: &[TokenText]) -> Result<&[TokenText], ParseError>
     ensures value { Gives (λ rest. rest.now) result (behind_close at texts.now) }
     ensures place { IfOk result (λ rest. length rest.now + 1 ≡ length texts.now) }
@@ -126,7 +126,7 @@ fn behind_close(at: u32, texts: &[TokenText]) -> Result<&[TokenText], ParseError
 }
 
 /// Whether an expression can begin with the first token.
-#[tactic(auto, unfolding(pli_parse_expression::specs::Operators::begins_expression))]
+#[tactic(auto, unfolding(crate::specs::Operators::begins_expression))]
 fn begins_expression(texts: &[TokenText]) -> bool
     ensures { result ≡ begins_expression texts.now }
 {
@@ -142,7 +142,7 @@ fn begins_expression(texts: &[TokenText]) -> bool
 
 /// The longest expression at the front, behind so many operators of the outermost one.
 #[cycle(expression)]
-#[tactic(auto, unfolding(pli_parse_expression::specs::Reading::expression_of))]
+#[tactic(auto, unfolding(crate::specs::Reading::expression_of))]
 fn expression_at<'a>(
     alloc: Global,
     levels: u32,
@@ -223,7 +223,7 @@ fn infix_from<'a>(
 
 /// An operand, inside which so many levels may still be opened.
 #[cycle(expression)]
-#[tactic(auto, unfolding(pli_parse_expression::specs::Reading::operand_of))]
+#[tactic(auto, unfolding(crate::specs::Reading::operand_of))]
 fn operand_at<'a>(
     alloc: Global,
     levels: u32,
@@ -262,7 +262,7 @@ fn operand_at<'a>(
 }
 
 /// A constant.
-#[tactic(auto, unfolding(pli_parse_expression::specs::Reading::constant_at))]
+#[tactic(auto, unfolding(crate::specs::Reading::constant_at))]
 fn constant_at<'a>(
     alloc: Global,
     operators: u32,
@@ -299,7 +299,7 @@ fn constant_at<'a>(
 
 /// A prefix operator at `at`, which opens a level, and its operand.
 #[cycle(expression)]
-#[tactic(auto, unfolding(pli_parse_expression::specs::Reading::prefix_of, pli_parse_expression::specs::Reading::inside))]
+#[tactic(auto, unfolding(crate::specs::Reading::prefix_of, pli_parse_expression::specs::Reading::inside))]
 fn prefix_of<'a>(
     alloc: Global,
     levels: u32,
@@ -330,7 +330,7 @@ fn prefix_of<'a>(
 
 /// Behind the `(` at `at`, which opens a level: an expression and `)`.
 #[cycle(expression)]
-#[tactic(auto, unfolding(pli_parse_expression::specs::Reading::parenthesis_of, pli_parse_expression::specs::Reading::inside))]
+#[tactic(auto, unfolding(crate::specs::Reading::parenthesis_of, pli_parse_expression::specs::Reading::inside))]
 fn parenthesis_of<'a>(
     alloc: Global,
     levels: u32,
@@ -360,7 +360,7 @@ fn parenthesis_of<'a>(
 
 /// A reference. Where it is no part of an expression, each of its arguments is an outermost expression.
 #[cycle(expression)]
-#[tactic(auto, unfolding(pli_parse_expression::specs::Reading::reference_of))]
+#[tactic(auto, unfolding(crate::specs::Reading::reference_of))]
 fn reference_of<'a>(
     alloc: Global,
     outermost: bool,
@@ -448,7 +448,7 @@ fn joined_from<'a>(
 
 /// What stands in parentheses behind a name, if there are some.
 #[cycle(expression)]
-#[tactic(auto, unfolding(pli_parse_expression::specs::Reading::arguments_at, pli_parse_expression::specs::Reading::inside))]
+#[tactic(auto, unfolding(crate::specs::Reading::arguments_at, pli_parse_expression::specs::Reading::inside))]
 fn arguments_at<'a>(
     alloc: Global,
     outermost: bool,
@@ -483,7 +483,7 @@ fn arguments_at<'a>(
 
 /// Behind `(`: expressions and `)`, or `)` alone.
 #[cycle(expression)]
-#[tactic(auto, unfolding(pli_parse_expression::specs::Reading::list_at))]
+#[tactic(auto, unfolding(crate::specs::Reading::list_at))]
 fn list_at<'a>(
     alloc: Global,
     outermost: bool,
@@ -577,7 +577,7 @@ fn argument_at<'a>(
 /// An outermost expression: the longest at the front. The tokens are counted from 0, of which `at` is the first here; so many
 /// levels of nesting may still be opened. P3, P4 and P6 stand at the first token that cannot continue, P9 at the last token of
 /// a text that ends, and P16 at the token that opens one level too many or is one operator too many (own).
-#[tactic(auto, unfolding(pli_parse_expression::specs::Reading::expression_at))]
+#[tactic(auto, unfolding(crate::specs::Reading::expression_at))]
 pub fn outermost_expression_at<'a>(
     alloc: Global,
     levels: u32,
@@ -592,7 +592,7 @@ pub fn outermost_expression_at<'a>(
 }
 
 /// A reference that is no part of an expression: the longest at the front. Each of its arguments is an outermost expression.
-#[tactic(auto, unfolding(pli_parse_expression::specs::Reading::reference_at))]
+#[tactic(auto, unfolding(crate::specs::Reading::reference_at))]
 pub fn reference_at<'a>(
     alloc: Global,
     levels: u32,

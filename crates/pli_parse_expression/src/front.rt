@@ -46,7 +46,7 @@ pub fn fault(code: Code, at: u32) -> ParseError
 }
 
 /// The fault at the first token, which cannot stand there; where the text ends, at its last token.
-#[tactic(auto, unfolding(pli_parse_expression::specs::Reading::misfit))]
+#[tactic(auto, unfolding(crate::specs::Reading::misfit))]
 pub fn misfit(code: Code, at: u32, texts: &[TokenText]) -> ParseError
     ensures { result ≡ ParseError.Fault (misfit code at texts.now) }
 {
