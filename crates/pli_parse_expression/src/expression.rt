@@ -299,7 +299,7 @@ fn constant_at<'a>(
 
 /// A prefix operator at `at`, which opens a level, and its operand.
 #[cycle(expression)]
-#[tactic(auto, unfolding(crate::specs::Reading::prefix_of, pli_parse_expression::specs::Reading::inside))]
+#[tactic(auto, unfolding(crate::specs::Reading::prefix_of, crate::specs::Reading::inside))]
 fn prefix_of<'a>(
     alloc: Global,
     levels: u32,
@@ -330,7 +330,7 @@ fn prefix_of<'a>(
 
 /// Behind the `(` at `at`, which opens a level: an expression and `)`.
 #[cycle(expression)]
-#[tactic(auto, unfolding(crate::specs::Reading::parenthesis_of, pli_parse_expression::specs::Reading::inside))]
+#[tactic(auto, unfolding(crate::specs::Reading::parenthesis_of, crate::specs::Reading::inside))]
 fn parenthesis_of<'a>(
     alloc: Global,
     levels: u32,
@@ -448,7 +448,7 @@ fn joined_from<'a>(
 
 /// What stands in parentheses behind a name, if there are some.
 #[cycle(expression)]
-#[tactic(auto, unfolding(crate::specs::Reading::arguments_at, pli_parse_expression::specs::Reading::inside))]
+#[tactic(auto, unfolding(crate::specs::Reading::arguments_at, crate::specs::Reading::inside))]
 fn arguments_at<'a>(
     alloc: Global,
     outermost: bool,
