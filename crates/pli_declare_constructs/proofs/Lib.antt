@@ -1,3 +1,4 @@
 pub mod Rounds
 pub mod Blocks
-pub mod Reached
+pub mod ReachStepLemmas
+pub mod ReachLemmas

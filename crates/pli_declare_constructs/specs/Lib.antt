@@ -1,3 +1,4 @@
 pub mod Regions
 pub mod Reach
+pub mod ReachSteps
 pub mod Kept

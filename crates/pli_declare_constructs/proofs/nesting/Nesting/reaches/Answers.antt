@@ -2,9 +2,11 @@ use Rattle.std.proofs.Common.{◌≡◌, ◌<◌, ◌≤◌, ◌&&◌, not, leng
 use Rattle.std.proofs.lemmas.List.{length-map}
 use Rattle.pli_declare_outline.specs.OutlineView.{region_view, regions_view}
 use Rattle.pli_declare_constructs.specs.Regions.{outside, round_of}
-use Rattle.pli_declare_constructs.specs.Reach.{is_group, reaches, reaches_through}
+use Rattle.pli_declare_constructs.specs.Reach.{is_group, reaches}
+use Rattle.pli_declare_constructs.specs.ReachSteps.{reaches_through}
 use Rattle.pli_declare_constructs.proofs.Blocks.{read}
-use Rattle.pli_declare_constructs.proofs.Reached.{reach_past, reach_here, reach_none, reach_behind, reach_outer}
+use Rattle.pli_declare_constructs.proofs.ReachStepLemmas.{reach_past, reach_here, reach_none, reach_behind, reach_outer}
+use Rattle.pli_declare_constructs.proofs.ReachLemmas.{walk_is_reach}
 use Rattle.pli_declare_constructs.proofs.nesting.Nesting.reaches.Goals as goal
 use Rattle.pli_declare_constructs.proofs.nesting.Nesting.reaches.Goals.{then-left, else-left}
 
@@ -19,7 +21,7 @@ returns-then-here-label c =
       | else-left w ↦ w.result-is ∙ w.if-left.false ∙ sym (ap (λ b. b && is_group c.index-region.result.now.kind) w.if-left.false)
     ] in
     ap not both ∙ sym (reach_here (regions_view regions) c.loop-here.left c.loop-here.here c.args.label here (region_view c.index-region.result.now) is c.if-here-label.true)
-    ∙ c.loop-here.invariant ∙ ap (λ rs. reaches rs c.args.from c.args.label) c.self.view_is
+    ∙ c.loop-here.invariant ∙ walk_is_reach (regions_view regions) c.args.from c.args.label ∙ ap (λ rs. reaches rs c.args.from c.args.label) c.self.view_is
 
 pub loop-here-preserved : goal.loop-here-preserved
 loop-here-preserved c =
@@ -38,7 +40,7 @@ returns-in_default c =
     let here : c.loop-here.here < length (regions_view regions) = omega (arith, length-map regions region_view, within) in
     let is : get_or (regions_view regions) c.loop-here.here outside ≡ region_view c.index-region.result.now = read regions c.loop-here.here c.index-region.result.now within c.index-region.ensures in
     sym (reach_behind (regions_view regions) c.loop-here.left c.loop-here.here c.args.label here (region_view c.index-region.result.now) is c.if-here-label.false c.in-Some.outer c.in-Some.is c.if-outer-here.false)
-    ∙ c.loop-here.invariant ∙ ap (λ rs. reaches rs c.args.from c.args.label) c.self.view_is
+    ∙ c.loop-here.invariant ∙ walk_is_reach (regions_view regions) c.args.from c.args.label ∙ ap (λ rs. reaches rs c.args.from c.args.label) c.self.view_is
 
 pub returns-in_default-2 : goal.returns-in_default-2
 returns-in_default-2 c =
@@ -47,11 +49,11 @@ returns-in_default-2 c =
     let here : c.loop-here.here < length (regions_view regions) = omega (arith, length-map regions region_view, within) in
     let is : get_or (regions_view regions) c.loop-here.here outside ≡ region_view c.index-region.result.now = read regions c.loop-here.here c.index-region.result.now within c.index-region.ensures in
     sym (reach_none (regions_view regions) c.loop-here.left c.loop-here.here c.args.label here (region_view c.index-region.result.now) is c.if-here-label.false c.in_default.is)
-    ∙ c.loop-here.invariant ∙ ap (λ rs. reaches rs c.args.from c.args.label) c.self.view_is
+    ∙ c.loop-here.invariant ∙ walk_is_reach (regions_view regions) c.args.from c.args.label ∙ ap (λ rs. reaches rs c.args.from c.args.label) c.self.view_is
 
 pub returns : goal.returns
 returns c =
     let regions = c.self.inside.regions.items in
     let past : length regions ≤ c.loop-here.here = search rules in
     sym (reach_past (regions_view regions) c.loop-here.left c.loop-here.here c.args.label (omega (arith, length-map regions region_view, past)))
-    ∙ c.loop-here.invariant ∙ ap (λ rs. reaches rs c.args.from c.args.label) c.self.view_is
+    ∙ c.loop-here.invariant ∙ walk_is_reach (regions_view regions) c.args.from c.args.label ∙ ap (λ rs. reaches rs c.args.from c.args.label) c.self.view_is

@@ -2,7 +2,8 @@
 use Rattle.std.proofs.Common.{◌≡◌, ◌<◌, ◌≤◌, ℕ, Bool, true, false, not, ◌&&◌, ◌==◌, List, [], Option, Some, None, length, get_or, refl, ap, ◌∙◌, if◌then◌else◌}
 use Rattle.pli_declare_outline.specs.Outlines.{Region}
 use Rattle.pli_declare_constructs.specs.Regions.{round_of, rounds_after, outside}
-use Rattle.pli_declare_constructs.specs.Reach.{is_group, left_unit, reaches_through}
+use Rattle.pli_declare_constructs.specs.Reach.{is_group}
+use Rattle.pli_declare_constructs.specs.ReachSteps.{left_unit, reaches_through}
 use Rattle.std.proofs.lemmas.Bool.{eq-eqb, eqb-true, lt-ltb, le-ltb}
 use Rattle.pli_declare_constructs.proofs.Rounds.{before, round_step, round_past}
 
