@@ -1,7 +1,6 @@
 -- A tree of statements that was put together, as its view.
-use Rattle.std.proofs.Common.{◌≡◌, ℕ, List, [], ◌∷◌, Option, Some, None, map, option_map, Vec, Box, Global, refl, ap, ◌∙◌, sym}
-use Rattle.pli_base.specs.Syntax as syntax
-use Rattle.pli_base.specs.SyntaxView.{expression_view, expressions_view}
+use Rattle.std.proofs.Common.{◌≡◌, ℕ, Option, Some, None, map, option_map, Vec, Box, Global, refl, ap, ◌∙◌, sym}
+use Rattle.pli_base.specs.SyntaxView.{expression_view}
 use Rattle.pli_base.specs.declared.syntax.Expression.{Expression}
 use Rattle.pli_base.specs.declared.syntax.Identifier.{Identifier}
 use Rattle.pli_base.specs.Statements as tree
@@ -83,26 +82,3 @@ pub if_made : (condition : Expression) (consequence : Box Statement Global) (alt
     → body_view (If condition consequence alternative) ≡ tree.If (expression_view condition) (statement_view consequence.value) (boxed_view alternative)
 if_made condition consequence None = refl
 if_made condition consequence (Some statement) = refl
-
--- lists whose statements, or expressions, say the same one by one
-abbrev sequence : List tree.Statement → tree.Statements
-sequence [] = tree.Ended
-sequence (s ∷ ss) = tree.Before s (sequence ss)
-
-in_sequence : (ss : List Statement) → statements_view ss ≡ sequence (map statement_view ss)
-in_sequence [] = refl
-in_sequence (s ∷ ss) = ap (tree.Before (statement_view s)) (in_sequence ss)
-
-pub statements_alike : (ss ts : List Statement) → map statement_view ss ≡ map statement_view ts → statements_view ss ≡ statements_view ts
-statements_alike ss ts alike = in_sequence ss ∙ ap sequence alike ∙ sym (in_sequence ts)
-
-abbrev listed : List syntax.Expression → syntax.Expressions
-listed [] = syntax.Empty
-listed (e ∷ es) = syntax.Listed e (listed es)
-
-in_list : (es : List Expression) → expressions_view es ≡ listed (map expression_view es)
-in_list [] = refl
-in_list (e ∷ es) = ap (syntax.Listed (expression_view e)) (in_list es)
-
-pub expressions_alike : (es fs : List Expression) → map expression_view es ≡ map expression_view fs → expressions_view es ≡ expressions_view fs
-expressions_alike es fs alike = in_list es ∙ ap listed alike ∙ sym (in_list fs)

@@ -1,7 +1,6 @@
 -- A tree that was put together, as its view.
-use Rattle.std.proofs.Common.{◌≡◌, List, [], ◌∷◌, ◌++◌, Option, Vec, Global, refl, ap, ◌∙◌, sym}
-use Rattle.pli_base.specs.Syntax as tree
-use Rattle.pli_base.specs.Syntax.{Alone, Empty, Named, JoinedParts, Joined, Absent, Given, Expressions, Listed}
+use Rattle.std.proofs.Common.{◌≡◌, Option, Vec, Global, refl, ap, ◌∙◌, sym}
+use Rattle.pli_base.specs.Syntax.{Named, JoinedParts, Joined, Absent, Given, Expressions, Listed}
 use Rattle.pli_base.specs.SyntaxView.{expression_view, reference_view, expression_row, joined_row, expressions_view, arguments_view, joined_view}
 use Rattle.pli_base.specs.declared.syntax.Expression.{Expression}
 use Rattle.pli_base.specs.declared.syntax.Expression.TheBlock as block
@@ -51,31 +50,3 @@ reference_joined first joined =
 pub reference_made : (name : Identifier) (arguments : Option (Vec Expression Global)) (joined : Vec JoinedPart Global)
     → reference_view (roll-Reference (record { first = roll-Part (record { name = name; arguments = arguments }); joined = joined })) ≡ Named name (arguments_view arguments) (joined_view joined.items)
 reference_made name arguments joined = reference_joined (roll-Part (record { name = name; arguments = arguments })) joined
-
--- lists grow at their ends
-abbrev expressions_then : Expressions → tree.Expression → Expressions
-expressions_then Empty e = Listed e Empty
-expressions_then (Listed d more) e = Listed d (expressions_then more e)
-
-expressions_push : (list : List Expression) (e : Expression) → expressions_view (list ++ e ∷ []) ≡ expressions_then (expressions_view list) (expression_view e)
-expressions_push [] e = refl
-expressions_push (d ∷ list) e = ap (Listed (expression_view d)) (expressions_push list e)
-
-pub expressions_grow : (xs ys : List Expression) (e f : Expression) → expressions_view xs ≡ expressions_view ys → expression_view e ≡ expression_view f → expressions_view (xs ++ e ∷ []) ≡ expressions_view (ys ++ f ∷ [])
-expressions_grow xs ys e f same alike =
-    expressions_push xs e ∙ ap (λ es. expressions_then es (expression_view e)) same ∙ ap (expressions_then (expressions_view ys)) alike ∙ sym (expressions_push ys f)
-
-abbrev joined_then : JoinedParts → (JoinedParts → JoinedParts) → JoinedParts
-joined_then Alone last = last Alone
-joined_then (Joined joining name arguments more) last = Joined joining name arguments (joined_then more last)
-
-abbrev pub part_view : JoinedPart → JoinedParts → JoinedParts
-part_view x = Joined x.joining x.part.name (arguments_view x.part.arguments)
-
-joined_push : (list : List JoinedPart) (x : JoinedPart) → joined_view (list ++ x ∷ []) ≡ joined_then (joined_view list) (part_view x)
-joined_push [] x = refl
-joined_push (y ∷ list) x = ap (Joined y.joining y.part.name (arguments_view y.part.arguments)) (joined_push list x)
-
-pub joined_grow : (xs ys : List JoinedPart) (x y : JoinedPart) → joined_view xs ≡ joined_view ys → part_view x ≡ part_view y → joined_view (xs ++ x ∷ []) ≡ joined_view (ys ++ y ∷ [])
-joined_grow xs ys x y same alike =
-    joined_push xs x ∙ ap (λ m. joined_then m (part_view x)) same ∙ ap (joined_then (joined_view ys)) alike ∙ sym (joined_push ys y)

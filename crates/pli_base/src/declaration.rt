@@ -1,8 +1,7 @@
 //! The trees of what stands behind DECLARE, and in the parentheses of a procedure's RETURNS.
 //! None of the types leads back to itself. An ENTRY or RETURNS in the description of a parameter or of a result is a fault of
 //! the declaration whatever its parentheses hold, so that nothing is kept of them, and a text may nest them as deep as it likes.
-ghost use Rattle.std.specs.Prelude.{◌≡◌, map, IfOk};
-ghost use Rattle.pli_base.specs.DeclarationView.{simple_view, described_view, parameter_view, attribute_view, item_view};
+ghost use Rattle.std.specs.Prelude.{◌≡◌, IfOk};
 
 use crate::name::Name;
 use crate::string::{BitString, CharacterString};
@@ -112,8 +111,11 @@ impl InitialValue {
     }
 }
 
-/// Copies values.
-fn copied_values(alloc: Global, values: &[InitialValue]) -> Result<Vec<InitialValue>, AllocError>
+/// Values that say the same.
+pub fn copied_values(
+    alloc: Global,
+    values: &[InitialValue],
+) -> Result<Vec<InitialValue>, AllocError>
     ensures { IfOk result (λ copied. copied.items ≡ values.now) }
 {
     let mut copied = Vec::new(alloc);
@@ -121,137 +123,4 @@ fn copied_values(alloc: Global, values: &[InitialValue]) -> Result<Vec<InitialVa
         copied.push(value.copy(alloc)?)?;
     }
     Ok(copied)
-}
-
-impl SimpleAttribute {
-    /// An attribute that says the same.
-    pub fn copy(&self, alloc: Global) -> Result<SimpleAttribute, AllocError>
-        ensures { IfOk result (λ copied. simple_view copied ≡ simple_view self.now) }
-    {
-        match self {
-            SimpleAttribute::Fixed(precision) => Ok(SimpleAttribute::Fixed(*precision)),
-            SimpleAttribute::Binary(precision) => Ok(SimpleAttribute::Binary(*precision)),
-            SimpleAttribute::Character(length) => Ok(SimpleAttribute::Character(*length)),
-            SimpleAttribute::Bit(length) => Ok(SimpleAttribute::Bit(*length)),
-            SimpleAttribute::Area(size) => Ok(SimpleAttribute::Area(*size)),
-            SimpleAttribute::Offset(area) => Ok(SimpleAttribute::Offset(*area)),
-            SimpleAttribute::Based(None) => Ok(SimpleAttribute::Based(None)),
-            SimpleAttribute::Based(Some(names)) => {
-                let names = Vec::from_slice(alloc, names.as_slice())?;
-                Ok(SimpleAttribute::Based(Some(names)))
-            }
-            SimpleAttribute::Initial(values) => {
-                let values = copied_values(alloc, values.as_slice())?;
-                Ok(SimpleAttribute::Initial(values))
-            }
-            SimpleAttribute::Varying => Ok(SimpleAttribute::Varying),
-            SimpleAttribute::Pointer => Ok(SimpleAttribute::Pointer),
-            SimpleAttribute::Controlled => Ok(SimpleAttribute::Controlled),
-            SimpleAttribute::Static => Ok(SimpleAttribute::Static),
-            SimpleAttribute::Automatic => Ok(SimpleAttribute::Automatic),
-            SimpleAttribute::External => Ok(SimpleAttribute::External),
-            SimpleAttribute::Internal => Ok(SimpleAttribute::Internal),
-            SimpleAttribute::Builtin => Ok(SimpleAttribute::Builtin),
-        }
-    }
-}
-
-impl DescribedAttribute {
-    /// An attribute that says the same.
-    pub fn copy(&self, alloc: Global) -> Result<DescribedAttribute, AllocError>
-        ensures { IfOk result (λ copied. described_view copied ≡ described_view self.now) }
-    {
-        match self {
-            DescribedAttribute::Simple(simple) => {
-                Ok(DescribedAttribute::Simple(simple.copy(alloc)?))
-            }
-            DescribedAttribute::Entry => Ok(DescribedAttribute::Entry),
-            DescribedAttribute::Returns => Ok(DescribedAttribute::Returns),
-        }
-    }
-}
-
-/// Copies the attributes of a description.
-fn copied_description(
-    alloc: Global,
-    attributes: &[DescribedAttribute],
-) -> Result<Vec<DescribedAttribute>, AllocError>
-    ensures { IfOk result (λ copied. map described_view copied.items ≡ map described_view attributes.now) }
-{
-    let mut copied = Vec::new(alloc);
-    for attribute in attributes {
-        copied.push(attribute.copy(alloc)?)?;
-    }
-    Ok(copied)
-}
-
-impl ParameterDescription {
-    /// A description that says the same.
-    pub fn copy(&self, alloc: Global) -> Result<ParameterDescription, AllocError>
-        ensures { IfOk result (λ copied. parameter_view copied ≡ parameter_view self.now) }
-    {
-        Ok(ParameterDescription {
-            dimensions: Vec::from_slice(alloc, self.dimensions.as_slice())?,
-            attributes: copied_description(alloc, self.attributes.as_slice())?,
-        })
-    }
-}
-
-/// Copies descriptions of parameters.
-fn copied_parameters(
-    alloc: Global,
-    parameters: &[ParameterDescription],
-) -> Result<Vec<ParameterDescription>, AllocError>
-    ensures { IfOk result (λ copied. map parameter_view copied.items ≡ map parameter_view parameters.now) }
-{
-    let mut copied = Vec::new(alloc);
-    for parameter in parameters {
-        copied.push(parameter.copy(alloc)?)?;
-    }
-    Ok(copied)
-}
-
-impl Attribute {
-    /// An attribute that says the same.
-    pub fn copy(&self, alloc: Global) -> Result<Attribute, AllocError>
-        ensures { IfOk result (λ copied. attribute_view copied ≡ attribute_view self.now) }
-    {
-        match self {
-            Attribute::Simple(simple) => Ok(Attribute::Simple(simple.copy(alloc)?)),
-            Attribute::Entry(None) => Ok(Attribute::Entry(None)),
-            Attribute::Entry(Some(parameters)) => {
-                let parameters = copied_parameters(alloc, parameters.as_slice())?;
-                Ok(Attribute::Entry(Some(parameters)))
-            }
-            Attribute::Returns(attributes) => {
-                let attributes = copied_description(alloc, attributes.as_slice())?;
-                Ok(Attribute::Returns(attributes))
-            }
-        }
-    }
-}
-
-/// Copies attributes.
-fn copied_attributes(alloc: Global, attributes: &[Attribute]) -> Result<Vec<Attribute>, AllocError>
-    ensures { IfOk result (λ copied. map attribute_view copied.items ≡ map attribute_view attributes.now) }
-{
-    let mut copied = Vec::new(alloc);
-    for attribute in attributes {
-        copied.push(attribute.copy(alloc)?)?;
-    }
-    Ok(copied)
-}
-
-impl Item {
-    /// An item that says the same.
-    pub fn copy(&self, alloc: Global) -> Result<Item, AllocError>
-        ensures { IfOk result (λ copied. item_view copied ≡ item_view self.now) }
-    {
-        Ok(Item {
-            level: self.level,
-            names: Vec::from_slice(alloc, self.names.as_slice())?,
-            dimensions: Vec::from_slice(alloc, self.dimensions.as_slice())?,
-            attributes: copied_attributes(alloc, self.attributes.as_slice())?,
-        })
-    }
 }

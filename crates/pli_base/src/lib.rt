@@ -2,7 +2,6 @@
 #![tactic(auto)]
 
 mod code;
-mod copying;
 pub mod declaration;
 mod device;
 mod line;

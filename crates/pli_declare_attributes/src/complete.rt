@@ -13,14 +13,16 @@ ghost use Rattle.pli_declare_attributes.specs.declared.complete.AttributeError.T
 use crate::completed::{Completed, Scope, Storage, Variable};
 use crate::extents::all_described;
 use crate::faults::{attributes_fault, result_fault};
-use crate::initials::{copied, values_of};
+use crate::initials::values_of;
 use crate::parts::{parameters_of, returned_of};
 use crate::place::{Place, Position};
 use crate::set::AttributeSet;
 use crate::summary::Summary;
 use crate::types::scalar;
 use pli_base::Code;
-use pli_base::declaration::{Attribute, DescribedAttribute, Item, ParameterDescription};
+use pli_base::declaration::{
+    Attribute, DescribedAttribute, Item, ParameterDescription, copied_values,
+};
 use pli_map::{Bounds, Description, size};
 use std::alloc::{AllocError, Global};
 
@@ -171,7 +173,7 @@ fn variable(alloc: Global, place: Place, item: &Item) -> Result<Variable, AllocE
     let attributes = item.attributes.as_slice();
     let summary = Summary::of_item(attributes);
     let bounds = all_described(alloc, item.dimensions.as_slice())?;
-    let initial = copied(alloc, values_of(attributes))?;
+    let initial = copied_values(alloc, values_of(attributes))?;
     let description = if place.has_members {
         None
     } else {

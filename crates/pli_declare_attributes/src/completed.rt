@@ -3,8 +3,7 @@ ghost use Rattle.std.specs.Prelude.{◌≡◌, map, option_map, IfOk};
 ghost use Rattle.pli_map.specs.DescriptionView.{description_view};
 ghost use Rattle.pli_declare_attributes.specs.CompletedView.{variable_view, completed_view};
 
-use crate::initials::copied;
-use pli_base::declaration::InitialValue;
+use pli_base::declaration::{InitialValue, copied_values};
 use pli_map::{Bounds, Description};
 use std::alloc::{AllocError, Global};
 
@@ -87,7 +86,7 @@ impl Variable {
             bounds: Vec::from_slice(alloc, self.bounds.as_slice())?,
             storage: self.storage,
             scope: self.scope,
-            initial: copied(alloc, self.initial.as_slice())?,
+            initial: copied_values(alloc, self.initial.as_slice())?,
         })
     }
 }

@@ -1,5 +1,5 @@
 //! The values in INITIAL.
-ghost use Rattle.std.specs.Prelude.{◌≡◌, ◌≤◌, ◌^◌, ◌*◌, true, min, map, nat_lt, IfOk};
+ghost use Rattle.std.specs.Prelude.{◌≡◌, ◌≤◌, ◌^◌, ◌*◌, true, min, map, nat_lt};
 ghost use Rattle.std.specs.List.{list_all};
 ghost use Rattle.pli_base.specs.DeclarationView.{attribute_view};
 ghost use Rattle.pli_map.specs.Sizes.{count_of};
@@ -11,7 +11,6 @@ use crate::extents::{bad_bounds, described};
 use crate::place::Place;
 use pli_base::declaration::{Attribute, Bounds, InitialValue, SimpleAttribute};
 use pli_map::Description;
-use std::alloc::{AllocError, Global};
 
 /// A number of elements that is over the number of all values, however many there are.
 const ELEMENT_LIMIT: u128 = 79_228_162_514_264_337_593_543_950_336;
@@ -26,20 +25,6 @@ pub(crate) fn values_of(attributes: &[Attribute]) -> &[InitialValue]
         }
     }
     &[]
-}
-
-/// Copies values.
-pub(crate) fn copied(
-    alloc: Global,
-    values: &[InitialValue],
-) -> Result<Vec<InitialValue>, AllocError>
-    ensures { IfOk result (λ copied. copied.items ≡ values.now) }
-{
-    let mut copied = Vec::with_capacity(alloc, values.len())?;
-    for value in values {
-        copied.push(value.copy(alloc)?)?;
-    }
-    Ok(copied)
 }
 
 /// Whether a number of this many binary digits can be as great.

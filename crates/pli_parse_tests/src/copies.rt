@@ -1,5 +1,6 @@
 use crate::showing::statement::{show_statement, show_unit};
 use pli_base::statement::Statement;
+use pli_copy::Copied;
 use pli_parse::parse;
 use pli_text_tests::tokens_of;
 use std::alloc::{AllocError, Global};

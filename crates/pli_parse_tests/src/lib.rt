@@ -6,6 +6,8 @@ mod copies;
 #[cfg(test)]
 mod expression_tests;
 #[cfg(test)]
+mod item_copies;
+#[cfg(test)]
 mod item_tests;
 #[cfg(test)]
 mod repeating;

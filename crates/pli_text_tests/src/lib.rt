@@ -6,8 +6,6 @@ mod tokens;
 pub use tokens::tokens_of;
 
 #[cfg(test)]
-mod declarations;
-#[cfg(test)]
 mod inclusion;
 #[cfg(test)]
 mod lexing;

@@ -1,0 +1,48 @@
+-- Lists whose members say the same one by one say the same as lists of the tree.
+use Rattle.std.proofs.Common.{◌≡◌, List, [], ◌∷◌, map, refl, ap, ◌∙◌, sym}
+use Rattle.pli_base.specs.Syntax.{Expressions, Empty, Listed, JoinedParts, Alone, Joined}
+use Rattle.pli_base.specs.Syntax as syntax
+use Rattle.pli_base.specs.SyntaxView.{expression_view, expressions_view, arguments_view, joined_view}
+use Rattle.pli_base.specs.declared.syntax.Expression.{Expression}
+use Rattle.pli_base.specs.declared.syntax.JoinedPart.{JoinedPart}
+use Rattle.pli_copy.specs.PartView.{part_view}
+use Rattle.pli_base.specs.Statements as tree
+use Rattle.pli_base.specs.StatementView.{statement_view, statements_view}
+use Rattle.pli_base.specs.declared.statement.Statement.{Statement}
+
+-- expressions
+abbrev listed : List syntax.Expression → Expressions
+listed [] = Empty
+listed (e ∷ es) = Listed e (listed es)
+
+in_list : (es : List Expression) → expressions_view es ≡ listed (map expression_view es)
+in_list [] = refl
+in_list (e ∷ es) = ap (Listed (expression_view e)) (in_list es)
+
+pub expressions_alike : (es fs : List Expression) → map expression_view es ≡ map expression_view fs → expressions_view es ≡ expressions_view fs
+expressions_alike es fs alike = in_list es ∙ ap listed alike ∙ sym (in_list fs)
+
+-- parts of a reference
+abbrev chained : List JoinedParts → JoinedParts
+chained [] = Alone
+chained (Alone ∷ more) = chained more
+chained (Joined joining name arguments rest ∷ more) = Joined joining name arguments (chained more)
+
+in_chain : (xs : List JoinedPart) → joined_view xs ≡ chained (map part_view xs)
+in_chain [] = refl
+in_chain (x ∷ xs) = ap (Joined x.joining x.part.name (arguments_view x.part.arguments)) (in_chain xs)
+
+pub parts_alike : (xs ys : List JoinedPart) → map part_view xs ≡ map part_view ys → joined_view xs ≡ joined_view ys
+parts_alike xs ys alike = in_chain xs ∙ ap chained alike ∙ sym (in_chain ys)
+
+-- statements
+abbrev sequence : List tree.Statement → tree.Statements
+sequence [] = tree.Ended
+sequence (s ∷ ss) = tree.Before s (sequence ss)
+
+in_sequence : (ss : List Statement) → statements_view ss ≡ sequence (map statement_view ss)
+in_sequence [] = refl
+in_sequence (s ∷ ss) = ap (tree.Before (statement_view s)) (in_sequence ss)
+
+pub statements_alike : (ss ts : List Statement) → map statement_view ss ≡ map statement_view ts → statements_view ss ≡ statements_view ts
+statements_alike ss ts alike = in_sequence ss ∙ ap sequence alike ∙ sym (in_sequence ts)
