@@ -1,4 +1,4 @@
--- Names: what a reader must believe of them.
+-- Names: what a reader must believe of them (X3.74; `$` is own).
 use Rattle.std.specs.Prelude.{ℕ, ◌-◌, nat_le, nat_eq, Bool, false, ◌&&◌, ◌||◌, List, [], ◌∷◌, map, length, Option, Some, None, if◌then◌else◌}
 use Rattle.std.specs.List.{list_all}
 

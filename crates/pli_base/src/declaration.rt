@@ -31,7 +31,8 @@ pub enum InitialValue {
     Null,
 }
 
-/// An attribute other than ENTRY and RETURNS, with the number, names or values in its parentheses, if it has any.
+/// An attribute other than ENTRY and RETURNS, with the number, names or values in its parentheses, if it has any
+/// (X3.74; AREA, OFFSET and CONTROLLED X3.53).
 #[derive(Drop)]
 pub enum SimpleAttribute {
     /// With a precision. Its scale is 0, and leaves no trace.
@@ -60,7 +61,7 @@ pub enum SimpleAttribute {
 }
 
 /// An attribute in the description of a parameter or of a result. Nothing is kept of what the parentheses of ENTRY and
-/// RETURNS hold: neither may stand there, whatever it is.
+/// RETURNS hold: neither may stand there, whatever it is (own).
 #[derive(Drop)]
 pub enum DescribedAttribute {
     Simple(SimpleAttribute),
@@ -68,7 +69,7 @@ pub enum DescribedAttribute {
     Returns,
 }
 
-/// The description of a parameter of an entry.
+/// The description of a parameter of an entry (X3.74).
 #[derive(Drop)]
 pub struct ParameterDescription {
     pub dimensions: Vec<Bounds>,
@@ -85,7 +86,7 @@ pub enum Attribute {
     Returns(Vec<DescribedAttribute>),
 }
 
-/// An item of DECLARE: one name, or names in parentheses that have the rest in common.
+/// An item of DECLARE: one name, or names in parentheses that have the rest in common (X3.74).
 #[derive(Drop)]
 pub struct Item {
     pub level: Option<u32>,

@@ -18,7 +18,7 @@ use std::marker::Model;
 pub const NAME_LIMIT: usize = 31;
 
 /// A name of the language: a letter followed by letters, digits, `_` or `$`, 1 to 31 characters, in upper case
-/// (X3.74; the limit and `$` are own). Contracts see it as the list of its characters.
+/// (X3.74; `$` is own). Contracts see it as the list of its characters.
 #[derive(Clone, Copy)]
 pub struct Name {
     bytes: [u8; NAME_LIMIT],

@@ -11,7 +11,7 @@ pub enum Condition {
     Area,
 }
 
-/// An option of PROCEDURE.
+/// An option of PROCEDURE (X3.74).
 #[derive(Drop)]
 pub enum ProcedureOption {
     /// OPTIONS(MAIN).
@@ -21,7 +21,8 @@ pub enum ProcedureOption {
     Recursive,
 }
 
-/// What limits or continues an iteration. Operands are evaluated in the order of the text, which TO and BY keep.
+/// What limits or continues an iteration (X3.74). Operands are evaluated in the order of the text, which TO and BY keep
+/// (own).
 #[derive(Drop)]
 pub enum Range {
     To {
@@ -35,7 +36,7 @@ pub enum Range {
     Repeat(Expression),
 }
 
-/// The specification of a DO group.
+/// The specification of a DO group (X3.74).
 #[derive(Drop)]
 pub enum Control {
     While(Expression),
@@ -49,7 +50,7 @@ pub enum Control {
     },
 }
 
-/// One variable of ALLOCATE: the area in IN, and the locator in SET.
+/// One variable of ALLOCATE: the area in IN (X3.53), and the locator in SET (X3.74).
 #[derive(Drop)]
 pub struct Allocation {
     pub name: Identifier,
@@ -57,7 +58,7 @@ pub struct Allocation {
     pub target: Option<Reference>,
 }
 
-/// A procedure, from its name to its END.
+/// A procedure, from its name to its END (X3.74).
 #[cycle(statement)]
 #[derive(Drop)]
 pub struct Procedure {
@@ -82,7 +83,7 @@ pub struct Statement {
     pub body: Body,
 }
 
-/// What a statement says.
+/// What a statement says (X3.74).
 #[cycle(statement)]
 #[derive(Drop)]
 pub enum Body {

@@ -1,5 +1,4 @@
 //! The trees of expressions and references.
-
 use crate::name::Name;
 use crate::string::{BitString, CharacterString};
 
@@ -19,7 +18,7 @@ pub enum ConstantValue {
     Bits(BitString),
 }
 
-/// A prefix operator: `+`, `-` or `^`.
+/// A prefix operator: `+`, `-` or `^` (X3.74).
 #[derive(Clone, Copy, Debug, PartialEq, Eq)]
 pub enum PrefixOperator {
     Plus,
@@ -44,7 +43,7 @@ pub enum InfixOperator {
     Multiply,
 }
 
-/// How a part of a reference is joined to what stands before it.
+/// How a part of a reference is joined to what stands before it (X3.74).
 #[derive(Clone, Copy, Debug, PartialEq, Eq)]
 pub enum Joining {
     /// `.`: the part is a member of what the names before it name.
@@ -53,7 +52,7 @@ pub enum Joining {
     Located,
 }
 
-/// A name, and the list in parentheses behind it: `F()` has an empty list, `F` has none.
+/// A name, and the list in parentheses behind it: `F()` has an empty list, `F` has none (X3.74).
 #[cycle(expression)]
 #[derive(Drop)]
 pub struct Part {
@@ -69,7 +68,7 @@ pub struct JoinedPart {
     pub part: Part,
 }
 
-/// A reference, as `P -> S.X(I, J)`.
+/// A reference, as `P -> S.X(I, J)` (X3.74).
 #[cycle(expression)]
 #[derive(Drop)]
 pub struct Reference {
@@ -77,7 +76,7 @@ pub struct Reference {
     pub joined: Vec<JoinedPart>,
 }
 
-/// An expression. Each constant, parenthesis and operator has its token, which is counted from 0.
+/// An expression (X3.74). Each constant, parenthesis and operator has its token, which is counted from 0.
 #[cycle(expression)]
 #[derive(Drop)]
 pub enum Expression {
