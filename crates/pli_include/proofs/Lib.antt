@@ -1,6 +1,6 @@
-pub mod Held
-pub mod Levels
-pub mod PieceReads
-pub mod Steps
-pub mod Traces
-pub mod Walks
+pub mod LevelNeverMet
+pub mod PieceIsRead
+pub mod StepsKeep
+pub mod TextsHeld
+pub mod TraceDecides
+pub mod WalkGoesOn

@@ -11,7 +11,8 @@ use Rattle.pli_include.specs.declared.expansion.ExpansionFault.{ExpansionFault}
 use Rattle.pli_include.specs.declared.expansion.Looked.{Looked}
 use Rattle.pli_include.specs.Expansion.{Look, Outcome, expanded_within, token_limit}
 
--- the names that were looked up, each with its version or its absence, and either texts, each with its origin, or a fault
+-- the names that were looked up, each with its version or its absence, and either texts, each with its
+-- origin, or a fault
 pub record Expanded : Type 0 where
   pub trace : List Looked
   pub texts : List TokenText
@@ -30,9 +31,13 @@ outcome_of entries u = expanded_within token_limit (look_in entries) u
 abbrev pub answered : Store → Name → Looked
 answered s name = record { name = name; version = version_of s name }
 
+-- an outcome as it is told of a store: each name that was looked up with its version or its absence
 abbrev pub told : Store → Outcome → Expanded
-told s (Ok p) = record { trace = map (answered s) p.looked; texts = p.texts; origins = p.origins; fault = None }
-told s (Err stop) = record { trace = map (answered s) stop.looked; texts = []; origins = []; fault = Some stop.fault }
+told s (Ok p) =
+    record { trace = map (answered s) p.looked; texts = p.texts; origins = p.origins; fault = None }
+told s (Err stop) =
+    record { trace = map (answered s) stop.looked; texts = []; origins = []; fault = Some stop.fault }
 
+-- the expansion of a member of a store
 unfoldable pub expansion_of : Store → Name → Expanded
 expansion_of s u = told s (outcome_of s.entries u)

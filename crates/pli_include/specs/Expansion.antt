@@ -1,10 +1,13 @@
--- The expansion of a member: its tokens with each directive replaced by the expansion of the member that it names, or the first fault.
-use Rattle.std.specs.Prelude.{ℕ, zero, suc, ◌+◌, ◌-◌, Bool, List, [], ◌∷◌, ◌++◌, slice_get, Option, None, Some, Result, Ok, Err, if◌then◌else◌}
+-- The expansion of a member: its tokens with each directive replaced by the expansion of the member that it
+-- names, or the first fault.
+use Rattle.std.specs.Prelude.{ℕ, zero, suc, ◌+◌, ◌-◌, Bool, List, [], ◌∷◌, ◌++◌, slice_get, Option, None}
+use Rattle.std.specs.Prelude.{Some, Result, Ok, Err, if◌then◌else◌}
 use Rattle.std.specs.List.{list_any}
 use Rattle.pli_base.specs.Name.{Name}
 use Rattle.pli_base.specs.Words.{same_name}
 use Rattle.pli_base.specs.declared.code.Code.{Code}
-use Rattle.pli_base.specs.declared.code.Code.TheVariants.{NoSuchMember, RecursiveInclude, TooManyTokens, BadInclude}
+use Rattle.pli_base.specs.declared.code.Code.TheVariants.{NoSuchMember, RecursiveInclude, TooManyTokens}
+use Rattle.pli_base.specs.declared.code.Code.TheVariants.{BadInclude}
 use Rattle.pli_base.specs.declared.token.Origin.{Origin}
 use Rattle.pli_base.specs.declared.token.Token.{Token}
 use Rattle.pli_base.specs.declared.token.TokenText.{TokenText}
@@ -16,8 +19,9 @@ use Rattle.pli_include.specs.Pieces.{Piece, Plain, Directive, Misplaced, pieces_
 abbrev pub Look : Type 0
 Look = Name → Option (Result (List Token) LexFault)
 
--- how far an expansion has come: how many tokens were read, those of directives among them; the texts of the tokens that stay, each with
--- its origin in the other list; and the names that were looked up, in the order in which each came first
+-- how far an expansion has come: how many tokens were read, those of directives among them; the texts of the
+-- tokens that stay, each with its origin in the other list; and the names that were looked up, in the order
+-- in which each came first
 pub record Progress : Type 0 where
   pub read : ℕ
   pub texts : List TokenText
@@ -29,6 +33,7 @@ pub record Stop : Type 0 where
   pub looked : List Name
   pub fault : ExpansionFault
 
+-- what an expansion comes to: how far it has come, or where it stopped
 abbrev pub Outcome : Type 0
 Outcome = Result Progress Stop
 
@@ -42,6 +47,7 @@ abbrev pub ◌then◌ : Outcome → (Progress → Outcome) → Outcome
 abbrev pub stopped : Code → Origin → Progress → Outcome
 stopped code at s = Err (record { looked = s.looked; fault = record { code = code; origin = at } })
 
+-- the name is one of these
 abbrev pub is_among : Name → List Name → Bool
 is_among name names = list_any (same_name name) names
 
@@ -55,7 +61,13 @@ origin_of m t = record { member = m; line = t.line }
 
 -- the token stays
 abbrev pub kept : Name → Token → Progress → Progress
-kept m t s = record { read = s.read + 1; texts = s.texts ++ t.text ∷ []; origins = s.origins ++ origin_of m t ∷ []; looked = s.looked }
+kept m t s =
+    record {
+      read = s.read + 1;
+      texts = s.texts ++ t.text ∷ [];
+      origins = s.origins ++ origin_of m t ∷ [];
+      looked = s.looked;
+    }
 
 -- the four tokens of a directive are read
 abbrev pub directed : Progress → Progress
@@ -65,6 +77,7 @@ directed s = record s { read = s.read + 4 }
 abbrev pub too_many : ℕ → List Token → Progress → Option Token
 too_many limit tokens s = slice_get tokens (limit - s.read)
 
+-- goes on, unless there is a token too many, which is of member m
 abbrev pub unless : Name → Option Token → Progress → (Progress → Outcome) → Outcome
 unless m (Some t) s next = stopped TooManyTokens (origin_of m t) s
 unless m None s next = next s
@@ -78,7 +91,8 @@ module _ (limit : ℕ) (include : Include) (m : Name) where
   abbrev pub read_piece : Piece → Progress → Outcome
   read_piece (Plain t) s = unless m (too_many limit (t ∷ []) s) s (λ s. Ok (kept m t s))
   read_piece (Directive percent word named semicolon name) s =
-      unless m (too_many limit (percent ∷ word ∷ named ∷ semicolon ∷ []) s) s (λ s. include (origin_of m percent) name (directed s))
+      unless m (too_many limit (percent ∷ word ∷ named ∷ semicolon ∷ []) s) s
+      (λ s. include (origin_of m percent) name (directed s))
   read_piece (Misplaced percent) s = stopped BadInclude (origin_of m percent) s
 
   -- and so are the pieces of member m, one after another
@@ -91,12 +105,14 @@ module _ (limit : ℕ) (include : Include) (m : Name) where
   entered (Ok tokens) s = read_pieces (pieces_of tokens) s
   entered (Err fault) s = stopped fault.code (record { member = m; line = fault.line }) s
 
+-- what comes of a directive at a place, by what stands under the name: nothing, or a member that is entered
 abbrev pub found : ℕ → Include → Origin → Name → Option (Result (List Token) LexFault) → Progress → Outcome
 found limit include at name None s = stopped NoSuchMember at s
 found limit include at name (Some reading) s = entered limit include name reading s
 
--- A directive at a place names a member, and these are the members on the way to it. The recursion is founded on the tokens that may still
--- be read: a directive is read before its member is entered. So the level is never met, as long as it is over the number of these tokens.
+-- A directive at a place names a member, and these are the members on the way to it. The recursion is founded
+-- on the tokens that may still be read: a directive is read before its member is entered. So the level is
+-- never met, as long as it is over the number of these tokens.
 unfoldable pub included : (level limit : ℕ) → Look → (path : List Name) → Include
 included zero limit look path at name s = stopped TooManyTokens at s
 included (suc level) limit look path at name s =

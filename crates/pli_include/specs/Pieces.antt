@@ -1,5 +1,7 @@
--- Directives: what a member's tokens are, before any member is included (own; the form is that of X3.74's preprocessor).
-use Rattle.std.specs.Prelude.{ℕ, zero, suc, Bool, true, false, ◌&&◌, List, [], ◌∷◌, Option, None, Some, codes, if◌then◌else◌}
+-- Directives: what a member's tokens are, before any member is included (own; the form is that of X3.74's
+-- preprocessor).
+use Rattle.std.specs.Prelude.{ℕ, zero, suc, Bool, true, false, ◌&&◌, List, [], ◌∷◌, Option, None, Some, codes}
+use Rattle.std.specs.Prelude.{if◌then◌else◌}
 use Rattle.pli_base.specs.Name.{Name, name_of}
 use Rattle.pli_base.specs.Words.{is_word, is_semicolon}
 use Rattle.pli_base.specs.declared.token.Sign.TheVariants.{Percent}
@@ -7,16 +9,19 @@ use Rattle.pli_base.specs.declared.token.Token.{Token}
 use Rattle.pli_base.specs.declared.token.TokenText.{TokenText}
 use Rattle.pli_base.specs.declared.token.TokenText.TheVariants.{Word, Characters, Sign}
 
--- a token that stays; a directive, that is four tokens, and the name of the member that it includes; or a `%` that begins no directive
+-- a token that stays; a directive, that is four tokens, and the name of the member that it includes; or a `%`
+-- that begins no directive
 pub data Piece : Type 0 where
   Plain : (token : Token) → Piece
   Directive : (percent word named semicolon : Token) (name : Name) → Piece
   Misplaced : (percent : Token) → Piece
 
+-- the token is `%`
 abbrev pub is_percent : TokenText → Bool
 is_percent (Sign Percent) = true
 is_percent _ = false
 
+-- the token is the word INCLUDE, which is not reserved
 abbrev pub is_include : TokenText → Bool
 is_include text = is_word (codes "INCLUDE") text
 
@@ -30,13 +35,15 @@ name_in others = None
 abbrev pub named_by : (word named semicolon : TokenText) → Option Name
 named_by word named semicolon = if is_include word && is_semicolon semicolon then name_in named else None
 
+-- four tokens as a directive, where they name a member
 abbrev pub directive : Option Name → (percent word named semicolon : Token) → Piece
 directive (Some name) percent word named semicolon = Directive percent word named semicolon name
 directive None percent word named semicolon = Misplaced percent
 
 -- `%INCLUDE name;` or `%INCLUDE 'name';`, all of it in one member
 abbrev pub begun : Token → List Token → Piece
-begun percent (word ∷ named ∷ semicolon ∷ rest) = directive (named_by word.text named.text semicolon.text) percent word named semicolon
+begun percent (word ∷ named ∷ semicolon ∷ rest) =
+    directive (named_by word.text named.text semicolon.text) percent word named semicolon
 begun percent others = Misplaced percent
 
 -- the piece that a token begins, with these tokens behind it

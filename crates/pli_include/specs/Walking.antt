@@ -1,5 +1,6 @@
 -- An expansion under way: which members are open, and how it goes on.
-use Rattle.std.specs.Prelude.{◌≡◌, ℕ, suc, ◌+◌, ◌-◌, ◌*◌, ◌≤◌, List, [], ◌∷◌, ◌++◌, map, drop, length, slice_get, Option, None, Some, Result, Ok, Err}
+use Rattle.std.specs.Prelude.{◌≡◌, ℕ, suc, ◌+◌, ◌-◌, ◌*◌, ◌≤◌, List, [], ◌∷◌, ◌++◌, map, drop, length}
+use Rattle.std.specs.Prelude.{slice_get, Option, None, Some, Result, Ok, Err}
 use Rattle.std.specs.List.{All}
 use Rattle.pli_base.specs.Name.{Name}
 use Rattle.pli_base.specs.declared.token.Token.{Token}
@@ -10,12 +11,14 @@ use Rattle.pli_include.specs.declared.library.Found.TheVariants.{Absent, Faulty,
 use Rattle.pli_include.specs.declared.walk.Frame.{Frame}
 use Rattle.pli_include.specs.declared.walk.Walk.{Walk}
 use Rattle.pli_include.specs.Pieces.{pieces_of}
-use Rattle.pli_include.specs.Expansion.{Look, Progress, Outcome, Include, included, read_pieces, started, ◌then◌}
+use Rattle.pli_include.specs.Expansion.{Look, Progress, Outcome, Include, included, read_pieces, started}
+use Rattle.pli_include.specs.Expansion.{◌then◌}
 
 -- each name that was looked up has the tokens of its member
 pub record HoldsTexts (look : Look) (looked : List Name) (texts : List (List Token)) : Type 0 where
   pub count : length texts ≡ length looked
-  pub held : (i : ℕ) (name : Name) (tokens : List Token) → slice_get looked i ≡ Some name → slice_get texts i ≡ Some tokens → look name ≡ Some (Ok tokens)
+  pub held : (i : ℕ) (name : Name) (tokens : List Token)
+      → slice_get looked i ≡ Some name → slice_get texts i ≡ Some tokens → look name ≡ Some (Ok tokens)
 
 -- what a look-up has found
 abbrev pub Finds : Look → Name → Found → List Name → List (List Token) → Type 0
@@ -23,6 +26,7 @@ Finds look name Absent looked texts = look name ≡ None
 Finds look name (Faulty fault) looked texts = look name ≡ Some (Err fault)
 Finds look name (At slot) looked texts = HoldsTexts look looked texts × (slice_get looked slot ≡ Some name)
 
+-- the tokens of a member that was read without a fault
 abbrev pub tokens_in : Option (Result (List Token) LexFault) → List Token
 tokens_in (Some (Ok tokens)) = tokens
 tokens_in (Some (Err fault)) = []
@@ -40,7 +44,8 @@ rest_of look f = drop f.next (tokens_in (look f.name))
 unfoldable pub going : ℕ → Look → (path : List Name) → List Frame → Progress → Outcome
 going limit look path [] s = Ok s
 going limit look path (f ∷ fs) s =
-    going limit look (path ++ f.name ∷ []) fs s then read_pieces limit (include_from limit look (path ++ f.name ∷ [])) f.name (pieces_of (rest_of look f))
+    going limit look (path ++ f.name ∷ []) fs s then
+    read_pieces limit (include_from limit look (path ++ f.name ∷ [])) f.name (pieces_of (rest_of look f))
 
 -- the expansion ends
 abbrev pub ended : Option ExpansionFault → Progress → Outcome
@@ -53,7 +58,8 @@ goes_on limit look None s frames = going limit look [] frames s
 goes_on limit look (Some fault) s frames = ended (Some fault) s
 
 -- the texts of members are held, and the path is that of the open ones
-pub record IsUnderWay (look : Look) (looked : List Name) (texts : List (List Token)) (path : List Name) (frames : List Frame) : Type 0 where
+pub record IsUnderWay (look : Look) (looked : List Name) (texts : List (List Token))
+    (path : List Name) (frames : List Frame) : Type 0 where
   pub texts_held : HoldsTexts look looked texts
   pub path_is : path ≡ map (λ f. f.name) frames
   pub slots : All (λ f. slice_get looked f.slot ≡ Some f.name) frames

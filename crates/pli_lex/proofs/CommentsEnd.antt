@@ -4,7 +4,7 @@ use Rattle.std.specs.Option.{option_map}
 use Rattle.std.proofs.lemmas.Bool.{cases_Bool, and_parts, eqb-true}
 use Rattle.pli_lex.specs.Characters.{line_end, begins_with}
 use Rattle.pli_lex.specs.Reading.{closing_width}
-use Rattle.pli_lex.proofs.Choices.{chosen, some_is, none_some, mapped, not_mapped, begins_split, begins_on_line}
+use Rattle.pli_lex.proofs.TakenApart.{chosen, some_is, none_some, same_head, same_tail, mapped, not_mapped, begins_split, begins_on_line}
 
 abbrev is_slash : ℕ → Bool
 is_slash d = eqb d 47
@@ -12,13 +12,6 @@ is_slash d = eqb d 47
 -- `*/` is nowhere in the text
 abbrev pub NeverEnds : List ℕ → Type 0
 NeverEnds body = (before after : List ℕ) → body ≡ before ++ 42 ∷ 47 ∷ after → ⊥
-
--- two lists with a first element
-same_head : (c d : ℕ) (cs ds : List ℕ) → c ∷ cs ≡ d ∷ ds → c ≡ d
-same_head c d cs ds e = cc
-
-same_tail : (c d : ℕ) (cs ds : List ℕ) → c ∷ cs ≡ d ∷ ds → cs ≡ ds
-same_tail c d cs ds e = cc
 
 nothing_ends : NeverEnds []
 nothing_ends [] after e = absurd cc

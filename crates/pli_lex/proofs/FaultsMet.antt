@@ -11,11 +11,11 @@ use Rattle.pli_lex.specs.Characters.{is_quote, begins_with, begins_comment}
 use Rattle.pli_lex.specs.Tokens.{doubled, quoted}
 use Rattle.pli_lex.specs.Faults.{NothingStands, IsCodeOf, HasFault}
 use Rattle.pli_lex.specs.Reading.{Piece, piece_at, with_front, tokens_after, tokens_of}
-use Rattle.pli_lex.proofs.Choices.{begins_split}
-use Rattle.pli_lex.proofs.Pieces.{quoted_before}
-use Rattle.pli_lex.proofs.Stands.{piece_stands, piece_code}
-use Rattle.pli_lex.proofs.Passing.{fault_first}
-use Rattle.pli_lex.proofs.Texts.{spelled_again}
+use Rattle.pli_lex.proofs.TakenApart.{begins_split}
+use Rattle.pli_lex.proofs.FoundStands.{quoted_before}
+use Rattle.pli_lex.proofs.FrontStands.{no_comment, piece_stands, piece_code}
+use Rattle.pli_lex.proofs.PiecesPassed.{fault_first}
+use Rattle.pli_lex.proofs.TextsSpelled.{spelled_again}
 
 -- what begins the text: a comment, a quote, a digit, a letter, or anything else
 abbrev class_at : List ℕ → ℕ
@@ -38,10 +38,6 @@ quote_class : (cs : List ℕ) → class_at (39 ∷ cs) ≡ 1
 quote_class [] = refl
 quote_class (d ∷ cs) = refl
 
-other_comment : (c : ℕ) (cs : List ℕ) → eqb c 47 ≡ false → begins_comment (c ∷ cs) ≡ false
-other_comment c [] other = refl
-other_comment c (d ∷ cs) other = rw other refl
-
 digit_apart : (c : ℕ) → is_digit c ≡ true → (eqb c 47 ≡ false) × (is_quote c ≡ false)
 digit_apart c digit = (grind (arith, nat_tests), grind (arith, nat_tests))
 
@@ -49,10 +45,10 @@ letter_apart : (c : ℕ) → is_letter c ≡ true → (eqb c 47 ≡ false) × (i
 letter_apart c letter = (grind (arith, nat_tests), grind (arith, nat_tests), grind (arith, nat_tests))
 
 digit_class : (c : ℕ) (cs : List ℕ) → is_digit c ≡ true → class_at (c ∷ cs) ≡ 2
-digit_class c cs digit = let apart = digit_apart c digit in rw (other_comment c cs apart.0, apart.1, digit) refl
+digit_class c cs digit = let apart = digit_apart c digit in rw (no_comment c cs apart.0, apart.1, digit) refl
 
 letter_class : (c : ℕ) (cs : List ℕ) → is_letter c ≡ true → class_at (c ∷ cs) ≡ 3
-letter_class c cs letter = let apart = letter_apart c letter in rw (other_comment c cs apart.0, apart.1, apart.2, letter) refl
+letter_class c cs letter = let apart = letter_apart c letter in rw (no_comment c cs apart.0, apart.1, apart.2, letter) refl
 
 either_not : (a b : Bool) → (a || b) ≡ false → (a ≡ false) × (b ≡ false)
 either_not true b h = absurd cc

@@ -10,10 +10,10 @@ use Rattle.pli_base.specs.declared.token.TokenText.TheVariants as texts
 use Rattle.pli_lex.specs.Characters.{line_end, is_blank, is_quote, is_b, is_width_digit, continues_number, begins_with, begins_comment}
 use Rattle.pli_lex.specs.Signs.{sign_of}
 use Rattle.pli_lex.specs.Tokens.{width_of}
-use Rattle.pli_lex.specs.Reading.{Found, word, word_at, decimal, binary, number_at, string_from, bits, string, string_found, string_at, sign_at, token_at, piece, piece_at}
-use Rattle.pli_lex.proofs.Choices.{begins_on_line}
-use Rattle.pli_lex.proofs.Runs.{run_within}
-use Rattle.pli_lex.proofs.Strings.{string_on_line, string_within}
+use Rattle.pli_lex.specs.Reading.{Found, word, word_at, decimal, binary, number_of, number_at, string_from, bits, string, string_found, string_at, sign_at, token_at, piece, piece_at}
+use Rattle.pli_lex.proofs.TakenApart.{begins_on_line}
+use Rattle.pli_lex.proofs.LongestRuns.{run_within}
+use Rattle.pli_lex.proofs.StringsEnd.{string_on_line, string_within}
 
 prefix_on_line : (p : ℕ → Bool) (text more : List ℕ) → p line_end ≡ false → prefix_len p (text ++ line_end ∷ more) ≡ prefix_len p text
 prefix_on_line p [] more none = rw none refl
@@ -25,9 +25,6 @@ word_on_line text more =
     let width = prefix_len is_name_character text in
     ap (λ (n : ℕ). word (name_of (take n whole)) n) (prefix_on_line is_name_character text more refl)
     ∙ ap (λ (l : List ℕ). word (name_of l) width) (take-append-le width text (line_end ∷ more) (run_within is_name_character text))
-
-abbrev number_of : List ℕ → List ℕ → Result Found Code
-number_of run rest = cond (begins_with is_b rest) (binary run (drop 1 rest)) (decimal run rest)
 
 decimal_on_line : (run rest more : List ℕ) → decimal run (rest ++ line_end ∷ more) ≡ decimal run rest
 decimal_on_line run rest more = rw (begins_on_line continues_number rest more refl) refl

@@ -11,12 +11,12 @@ use Rattle.pli_lex.specs.Characters.{is_blank, is_quote, is_b, continues_number,
 use Rattle.pli_lex.specs.Tokens.{IsSeparator, is_constant, is_binary_constant, doubled, quoted, are_digits, IsToken, EndsAt}
 use Rattle.pli_lex.specs.Faults.{NothingStands, IsQuoted, IsCodeOf}
 use Rattle.pli_lex.specs.Reading.{Found, Piece, word, decimal, binary, number_at, string_from, bits, string, string_found, sign, token_at, closing_width, comment, piece, piece_at}
-use Rattle.pli_lex.proofs.Choices.{chosen, ok_is, error_is, no_fault, none_some, bind_ok, bind_err, begins_split}
-use Rattle.pli_lex.proofs.Characters.{is_solid}
-use Rattle.pli_lex.proofs.Comments.{closes, closes_again}
-use Rattle.pli_lex.proofs.Strings.{string_closes, string_again}
-use Rattle.pli_lex.proofs.Pieces.{StandsAt, quoted_before, token_stands}
-use Rattle.pli_lex.proofs.Tokens.{token_found, token_begins}
+use Rattle.pli_lex.proofs.TakenApart.{chosen, ok_is, error_is, no_fault, none_some, same_tail, bind_ok, bind_err, begins_split}
+use Rattle.pli_lex.proofs.KindsApart.{is_solid}
+use Rattle.pli_lex.proofs.CommentsEnd.{closes, closes_again}
+use Rattle.pli_lex.proofs.StringsEnd.{string_closes, string_again}
+use Rattle.pli_lex.proofs.FoundStands.{StandsAt, quoted_before, token_stands}
+use Rattle.pli_lex.proofs.StandingIsFound.{token_found, token_begins}
 
 -- a separator or a token at the front of the text takes so many characters
 abbrev pub PieceStands : List ℕ → Piece → Type 0
@@ -62,7 +62,7 @@ piece_stands text p e =
 
 -- ---- what stands is found
 
-no_comment : (c : ℕ) (cs : List ℕ) → eqb c 47 ≡ false → begins_comment (c ∷ cs) ≡ false
+pub no_comment : (c : ℕ) (cs : List ℕ) → eqb c 47 ≡ false → begins_comment (c ∷ cs) ≡ false
 no_comment c [] other = refl
 no_comment c (d ∷ cs) other = rw other refl
 
@@ -142,14 +142,11 @@ sign_code : (o : Option Sign) (width : ℕ) (e : Code) → sign o width ≡ Err 
 sign_code None width e h = error_is BadCharacter e h
 sign_code (Some s) width e h = absurd cc
 
-same_behind : (c d : ℕ) (cs ds : List ℕ) → c ∷ cs ≡ d ∷ ds → cs ≡ ds
-same_behind c d cs ds e = cc
-
 quote_code : (cs : List ℕ) (o : Option (List ℕ × ℕ)) (e : Code) → string_from false cs ≡ o → string_found (39 ∷ cs) o ≡ Err e → IsCodeOf (39 ∷ cs) e
 quote_code cs None e is h = subst (IsCodeOf (39 ∷ cs)) (error_is UnendedString e h) (refl, open_string) where
   open_string : IsQuoted (39 ∷ cs) → ⊥
   open_string q =
-      let behind : cs ≡ doubled q.0 ++ 39 ∷ q.1 = same_behind 39 39 cs (doubled q.0 ++ 39 ∷ q.1) (q.2 ∙ quoted_before q.0 q.1) in
+      let behind : cs ≡ doubled q.0 ++ 39 ∷ q.1 = same_tail 39 39 cs (doubled q.0 ++ 39 ∷ q.1) (q.2 ∙ quoted_before q.0 q.1) in
       none_some (q.0, length (doubled q.0) + 1) (sym is ∙ ap (string_from false) behind ∙ string_again q.0 q.1 q.3 q.4)
 quote_code cs (Some found) e is h =
     let closes = string_closes false cs found is (λ e. absurd cc) in

@@ -7,7 +7,7 @@ use Rattle.pli_base.specs.Name.{is_letter, is_digit, is_name_character}
 use Rattle.pli_base.specs.declared.token.Sign.{Sign}
 use Rattle.pli_lex.specs.Characters.{is_blank, is_quote, is_b, is_binary_digit, continues_number, begins_with}
 use Rattle.pli_lex.specs.Signs.{single_signs, double_signs, single_in, double_in, sign_of}
-use Rattle.pli_lex.proofs.Choices.{chosen, none_some}
+use Rattle.pli_lex.proofs.TakenApart.{chosen, none_some}
 
 -- what begins no separator: neither a blank nor the first character of a comment
 abbrev pub is_solid : ℕ → Bool

@@ -13,11 +13,11 @@ use Rattle.pli_lex.specs.declared.answer.LexError.TheVariants as errors
 use Rattle.pli_lex.specs.Characters.{line_end, is_line_end, text_of, line_ends, is_blank, begins_with, begins_comment}
 use Rattle.pli_lex.specs.Answers.{Fails, in_comment, reads}
 use Rattle.pli_lex.specs.Reading.{token_at, closing_width, comment, piece, piece_at, with_front, tokens_after, lexed}
-use Rattle.pli_lex.proofs.Comments.{closes_on_line, closes_later, closes_within}
-use Rattle.pli_lex.proofs.Pieces.{token_stands}
-use Rattle.pli_lex.proofs.Stands.{comment_split, token_some}
-use Rattle.pli_lex.proofs.OnLine.{piece_on_line}
-use Rattle.pli_lex.proofs.Texts.{line_ends-append, nothing_before, front_twice, passed_by, passed_over, one_piece}
+use Rattle.pli_lex.proofs.CommentsEnd.{closes_on_line, closes_later, closes_within}
+use Rattle.pli_lex.proofs.FoundStands.{token_stands}
+use Rattle.pli_lex.proofs.FrontStands.{comment_split, token_some}
+use Rattle.pli_lex.proofs.FoundOnLine.{piece_on_line}
+use Rattle.pli_lex.proofs.TextsSpelled.{line_ends-append, nothing_before, front_twice, passed_by, passed_over, one_piece}
 
 -- ---- bytes are no line ends
 

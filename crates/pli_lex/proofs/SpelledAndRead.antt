@@ -7,8 +7,8 @@ use Rattle.pli_lex.specs.Characters.{text_of}
 use Rattle.pli_lex.specs.Tokens.{Spells, SpellsLines}
 use Rattle.pli_lex.specs.Faults.{HasFault, HasLineFault}
 use Rattle.pli_lex.specs.Reading.{tokens_after, tokens_of, lexed}
-use Rattle.pli_lex.proofs.Faults.{fault_is_met}
-use Rattle.pli_lex.proofs.Texts.{Tells, text_tells, spelled_again}
+use Rattle.pli_lex.proofs.FaultsMet.{fault_is_met}
+use Rattle.pli_lex.proofs.TextsSpelled.{Tells, text_tells, spelled_again}
 
 pub text_is_spelled : (text : List ℕ) (tokens : List Token) → tokens_of text ≡ Ok tokens → Spells text tokens
 text_is_spelled text tokens h = subst (Tells 1 text) h (text_tells 1 text)
@@ -28,9 +28,6 @@ lines_are_read lines tokens s = text_is_read (text_of lines) tokens s
 
 pub lines_are_faulty : (lines : List (List ℕ)) (fault : LexFault) → lexed lines ≡ Err fault → HasLineFault lines fault
 lines_are_faulty lines fault h = text_is_faulty (text_of lines) fault h
-
-pub text_faults_are_met : (text : List ℕ) (fault : LexFault) → HasFault text fault → tokens_of text ≡ Err fault
-text_faults_are_met text fault h = fault_is_met text fault h
 
 pub lines_faults_are_met : (lines : List (List ℕ)) (fault : LexFault) → HasLineFault lines fault → lexed lines ≡ Err fault
 lines_faults_are_met lines fault h = fault_is_met (text_of lines) fault h

@@ -1,5 +1,5 @@
 -- A token is found where it stands.
-use Rattle.std.proofs.Common.{◌≡◌, ◌≢◌, ℕ, ◌+◌, ◌-◌, ◌≤◌, ◌<◌, ◌^◌, Bool, true, false, cond, leb, ltb, not, ◌&&◌, ◌||◌, List, [], ◌∷◌, ◌++◌, length, length-append, take, drop, Option, Some, Result, Ok, refl, sym, ap, subst, ◌∙◌, append_assoc, arith, inl, inr}
+use Rattle.std.proofs.Common.{◌≡◌, ◌≢◌, ℕ, ◌+◌, ◌-◌, ◌≤◌, ◌<◌, ◌^◌, Bool, true, false, leb, ltb, not, ◌&&◌, ◌||◌, List, [], ◌∷◌, ◌++◌, length, length-append, take, drop, Option, Some, Ok, refl, sym, ap, subst, ◌∙◌, append_assoc, arith, inl, inr}
 use Rattle.std.specs.List.{list_all, prefix_len}
 use Rattle.std.specs.Option.{is_some}
 use Rattle.std.proofs.Math.Pow.{pow_mono}
@@ -14,12 +14,12 @@ use Rattle.pli_base.specs.declared.token.TokenText.TheVariants as texts
 use Rattle.pli_lex.specs.Characters.{is_line_end, is_quote, is_b, is_binary_digit, is_width_digit, digit_value, on_one_line, continues_number, begins_with}
 use Rattle.pli_lex.specs.Signs.{sign_of}
 use Rattle.pli_lex.specs.Tokens.{value_in, is_constant, is_binary_constant, doubled, quoted, width_of, are_digits, bits_in, IsToken, EndsAt}
-use Rattle.pli_lex.specs.Reading.{Found, word, word_at, decimal, binary, number_at, bits, string, string_found, string_at, sign, sign_at, token_at}
-use Rattle.pli_lex.proofs.Choices.{done, ok_is, chosen, some_is, none_some}
-use Rattle.pli_lex.proofs.Characters.{is_solid, letter_in_name, letter_solid, digit_solid, digit_no_letter, binary_digit_is_digit, b_no_digit, b_no_quote, b_continues, digit_continues, not_begun, begun_otherwise, begins_sign, sign_begins}
-use Rattle.pli_lex.proofs.Runs.{run_again}
-use Rattle.pli_lex.proofs.Strings.{string_again}
-use Rattle.pli_lex.proofs.Pieces.{quoted_before, quoted_long}
+use Rattle.pli_lex.specs.Reading.{Found, word, word_at, number_of, number_at, bits, string, string_found, string_at, sign, sign_at, token_at}
+use Rattle.pli_lex.proofs.TakenApart.{done, ok_is, chosen, some_is, none_some}
+use Rattle.pli_lex.proofs.KindsApart.{is_solid, letter_in_name, letter_solid, digit_solid, digit_no_letter, binary_digit_is_digit, b_no_digit, b_no_quote, b_continues, digit_continues, not_begun, begun_otherwise, begins_sign, sign_begins}
+use Rattle.pli_lex.proofs.LongestRuns.{run_again}
+use Rattle.pli_lex.proofs.StringsEnd.{string_again}
+use Rattle.pli_lex.proofs.FoundStands.{quoted_before, quoted_long}
 
 -- ---- what the first character tells
 
@@ -66,10 +66,6 @@ word_found (c ∷ cs) rest name is ends =
     ∙ ap (λ (o : Option Name). word o (length run)) is
 
 -- ---- numbers
-
--- a number of these digits before this rest
-abbrev number_of : List ℕ → List ℕ → Result Found Code
-number_of run rest = cond (begins_with is_b rest) (binary run (drop 1 rest)) (decimal run rest)
 
 number_split : (run rest : List ℕ) → list_all is_digit run ≡ true → begins_with is_digit rest ≡ false → number_at (run ++ rest) ≡ number_of run rest
 number_split run rest all ends =

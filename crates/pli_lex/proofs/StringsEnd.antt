@@ -4,7 +4,7 @@ use Rattle.std.proofs.lemmas.Bool.{cases_Bool, and_parts, eqb-true, not-true}
 use Rattle.pli_lex.specs.Characters.{line_end, is_line_end, on_one_line, is_quote, begins_with}
 use Rattle.pli_lex.specs.Tokens.{doubled}
 use Rattle.pli_lex.specs.Reading.{string_from}
-use Rattle.pli_lex.proofs.Choices.{chosen, some_is, none_some, mapped, begins_on_line}
+use Rattle.pli_lex.proofs.TakenApart.{chosen, some_is, none_some, mapped, begins_on_line}
 
 -- the second quote of two
 abbrev pub second_quote : Bool → List ℕ

@@ -24,21 +24,26 @@ abbrev pub in_comment : ℕ → ℕ → List ℕ → Option ℕ → Result (List
 in_comment began number text None = Err (record { code = UnendedComment; line = began })
 in_comment began number text (Some width) = tokens_after width number text
 
--- the tokens of a text that begins on the line with this number, where a comment may be open that began on the line `began`
+-- the tokens of a text that begins on the line with this number, where a comment may be open that began on
+-- the line `began`
 abbrev pub reads : Option ℕ → ℕ → List ℕ → Result (List Token) LexFault
 reads None number text = tokens_after 0 number text
 reads (Some began) number text = in_comment began number text (closing_width text)
 
--- Whatever lines come behind what is left of a line: the tokens before, and those that are read from there, are the tokens after, and those that
--- are read then.
+-- Whatever lines come behind what is left of a line: the tokens before, and those that are read from there,
+-- are the tokens after, and those that are read then.
 abbrev pub Passes : Result (Option ℕ × ℕ) LexError → List Token → List Token → Option ℕ → ℕ → List ℕ → Type 0
 Passes (Ok passed) before after began number text =
     (more : List ℕ)
-    → with_front before (reads began number (text ++ line_end ∷ more)) ≡ with_front after (reads passed.0 number (drop passed.1 text ++ line_end ∷ more))
-Passes (Err e) before after began number text = (more : List ℕ) → Fails e (reads began number (text ++ line_end ∷ more))
+    → with_front before (reads began number (text ++ line_end ∷ more))
+    ≡ with_front after (reads passed.0 number (drop passed.1 text ++ line_end ∷ more))
+Passes (Err e) before after began number text =
+    (more : List ℕ) → Fails e (reads began number (text ++ line_end ∷ more))
 
 -- the same of the whole line
 abbrev pub PassesLine : Result (Option ℕ) LexError → List Token → List Token → Option ℕ → ℕ → List ℕ → Type 0
 PassesLine (Ok left) before after began number text =
-    (more : List ℕ) → with_front before (reads began number (text ++ line_end ∷ more)) ≡ with_front after (reads left (number + 1) more)
-PassesLine (Err e) before after began number text = (more : List ℕ) → Fails e (reads began number (text ++ line_end ∷ more))
+    (more : List ℕ) → with_front before (reads began number (text ++ line_end ∷ more))
+    ≡ with_front after (reads left (number + 1) more)
+PassesLine (Err e) before after began number text =
+    (more : List ℕ) → Fails e (reads began number (text ++ line_end ∷ more))

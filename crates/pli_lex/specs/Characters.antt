@@ -1,5 +1,6 @@
 -- The characters of the language, and the text of lines (X3.74; `$` in names is own).
-use Rattle.std.specs.Prelude.{ℕ, ◌-◌, nat_eq, nat_le, Bool, false, ◌&&◌, ◌||◌, not, List, [], ◌∷◌, ◌++◌, if◌then◌else◌}
+use Rattle.std.specs.Prelude.{ℕ, ◌-◌, nat_eq, nat_le, Bool, false, ◌&&◌, ◌||◌, not, List, [], ◌∷◌, ◌++◌}
+use Rattle.std.specs.Prelude.{if◌then◌else◌}
 use Rattle.std.specs.List.{count_by, list_all}
 use Rattle.pli_base.specs.Name.{is_digit, is_name_character, upper}
 
@@ -7,6 +8,7 @@ use Rattle.pli_base.specs.Name.{is_digit, is_name_character, upper}
 abbrev pub line_end : ℕ
 line_end = 256
 
+-- the character is the end of a line
 abbrev pub is_line_end : ℕ → Bool
 is_line_end c = nat_eq c line_end
 

@@ -1,13 +1,15 @@
 -- Worked examples: what lines spell, and the first faults of lines.
 use Rattle.std.specs.Prelude.{◌≡◌, ℕ, true, false, List, [], ◌∷◌, map, Ok, Err, codes}
 use Rattle.pli_base.specs.declared.code.Code.{Code}
-use Rattle.pli_base.specs.declared.code.Code.TheVariants.{UnendedComment, UnendedString, BadCharacter, BadNumber, NameTooLong, BadBits}
+use Rattle.pli_base.specs.declared.code.Code.TheVariants.{UnendedComment, UnendedString, BadCharacter}
+use Rattle.pli_base.specs.declared.code.Code.TheVariants.{BadNumber, NameTooLong, BadBits}
 use Rattle.pli_base.specs.declared.token.Sign.TheVariants as signs
 use Rattle.pli_base.specs.declared.token.TokenText.{TokenText}
 use Rattle.pli_base.specs.declared.token.TokenText.TheVariants.{Word, Decimal, Binary, Characters, Bits, Sign}
 use Rattle.pli_base.specs.declared.token.Token.{Token}
 use Rattle.pli_lex.specs.Reading.{lexed}
 
+-- a token on a line
 abbrev on_line : ℕ → TokenText → Token
 on_line number t = record { text = t; line = number }
 
@@ -28,11 +30,15 @@ abbrev pub ProcedureLine : Type 0
 ProcedureLine =
     Says (codes "M: PROC OPTIONS(MAIN);")
     (Word (codes "M") ∷ Sign signs.Colon ∷ Word (codes "PROC") ∷ Word (codes "OPTIONS")
-    ∷ Sign signs.OpenParenthesis ∷ Word (codes "MAIN") ∷ Sign signs.CloseParenthesis ∷ Sign signs.Semicolon ∷ [])
+    ∷ Sign signs.OpenParenthesis ∷ Word (codes "MAIN") ∷ Sign signs.CloseParenthesis ∷ Sign signs.Semicolon
+    ∷ [])
 
 -- lower case equals upper case, and leading zeros count as digits
 abbrev pub LowerCaseLine : Type 0
-LowerCaseLine = Says (codes "x_1$=007,y") (Word (codes "X_1$") ∷ Sign signs.Equals ∷ Decimal 7 3 ∷ Sign signs.Comma ∷ Word (codes "Y") ∷ [])
+LowerCaseLine =
+    Says
+    (codes "x_1$=007,y")
+    (Word (codes "X_1$") ∷ Sign signs.Equals ∷ Decimal 7 3 ∷ Sign signs.Comma ∷ Word (codes "Y") ∷ [])
 
 -- a tab separates, and separators alone say nothing
 abbrev pub TabLine : Type 0
@@ -58,27 +64,32 @@ abbrev pub Signs : Type 0
 Signs =
     Says (codes "->->=^=~=^<~>||| - >")
     (Sign signs.Arrow ∷ Sign signs.Arrow ∷ Sign signs.Equals ∷ Sign signs.NotEqual ∷ Sign signs.NotEqual
-    ∷ Sign signs.GreaterOrEqual ∷ Sign signs.LessOrEqual ∷ Sign signs.Concatenate ∷ Sign signs.Or ∷ Sign signs.Minus ∷ Sign signs.Greater ∷ [])
+    ∷ Sign signs.GreaterOrEqual ∷ Sign signs.LessOrEqual ∷ Sign signs.Concatenate ∷ Sign signs.Or
+    ∷ Sign signs.Minus ∷ Sign signs.Greater ∷ [])
 
 -- a comment separates, ends at its first `*/`, and begins in no string
 abbrev pub CommentLine : Type 0
-CommentLine = Says (codes "A/* /* ' */B/**/'/*'") (Word (codes "A") ∷ Word (codes "B") ∷ Characters (codes "/*") ∷ [])
+CommentLine =
+    Says (codes "A/* /* ' */B/**/'/*'") (Word (codes "A") ∷ Word (codes "B") ∷ Characters (codes "/*") ∷ [])
 
 -- a comment over lines, and tokens with the numbers of their lines
 abbrev pub CommentLines : Type 0
 CommentLines =
-    lexed (codes "A /* B" ∷ codes "C" ∷ codes "*/ D" ∷ []) ≡ Ok (on_line 1 (Word (codes "A")) ∷ on_line 3 (Word (codes "D")) ∷ [])
+    lexed (codes "A /* B" ∷ codes "C" ∷ codes "*/ D" ∷ [])
+    ≡ Ok (on_line 1 (Word (codes "A")) ∷ on_line 3 (Word (codes "D")) ∷ [])
 
 -- the two characters of a comment's beginning or end stand on one line
 abbrev pub CommentOnOneLine : Type 0
 CommentOnOneLine =
-    HaveFault (codes "/" ∷ codes "* A */" ∷ []) BadCharacter 1 × HaveFault (codes "A /* *" ∷ codes "/" ∷ []) UnendedComment 1
+    HaveFault (codes "/" ∷ codes "* A */" ∷ []) BadCharacter 1
+    × HaveFault (codes "A /* *" ∷ codes "/" ∷ []) UnendedComment 1
 
 -- the line's end separates
 abbrev pub TwoLines : Type 0
 TwoLines =
     lexed (codes "PR" ∷ [] ∷ codes "OC /*" ∷ codes "*/ ;" ∷ [])
-    ≡ Ok (on_line 1 (Word (codes "PR")) ∷ on_line 3 (Word (codes "OC")) ∷ on_line 4 (Sign signs.Semicolon) ∷ [])
+    ≡ Ok (on_line 1 (Word (codes "PR")) ∷ on_line 3 (Word (codes "OC")) ∷ on_line 4 (Sign signs.Semicolon)
+    ∷ [])
 
 -- a comment that does not end is a fault where it begins
 abbrev pub UnendedComments : Type 0
@@ -86,7 +97,8 @@ UnendedComments = HaveFault (codes "A" ∷ codes "/*/ B /*" ∷ codes "C" ∷ []
 
 -- a string that does not end on its line, also where a quote at its end is doubled
 abbrev pub UnendedStrings : Type 0
-UnendedStrings = HaveFault (codes "A" ∷ codes "'B" ∷ codes "C'" ∷ []) UnendedString 2 × Fails (codes "'A''") UnendedString
+UnendedStrings =
+    HaveFault (codes "A" ∷ codes "'B" ∷ codes "C'" ∷ []) UnendedString 2 × Fails (codes "'A''") UnendedString
 
 -- a name character or `.` directly behind a number
 abbrev pub BadNumbers : Type 0
@@ -96,17 +108,22 @@ BadNumbers =
 
 -- eleven digits are too many, and so are 32 binary ones
 abbrev pub TooManyDigits : Type 0
-TooManyDigits = Fails (codes "00000000001") BadNumber × Fails (codes "00000000000000000000000000000001B") BadNumber
+TooManyDigits =
+    Fails (codes "00000000001") BadNumber × Fails (codes "00000000000000000000000000000001B") BadNumber
 
 -- the greatest constants, and the next
 abbrev pub GreatestNumbers : Type 0
 GreatestNumbers =
-    Says (codes "2147483647 1111111111111111111111111111111B") (Decimal 2147483647 10 ∷ Binary 2147483647 31 ∷ [])
+    Says
+    (codes "2147483647 1111111111111111111111111111111B")
+    (Decimal 2147483647 10 ∷ Binary 2147483647 31 ∷ [])
     × Fails (codes "2147483648") BadNumber
 
 -- digits that are too great, a width that is none, and a name character directly behind
 abbrev pub BadBitConstants : Type 0
-BadBitConstants = Fails (codes "'12'B") BadBits × Fails (codes "'8'B3") BadBits × Fails (codes "'1'B5") BadBits × Fails (codes "'1'B4X") BadBits
+BadBitConstants =
+    Fails (codes "'12'B") BadBits × Fails (codes "'8'B3") BadBits × Fails (codes "'1'B5") BadBits
+    × Fails (codes "'1'B4X") BadBits
 
 -- another letter begins a name
 abbrev pub CharactersThenName : Type 0

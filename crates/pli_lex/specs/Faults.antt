@@ -2,7 +2,8 @@
 use Rattle.std.specs.Prelude.{◌≡◌, ℕ, IsTrue, IsFalse, ◌||◌, List, ◌∷◌, ◌++◌}
 use Rattle.pli_base.specs.Name.{is_letter, is_digit}
 use Rattle.pli_base.specs.declared.code.Code.{Code}
-use Rattle.pli_base.specs.declared.code.Code.TheVariants.{UnendedComment, UnendedString, BadCharacter, BadNumber, NameTooLong, BadBits}
+use Rattle.pli_base.specs.declared.code.Code.TheVariants.{UnendedComment, UnendedString, BadCharacter}
+use Rattle.pli_base.specs.declared.code.Code.TheVariants.{BadNumber, NameTooLong, BadBits}
 use Rattle.pli_base.specs.declared.token.TokenText.{TokenText}
 use Rattle.pli_base.specs.declared.token.Token.{Token}
 use Rattle.pli_lex.specs.declared.answer.LexFault.{LexFault}
@@ -21,8 +22,8 @@ IsQuoted text =
     (characters rest : List ℕ) × (text ≡ quoted characters ++ rest)
     × IsTrue (on_one_line characters) × IsFalse (begins_with is_quote rest)
 
--- Where nothing stands, the text there tells the code: a comment or a string that does not end, a string that is no bit constant, digits that are no
--- number, a name that is too long, or any other character.
+-- Where nothing stands, the text there tells the code: a comment or a string that does not end, a string that
+-- is no bit constant, digits that are no number, a name that is too long, or any other character.
 abbrev pub IsCodeOf : List ℕ → Code → Type 0
 IsCodeOf text UnendedComment = IsTrue (begins_comment text)
 IsCodeOf text UnendedString = IsTrue (begins_with is_quote text) × (IsQuoted text → ⊥)
@@ -30,13 +31,15 @@ IsCodeOf text BadBits = IsQuoted text
 IsCodeOf text BadNumber = IsTrue (begins_with is_digit text)
 IsCodeOf text NameTooLong = IsTrue (begins_with is_letter text)
 IsCodeOf text BadCharacter =
-    (c : ℕ) × (cs : List ℕ) × (text ≡ c ∷ cs) × IsFalse (begins_comment text) × IsFalse (is_letter c || is_digit c || is_quote c)
+    (c : ℕ) × (cs : List ℕ) × (text ≡ c ∷ cs) × IsFalse (begins_comment text)
+    × IsFalse (is_letter c || is_digit c || is_quote c)
 IsCodeOf text others = ⊥
 
 -- separators and tokens lead to a place on the fault's line where nothing stands
 abbrev pub HasFault : List ℕ → LexFault → Type 0
 HasFault text fault =
-    (tokens : List Token) × (rest : List ℕ) × SpellsUpTo 1 text tokens fault.line rest × NothingStands rest × IsCodeOf rest fault.code
+    (tokens : List Token) × (rest : List ℕ) × SpellsUpTo 1 text tokens fault.line rest × NothingStands rest
+    × IsCodeOf rest fault.code
 
 -- the fault of lines is that of their text
 abbrev pub HasLineFault : List (List ℕ) → LexFault → Type 0

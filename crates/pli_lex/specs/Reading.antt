@@ -1,20 +1,24 @@
 -- Reading a text from left to right: its tokens, or the fault of the first place where nothing can stand.
-use Rattle.std.specs.Prelude.{ℕ, zero, suc, ◌+◌, ◌-◌, nat_eq, Bool, false, ◌&&◌, not, List, [], ◌∷◌, ◌++◌, length, take, drop, Option, Some, None, Result, Ok, Err, if◌then◌else◌}
+use Rattle.std.specs.Prelude.{ℕ, zero, suc, ◌+◌, ◌-◌, nat_eq, Bool, false, ◌&&◌, not, List, [], ◌∷◌, ◌++◌}
+use Rattle.std.specs.Prelude.{length, take, drop, Option, Some, None, Result, Ok, Err, if◌then◌else◌}
 use Rattle.std.specs.List.{prefix_len}
 use Rattle.std.specs.Option.{is_some, option_map}
 use Rattle.pli_base.specs.Name.{Name, is_letter, is_digit, is_name_character, name_of}
 use Rattle.pli_base.specs.declared.code.Code.{Code}
-use Rattle.pli_base.specs.declared.code.Code.TheVariants.{UnendedComment, UnendedString, BadCharacter, BadNumber, NameTooLong, BadBits}
+use Rattle.pli_base.specs.declared.code.Code.TheVariants.{UnendedComment, UnendedString, BadCharacter}
+use Rattle.pli_base.specs.declared.code.Code.TheVariants.{BadNumber, NameTooLong, BadBits}
 use Rattle.pli_base.specs.declared.token.Sign.{Sign}
 use Rattle.pli_base.specs.declared.token.TokenText.{TokenText}
 use Rattle.pli_base.specs.declared.token.TokenText.TheVariants as texts
 use Rattle.pli_base.specs.declared.token.Token.{Token}
 use Rattle.pli_lex.specs.declared.answer.LexFault.{LexFault}
-use Rattle.pli_lex.specs.Characters.{text_of, line_ends, is_line_end, is_blank, is_quote, is_b, is_width_digit, continues_number, begins_with, begins_comment}
+use Rattle.pli_lex.specs.Characters.{text_of, line_ends, is_line_end, is_blank, is_quote, is_b}
+use Rattle.pli_lex.specs.Characters.{is_width_digit, continues_number, begins_with, begins_comment}
 use Rattle.pli_lex.specs.Signs.{sign_of}
 use Rattle.pli_lex.specs.Tokens.{value_in, is_constant, is_binary_constant, width_of, are_digits, bits_in}
 
 infixl 10 ◌>>=◌
+-- goes on with what was read, or stays at the fault
 abbrev pub ◌>>=◌ : {A B E : Type 0} → Result A E → (A → Result B E) → Result B E
 (Ok x) >>= f = f x
 (Err e) >>= f = Err e
@@ -52,16 +56,19 @@ binary run rest =
     then Ok (texts.Binary (value_in 2 run) (length run), length run + 1)
     else Err BadNumber
 
--- behind a digit, the longest run of digits, and a `B` directly behind it
+-- digits and what stands behind them: a `B` directly there makes them binary
+abbrev pub number_of : List ℕ → List ℕ → Result Found Code
+number_of run rest = if begins_with is_b rest then binary run (drop 1 rest) else decimal run rest
+
+-- behind a digit, the longest run of digits
 abbrev pub number_at : List ℕ → Result Found Code
 number_at text =
     let width = prefix_len is_digit text in
-    let run = take width text in
-    let rest = drop width text in
-    if begins_with is_b rest then binary run (drop 1 rest) else decimal run rest
+    number_of (take width text) (drop width text)
 
--- One character more of a string, where `found` is what its rest gives: its characters, and how many the text has up to the end of the closing quote.
--- A quote with another directly behind it (`more`) is one character, and the other (`second`) is passed over.
+-- One character more of a string, where `found` is what its rest gives: its characters, and how many the text
+-- has up to the end of the closing quote. A quote with another directly behind it (`more`) is one character,
+-- and the other (`second`) is passed over.
 abbrev pub string_on : (second : Bool) → ℕ → (more : Bool) → Option (List ℕ × ℕ) → Option (List ℕ × ℕ)
 string_on second c more found =
     if is_line_end c then None
@@ -88,7 +95,8 @@ bits (Some width) digits rest taken =
     then Ok (texts.Bits (bits_in width digits), taken)
     else Err BadBits
 
--- a string that takes so many characters, before this rest: with a `B` directly behind it, it is a bit constant
+-- a string that takes so many characters, before this rest: with a `B` directly behind it, it is a bit
+-- constant
 abbrev pub string : List ℕ → ℕ → List ℕ → Result Found Code
 string characters taken rest =
     let suffix = suffix_width rest in
@@ -131,7 +139,8 @@ token_at text =
 unfoldable pub closing_width : List ℕ → Option ℕ
 closing_width [] = None
 closing_width (c ∷ cs) =
-    if nat_eq c 42 && begins_with (λ d. nat_eq d 47) cs then Some 2 else option_map (λ width. width + 1) (closing_width cs)
+    if nat_eq c 42 && begins_with (λ d. nat_eq d 47) cs then Some 2
+    else option_map (λ width. width + 1) (closing_width cs)
 
 -- a comment ends at the first `*/` behind its `/*`
 abbrev pub comment : Option ℕ → Result Piece Code
@@ -163,7 +172,8 @@ abbrev pub tokens_in : ℕ → Option TokenText → List Token
 tokens_in number None = []
 tokens_in number (Some t) = record { text = t; line = number } ∷ []
 
--- the tokens of a text that begins on the line with this number, after so many characters, which belong to a piece that is read
+-- the tokens of a text that begins on the line with this number, after so many characters, which belong to a
+-- piece that is read
 unfoldable pub tokens_after : ℕ → (number : ℕ) → List ℕ → Result (List Token) LexFault
 tokens_after n number [] = Ok []
 tokens_after (suc n) number (c ∷ cs) = tokens_after n (number + line_ends (c ∷ [])) cs

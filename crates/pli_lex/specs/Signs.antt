@@ -29,7 +29,8 @@ single_in (entry ∷ entries) c = if nat_eq c entry.0 then Some entry.1 else sin
 -- the sign of two characters, where there is one
 abbrev pub double_in : List (ℕ × ℕ × Sign) → ℕ → ℕ → Option Sign
 double_in [] c d = None
-double_in (entry ∷ entries) c d = if nat_eq d entry.1 && nat_eq c entry.0 then Some entry.2 else double_in entries c d
+double_in (entry ∷ entries) c d =
+    if nat_eq d entry.1 && nat_eq c entry.0 then Some entry.2 else double_in entries c d
 
 -- the sign that a run of characters is
 abbrev pub sign_of : List ℕ → Option Sign

@@ -1,12 +1,16 @@
--- What a text spells, apart from how it is read (X3.74; the limits of names and constants are own).
-use Rattle.std.specs.Prelude.{◌≡◌, ◌⊎◌, ℕ, ◌+◌, ◌-◌, ◌*◌, ◌/◌, ◌%◌, ◌^◌, nat_eq, nat_le, nat_lt, IsTrue, IsFalse, Bool, ◌&&◌, ◌||◌, List, [], ◌∷◌, ◌++◌, map, drop, length, fold, Option, Some, None, codes, if◌then◌else◌}
+-- What a text spells, apart from how it is read (X3.74; the limits of constants are own).
+use Rattle.std.specs.Prelude.{◌≡◌, ◌⊎◌, ℕ, ◌+◌, ◌-◌, ◌*◌, ◌/◌, ◌%◌, ◌^◌, nat_eq, nat_le, nat_lt, IsTrue}
+use Rattle.std.specs.Prelude.{IsFalse, Bool, ◌&&◌, ◌||◌, List, [], ◌∷◌, ◌++◌, map, drop, length, fold, Option}
+use Rattle.std.specs.Prelude.{Some, None, codes, if◌then◌else◌}
 use Rattle.std.specs.List.{concat, list_all}
 use Rattle.std.specs.Option.{is_some}
 use Rattle.pli_base.specs.Name.{is_digit, is_name_character, name_of}
 use Rattle.pli_base.specs.declared.token.TokenText.{TokenText}
 use Rattle.pli_base.specs.declared.token.TokenText.TheVariants as texts
 use Rattle.pli_base.specs.declared.token.Token.{Token}
-use Rattle.pli_lex.specs.Characters.{text_of, line_ends, on_one_line, is_blank, is_quote, is_b, is_binary_digit, is_width_digit, digit_value, continues_number, begins_with}
+use Rattle.pli_lex.specs.Characters.{text_of, line_ends, on_one_line, is_blank, is_quote, is_b}
+use Rattle.pli_lex.specs.Characters.{is_binary_digit, is_width_digit, digit_value, continues_number}
+use Rattle.pli_lex.specs.Characters.{begins_with}
 use Rattle.pli_lex.specs.Signs.{sign_of}
 
 -- ---- separators
@@ -39,7 +43,8 @@ value_in base digits = fold (λ value digit. value * base + (digit - 48)) 0 digi
 -- one to ten digits, leading zeros counted, with a value of at most 2147483647
 abbrev pub is_constant : List ℕ → Bool
 is_constant run =
-    nat_le 1 (length run) && nat_le (length run) 10 && list_all is_digit run && nat_le (value_in 10 run) 2147483647
+    nat_le 1 (length run) && nat_le (length run) 10 && list_all is_digit run
+    && nat_le (value_in 10 run) 2147483647
 
 -- one to 31 binary digits
 abbrev pub is_binary_constant : List ℕ → Bool
@@ -80,7 +85,8 @@ bits_in width (digit ∷ digits) = bits_of width (digit_value digit) ++ bits_in 
 -- the run of characters is the token
 abbrev pub IsToken : List ℕ → TokenText → Type 0
 IsToken run (texts.Word name) = name_of run ≡ Some name
-IsToken run (texts.Decimal value digits) = IsTrue (is_constant run) × (value ≡ value_in 10 run) × (digits ≡ length run)
+IsToken run (texts.Decimal value digits) =
+    IsTrue (is_constant run) × (value ≡ value_in 10 run) × (digits ≡ length run)
 IsToken run (texts.Binary value digits) =
     (front : List ℕ) × (b : ℕ) × (run ≡ front ++ b ∷ []) × IsTrue (is_b b)
     × IsTrue (is_binary_constant front) × (value ≡ value_in 2 front) × (digits ≡ length front)
@@ -90,8 +96,8 @@ IsToken run (texts.Bits bits) =
     × IsTrue (are_digits width digits) × (bits ≡ bits_in width digits)
 IsToken run (texts.Sign sign) = sign_of run ≡ Some sign
 
--- the text after a token does not go on with it, so that the token is the longest that can stand there (a law says so), and what must not stand
--- directly behind a constant does not
+-- the text after a token does not go on with it, so that the token is the longest that can stand there (a law
+-- says so), and what must not stand directly behind a constant does not
 abbrev pub EndsAt : List ℕ → TokenText → List ℕ → Type 0
 EndsAt run (texts.Word name) rest = IsFalse (begins_with is_name_character rest)
 EndsAt run (texts.Decimal value digits) rest = IsFalse (begins_with continues_number rest)
@@ -102,13 +108,16 @@ EndsAt run (texts.Sign sign) rest = IsFalse (begins_with (λ c. is_some (sign_of
 
 -- ---- texts
 
--- A text that begins on the line with this number is separators and these tokens in turn, then separators, up to the rest, which begins on the line
--- with the number `last`; each token has the number of its line. (No token has a line's end in it.)
+-- A text that begins on the line with this number is separators and these tokens in turn, then separators, up
+-- to the rest, which begins on the line with the number `last`; each token has the number of its line. (No
+-- token has a line's end in it.)
 abbrev pub SpellsUpTo : (number : ℕ) → List ℕ → List Token → (last : ℕ) → List ℕ → Type 0
-SpellsUpTo number text [] last rest = (gap : List ℕ) × (text ≡ gap ++ rest) × IsGap gap × (last ≡ number + line_ends gap)
+SpellsUpTo number text [] last rest =
+    (gap : List ℕ) × (text ≡ gap ++ rest) × IsGap gap × (last ≡ number + line_ends gap)
 SpellsUpTo number text (token ∷ tokens) last rest =
-    (gap run after : List ℕ) × (text ≡ gap ++ (run ++ after)) × IsGap gap × (token.line ≡ number + line_ends gap)
-    × IsToken run token.text × EndsAt run token.text after × SpellsUpTo (token.line + line_ends run) after tokens last rest
+    (gap run after : List ℕ) × (text ≡ gap ++ (run ++ after)) × IsGap gap
+    × (token.line ≡ number + line_ends gap) × IsToken run token.text × EndsAt run token.text after
+    × SpellsUpTo (token.line + line_ends run) after tokens last rest
 
 -- the whole text, its lines being numbered from 1
 abbrev pub Spells : List ℕ → List Token → Type 0

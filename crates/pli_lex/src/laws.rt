@@ -9,7 +9,7 @@ ghost use Rattle.pli_lex.specs.Faults.{HasFault, HasLineFault};
 ghost use Rattle.pli_lex.specs.Reading.{tokens_of, lexed};
 
 /// A law: the tokens that are read in a text are those that it spells, each on its line.
-#[tactic(auto, using(crate::proofs::Lines::text_is_spelled))]
+#[tactic(auto, using(crate::proofs::SpelledAndRead::text_is_spelled))]
 pub fn texts_read_are_spelled()
     ensures { (text : List ℕ) (tokens : List Token) →
         tokens_of text ≡ Ok tokens → Spells text tokens }
@@ -22,7 +22,7 @@ pub fn texts_spelled_are_read()
 {}
 
 /// A law: the fault that is met in a text is that of the first place where neither a separator nor a token can stand.
-#[tactic(auto, using(crate::proofs::Lines::text_is_faulty))]
+#[tactic(auto, using(crate::proofs::SpelledAndRead::text_is_faulty))]
 pub fn texts_have_their_faults()
     ensures { (text : List ℕ) (fault : LexFault) → tokens_of text ≡ Err fault → HasFault text fault }
 {}
@@ -34,7 +34,7 @@ pub fn texts_faults_are_met()
 {}
 
 /// A law: the tokens that are read in lines are those that they spell, each on its line.
-#[tactic(auto, using(crate::proofs::Lines::lines_are_spelled))]
+#[tactic(auto, using(crate::proofs::SpelledAndRead::lines_are_spelled))]
 pub fn lines_read_are_spelled()
     ensures { (lines : List (List ℕ)) (tokens : List Token) →
         lexed lines ≡ Ok tokens → SpellsLines lines tokens }
@@ -47,7 +47,7 @@ pub fn lines_spelled_are_read()
 {}
 
 /// A law: the fault that is met in lines is that of the first place where neither a separator nor a token can stand.
-#[tactic(auto, using(crate::proofs::Lines::lines_are_faulty))]
+#[tactic(auto, using(crate::proofs::SpelledAndRead::lines_are_faulty))]
 pub fn lines_have_their_faults()
     ensures { (lines : List (List ℕ)) (fault : LexFault) → lexed lines ≡ Err fault → HasLineFault lines fault }
 {}

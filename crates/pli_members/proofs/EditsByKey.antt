@@ -11,7 +11,7 @@ use Rattle.std.specs.BTreeMap.{is_at, insert_entry}
 use Rattle.std.proofs.lemmas.Cmp.{tied_itself}
 use Rattle.std.proofs.lemmas.Map.Lookups.{CmpEqualImpliesEq}
 use Rattle.std.proofs.lemmas.Map.Views.{tells_apart}
-use Rattle.pli_members.proofs.Places.{by_ordering, by_test, cond-true, cond-false, insert_entry_step, below}
+use Rattle.pli_members.proofs.EditsAtPlace.{by_ordering, by_test, cond-true, cond-false, insert_entry_step, below}
 
 -- what holds of each holds in another way
 AllByRecursion-map : {K : Type 0} (P Q : K → Type 0) → ((x : K) → P x → Q x) → (ks : List K) → AllByRecursion P ks → AllByRecursion Q ks

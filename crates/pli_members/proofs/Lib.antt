@@ -1,7 +1,7 @@
-mod Changes
-mod Edits
-mod Places
-mod Runs
+mod ChangeDoes
+mod EditsAtPlace
+mod EditsByKey
+mod RunLaws
 mod RunsKept
-mod Searches
+mod SearchFinds
 mod StaysKept

@@ -12,8 +12,8 @@ use Rattle.pli_members.specs.Members.{Store, Member, Change, name_order, is_name
 use Rattle.pli_members.specs.Refusals.{refusal_in_member}
 use Rattle.pli_members.specs.Versions.{Run, begun, adding, deleting, changing, NextIsNew, EditGivesNext, EditKeepsOthers, DeletionTakes, DeletionKeepsOthers}
 use Rattle.std.proofs.lemmas.Map.Views.{tells_apart}
-use Rattle.pli_members.proofs.Places.{cond-true}
-use Rattle.pli_members.proofs.Edits.{lookup-put, lookup-put_other, lookup-taken_other}
+use Rattle.pli_members.proofs.EditsAtPlace.{cond-true}
+use Rattle.pli_members.proofs.EditsByKey.{lookup-put, lookup-put_other, lookup-taken_other}
 
 pub edit_gives_next : EditGivesNext
 edit_gives_next s name kind lines = ap (option_map (λ (m : Member). m.version)) (lookup-put name_order name (record { kind = kind; lines = lines; version = s.next }) nat_list_cmp_total s.entries)

@@ -11,9 +11,9 @@ use Rattle.pli_members.specs.Refusals.{or_exhausted, refusal_of_add, refusal_of_
 use Rattle.pli_members.specs.Versions.{begun, adding, deleting, changing, RunsKeep}
 use Rattle.pli_members.specs.declared.kind.Kind.{Kind}
 use Rattle.pli_members.specs.declared.refusal.Refusal.{Refusal}
-use Rattle.pli_members.proofs.Edits.{length-put}
-use Rattle.pli_members.proofs.Changes.{kept_with_change}
-use Rattle.pli_members.proofs.Searches.{place_of_entry}
+use Rattle.pli_members.proofs.EditsByKey.{length-put}
+use Rattle.pli_members.proofs.ChangeDoes.{kept_with_change}
+use Rattle.pli_members.proofs.SearchFinds.{place_of_entry}
 use Rattle.pli_members.proofs.StaysKept.{kept_with_member, kept_deleted}
 
 -- there is room for an addition that is not refused

@@ -16,7 +16,7 @@ use Rattle.std.proofs.lemmas.Map.Lookups.{exact_bytes}
 use Rattle.pli_base.specs.Name.{Name}
 use Rattle.pli_members.specs.Members.{Member, Store, names_of, name_order}
 use Rattle.pli_members.specs.Search.{IsPlace, IsGap}
-use Rattle.pli_members.proofs.Places.{insert-at_gap, set-at_place, remove-at_place, above_first, compares_at, above, below}
+use Rattle.pli_members.proofs.EditsAtPlace.{insert-at_gap, set-at_place, remove-at_place, above_first, compares_at, above, below}
 
 -- an element stands within its list
 in_range_from_slice_get : {X : Type 0} (xs : List X) (i : ℕ) (x : X) → slice_get xs i ≡ Some x → i < length xs

@@ -6,8 +6,8 @@ use Rattle.std.proofs.lemmas.Map.Lookups.{exact_bytes}
 use Rattle.std.proofs.lemmas.Map.Views.{tells_apart, IfSome-lookup_from_All}
 use Rattle.std.specs.Option.{option_map, IfSome}
 use Rattle.std.specs.Ordering.{is_eq}
-use Rattle.pli_members.proofs.Places.{by_test}
-use Rattle.pli_members.proofs.Runs.{edit_gives_next, edit_keeps_others, deletion_takes, deletion_keeps_others}
+use Rattle.pli_members.proofs.EditsAtPlace.{by_test}
+use Rattle.pli_members.proofs.RunLaws.{edit_gives_next, edit_keeps_others, deletion_takes, deletion_keeps_others}
 use Rattle.std.specs.List.{All, insert}
 use Rattle.std.specs.Option.{SomeIff}
 use Rattle.pli_members.specs.Fields.{next_version}
@@ -18,7 +18,7 @@ use Rattle.pli_base.specs.Name.{Name}
 use Rattle.pli_members.specs.Members.{Member, Store, name_order, is_named, with_member, added, deleted, empty_store, version_of, member_of}
 use Rattle.pli_members.specs.Kept.{IsKept, IsKeptMember, IsLine}
 use Rattle.pli_members.specs.declared.kind.Kind.{Kind}
-use Rattle.pli_members.proofs.Edits.{sorted_none, sorted_put, sorted_taken, length-taken}
+use Rattle.pli_members.proofs.EditsByKey.{sorted_none, sorted_put, sorted_taken, length-taken}
 
 -- no members
 pub kept_empty : (first : ℕ) → first < 2 ^ 64 → IsKept (empty_store first)

@@ -23,5 +23,6 @@ pub record IsKept (s : Store) : Type 0 where
   pub ordered : IsStrictlySortedBy name_order (names_of s)
   pub few : length s.entries ≤ 999
   pub members : All (IsKeptMember s.next) (values_of s.entries)
-  pub apart : (a b : Name) (version : ℕ) → version_of s a ≡ Some version → version_of s b ≡ Some version → a ≡ b
+  pub apart : (a b : Name) (version : ℕ)
+      → version_of s a ≡ Some version → version_of s b ≡ Some version → a ≡ b
   pub bounded : s.next ≤ 2 ^ 64

@@ -1,5 +1,6 @@
 -- The members of a workbench: a finite map from names to members, with versions (own).
-use Rattle.std.specs.Prelude.{ℕ, ◌+◌, ◌-◌, Bool, List, [], ◌++◌, take, drop, slice_set, Option, None, Some, insert}
+use Rattle.std.specs.Prelude.{ℕ, ◌+◌, ◌-◌, Bool, List, [], ◌++◌, take, drop, slice_set, Option, None, Some}
+use Rattle.std.specs.Prelude.{insert}
 use Rattle.std.specs.Option.{option_map}
 use Rattle.std.specs.Ordering.{nat_cmp}
 use Rattle.std.specs.declared.cmp.Ordering.{Ordering}
@@ -54,7 +55,12 @@ empty_store first = record { entries = []; next = first }
 
 -- the store where the name has this kind and these lines, under the next version
 abbrev pub with_member : Store → Name → Kind → List (List ℕ) → Store
-with_member s name kind lines = record { entries = insert_entry name_order s.entries name (record { kind = kind; lines = lines; version = s.next }); next = s.next + 1 }
+with_member s name kind lines =
+    record {
+      entries =
+          insert_entry name_order s.entries name (record { kind = kind; lines = lines; version = s.next });
+      next = s.next + 1;
+    }
 
 -- a member without lines comes to the store
 abbrev pub added : Store → Name → Kind → Store

@@ -1,10 +1,13 @@
 -- Which edits are refused, and what a refusal says (own).
-use Rattle.std.specs.Prelude.{ℕ, ◌^◌, Bool, not, ◌||◌, ◌&&◌, nat_eq, nat_lt, nat_le, List, length, Option, None, Some, is_some, Result, Ok, Err, codes, if◌then◌else◌}
+use Rattle.std.specs.Prelude.{ℕ, ◌^◌, Bool, not, ◌||◌, ◌&&◌, nat_eq, nat_lt, nat_le, List, length, Option}
+use Rattle.std.specs.Prelude.{None, Some, is_some, Result, Ok, Err, codes, if◌then◌else◌}
 use Rattle.std.specs.List.{list_all}
 use Rattle.pli_base.specs.Name.{Name}
 use Rattle.pli_members.specs.Members.{Store, Member, Change, Insert, Replace, Remove, member_of}
 use Rattle.pli_members.specs.declared.refusal.Refusal.{Refusal}
-use Rattle.pli_members.specs.declared.refusal.Refusal.TheVariants.{NameTaken, NoSuchMember, NoSuchLine, LineTooLong, BadByte, TooManyLines, TooManyMembers, VersionsExhausted}
+use Rattle.pli_members.specs.declared.refusal.Refusal.TheVariants.{NameTaken, NoSuchMember, NoSuchLine}
+use Rattle.pli_members.specs.declared.refusal.Refusal.TheVariants.{LineTooLong, BadByte, TooManyLines}
+use Rattle.pli_members.specs.declared.refusal.Refusal.TheVariants.{TooManyMembers, VersionsExhausted}
 use Rattle.pli_members.specs.declared.refusal.EditError.{EditError}
 use Rattle.pli_members.specs.declared.refusal.EditError.TheVariants.{Refused, OutOfMemory}
 
@@ -42,9 +45,12 @@ or_full lines None = if nat_le 9999 (length lines) then Some TooManyLines else N
 
 -- the refusal of a change of these lines
 abbrev pub refusal_of_lines : Change → List (List ℕ) → Option Refusal
-refusal_of_lines (Insert after text) lines = if nat_le after (length lines) then or_full lines (refusal_of_text text) else Some NoSuchLine
-refusal_of_lines (Replace number text) lines = if nat_le 1 number && nat_le number (length lines) then refusal_of_text text else Some NoSuchLine
-refusal_of_lines (Remove first last) lines = if nat_le 1 first && nat_le first last && nat_le last (length lines) then None else Some NoSuchLine
+refusal_of_lines (Insert after text) lines =
+    if nat_le after (length lines) then or_full lines (refusal_of_text text) else Some NoSuchLine
+refusal_of_lines (Replace number text) lines =
+    if nat_le 1 number && nat_le number (length lines) then refusal_of_text text else Some NoSuchLine
+refusal_of_lines (Remove first last) lines =
+    if nat_le 1 first && nat_le first last && nat_le last (length lines) then None else Some NoSuchLine
 
 -- this refusal, or else the one of a store without a version left
 abbrev pub or_exhausted : Store → Option Refusal → Option Refusal

@@ -1,5 +1,6 @@
 -- Where a search for a name ends.
-use Rattle.std.specs.Prelude.{◌≡◌, ℕ, ◌+◌, ◌^◌, ◌<◌, ◌≤◌, length, insert, remove, slice_get, slice_set, Some, None}
+use Rattle.std.specs.Prelude.{◌≡◌, ℕ, ◌+◌, ◌^◌, ◌<◌, ◌≤◌, length, insert, remove, slice_get, slice_set, Some}
+use Rattle.std.specs.Prelude.{None}
 use Rattle.std.specs.Map.{remove_entry}
 use Rattle.std.specs.BTreeMap.{insert_entry}
 use Rattle.pli_base.specs.Name.{Name}

@@ -1,4 +1,4 @@
-use Rattle.pli_include.proofs.Levels.{level_is_never_met}
+use Rattle.pli_include.proofs.LevelNeverMet.{level_is_never_met}
 use Rattle.pli_include.proofs.laws.level_is_never_met.Goals as goal
 
 pub returns : goal.returns

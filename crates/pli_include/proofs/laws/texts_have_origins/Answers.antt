@@ -1,4 +1,4 @@
-use Rattle.pli_include.proofs.Steps.{texts_have_origins}
+use Rattle.pli_include.proofs.StepsKeep.{texts_have_origins}
 use Rattle.pli_include.proofs.laws.texts_have_origins.Goals as goal
 
 pub returns : goal.returns

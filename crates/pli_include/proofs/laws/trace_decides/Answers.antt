@@ -1,4 +1,4 @@
-use Rattle.pli_include.proofs.Traces.{trace_decides, expansion_stays}
+use Rattle.pli_include.proofs.TraceDecides.{trace_decides, expansion_stays}
 use Rattle.pli_include.proofs.laws.trace_decides.Goals as goal
 
 pub returns-clause-looks : goal.returns-clause-looks

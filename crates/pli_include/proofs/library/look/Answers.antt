@@ -6,7 +6,7 @@ use Rattle.pli_lex.specs.Reading.{lexed}
 use Rattle.pli_include.specs.Expanded.{look_in}
 use Rattle.pli_include.specs.Expansion.{is_among}
 use Rattle.pli_include.specs.Walking.{HoldsTexts}
-use Rattle.pli_include.proofs.Held.{lines_are_few, holds_more, comes_last}
+use Rattle.pli_include.proofs.TextsHeld.{lines_are_few, holds_more, comes_last}
 use Rattle.pli_include.proofs.library.look.Goals as goal
 
 pub lex-requires : goal.lex-requires

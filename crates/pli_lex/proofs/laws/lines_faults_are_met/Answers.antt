@@ -1,4 +1,4 @@
-use Rattle.pli_lex.proofs.Lines.{lines_faults_are_met}
+use Rattle.pli_lex.proofs.SpelledAndRead.{lines_faults_are_met}
 use Rattle.pli_lex.proofs.laws.lines_faults_are_met.Goals as goal
 
 pub returns : goal.returns

@@ -1,4 +1,4 @@
-use Rattle.pli_lex.proofs.Tokens.{longest}
+use Rattle.pli_lex.proofs.StandingIsFound.{longest}
 use Rattle.pli_lex.proofs.laws.tokens_are_longest.Goals as goal
 
 pub returns : goal.returns

@@ -1,5 +1,5 @@
 use Rattle.pli_base.specs.Name.{is_digit}
-use Rattle.pli_lex.proofs.Runs.{run_within, run_passes}
+use Rattle.pli_lex.proofs.LongestRuns.{run_within, run_passes}
 use Rattle.pli_lex.proofs.number.number_at.Goals as goal
 
 pub split_at-requires : goal.split_at-requires

@@ -1,5 +1,5 @@
 use Rattle.std.proofs.Common.{◌≡◌, ◌+◌, false, eqb, ◌&&◌, get_or, sym, arith}
-use Rattle.pli_lex.proofs.ClosingSteps.{closes_here, closes_behind, closes_nowhere, not_both, not_first}
+use Rattle.pli_lex.proofs.ClosingFound.{closes_here, closes_behind, closes_nowhere, not_both, not_first}
 use Rattle.pli_lex.proofs.piece.closing_width.Goals as goal
 use Rattle.pli_lex.proofs.piece.closing_width.Goals.{else-text-at-eq42-via-then-text-at-eq42+else-text-at-eq47, else-text-at-eq42-via-else-text-at-eq42}
 

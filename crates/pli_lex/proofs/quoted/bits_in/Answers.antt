@@ -1,6 +1,6 @@
 use Rattle.std.proofs.Common.{◌≡◌, ◌<◌, ◌^◌, ltb, true, sym, arith}
 use Rattle.std.proofs.lemmas.Bool.{lt-ltb}
-use Rattle.pli_lex.proofs.BitSteps.{more_bits, more_digits}
+use Rattle.pli_lex.proofs.BitsGathered.{more_bits, more_digits}
 use Rattle.pli_lex.proofs.quoted.bits_in.Goals as goal
 
 pub loop-digit-preserved : goal.loop-digit-preserved

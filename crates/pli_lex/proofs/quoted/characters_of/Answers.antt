@@ -1,5 +1,5 @@
 use Rattle.std.proofs.Common.{◌≢◌, ◌+◌, ◌<◌, length, get_or, sym, arith}
-use Rattle.pli_lex.proofs.StringSteps.{goes_over, goes_over_two, closes_string, no_string}
+use Rattle.pli_lex.proofs.CharactersGathered.{goes_over, goes_over_two, closes_string, no_string}
 use Rattle.pli_lex.proofs.quoted.characters_of.Goals as goal
 use Rattle.pli_lex.proofs.quoted.characters_of.Goals.{else-at-text-via-then-at-text+else-text-at-eq39, else-at-text-via-else-at-text, then-byte-ne39, else-byte-ne39+then-at-text+then-text-at-eq39}
 

@@ -1,6 +1,6 @@
 use Rattle.std.proofs.Common.{◌≡◌, false, Some, sym, arith}
 use Rattle.pli_lex.specs.Reading.{string_from}
-use Rattle.pli_lex.proofs.Strings.{string_within}
+use Rattle.pli_lex.proofs.StringsEnd.{string_within}
 use Rattle.pli_lex.proofs.quoted.string_at.Goals as goal
 
 pub overflow_add-taken : goal.overflow_add-taken

@@ -1,6 +1,6 @@
 use Rattle.std.proofs.Common.{◌+◌}
 use Rattle.pli_lex.specs.Reading.{lexed}
-use Rattle.pli_lex.proofs.Passing.{lines_end, lines_end_open}
+use Rattle.pli_lex.proofs.PiecesPassed.{lines_end, lines_end_open}
 use Rattle.pli_lex.proofs.reading.lex.Goals as goal
 
 pub returns-in-None : goal.returns-in-None

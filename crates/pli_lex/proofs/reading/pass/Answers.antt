@@ -1,7 +1,7 @@
 use Rattle.std.proofs.Common.{◌≡◌, ◌∙◌, true, false, sym, arith}
 use Rattle.pli_lex.specs.Characters.{is_blank, begins_with}
-use Rattle.pli_lex.proofs.Comments.{closes_within}
-use Rattle.pli_lex.proofs.Passing.{bytes_on_line, first_is, passes_open, passes_closed, passes_blank, passes_comment, passes_token, fails_token, token_within}
+use Rattle.pli_lex.proofs.CommentsEnd.{closes_within}
+use Rattle.pli_lex.proofs.PiecesPassed.{bytes_on_line, first_is, passes_open, passes_closed, passes_blank, passes_comment, passes_token, fails_token, token_within}
 use Rattle.pli_lex.proofs.reading.pass.Goals as goal
 
 pub returns-in-None-clause-exact : goal.returns-in-None-clause-exact

@@ -1,6 +1,6 @@
 use Rattle.std.proofs.Common.{sym}
 use Rattle.std.proofs.lemmas.Bool.{eqb-true}
-use Rattle.pli_lex.proofs.Passing.{line_is_passed}
+use Rattle.pli_lex.proofs.PiecesPassed.{line_is_passed}
 use Rattle.pli_lex.proofs.reading.push_line.Goals as goal
 
 pub returns : goal.returns

@@ -1,4 +1,4 @@
-use Rattle.pli_members.proofs.Runs.{deletion_takes}
+use Rattle.pli_members.proofs.RunLaws.{deletion_takes}
 use Rattle.pli_members.proofs.laws.deletion_takes.Goals as goal
 
 pub returns : goal.returns

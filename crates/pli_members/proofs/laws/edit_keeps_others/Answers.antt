@@ -1,4 +1,4 @@
-use Rattle.pli_members.proofs.Runs.{edit_keeps_others}
+use Rattle.pli_members.proofs.RunLaws.{edit_keeps_others}
 use Rattle.pli_members.proofs.laws.edit_keeps_others.Goals as goal
 
 pub returns : goal.returns

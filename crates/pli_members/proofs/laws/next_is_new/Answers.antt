@@ -1,4 +1,4 @@
-use Rattle.pli_members.proofs.Runs.{next_is_new}
+use Rattle.pli_members.proofs.RunLaws.{next_is_new}
 use Rattle.pli_members.proofs.laws.next_is_new.Goals as goal
 
 pub returns : goal.returns
