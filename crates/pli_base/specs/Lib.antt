@@ -16,3 +16,7 @@ pub mod DeclarationView
 pub mod Statements
 pub mod StatementView
 pub mod StatementLaws
+pub mod FaultPlaces
+pub mod FaultPlaceLaws
+pub mod TreeTokens
+pub mod TreeTokenLaws

@@ -5,3 +5,5 @@ pub mod SpelledIsAccepted
 pub mod AcceptedIsSpelled
 pub mod Frames
 pub mod Loops
+pub mod ReadFaults
+pub mod TokensRise

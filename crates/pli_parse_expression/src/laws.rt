@@ -1,6 +1,9 @@
 //! Laws of the grammar.
-ghost use Rattle.std.specs.Prelude.{◌≡◌, ℕ, ◌+◌, ◌++◌, Ok, length, true};
+ghost use Rattle.std.specs.Prelude.{◌≡◌, ℕ, ◌+◌, ◌++◌, Ok, Err, length, true};
+ghost use Rattle.pli_base.specs.FaultPlaces.{FaultStands};
 ghost use Rattle.pli_base.specs.Syntax.{Expression, Reference};
+ghost use Rattle.pli_base.specs.TreeTokens.{Rises, expression_tokens, reference_tokens};
+ghost use Rattle.pli_base.specs.declared.token.Fault.{Fault};
 ghost use Rattle.pli_parse_expression.specs.Operators.{Tokens};
 ghost use Rattle.pli_parse_expression.specs.Expressions.{operators, SpellsOutermost, SpellsReferenceAlone, EndsExpression, EndsReference};
 ghost use Rattle.pli_parse_expression.specs.Reading.{Front, expression_at, reference_at};
@@ -82,4 +85,20 @@ pub fn one_reference()
 pub fn assignments_are_recognized()
     ensures accepted { (p : ℕ) (ts : Tokens) → is_assignment ts ≡ true → IsAssignment p ts }
     ensures spelled { (p : ℕ) (ts : Tokens) → IsAssignment p ts → is_assignment ts ≡ true }
+{}
+
+/// A law: a fault of reading stands at one of the tokens from the first on, or, where they have ended, at the last.
+#[tactic(auto, using(crate::proofs::ReadFaults::expression_fault_stands, crate::proofs::ReadFaults::reference_fault_stands))]
+pub fn faults_stand_at_tokens()
+    ensures expressions { (levels p : ℕ) (ts : Tokens) (f : Fault) → expression_at levels 0 p ts ≡ Err f → FaultStands p ts f }
+    ensures references { (levels p : ℕ) (ts : Tokens) (f : Fault) → reference_at levels p ts ≡ Err f → FaultStands p ts f }
+{}
+
+/// A law: the tokens of the tree that is read rise in the order of the text, from the first that is read to the last.
+#[tactic(auto, using(crate::proofs::TokensRise::expression_read_rises, crate::proofs::TokensRise::reference_read_rises))]
+pub fn tokens_of_trees_rise()
+    ensures expressions { (levels p : ℕ) (ts : Tokens) (x : Front Expression) →
+        expression_at levels 0 p ts ≡ Ok x → Rises p (expression_tokens x.value) x.next }
+    ensures references { (levels p : ℕ) (ts : Tokens) (x : Front Reference) →
+        reference_at levels p ts ≡ Ok x → Rises p (reference_tokens x.value) x.next }
 {}

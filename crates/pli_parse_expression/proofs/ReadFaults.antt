@@ -1,0 +1,286 @@
+-- A fault of reading stands at one of the tokens, or at the last where they have ended.
+use Rattle.std.proofs.Common.{◌≡◌, ◌<◌, ◌≤◌, ◌+◌, ℕ, suc, zero, nat_lt, Bool, true, false, cond, [], ◌∷◌, Option, Some, None, Result, Ok, Err, option_map, length, refl, ap, subst, arith}
+use Rattle.pli_base.specs.Name.{Name}
+use Rattle.pli_base.specs.Syntax.{Expression, Referred, Parenthesized, Prefix, Infix, Reference, Named, JoinedParts, Joined, Arguments, Given, Expressions, Empty, Listed}
+use Rattle.pli_base.specs.FaultPlaces.{FaultStands, Passes}
+use Rattle.pli_base.specs.FaultPlaceLaws.{passes_none, passes_one, passes_on, fault_first, fault_ended, fault_behind}
+use Rattle.pli_base.specs.declared.code.Code.{Code}
+use Rattle.pli_base.specs.declared.code.Code.TheVariants.{ExpressionExpected, ParenthesisExpected, NameExpected, NestedTooDeep}
+use Rattle.pli_base.specs.declared.syntax.PrefixOperator.{PrefixOperator}
+use Rattle.pli_base.specs.declared.syntax.PrefixOperator.TheVariants as prefixes
+use Rattle.pli_base.specs.declared.syntax.InfixOperator.{InfixOperator}
+use Rattle.pli_base.specs.declared.syntax.Joining.{Joining}
+use Rattle.pli_base.specs.declared.token.Fault.{Fault}
+use Rattle.pli_base.specs.declared.token.Sign.TheVariants as signs
+use Rattle.pli_base.specs.declared.token.TokenText.{TokenText}
+use Rattle.pli_base.specs.declared.token.TokenText.TheVariants.{Word, Decimal, Binary, Characters, Bits, Sign}
+use Rattle.pli_parse_expression.specs.Operators.{Tokens, operator_limit, level_of, operator_at, joining_at, name_at, comma_at, begins_expression}
+use Rattle.pli_parse_expression.specs.Reading.{◌>>=◌, at_fault, misfit, Front, Reader, limited, opened, behind_close, closed, operand_then, grouped, infix_from, expression_of, listed_behind, further_from, listed_at, list_at, arguments_at, part_behind, parts_behind, joined_from, reference_behind, reference_of, prefix_of, parenthesis_of, constant_at, operand_of, inside, operand_at, expression_at, argument_of, reference_at}
+use Rattle.pli_parse_expression.proofs.ReadingTools.{operator_ok, joining_ok, name_ok, comma_ok}
+
+-- what was read passes over so many tokens at least, and a fault stands at one of them
+abbrev pub Stands : {A : Type 0} → (least p : ℕ) → Tokens → Result (Front A) Fault → Type 0
+Stands least p ts (Ok x) = Passes least p ts x.next x.rest
+Stands least p ts (Err f) = FaultStands p ts f
+
+pub misfit_stands : (code : Code) (p : ℕ) (ts : Tokens) → FaultStands p ts (misfit code p ts)
+unfolding misfit
+misfit_stands code p [] = fault_ended p
+misfit_stands code p (t ∷ ts) = fault_first code p (t ∷ ts) (omega arith)
+
+-- with less passed over
+pub at_least : {A : Type 0} (most least p : ℕ) (ts : Tokens) (r : Result (Front A) Fault) → least ≤ most → Stands most p ts r → Stands least p ts r
+at_least most least p ts (Ok x) less h = (omega (arith, h.0), h.1)
+at_least most least p ts (Err f) less h = h
+
+-- behind tokens that were passed over
+pub stands_behind : {A : Type 0} (a b p q : ℕ) (ts us : Tokens) (r : Result (Front A) Fault) → Passes a p ts q us → Stands b q us r → Stands (a + b) p ts r
+stands_behind a b p q ts us (Ok x) passed h = passes_on a b p q x.next ts us x.rest passed h
+stands_behind a b p q ts us (Err f) passed h = fault_behind a p q ts us f passed h
+
+-- one step behind another
+pub stands_then : {A B : Type 0} (a b p : ℕ) (ts : Tokens) (r : Result (Front A) Fault) (f : Front A → Result (Front B) Fault)
+    → Stands a p ts r → ((x : Front A) → Passes a p ts x.next x.rest → Stands b x.next x.rest (f x)) → Stands (a + b) p ts (r >>= f)
+stands_then a b p ts (Ok x) f h more = stands_behind a b p x.next ts x.rest (f x) h (more x h)
+stands_then a b p ts (Err e) f h more = h
+
+-- where something is made of what was read
+pub stands_made : {A B : Type 0} (a p : ℕ) (ts : Tokens) (r : Result (Front A) Fault) (value : Front A → B) (count : Front A → ℕ)
+    → Stands a p ts r → Stands a p ts (r >>= λ x. Ok (record { value = value x; count = count x; next = x.next; rest = x.rest }))
+stands_made a p ts (Ok x) value count h = h
+stands_made a p ts (Err e) value count h = h
+
+limited_stands : {A : Type 0} (least count p : ℕ) (ts : Tokens) (r : Result (Front A) Fault) → 0 < length ts → Stands least p ts r → Stands least p ts (limited count p r)
+limited_stands {A = A} least count p ts r some h = by (nat_lt count operator_limit)
+  where
+    by : (b : Bool) → Stands {A = A} least p ts (cond b r (at_fault NestedTooDeep p))
+    by true = h
+    by false = fault_first NestedTooDeep p ts some
+
+closed_stands : {A : Type 0} (value : A) (count p : ℕ) (ts : Tokens) → Stands 1 p ts (closed value count p ts)
+unfolding behind_close
+closed_stands value count p [] = misfit_stands ParenthesisExpected p []
+closed_stands value count p (Sign signs.CloseParenthesis ∷ ts) = passes_one p (Sign signs.CloseParenthesis ∷ ts) ts (omega arith)
+closed_stands value count p (t ∷ ts) = misfit_stands ParenthesisExpected p (t ∷ ts)
+
+-- a reader passes over a token at least
+abbrev pub IsSound : Reader → Type 0
+IsSound reader = (count p : ℕ) (ts : Tokens) → Stands 1 p ts (reader count p ts)
+
+module _ (operand : Reader) (sound : IsSound operand) where
+  abbrev LoopStands : ℕ → Type 0
+  LoopStands bound = (min count : ℕ) (left : Expression) (p : ℕ) (ts : Tokens) → length ts < bound → Stands 0 p ts (infix_from operand bound min count left p ts)
+
+  step_stands : (bound : ℕ) → LoopStands bound → (min count : ℕ) (left : Expression) (p : ℕ) (ts : Tokens) → length ts < suc bound → (o : Option (InfixOperator × Tokens)) → operator_at min ts ≡ o
+      → Stands 0 p ts (grouped operand (infix_from operand bound) min count left p ts o)
+  step_stands bound more min count left p ts small None found = passes_none p ts
+  step_stands bound more min count left p ts small (Some x) found =
+      let one : length ts ≡ suc (length x.1) = ap length (operator_ok min ts x found).0 in
+      let top : ℕ = level_of x.0 + 1 in
+      let right : Result (Front Expression) Fault = operand_then operand (infix_from operand bound) top (count + 1) (p + 1) x.1 in
+      let behind : Front Expression → Result (Front Expression) Fault = λ y. infix_from operand bound min y.count (Infix x.0 p left y.value) y.next y.rest in
+      let right_stands : Stands 1 (p + 1) x.1 right =
+      stands_then 1 0 (p + 1) x.1 (operand (count + 1) (p + 1) x.1) (λ z. infix_from operand bound top z.count z.value z.next z.rest) (sound (count + 1) (p + 1) x.1)
+      (λ z s. more top z.count z.value z.next z.rest (omega (arith, s.0, s.1)))
+      in
+      let whole : Stands 1 (p + 1) x.1 (right >>= behind) =
+      stands_then 1 0 (p + 1) x.1 right behind right_stands (λ y s. more min y.count (Infix x.0 p left y.value) y.next y.rest (omega (arith, s.0, s.1)))
+      in
+      limited_stands 0 count p ts (right >>= behind) (omega arith)
+      (at_least 2 0 p ts (right >>= behind) (omega arith) (stands_behind 1 1 p (p + 1) ts x.1 (right >>= behind) (passes_one p ts x.1 one) whole))
+
+  loop_stands : (bound : ℕ) → LoopStands bound
+  unfolding infix_from
+  loop_stands zero min count left p ts small = absurd (omega arith)
+  loop_stands (suc bound) min count left p ts small = step_stands bound (loop_stands bound) min count left p ts small (operator_at min ts) refl
+
+  pub expression_sound : IsSound (expression_of operand)
+  unfolding expression_of
+  expression_sound count p ts =
+      stands_then 1 0 p ts (operand count p ts) (λ z. infix_from operand (length ts + 1) 0 z.count z.value z.next z.rest) (sound count p ts)
+      (λ z s. loop_stands (length ts + 1) 0 z.count z.value z.next z.rest (omega (arith, s.0, s.1)))
+
+module _ (one : Reader) (sound : IsSound one) where
+  abbrev FurtherStands : ℕ → Type 0
+  FurtherStands bound = (count p : ℕ) (ts : Tokens) → length ts < bound → Stands 0 p ts (further_from one bound count p ts)
+
+  further_step : (bound : ℕ) → FurtherStands bound → (count p : ℕ) (ts : Tokens) → length ts < suc bound → (o : Option Tokens) → comma_at ts ≡ o → Stands 0 p ts (listed_behind one (further_from one bound) count p ts o)
+  further_step bound more count p ts small None found = passes_none p ts
+  further_step bound more count p ts small (Some us) found =
+      let comma : length ts ≡ suc (length us) = ap length (comma_ok ts us found) in
+      let read : Result (Front Expressions) Fault = listed_behind one (further_from one bound) count p ts (Some us) in
+      let read_stands : Stands 1 (p + 1) us read =
+      stands_then 1 0 (p + 1) us (one count (p + 1) us) (λ x. further_from one bound x.count x.next x.rest >>= λ y. Ok (record { value = Listed x.value y.value; count = y.count; next = y.next; rest = y.rest })) (sound count (p + 1) us)
+      (λ x s. stands_made 0 x.next x.rest (further_from one bound x.count x.next x.rest) (λ y. Listed x.value y.value) (λ y. y.count) (more x.count x.next x.rest (omega (arith, s.0, s.1))))
+      in
+      at_least 2 0 p ts read (omega arith) (stands_behind 1 1 p (p + 1) ts us read (passes_one p ts us comma) read_stands)
+
+  further_stands : (bound : ℕ) → FurtherStands bound
+  unfolding further_from
+  further_stands zero count p ts small = absurd (omega arith)
+  further_stands (suc bound) count p ts small = further_step bound (further_stands bound) count p ts small (comma_at ts) refl
+
+  listed_stands : (count p : ℕ) (ts : Tokens) → Stands 1 p ts (listed_at one count p ts)
+  unfolding listed_at
+  listed_stands count p ts =
+      stands_then 1 0 p ts (one count p ts) (λ x. further_from one (length x.rest + 1) x.count x.next x.rest >>= λ y. closed (Listed x.value y.value) y.count y.next y.rest) (sound count p ts)
+      (λ x s. at_least 1 0 x.next x.rest (further_from one (length x.rest + 1) x.count x.next x.rest >>= λ y. closed (Listed x.value y.value) y.count y.next y.rest) (omega arith)
+      (stands_then 0 1 x.next x.rest (further_from one (length x.rest + 1) x.count x.next x.rest) (λ y. closed (Listed x.value y.value) y.count y.next y.rest)
+      (further_stands (length x.rest + 1) x.count x.next x.rest (omega arith)) (λ y t. closed_stands (Listed x.value y.value) y.count y.next y.rest)))
+
+  pub list_stands : (count p : ℕ) (ts : Tokens) → Stands 1 p ts (list_at one count p ts)
+  unfolding list_at
+  list_stands count p ts = by (begins_expression ts)
+    where
+      by : (b : Bool) → Stands 1 p ts (cond b (listed_at one count p ts) (closed Empty count p ts))
+      by true = listed_stands count p ts
+      by false = closed_stands Empty count p ts
+
+-- what reads the expressions of a list is sound, if there is such
+abbrev pub IsSoundWhere : Option Reader → Type 0
+IsSoundWhere None = Unit {0}
+IsSoundWhere (Some one) = IsSound one
+
+opened_arguments : (one : Option Reader) → IsSoundWhere one → (count p : ℕ) (ts : Tokens)
+    → Stands 0 p (Sign signs.OpenParenthesis ∷ ts) (opened one p (λ one. list_at one count (p + 1) ts >>= λ x. Ok (record { value = Given x.value; count = x.count; next = x.next; rest = x.rest })))
+opened_arguments None sound count p ts = fault_first NestedTooDeep p (Sign signs.OpenParenthesis ∷ ts) (omega arith)
+opened_arguments (Some one) sound count p ts =
+    let read : Result (Front Arguments) Fault = list_at one count (p + 1) ts >>= λ x. Ok (record { value = Given x.value; count = x.count; next = x.next; rest = x.rest }) in
+    let us : Tokens = Sign signs.OpenParenthesis ∷ ts in
+    at_least 2 0 p us read (omega arith)
+    (stands_behind 1 1 p (p + 1) us ts read (passes_one p us ts (omega arith)) (stands_made 1 (p + 1) ts (list_at one count (p + 1) ts) (λ x. Given x.value) (λ x. x.count) (list_stands one sound count (p + 1) ts)))
+
+pub arguments_stand : (one : Option Reader) → IsSoundWhere one → (count p : ℕ) (ts : Tokens) → Stands 0 p ts (arguments_at one count p ts)
+unfolding arguments_at
+arguments_stand one sound count p [] = passes_none p []
+arguments_stand one sound count p (Sign signs.OpenParenthesis ∷ ts) = opened_arguments one sound count p ts
+arguments_stand one sound count p (t ∷ ts) = passes_none p (t ∷ ts)
+
+module _ (one : Option Reader) (sound : IsSoundWhere one) where
+  abbrev PartsStand : ℕ → Type 0
+  PartsStand bound = (count p : ℕ) (ts : Tokens) → length ts < bound → Stands 0 p ts (joined_from one bound count p ts)
+
+  -- behind `.` or `->`
+  part_stands : (bound : ℕ) → PartsStand bound → (joining : Joining) (count p : ℕ) (ts : Tokens) → length ts < bound → (o : Option (Name × Tokens)) → name_at ts ≡ o
+      → Stands 0 p ts (part_behind one (joined_from one bound) joining count p ts o)
+  part_stands bound more joining count p ts small None found = misfit_stands NameExpected p ts
+  part_stands bound more joining count p ts small (Some n) found =
+      let name : length ts ≡ suc (length n.1) = ap length (name_ok ts n found) in
+      let read : Result (Front JoinedParts) Fault = part_behind one (joined_from one bound) joining count p ts (Some n) in
+      let read_stands : Stands 0 (p + 1) n.1 read =
+      stands_then 0 0 (p + 1) n.1 (arguments_at one count (p + 1) n.1)
+      (λ x. joined_from one bound x.count x.next x.rest >>= λ y. Ok (record { value = Joined joining (record { name = n.0; at = p }) x.value y.value; count = y.count; next = y.next; rest = y.rest }))
+      (arguments_stand one sound count (p + 1) n.1)
+      (λ x s. stands_made 0 x.next x.rest (joined_from one bound x.count x.next x.rest) (λ y. Joined joining (record { name = n.0; at = p }) x.value y.value) (λ y. y.count)
+      (more x.count x.next x.rest (omega (arith, s.0, s.1))))
+      in
+      at_least 1 0 p ts read (omega arith) (stands_behind 1 0 p (p + 1) ts n.1 read (passes_one p ts n.1 name) read_stands)
+
+  parts_step : (bound : ℕ) → PartsStand bound → (count p : ℕ) (ts : Tokens) → length ts < suc bound → (o : Option (Joining × Tokens)) → joining_at ts ≡ o → Stands 0 p ts (parts_behind one (joined_from one bound) count p ts o)
+  parts_step bound more count p ts small None found = passes_none p ts
+  parts_step bound more count p ts small (Some j) found =
+      let sign : length ts ≡ suc (length j.1) = ap length (joining_ok ts j found) in
+      let read : Result (Front JoinedParts) Fault = part_behind one (joined_from one bound) j.0 count (p + 1) j.1 (name_at j.1) in
+      at_least 1 0 p ts read (omega arith) (stands_behind 1 0 p (p + 1) ts j.1 read (passes_one p ts j.1 sign) (part_stands bound more j.0 count (p + 1) j.1 (omega arith) (name_at j.1) refl))
+
+  parts_stand : (bound : ℕ) → PartsStand bound
+  unfolding joined_from
+  parts_stand zero count p ts small = absurd (omega arith)
+  parts_stand (suc bound) count p ts small = parts_step bound (parts_stand bound) count p ts small (joining_at ts) refl
+
+  reference_step : (count p : ℕ) (ts : Tokens) (o : Option (Name × Tokens)) → name_at ts ≡ o → Stands 1 p ts (reference_behind one count p ts o)
+  reference_step count p ts None found = misfit_stands NameExpected p ts
+  reference_step count p ts (Some n) found =
+      let name : length ts ≡ suc (length n.1) = ap length (name_ok ts n found) in
+      let read : Result (Front Reference) Fault = reference_behind one count p ts (Some n) in
+      let read_stands : Stands 0 (p + 1) n.1 read =
+      stands_then 0 0 (p + 1) n.1 (arguments_at one count (p + 1) n.1)
+      (λ x. joined_from one (length x.rest + 1) x.count x.next x.rest >>= λ y. Ok (record { value = Named (record { name = n.0; at = p }) x.value y.value; count = y.count; next = y.next; rest = y.rest }))
+      (arguments_stand one sound count (p + 1) n.1)
+      (λ x s. stands_made 0 x.next x.rest (joined_from one (length x.rest + 1) x.count x.next x.rest) (λ y. Named (record { name = n.0; at = p }) x.value y.value) (λ y. y.count)
+      (parts_stand (length x.rest + 1) x.count x.next x.rest (omega arith)))
+      in
+      stands_behind 1 0 p (p + 1) ts n.1 read (passes_one p ts n.1 name) read_stands
+
+  pub reference_stands : (count p : ℕ) (ts : Tokens) → Stands 1 p ts (reference_of one count p ts)
+  unfolding reference_of
+  reference_stands count p ts = reference_step count p ts (name_at ts) refl
+
+mapped_sound : (one : Option Reader) → IsSoundWhere one → IsSoundWhere (option_map expression_of one)
+mapped_sound None sound = tt
+mapped_sound (Some operand) sound = expression_sound operand sound
+
+prefix_stands : (one : Option Reader) → IsSoundWhere one → (operator : PrefixOperator) (count p : ℕ) (t : TokenText) (ts : Tokens) → Stands 1 p (t ∷ ts) (prefix_of one operator count p ts)
+unfolding prefix_of
+prefix_stands None sound operator count p t ts =
+    limited_stands 1 count p (t ∷ ts) (at_fault NestedTooDeep p) (omega arith) (fault_first NestedTooDeep p (t ∷ ts) (omega arith))
+prefix_stands (Some operand) sound operator count p t ts =
+    let read : Result (Front Expression) Fault = operand (count + 1) (p + 1) ts >>= λ x. Ok (record { value = Prefix operator p x.value; count = x.count; next = x.next; rest = x.rest }) in
+    limited_stands 1 count p (t ∷ ts) read (omega arith)
+    (at_least 2 1 p (t ∷ ts) read (omega arith)
+    (stands_behind 1 1 p (p + 1) (t ∷ ts) ts read (passes_one p (t ∷ ts) ts (omega arith)) (stands_made 1 (p + 1) ts (operand (count + 1) (p + 1) ts) (λ x. Prefix operator p x.value) (λ x. x.count) (sound (count + 1) (p + 1) ts))))
+
+parenthesis_stands : (one : Option Reader) → IsSoundWhere one → (count p : ℕ) (t : TokenText) (ts : Tokens) → Stands 1 p (t ∷ ts) (parenthesis_of one count p ts)
+unfolding parenthesis_of
+parenthesis_stands None sound count p t ts = fault_first NestedTooDeep p (t ∷ ts) (omega arith)
+parenthesis_stands (Some operand) sound count p t ts =
+    let read : Result (Front Expression) Fault = expression_of operand count (p + 1) ts >>= λ x. closed (Parenthesized p x.value) x.count x.next x.rest in
+    at_least 3 1 p (t ∷ ts) read (omega arith)
+    (stands_behind 1 2 p (p + 1) (t ∷ ts) ts read (passes_one p (t ∷ ts) ts (omega arith))
+    (stands_then 1 1 (p + 1) ts (expression_of operand count (p + 1) ts) (λ x. closed (Parenthesized p x.value) x.count x.next x.rest) (expression_sound operand sound count (p + 1) ts)
+    (λ x s. closed_stands (Parenthesized p x.value) x.count x.next x.rest)))
+
+constant_stands : IsSound constant_at
+unfolding constant_at
+constant_stands count p [] = misfit_stands ExpressionExpected p []
+constant_stands count p (Decimal v d ∷ ts) = passes_one p (Decimal v d ∷ ts) ts (omega arith)
+constant_stands count p (Binary v d ∷ ts) = passes_one p (Binary v d ∷ ts) ts (omega arith)
+constant_stands count p (Characters s ∷ ts) = passes_one p (Characters s ∷ ts) ts (omega arith)
+constant_stands count p (Bits s ∷ ts) = passes_one p (Bits s ∷ ts) ts (omega arith)
+constant_stands count p (t ∷ ts) = misfit_stands ExpressionExpected p (t ∷ ts)
+
+operand_stands : (one : Option Reader) → IsSoundWhere one → IsSound (operand_of one)
+unfolding operand_of
+operand_stands one sound count p [] = constant_stands count p []
+operand_stands one sound count p (Word n ∷ ts) =
+    stands_made 1 p (Word n ∷ ts) (reference_of (option_map expression_of one) count p (Word n ∷ ts)) (λ x. Referred x.value) (λ x. x.count) (reference_stands (option_map expression_of one) (mapped_sound one sound) count p (Word n ∷ ts))
+operand_stands one sound count p (Sign signs.OpenParenthesis ∷ ts) = parenthesis_stands one sound count p (Sign signs.OpenParenthesis) ts
+operand_stands one sound count p (Sign signs.Plus ∷ ts) = prefix_stands one sound prefixes.Plus count p (Sign signs.Plus) ts
+operand_stands one sound count p (Sign signs.Minus ∷ ts) = prefix_stands one sound prefixes.Minus count p (Sign signs.Minus) ts
+operand_stands one sound count p (Sign signs.Not ∷ ts) = prefix_stands one sound prefixes.Not count p (Sign signs.Not) ts
+operand_stands one sound count p (t ∷ ts) = constant_stands count p (t ∷ ts)
+
+inside_sound : (levels : ℕ) → IsSoundWhere (inside levels)
+unfolding inside
+inside_sound zero = tt
+inside_sound (suc levels) = operand_stands (inside levels) (inside_sound levels)
+
+pub expression_at_sound : (levels : ℕ) → IsSound (expression_at levels)
+unfolding expression_at
+expression_at_sound levels = expression_sound (operand_at levels) (operand_stands (inside levels) (inside_sound levels))
+
+argument_sound : (one : Option Reader) → IsSoundWhere one → IsSoundWhere (option_map (argument_of true) one)
+argument_sound None sound = tt
+argument_sound (Some operand) sound = λ count p ts.
+    stands_made 1 p ts (expression_of operand 0 p ts) (λ x. x.value) (λ x. count) (expression_sound operand sound 0 p ts)
+
+pub arguments_sound : (levels : ℕ) → IsSoundWhere (option_map (argument_of true) (inside levels))
+arguments_sound levels = argument_sound (inside levels) (inside_sound levels)
+
+pub reference_at_stands : (levels p : ℕ) (ts : Tokens) → Stands 1 p ts (reference_at levels p ts)
+unfolding reference_at
+reference_at_stands levels p ts = reference_stands (option_map (argument_of true) (inside levels)) (arguments_sound levels) 0 p ts
+
+-- of a fault
+err_same : {A : Type 0} {x y : Fault} → ◌≡◌ {A = Result A Fault} (Err x) (Err y) → x ≡ y
+err_same h = cc
+
+pub fault_of : {A : Type 0} (least p : ℕ) (ts : Tokens) (r : Result (Front A) Fault) (f : Fault) → Stands least p ts r → r ≡ Err f → FaultStands p ts f
+fault_of least p ts (Ok x) f h e = cc
+fault_of least p ts (Err g) f h e = subst (FaultStands p ts) (err_same e) h
+
+pub expression_fault_stands : (levels p : ℕ) (ts : Tokens) (f : Fault) → expression_at levels 0 p ts ≡ Err f → FaultStands p ts f
+expression_fault_stands levels p ts f h = fault_of 1 p ts (expression_at levels 0 p ts) f (expression_at_sound levels 0 p ts) h
+
+pub reference_fault_stands : (levels p : ℕ) (ts : Tokens) (f : Fault) → reference_at levels p ts ≡ Err f → FaultStands p ts f
+reference_fault_stands levels p ts f h = fault_of 1 p ts (reference_at levels p ts) f (reference_at_stands levels p ts) h
