@@ -1,4 +1,5 @@
 pub mod DeclarationExamples
+pub mod DeclarationFaults
 pub mod DeclarationItemsAgain
 pub mod DeclarationItemsRead
 pub mod DeclarationLists
@@ -9,3 +10,4 @@ pub mod DeclarationNestsRead
 pub mod DeclarationRead
 pub mod DeclarationReadAgain
 pub mod DeclarationSteps
+pub mod DeclarationTokens

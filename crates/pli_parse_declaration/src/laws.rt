@@ -1,8 +1,11 @@
 //! Laws of the grammar of declarations: what it spells and what is read are one.
-ghost use Rattle.std.specs.Prelude.{◌≡◌, ◌+◌, ◌++◌, ℕ, List, Ok, length};
+ghost use Rattle.std.specs.Prelude.{◌≡◌, ◌+◌, ◌++◌, ℕ, List, Ok, Err, length};
+ghost use Rattle.pli_base.specs.FaultPlaces.{FaultStands};
+ghost use Rattle.pli_base.specs.TreeTokens.{Rises, tokens_of_each, item_tokens};
 ghost use Rattle.pli_base.specs.Words.{Tokens};
 ghost use Rattle.pli_base.specs.Reading.{Front};
 ghost use Rattle.pli_base.specs.Declarations as tree;
+ghost use Rattle.pli_base.specs.declared.token.Fault.{Fault};
 ghost use Rattle.pli_parse_declaration.specs.DeclarationReading.{read_as, items_at, declaration_at, returned_at};
 ghost use Rattle.pli_parse_declaration.specs.DeclarationGrammar.{SpellsFront, SpellsItems, SpellsDeclaration, SpellsReturned, Anywhere, EndsItems};
 ghost use Rattle.pli_parse_declaration.specs.DeclarationExamples.{NameThatIsKeyword, Levels, Nest, Values, WrongWord, NoLevelInParentheses, NoScaleButZero, NoFactorOfString, NoDescription, NoDescriptionBehindComma, NoAttributeInNest, TextEnds};
@@ -48,4 +51,21 @@ pub fn declarations_spelled_are_read()
 pub fn one_declaration()
     ensures { (p : ℕ) (ts : Tokens) (items others : List tree.Item) →
         SpellsDeclaration p ts items → SpellsDeclaration p ts others → items ≡ others }
+{}
+
+/// A law: a fault of reading stands at one of the tokens from the first on, or, where they have ended, at the last.
+#[tactic(auto, using(crate::proofs::DeclarationFaults::items_fault_stands, crate::proofs::DeclarationFaults::declaration_fault_stands, crate::proofs::DeclarationFaults::returned_fault_stands))]
+pub fn faults_stand_at_tokens()
+    ensures items { (p : ℕ) (ts : Tokens) (f : Fault) → items_at p ts ≡ Err f → FaultStands p ts f }
+    ensures declaration { (p : ℕ) (ts : Tokens) (f : Fault) → declaration_at p ts ≡ Err f → FaultStands p ts f }
+    ensures returned { (p : ℕ) (ts : Tokens) (f : Fault) → returned_at p ts ≡ Err f → FaultStands p ts f }
+{}
+
+/// A law: the tokens of the names that are read rise in the order of the text, from the first that is read to the last.
+#[tactic(auto, using(crate::proofs::DeclarationTokens::items_read_rise, crate::proofs::DeclarationTokens::declaration_read_rises))]
+pub fn tokens_of_items_rise()
+    ensures items { (p : ℕ) (ts : Tokens) (x : Front (List tree.Item)) →
+        items_at p ts ≡ Ok x → Rises p (tokens_of_each item_tokens x.value) x.next }
+    ensures declaration { (p : ℕ) (ts : Tokens) (x : Front (List tree.Item)) →
+        declaration_at p ts ≡ Ok x → Rises p (tokens_of_each item_tokens x.value) x.next }
 {}

@@ -18,5 +18,6 @@ pub use front::{
 };
 pub use item::{declaration_at, items_at};
 pub use laws::{
-    declarations_read_are_spelled, declarations_spelled_are_read, one_declaration, worked_examples,
+    declarations_read_are_spelled, declarations_spelled_are_read, faults_stand_at_tokens,
+    one_declaration, tokens_of_items_rise, worked_examples,
 };
