@@ -1,5 +1,8 @@
 mod StatementClauses
 mod StatementRows
+pub mod StatementFaults
+pub mod StatementFaultPlaces
+pub mod StatementTokens
 pub mod StatementRead
 pub mod StatementReadFirst
 pub mod StatementReadHeading

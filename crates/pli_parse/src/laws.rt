@@ -1,4 +1,13 @@
-//! Laws of the grammar of statements: what it spells and what is read are one.
+//! Laws of the grammar of statements: what is read of some texts, where faults stand, and how tokens of trees rise.
+ghost use Rattle.std.specs.Prelude.{◌≡◌, ℕ, Ok, Err, length};
+ghost use Rattle.pli_base.specs.FaultPlaces.{StandsAtToken, FaultStands};
+ghost use Rattle.pli_base.specs.Reading.{Front};
+ghost use Rattle.pli_base.specs.Statements as tree;
+ghost use Rattle.pli_base.specs.TreeTokens.{Rises, statement_tokens, unit_tokens};
+ghost use Rattle.pli_base.specs.Words.{Tokens};
+ghost use Rattle.pli_base.specs.declared.token.Fault.{Fault};
+ghost use Rattle.pli_parse_statement.specs.StatementReading.{statement_at, unit_of};
+ghost use Rattle.pli_parse_statement.specs.StatementWords.{Context};
 ghost use Rattle.pli_parse.specs.StatementExamples.{KeywordsOfIf, KeywordsOfDo, KeywordsOfPut, LabelThatIsKeyword, DeclareAssigned, NearestIf, ElseOfBoth, ElseAssigned, ElseLabel, LabelledGroup, UnitOfGoTo, SetBeforeIn, WholeUnit, NoText, NoProcedureWord, NoSemicolon, NoSemicolonAhead, TextBehindEnd, NoValue, GoAlone, NoItem, ListNotClosed, NumberBehindDo, NumberBehindGoto, NoThen, NameOfNoLabel, BlockNotEnded, NoEquals, NoResult, NameAsBound, TwoLabels, LabelOfEnd, ProcedureWithoutLabel, NoCondition, ReturnInUnit, DeclareBehindThen, ProcedureInGroup, NoPutOption, TwoSkips, GroupTooDeep, ConditionTooDeep, ByBeforeTo, NumbersInBlock, DeepestGroup, WhileAssigned, NoProcedureOption, NoMain, TwoAreas, LabelBehindThen, EndBehindThen, StrayElse, IfBehindOn, LabelOfDeclare, NoReturnedValue, NameOfOuterLabel, EndNotEnded};
 
 /// Worked examples of what statements and units are read as, and of faults.
@@ -60,4 +69,21 @@ pub fn worked_examples()
     ensures no_returned_value { NoReturnedValue }
     ensures name_of_outer_label { NameOfOuterLabel }
     ensures end_not_ended { EndNotEnded }
+{}
+
+/// A law: the fault of a unit stands at a token of its text, and at 0 where the text has none; that of a statement stands at one
+/// of the tokens from its first on, or, where they have ended, at the last.
+#[tactic(auto, using(crate::proofs::StatementFaultPlaces::unit_fault_stands, crate::proofs::StatementFaultPlaces::statement_fault_stands))]
+pub fn faults_stand_at_tokens()
+    ensures units { (ts : Tokens) (f : Fault) → unit_of ts ≡ Err f → StandsAtToken ts f }
+    ensures statements { (c : Context) (levels p k : ℕ) (ts : Tokens) (f : Fault) →
+        statement_at levels c p k ts ≡ Err f → FaultStands p ts f }
+{}
+
+/// A law: the tokens of the tree that is read rise in the order of the text, each before the text's end.
+#[tactic(auto, using(crate::proofs::StatementTokens::unit_read_rises, crate::proofs::StatementTokens::statement_read_rises))]
+pub fn tokens_of_units_rise()
+    ensures units { (ts : Tokens) (u : tree.ExternalProcedure) → unit_of ts ≡ Ok u → Rises 0 (unit_tokens u) (length ts) }
+    ensures statements { (c : Context) (levels p k : ℕ) (ts : Tokens) (x : Front tree.Statement) →
+        statement_at levels c p k ts ≡ Ok x → Rises p (statement_tokens x.value) x.next }
 {}

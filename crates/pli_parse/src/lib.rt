@@ -7,7 +7,7 @@ mod reading;
 mod spelling;
 mod unit;
 
-pub use laws::worked_examples;
+pub use laws::{faults_stand_at_tokens, tokens_of_units_rise, worked_examples};
 pub use pli_parse_declaration::ParseError;
 pub use reading::units_read_are_spelled;
 pub use spelling::{one_unit, units_spelled_are_read};
