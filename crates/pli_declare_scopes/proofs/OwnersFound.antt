@@ -1,12 +1,13 @@
--- The owner that is found is the nearest item before with a lesser level.
+-- The owner that is found is the nearest item before with a lesser level, of an item of a level over 1.
 use Rattle.std.proofs.Common.{◌≡◌, ℕ, zero, suc, ◌+◌, ◌<◌, ◌≤◌, ◌⊎◌, inl, inr, ◌↔◌, Bool, true, false, IsTrue, nat_lt, nat_eq, ◌||◌, ◌&&◌, List, [], ◌∷◌, ◌++◌, length, map, get_or, take, append_assoc, append-nil, Option, None, Some, if◌then◌else◌, refl, sym, ap, subst, ◌∙◌, arith, rules}
+use Rattle.std.proofs.lemmas.Bool.{cases_lt}
 use Rattle.std.proofs.lemmas.Bool.Decides.{nat_tests}
 use Rattle.std.proofs.lemmas.List.{get_or-map, length-map, get_or-take, length-take-le}
 use Rattle.std.specs.Option.{is_none}
 use Rattle.pli_declare_scopes.specs.declared.level.Numbered.{Numbered}
 use Rattle.pli_declare_scopes.specs.declared.level.Standing.{Standing}
-use Rattle.pli_declare_scopes.specs.Levels.{level_of, nearest_after, nearest, is_bad, standing, standings_after}
-use Rattle.pli_declare_scopes.specs.LevelLaws.{level_at, stands_at, Belongs, HasNoOwner, IsBadLevel, AllStand, OwnersAreNearest, OwnersAreMissed, BadLevelsAreFound}
+use Rattle.pli_declare_scopes.specs.Levels.{level_of, nearest_after, nearest, owner_of, is_bad, standing, standings_after}
+use Rattle.pli_declare_scopes.specs.LevelLaws.{level_at, stands_at, Belongs, IsLeast, HasNoOwner, IsBadLevel, AllStand, OwnersAreNearest, OwnersAreMissed, BadLevelsAreFound, LevelOneHasNoOwner}
 
 -- levels with the numbers of their items
 abbrev pub numbered : ℕ → List ℕ → List Numbered
@@ -93,59 +94,82 @@ module _ (levels : List (Option ℕ)) (n : ℕ) (lt : n < length levels) where
       stands_behind (map level_of levels) [] 0 n (standing 1 None) long
       ∙ ap (λ q. standing q (nearest q (numbered 0 (take n (map level_of levels))))) here
 
-  found_is : (stands_at levels n).owner ≡ found
-  found_is = ap (λ s. s.owner) stands
+  abbrev level : ℕ
+  level = level_at levels n
 
-  near_here : Near None (level_at levels n) 0 (take n (map level_of levels))
-  near_here = near (take n (map level_of levels)) None (level_at levels n) 0
+  owner_is : (stands_at levels n).owner ≡ owner_of level found
+  owner_is = ap (λ s. s.owner) stands
 
-  nothing_before : NoneLesser (level_at levels n) (take n (map level_of levels)) → HasNoOwner levels n
+  near_here : Near None level 0 (take n (map level_of levels))
+  near_here = near (take n (map level_of levels)) None level 0
+
+  nothing_before : NoneLesser level (take n (map level_of levels)) → IsLeast levels n
   nothing_before h k le = omega (arith, h k, each k le, count)
 
-  belongs_there : (j : ℕ) → LastLesser (level_at levels n) (take n (map level_of levels)) j → Belongs levels n j
-  belongs_there j h =
+  lesser_before : (j : ℕ) → LastLesser level (take n (map level_of levels)) j → (j < n) × (level_at levels j < level) × ((k : ℕ) → j < k → k < n → level ≤ level_at levels k)
+  lesser_before j h =
       let within : j < n = omega (arith, count, h.within) in
-      record {
-        before = within;
-        lesser = omega (arith, each j within, h.lesser);
-        nearest = λ k a b. omega (arith, each k b, h.after k, count);
-      }
+      (within, omega (arith, each j within, h.lesser), λ k a b. omega (arith, each k b, h.after k, count))
 
-  only_there : (i j : ℕ) → LastLesser (level_at levels n) (take n (map level_of levels)) i → Belongs levels n j → i ≡ j
+  only_there : (i j : ℕ) → LastLesser level (take n (map level_of levels)) i → Belongs levels n j → i ≡ j
   only_there i j h b =
       let within : i < n = omega (arith, count, h.within) in
       grind (arith, each i within, each j b.before, h.lesser, h.after j, b.lesser, b.nearest i, count)
 
-  pub owner_found : (owner : ℕ) → ((stands_at levels n).owner ≡ Some owner) ↔ Belongs levels n owner
-  owner_found owner = (to, from)
+  -- what is found is the nearest, or there is none
+  pub found_least : (found ≡ None) ↔ IsLeast levels n
+  found_least = (to, from)
     where
-      to : (stands_at levels n).owner ≡ Some owner → Belongs levels n owner
+      to : found ≡ None → IsLeast levels n
       to e = elim near_here [
-        | inl h ↦ let bad : None ≡ Some owner = sym h.0 ∙ sym found_is ∙ e in cc
-        | inr h ↦ let same : Some (0 + h.0) ≡ Some owner = sym h.1 ∙ sym found_is ∙ e in
-            let at : 0 + h.0 ≡ owner = cc in
-            subst (Belongs levels n) (let j : h.0 ≡ owner = omega arith in j) (belongs_there h.0 h.2)
+        | inl h ↦ nothing_before h.1
+        | inr h ↦ let bad : Some (0 + h.0) ≡ None = sym h.1 ∙ e in cc
       ]
 
-      from : Belongs levels n owner → (stands_at levels n).owner ≡ Some owner
-      from b = elim near_here [
+      from : IsLeast levels n → found ≡ None
+      from none = elim near_here [
+        | inl h ↦ h.0
+        | inr h ↦ let b = lesser_before h.0 h.2 in absurd (omega (arith, none h.0 b.0, b.1))
+      ]
+
+  owned : (t : Bool) → nat_lt 1 level ≡ t → (stands_at levels n).owner ≡ (if t then found else None)
+  owned t e = owner_is ∙ ap (λ b. if b then found else None) e
+
+  pub owner_found : (owner : ℕ) → ((stands_at levels n).owner ≡ Some owner) ↔ Belongs levels n owner
+  owner_found owner = (to (nat_lt 1 level) refl, from (nat_lt 1 level) refl)
+    where
+      to : (t : Bool) → nat_lt 1 level ≡ t → (stands_at levels n).owner ≡ Some owner → Belongs levels n owner
+      to false test e = let bad : None ≡ Some owner = sym (owned false test) ∙ e in cc
+      to true test e = elim near_here [
+        | inl h ↦ let bad : None ≡ Some owner = sym h.0 ∙ sym (owned true test) ∙ e in cc
+        | inr h ↦
+            let same : Some (0 + h.0) ≡ Some owner = sym h.1 ∙ sym (owned true test) ∙ e in
+            let at : 0 + h.0 ≡ owner = cc in
+            let j : h.0 ≡ owner = omega arith in
+            let b = lesser_before h.0 h.2 in
+            let over : 1 < level = search (rules, nat_tests) in
+            subst (Belongs levels n) j (record { over_one = over; before = b.0; lesser = b.1; nearest = b.2 })
+      ]
+
+      from : (t : Bool) → nat_lt 1 level ≡ t → Belongs levels n owner → (stands_at levels n).owner ≡ Some owner
+      from false test b = absurd (grind (arith, nat_tests, b.over_one))
+      from true test b = elim near_here [
         | inl h ↦ absurd (omega (arith, nothing_before h.1 owner b.before, b.lesser))
-        | inr h ↦ found_is ∙ h.1 ∙ ap (λ (m : ℕ). Some m) (let at : h.0 ≡ owner = only_there h.0 owner h.2 b in let sum : 0 + h.0 ≡ owner = omega arith in sum)
+        | inr h ↦ owned true test ∙ h.1 ∙ ap (λ (m : ℕ). Some m) (let at : h.0 ≡ owner = only_there h.0 owner h.2 b in let sum : 0 + h.0 ≡ owner = omega arith in sum)
       ]
 
   pub owner_missed : ((stands_at levels n).owner ≡ None) ↔ HasNoOwner levels n
-  owner_missed = (to, from)
+  owner_missed = (to (nat_lt 1 level) refl, from (nat_lt 1 level) refl)
     where
-      to : (stands_at levels n).owner ≡ None → HasNoOwner levels n
-      to e = elim near_here [
-        | inl h ↦ nothing_before h.1
-        | inr h ↦ let bad : Some (0 + h.0) ≡ None = sym h.1 ∙ sym found_is ∙ e in cc
-      ]
+      to : (t : Bool) → nat_lt 1 level ≡ t → (stands_at levels n).owner ≡ None → HasNoOwner levels n
+      to false test e = inl (grind (arith, nat_tests))
+      to true test e = inr (found_least.0 (sym (owned true test) ∙ e))
 
-      from : HasNoOwner levels n → (stands_at levels n).owner ≡ None
-      from none = elim near_here [
-        | inl h ↦ found_is ∙ h.0
-        | inr h ↦ let b = belongs_there h.0 h.2 in absurd (omega (arith, none h.0 b.before, b.lesser))
+      from : (t : Bool) → nat_lt 1 level ≡ t → HasNoOwner levels n → (stands_at levels n).owner ≡ None
+      from false test none = owned false test
+      from true test none = elim none [
+        | inl least ↦ absurd (grind (arith, nat_tests, least))
+        | inr least ↦ owned true test ∙ found_least.1 least
       ]
 
 stand_count : (ls : List ℕ) (before : List Numbered) (n : ℕ) → length (standings_after before n ls) ≡ length ls
@@ -188,17 +212,38 @@ bad_from level owner false false false p q r h = elim h [
 pub bad_levels_are_found : BadLevelsAreFound
 bad_levels_are_found levels n lt = (to, from)
   where
-    tests : (stands_at levels n).is_bad ≡ is_bad (level_at levels n) (stands_at levels n).owner
-    tests = ap (λ s. s.is_bad) (stands levels n lt) ∙ ap (is_bad (level_at levels n)) (sym (ap (λ s. s.owner) (stands levels n lt)))
+    tests : (stands_at levels n).is_bad ≡ is_bad (level_at levels n) (found levels n lt)
+    tests = ap (λ s. s.is_bad) (stands levels n lt)
 
     to : IsTrue (stands_at levels n).is_bad → IsBadLevel levels n
-    to h = elim (bad_to (level_at levels n) (stands_at levels n).owner _ _ _ refl refl refl (sym tests ∙ h)) [
+    to h = elim (bad_to (level_at levels n) (found levels n lt) _ _ _ refl refl refl (sym tests ∙ h)) [
       | inl z ↦ inl z
-      | inr s ↦ elim s [ inl big ↦ inr (inl big) | inr t ↦ inr (inr (t.0, (owner_missed levels n lt).0 t.1)) ]
+      | inr s ↦ elim s [ inl big ↦ inr (inl big) | inr t ↦ inr (inr (t.0, (found_least levels n lt).0 t.1)) ]
     ]
 
     from : IsBadLevel levels n → IsTrue (stands_at levels n).is_bad
-    from h = tests ∙ bad_from (level_at levels n) (stands_at levels n).owner _ _ _ refl refl refl (elim h [
+    from h = tests ∙ bad_from (level_at levels n) (found levels n lt) _ _ _ refl refl refl (elim h [
       | inl z ↦ inl z
-      | inr s ↦ elim s [ inl big ↦ inr (inl big) | inr t ↦ inr (inr (t.0, (owner_missed levels n lt).1 t.1)) ]
+      | inr s ↦ elim s [ inl big ↦ inr (inl big) | inr t ↦ inr (inr (t.0, (found_least levels n lt).1 t.1)) ]
     ])
+
+pub level_one_has_no_owner : LevelOneHasNoOwner
+level_one_has_no_owner levels n lt good = (to, from)
+  where
+    not_bad : IsBadLevel levels n → ⊥
+    not_bad h = let bad : true ≡ false = sym ((bad_levels_are_found levels n lt).1 h) ∙ good in cc
+
+    positive : (level_at levels n ≡ 0) → ⊥
+    positive none = not_bad (inl none)
+
+    least : (level_at levels n ≤ 1) → level_at levels n ≡ 1
+    least le = grind (arith, le, positive)
+
+    to : (stands_at levels n).owner ≡ None → level_at levels n ≡ 1
+    to e = elim ((owners_are_missed levels n lt).0 e) [
+      | inl le ↦ least le
+      | inr none ↦ elim (cases_lt 1 (level_at levels n)) [ inl over ↦ absurd (not_bad (inr (inr (over, none)))) | inr le ↦ least (omega (arith, le)) ]
+    ]
+
+    from : level_at levels n ≡ 1 → (stands_at levels n).owner ≡ None
+    from one = (owners_are_missed levels n lt).1 (inl (omega (arith, one)))

@@ -22,9 +22,9 @@ MembersOfMembers = standings_of (Some 1 ∷ Some 2 ∷ Some 3 ∷ Some 2 ∷ Som
 abbrev pub LevelZero : Type 0
 LevelZero = standings_of (Some 0 ∷ Some 2 ∷ []) ≡ at None true ∷ at (Some 0) false ∷ []
 
--- 0, 1, none: so may an item of level 1, written or not
+-- 0, 1, 2, none: but none of level 1, written or not
 abbrev pub LevelOneAfterZero : Type 0
-LevelOneAfterZero = standings_of (Some 0 ∷ Some 1 ∷ None ∷ []) ≡ at None true ∷ at (Some 0) false ∷ at (Some 0) false ∷ []
+LevelOneAfterZero = standings_of (Some 0 ∷ Some 1 ∷ Some 2 ∷ None ∷ []) ≡ at None true ∷ at None false ∷ at (Some 1) false ∷ at None false ∷ []
 
 -- 2, 3, 2: the second 2 has no lesser level before it
 abbrev pub NoLesserLevel : Type 0

@@ -16,14 +16,18 @@ nearest_after found level (i ∷ is) = nearest_after (if nat_lt i.level level th
 abbrev pub nearest : ℕ → List Numbered → Option ℕ
 nearest level items = nearest_after None level items
 
+-- an item of level 0 or 1 belongs to no item, any other to the nearest before it with a lesser level
+abbrev pub owner_of : (level : ℕ) → (nearest : Option ℕ) → Option ℕ
+owner_of level nearest = if nat_lt 1 level then nearest else None
+
 -- a level is bad that is 0, over 255, or over 1 where no item before it has a lesser level
-abbrev pub is_bad : ℕ → Option ℕ → Bool
-is_bad level owner = nat_eq level 0 || nat_lt 255 level || nat_lt 1 level && is_none owner
+abbrev pub is_bad : (level : ℕ) → (nearest : Option ℕ) → Bool
+is_bad level nearest = nat_eq level 0 || nat_lt 255 level || nat_lt 1 level && is_none nearest
 
-abbrev pub standing : ℕ → Option ℕ → Standing
-standing level owner = record { owner = owner; is_bad = is_bad level owner }
+abbrev pub standing : (level : ℕ) → (nearest : Option ℕ) → Standing
+standing level nearest = record { owner = owner_of level nearest; is_bad = is_bad level nearest }
 
--- how further items stand, the first of which has this number: each belongs to the last item before it with a lesser level
+-- how further items stand, the first of which has this number
 abbrev pub standings_after : List Numbered → ℕ → List ℕ → List Standing
 standings_after before number [] = []
 standings_after before number (l ∷ ls) =

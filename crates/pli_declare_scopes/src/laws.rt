@@ -2,14 +2,16 @@
 ghost use Rattle.pli_declare_scopes.specs.ScopeLaws.{MeantIsMeans, MeansOne};
 ghost use Rattle.pli_declare_scopes.specs.Examples.{MembersOfMembers, LevelZero, LevelOneAfterZero, NoLesserLevel, LevelsOver255, PartialQualification, FullBeforePartial, InnermostBlock, ItemsThatCount, SecondIsTwice, MembersOfSecond};
 ghost use Rattle.pli_declare_scopes.specs.RepeatLaws.{AllAreJudged, CountsOnce, LaterIsFault, MembersArePassedOver};
-ghost use Rattle.pli_declare_scopes.specs.LevelLaws.{AllStand, OwnersAreNearest, OwnersAreMissed, BadLevelsAreFound};
+ghost use Rattle.pli_declare_scopes.specs.LevelLaws.{AllStand, OwnersAreNearest, OwnersAreMissed, BadLevelsAreFound, LevelOneHasNoOwner};
 
-/// A law: an item's owner is the nearest item before it with a lesser level, and none where there is none.
-#[tactic(auto, using(crate::proofs::OwnersFound::all_stand, crate::proofs::OwnersFound::owners_are_nearest, crate::proofs::OwnersFound::owners_are_missed))]
+/// A law: the owner of an item of a level over 1 is the nearest item before it with a lesser level, and else it has none; where
+/// levels are not bad, the items of level 1 are those without one.
+#[tactic(auto, using(crate::proofs::OwnersFound::all_stand, crate::proofs::OwnersFound::owners_are_nearest, crate::proofs::OwnersFound::owners_are_missed, crate::proofs::OwnersFound::level_one_has_no_owner))]
 pub fn owners_are_nearest()
     ensures all { AllStand }
     ensures found { OwnersAreNearest }
     ensures missed { OwnersAreMissed }
+    ensures one { LevelOneHasNoOwner }
 {}
 
 /// A law: a level is bad that is 0, over 255, or over 1 with no lesser level before it.

@@ -1,6 +1,6 @@
 //! Levels: which item each declared item belongs to.
 ghost use Rattle.std.specs.Prelude.{◌≡◌, ℕ, ◌≤◌, IfOk};
-ghost use Rattle.pli_declare_scopes.specs.Levels.{level_of, is_bad, nearest, standing, standings_of};
+ghost use Rattle.pli_declare_scopes.specs.Levels.{level_of, owner_of, is_bad, nearest, standing, standings_of};
 
 use std::alloc::{AllocError, Global};
 
@@ -20,19 +20,19 @@ pub struct Standing {
     pub is_bad: bool,
 }
 
-/// How an item of this level stands below this owner.
-fn standing_below(level: u32, owner: Option<usize>) -> Standing
-    ensures { result ≡ standing level owner }
+/// How an item of this level stands, where this is the nearest before it with a lesser level.
+fn standing_behind(level: u32, nearest: Option<usize>) -> Standing
+    ensures { result ≡ standing level nearest }
 {
     Standing {
-        owner,
-        is_bad: level == 0 || level > 255 || level > 1 && owner.is_none(),
+        owner: if level > 1 { nearest } else { None },
+        is_bad: level == 0 || level > 255 || level > 1 && nearest.is_none(),
     }
 }
 
-/// The item to which one of this level belongs. Items that no later one can belong to are taken out.
-fn owner_among(before: &mut Vec<Numbered>, level: u32) -> Option<usize>
-    ensures owner { result ≡ nearest level before.old.items }
+/// The nearest item with a lesser level. Items that no later one can belong to are taken out.
+fn nearest_among(before: &mut Vec<Numbered>, level: u32) -> Option<usize>
+    ensures found { result ≡ nearest level before.old.items }
     ensures kept { (l : ℕ) → l ≤ level → nearest l before.new.items ≡ nearest l before.old.items }
 {
     while let Some(item) = before.last() {
@@ -44,8 +44,9 @@ fn owner_among(before: &mut Vec<Numbered>, level: u32) -> Option<usize>
     None
 }
 
-/// How the items of a list stand, from their levels: each belongs to the nearest item before it with a lesser level (X3.74).
-/// An item without a level has level 1; one of level 0 is a variable of its own, to which later items may belong (own).
+/// How the items of a list stand, from their levels: one of a level over 1 belongs to the nearest item before it with a lesser
+/// level (X3.74). An item without a level has level 1; one of level 0 is a variable of its own, to which later items of levels
+/// over 1 may belong (own).
 pub fn standings(alloc: Global, levels: &[Option<u32>]) -> Result<Vec<Standing>, AllocError>
     ensures { IfOk result (λ standings. standings.items ≡ standings_of levels.now) }
 {
@@ -53,8 +54,8 @@ pub fn standings(alloc: Global, levels: &[Option<u32>]) -> Result<Vec<Standing>,
     let mut standings = Vec::new(alloc);
     for (number, written) in levels.iter().enumerate() {
         let level = written.unwrap_or(1);
-        let owner = owner_among(&mut before, level);
-        standings.push(standing_below(level, owner))?;
+        let nearest = nearest_among(&mut before, level);
+        standings.push(standing_behind(level, nearest))?;
         before.push(Numbered { number, level })?;
     }
     Ok(standings)

@@ -2,7 +2,7 @@
 use Rattle.std.proofs.Common.{◌≡◌, ℕ, zero, suc, ◌+◌, ◌<◌, ◌≤◌, ◌⊎◌, inl, inr, Bool, true, false, nat_lt, List, [], ◌∷◌, ◌++◌, length, map, get_or, Option, None, Some, IfSome, if◌then◌else◌, refl, ap, ◌∙◌, arith}
 use Rattle.pli_base.specs.declared.syntax.Identifier.{Identifier}
 use Rattle.pli_base.specs.Declarations.{Item}
-use Rattle.pli_declare_scopes.specs.Levels.{level_of, nearest_after, standing, standings_after, standings_of}
+use Rattle.pli_declare_scopes.specs.Levels.{level_of, nearest_after, nearest, owner_of, standing, standings_after, standings_of}
 use Rattle.pli_declare_scopes.specs.declared.level.Numbered.{Numbered}
 use Rattle.pli_declare_scopes.specs.declared.level.Standing.{Standing}
 use Rattle.pli_declare_tables.specs.Tables.{item_entries}
@@ -33,10 +33,17 @@ nearest_below (i ∷ is) found level n h all = nearest_below is (if nat_lt i.lev
     by true = all.0
     by false = h
 
+owner_below : (level n : ℕ) (nearest : Option ℕ) → IfSome nearest (λ o. o < n) → IfSome (owner_of level nearest) (λ o. o < n)
+owner_below level n nearest h = by (nat_lt 1 level)
+  where
+    by : (b : Bool) → IfSome (if b then nearest else None) (λ o. o < n)
+    by true = h
+    by false = tt
+
 stand_after : (ls : List ℕ) (before : List Numbered) (n : ℕ) → AllBelow n before → StandFrom n (standings_after before n ls)
 stand_after [] before n h = tt
 stand_after (l ∷ ls) before n h =
-    (nearest_below before None l n tt h, stand_after ls (before ++ record { number = n; level = l } ∷ []) (n + 1) (below_more before n l h))
+    (owner_below l n (nearest l before) (nearest_below before None l n tt h), stand_after ls (before ++ record { number = n; level = l } ∷ []) (n + 1) (below_more before n l h))
 
 pub standings_stand : (levels : List (Option ℕ)) → StandFrom 0 (standings_of levels)
 standings_stand levels = stand_after (map level_of levels) [] 0 tt

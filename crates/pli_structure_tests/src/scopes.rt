@@ -349,12 +349,14 @@ static LEVELS: [(&[Option<u32>], &[(Option<usize>, bool)]); 7] = [
         ],
     ),
     (
-        &[Some(0), Some(2), Some(0), Some(1)],
+        &[Some(0), Some(2), Some(0), Some(1), Some(2), None],
         &[
             (None, true),
             (Some(0), false),
             (None, true),
-            (Some(2), false),
+            (None, false),
+            (Some(3), false),
+            (None, false),
         ],
     ),
     (

@@ -2,10 +2,10 @@ use Rattle.std.proofs.Common.{◌≡◌, ◌-◌, length, take, sym, ap, ◌∙�
 use Rattle.std.specs.Vec.{vec_len}
 use Rattle.pli_declare_scopes.specs.Levels.{nearest}
 use Rattle.pli_declare_scopes.proofs.NearestItems.{last_is_nearest, last_is_passed}
-use Rattle.pli_declare_scopes.proofs.level.owner_among.Goals as goal
+use Rattle.pli_declare_scopes.proofs.level.nearest_among.Goals as goal
 
-pub returns-then-item-level-clause-owner : goal.returns-then-item-level-clause-owner
-returns-then-item-level-clause-owner c =
+pub returns-then-item-level-clause-found : goal.returns-then-item-level-clause-found
+returns-then-item-level-clause-found c =
     let is = c.loop-item.before.items in
     sym (last_is_nearest is c.in-Some.item.now (omega (arith, c.in-Some.ensures.item.3.0, c.deref.ensures.len)) (rw c.deref.ensures.value at c.in-Some.ensures.item.1) c.args.level c.if-item-level.true)
     ∙ c.loop-item.invariant c.args.level (omega arith)
