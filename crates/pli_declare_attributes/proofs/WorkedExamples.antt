@@ -42,7 +42,7 @@ other_conflicts = (refl, refl, refl, refl, refl, refl)
 
 pub missing : Missing
 unfolding set_agrees is_missing is_bad_precision is_bad_length scalar_of are_bad_bounds is_bad_initial is_bad_area shape_fault description_fault own_fault parameter_of attributes_fault item_fault variable_of completed_of
-missing = (refl, refl, refl, refl, refl)
+missing = (refl, refl, refl, refl, refl, refl)
 
 pub bad_numbers : BadNumbers
 unfolding set_agrees is_missing is_bad_precision is_bad_length scalar_of are_bad_bounds is_bad_initial is_bad_area shape_fault description_fault own_fault parameter_of attributes_fault item_fault variable_of completed_of

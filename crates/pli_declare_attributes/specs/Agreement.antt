@@ -51,7 +51,7 @@ abbrev pub agrees_as_built_in : Place → (is_array : Bool) → ℕ → Bool
 agrees_as_built_in p is_array s = is_plain p is_array && p.built_in_name && s == built_in
 
 -- one data type, at most one storage class and one scope, EXTERNAL without AUTOMATIC and BASED, RETURNS without ENTRY beside no
--- data attribute, what may stand at its place, and no data attribute beside members
+-- data attribute and no members, what may stand at its place, and no data attribute beside members
 abbrev pub agrees_as_variable : Place → ℕ → Bool
 agrees_as_variable p s =
     none_of s (entry + built_in)
@@ -59,7 +59,7 @@ agrees_as_variable p s =
     && is_one_of (bit_and s storage_attributes) (0 ∷ automatic ∷ static ∷ based ∷ controlled ∷ [])
     && is_one_of (bit_and s scope_attributes) (0 ∷ internal ∷ external ∷ [])
     && (none_of s external || none_of s (automatic + based))
-    && (none_of s returns || none_of s data_attributes)
+    && (none_of s returns || none_of s data_attributes && not p.has_members)
     && none_of s (excluded_at p.position)
     && (not p.has_members || may_have_members p.position && none_of s data_attributes)
 

@@ -130,7 +130,7 @@ OtherConflicts =
     × Faulty alone (simple (Builtin ∷ [])) AttributesConflict
     × Faulty above_members (simple (Bit None ∷ [])) AttributesConflict
 
--- nothing; one of FIXED and BINARY, whatever its precision; RETURNS without ENTRY, which beside a data attribute is a conflict
+-- nothing; one of FIXED and BINARY, whatever its precision; RETURNS without ENTRY, which beside a data attribute or members is a conflict
 abbrev pub Missing : Type 0
 Missing =
     Faulty alone (simple []) AttributesMissing
@@ -138,6 +138,7 @@ Missing =
     × Faulty alone (simple (Binary None ∷ Static ∷ [])) AttributesMissing
     × Faulty alone (item [] (Returns (Plain Pointer ∷ []) ∷ [])) AttributesMissing
     × Faulty alone (item [] (Returns (Plain Pointer ∷ []) ∷ Simple Pointer ∷ [])) AttributesConflict
+    × Faulty above_members (item [] (Returns (Plain Pointer ∷ []) ∷ [])) AttributesConflict
 
 abbrev pub BadNumbers : Type 0
 BadNumbers =

@@ -124,7 +124,7 @@ fn variable_agrees(place: Place, set: AttributeSet) -> bool
         && has_one_storage(set)
         && has_one_scope(set)
         && (set.has_none_of(AttributeSet::EXTERNAL) || set.has_none_of(not_external))
-        && (set.has_none_of(AttributeSet::RETURNS) || no_data)
+        && (set.has_none_of(AttributeSet::RETURNS) || no_data && !place.has_members)
         && set.has_none_of(excluded(place.position))
         && (!place.has_members || takes_members(place.position) && no_data)
 }

@@ -3,9 +3,9 @@
 /// Which rules on storage, scope and initial values hold for a name.
 #[derive(Clone, Copy, Debug, PartialEq, Eq)]
 pub enum Position {
-    /// A name without a level number or with level 1, which is no parameter.
+    /// A name that belongs to no item and whose level is no fault, so one of level 1, which is no parameter.
     AtLevelOne,
-    /// A name with any other level number, 0 too.
+    /// A member, or a name whose level is a fault.
     Member,
     /// A parameter of the procedure, or the description of a parameter in ENTRY.
     Parameter,

@@ -363,7 +363,7 @@ fn initial_values(rt: HostRuntime) -> Result<(), Fail> {
 }
 
 /// Attributes that do not agree.
-static CONFLICTS: [(char, &str); 36] = [
+static CONFLICTS: [(char, &str); 38] = [
     ('L', "FIXED BIN FIXED"),
     ('L', "FIXED ( 5 ) BIN ( 5 )"),
     ('L', "CHAR VAR BIT"),
@@ -384,6 +384,7 @@ static CONFLICTS: [(char, &str); 36] = [
     ('S', "VAR"),
     ('S', "ENTRY"),
     ('S', "BUILTIN"),
+    ('S', "RETURNS ( BIT )"),
     ('M', "BIT STATIC"),
     ('M', "BIT INT"),
     ('M', "ENTRY"),
@@ -391,6 +392,7 @@ static CONFLICTS: [(char, &str); 36] = [
     ('M', "BIT PTR"),
     ('N', "BASED"),
     ('N', "PTR"),
+    ('N', "RETURNS ( BIT )"),
     ('P', "BIT STATIC"),
     ('P', "BIT EXT"),
     ('P', "BIT INIT ( '10'B )"),
@@ -412,7 +414,7 @@ fn conflicts(rt: HostRuntime) -> Result<(), Fail> {
 }
 
 /// Attributes that agree, with their least fault or without one.
-static FAULTS: [Row; 42] = [
+static FAULTS: [Row; 41] = [
     ('L', "", "A4"),
     ('L', "FIXED", "A4"),
     ('L', "FIXED ( 99 ) STATIC", "A4"),
@@ -423,7 +425,6 @@ static FAULTS: [Row; 42] = [
     ('P', "", "A4"),
     ('P', "( 5 ) BIN", "A4"),
     ('P', "RETURNS ( BIT )", "A4"),
-    ('S', "RETURNS ( BIT )", "A4"),
     ('L', "ENTRY ( BIT , FIXED )", "A4"),
     ('L', "ENTRY RETURNS ( BIN )", "A4"),
     ('L', "( 0 ) FIXED ( 0 ) BIN INIT ( 'ABC' )", "A5"),
