@@ -240,7 +240,7 @@ class Item(Named):
         has = self.description.has
         return not (
             has & LEVEL_1_ONLY and self.level != 1
-            or self.members and (self.description.data or has & NO_VARIABLE or self.is_parameter)
+            or self.members and (self.description.data or has & NO_VARIABLE or "RETURNS" in has or self.is_parameter)
             or self.description.bounds and has & NO_VARIABLE
             or "BUILTIN" in has and self.name not in BUILT_IN
             or self.is_parameter and has & NOT_OF_PARAMETERS
@@ -326,9 +326,9 @@ def variable(block, names):
 
 
 def names_area(block, name):
-    """Whether OFFSET(name) is good; the area's own faults are no fault of it."""
+    """Whether OFFSET(name) is good: an area without subscripts; its other faults are no fault of it."""
     item = variable(block, [name])
-    return item is not None and "AREA" in item.description.has
+    return item is not None and "AREA" in item.description.has and not any(level.description.bounds for level in item.levels())
 
 
 def names_locator(block, names):
@@ -385,7 +385,7 @@ class Unit:
         self.checks.append(lambda: self.judge_results(name, outer, results))
         self.statements(items, block, frames, "block")
         for item in block.items:
-            item.is_parameter = item.level == 1 and item.name in parameters
+            item.is_parameter = not item.above and item.name in parameters
         for number, parameter in enumerate(parameters):
             if parameter in parameters[:number]:
                 self.fault(parameter, 2)
@@ -439,14 +439,14 @@ class Unit:
                 self.expression(part, block)
 
     def declaration(self, trees, block):
-        """The items of a DECLARE: each belongs to the nearest before it that has a lesser level."""
+        """The items of a DECLARE: one of a level over 1 belongs to the nearest before it that has a lesser level."""
         before = []
         for _, *parts in trees:
             level = value(parts.pop(0)) if isinstance(parts[0], str) else 1
             names = parts.pop(0)
             description = Description(block, *dimensions_of(parts))
             for name in names:
-                above = next((item for item in reversed(before) if item.level < level), None)
+                above = next((item for item in reversed(before) if 1 < level > item.level), None)
                 item = Item(name, level, description, above)
                 if not above or above in block.names:
                     self.declare(block, item)

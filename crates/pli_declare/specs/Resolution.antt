@@ -21,7 +21,7 @@ use Rattle.pli_declare_tables.specs.Tables as tables
 use Rattle.pli_declare_constructs.specs.Regions.{block_of}
 use Rattle.pli_declare_tables.specs.Tables.{Entity, AsItem, AsLabel, AsProcedure, no_entry, entries_in, entries_of, verdicts_in, scope_of, tables_of, entry_at}
 use Rattle.pli_declare_constructs.specs.Reach.{reaches}
-use Rattle.pli_declare_variables.specs.Places.{is_built_in, own_code, is_locator, is_area}
+use Rattle.pli_declare_variables.specs.Places.{stands_alone, is_built_in, own_code, is_locator, is_area}
 use Rattle.pli_declare_variables.specs.Descriptions.{is_too_large_variable}
 use Rattle.pli_declare_variables.specs.Declarations.{returned_by}
 
@@ -151,18 +151,14 @@ abbrev pub codes_from : Outline → (block number : ℕ) → List tables.Entry �
 codes_from o block number [] = []
 codes_from o block number (e ∷ es) = at_token e.identifier.at (item_code o block number) ++ codes_from o block (number + 1) es
 
--- a parameter's name is declared twice where a parameter before it has it, and is missing where its block declares no item of it at level 1
-abbrev pub is_none_above : Option ℕ → Bool
-is_none_above None = true
-is_none_above (Some n) = false
-
+-- a parameter's name is declared twice where a parameter before it has it, and is missing where its block declares no item of it that belongs to no item
 abbrev pub is_item : Entity → Bool
 is_item (AsItem item is_bad) = true
 is_item (AsLabel region) = false
 is_item (AsProcedure heading region) = false
 
 abbrev pub is_item_named : Name → tables.Entry → Bool
-is_item_named name e = same_name e.identifier.name name && is_none_above e.owner && is_item e.entity
+is_item_named name e = same_name e.identifier.name name && stands_alone e && is_item e.entity
 
 abbrev pub parameter_code : Outline → (block : ℕ) → (before : List Name) → Name → Option Code
 parameter_code o block before name =

@@ -213,7 +213,28 @@ static JUMPS: [(&str, &str); 9] = [
 ];
 
 /// Levels.
-static LEVELS: [(&str, &str); 4] = [
+static LEVELS: [(&str, &str); 11] = [
+    // an item of level 1, or without a level, belongs to no item
+    ("M : PROC ; DCL 0 S FIXED BIN , X BIT ; END ;", "A8 at 6"),
+    ("M : PROC ; DCL 0 S , X BIT STATIC ; END ;", "A4 at 6"),
+    (
+        "M : PROC ; DCL 0 S , 1 X BIT STATIC , 2 T BIT ; X = S ; END ;",
+        "A4 at 6, A3 at 9",
+    ),
+    (
+        "M : PROC ; DCL 0 S , 2 X BIT STATIC , 1 T , 2 Y BIT ; S . X = T . Y ; T . X = S . Y ; END ;",
+        "A8 at 6, A3 at 9, A1 at 28, A1 at 32",
+    ),
+    (
+        "M : PROC ; DCL 0 S BIT , X BIT , 1 X BIT ; S . X = X ; END ;",
+        "A8 at 6, A2 at 13, A1 at 16",
+    ),
+    ("M : PROC ; DCL 0 S ENTRY , X ENTRY EXT ; END ;", "A3 at 6"),
+    // what stands at level 1 only, at a bad level
+    (
+        "M : PROC ; DCL 2 X BIT STATIC , 0 Y EXT , 256 Z BIT ; END ;",
+        "A3 at 6, A3 at 11, A8 at 15",
+    ),
     ("M : PROC ; DCL 2 X BIT ; X = 1 ; END ;", "A8 at 6"),
     ("M : PROC ; DCL 1 S BIT , 0 X BIT ; END ;", "A8 at 10"),
     (
@@ -227,7 +248,40 @@ static LEVELS: [(&str, &str); 4] = [
 ];
 
 /// Names in BASED and OFFSET.
-static LOCATORS: [(&str, &str); 13] = [
+static LOCATORS: [(&str, &str); 21] = [
+    // an area with subscripts, its own or those of a level above, whatever else is wrong with it
+    (
+        "M : PROC ; DCL C ( 2 ) AREA , Q OFFSET ( C ) ; END ;",
+        "A13 at 5, A12 at 11",
+    ),
+    (
+        "M : PROC ; DCL 1 E , 2 S AREA , Q OFFSET ( S ) ; END ;",
+        "A13 at 9",
+    ),
+    (
+        "M : PROC ; DCL 1 E ( 2 ) , 2 S AREA , Q OFFSET ( S ) ; END ;",
+        "A13 at 12, A12 at 15",
+    ),
+    (
+        "M : PROC ; DCL A ( 0 ) AREA , Q OFFSET ( A ) , B AREA BASED , R OFFSET ( B ) ; END ;",
+        "A7 at 5, A12 at 11, A13 at 17",
+    ),
+    (
+        "M : PROC ; DCL A AREA ( 0 ) , Q OFFSET ( A ) , B AREA STATIC CTL , R OFFSET ( B ) ; END ;",
+        "A6 at 5, A3 at 17",
+    ),
+    (
+        "M : PROC ; DCL 0 A AREA ( 8 ) , 2 B AREA ; DCL O OFFSET ( A ) , Q OFFSET ( B ) ; END ;",
+        "A3 at 6, A13 at 13",
+    ),
+    (
+        "M : PROC ; DCL C ( 2 ) AREA , E ENTRY ( OFFSET ( C ) ) , F ENTRY RETURNS ( OFFSET ( C ) ) ; G : PROC RETURNS ( OFFSET ( C ) ) ; END ; END ;",
+        "A13 at 5, A12 at 11, A12 at 20, A12 at 30",
+    ),
+    (
+        "M : PROC ; DCL C ( 2 ) AREA , O OFFSET ( C ) , X BIT BASED ( O ) ; END ;",
+        "A13 at 5, A12 at 11",
+    ),
     (
         "M : PROC ; DCL X BIT BASED ( P ) , P POINTER , Y BIT BASED ( O ) , O OFFSET ( A ) , A AREA ( 8 ) ; END ;",
         "",
@@ -283,7 +337,24 @@ static LOCATORS: [(&str, &str); 13] = [
 ];
 
 /// Items with faults of their own.
-static ITEMS: [(&str, &str); 8] = [
+static ITEMS: [(&str, &str); 12] = [
+    // RETURNS without ENTRY
+    (
+        "M : PROC ; DCL 1 Q RETURNS ( BIT ) , 2 N BIT ; END ;",
+        "A3 at 6",
+    ),
+    (
+        "M : PROC ; DCL 1 S , 2 Q RETURNS ( BIT ) , 3 N BIT , 2 R RETURNS ( BIT ) ; END ;",
+        "A3 at 9, A4 at 20",
+    ),
+    (
+        "M : PROC ; DCL 1 Q RETURNS ( CHAR ( 0 ) ) , 2 N BIT , 1 R ENTRY RETURNS ( BIT ) , 2 L BIT ; END ;",
+        "A3 at 6, A3 at 20",
+    ),
+    (
+        "M : PROC ( P ) ; DCL P RETURNS ( BIT ) , 1 Q , 2 N BIT RETURNS ( BIT ) ; END ;",
+        "A4 at 8, A3 at 18",
+    ),
     (
         "M : PROC ; DCL X FIXED , Y CHAR BIT , Z ; END ;",
         "A4 at 5, A3 at 8, A4 at 12",
@@ -319,7 +390,27 @@ static ITEMS: [(&str, &str); 8] = [
 ];
 
 /// Headings of procedures, and their parameters.
-static HEADINGS: [(&str, &str); 11] = [
+static HEADINGS: [(&str, &str); 18] = [
+    // a parameter is declared by an item that belongs to no item, whatever its level
+    (
+        "F : PROC ( X ) ; DCL 2 X BIT INIT ( '1'B ) ; END ;",
+        "A3 at 9",
+    ),
+    ("F : PROC ( X ) ; DCL 2 X BIT ; END ;", "A8 at 9"),
+    ("F : PROC ( X ) ; DCL 0 X BIT STATIC ; END ;", "A3 at 9"),
+    ("F : PROC ( X ) ; DCL 0 X , 2 Y BIT ; END ;", "A3 at 9"),
+    (
+        "F : PROC ( X ) ; DCL 1 S , 2 X BIT INIT ( '1'B ) ; X = S . X ; END ;",
+        "A4 at 4",
+    ),
+    (
+        "F : PROC ( X ) ; DCL 0 S , 1 X BIT INIT ( '1'B ) ; END ;",
+        "A4 at 9, A3 at 12",
+    ),
+    (
+        "F : PROC ( X ) ; DCL 0 S BIT , X BIT ; S = X ; END ;",
+        "A8 at 9",
+    ),
     (
         "M : PROC ( A , B , A ) ; L : ; GOTO N ; END ;",
         "A4 at 4, A4 at 6, A2 at 8, A1 at 15",
@@ -343,7 +434,7 @@ static HEADINGS: [(&str, &str); 11] = [
     ),
     (
         "M : PROC ; F : PROC OPTIONS ( MAIN ) ; END ; DCL A ( 2 ) AREA , O OFFSET ( A ) ; END ;",
-        "A13 at 15",
+        "A13 at 15, A12 at 21",
     ),
     (
         "M : PROC RETURNS ( OFFSET ( A ) ) ; DCL A AREA ; END ;",

@@ -71,7 +71,7 @@ fn tabled(alloc: Global, text: &str) -> Result<String, AllocError> {
 }
 
 /// Texts with their tables.
-static TABLES: [(&str, &str); 9] = [
+static TABLES: [(&str, &str); 10] = [
     ("M : PROC ; END ;", " M#0 | |"),
     (
         "M : PROC ; DCL 1 S , 2 A , 2 ( B , C ) , 3 D ; L : X = Y ; END ;",
@@ -84,6 +84,10 @@ static TABLES: [(&str, &str); 9] = [
     (
         "M : PROC ; DCL 1 S ; DCL 2 T ; DCL 0 U , 256 V ; END ;",
         " M#0 | S T! U! V^2! |",
+    ),
+    (
+        "M : PROC ; DCL 0 S , 2 X , Y , 2 Z , 1 V ; END ;",
+        " M#0 | S! X^0 Y Z^2 V |",
     ),
     (
         "M : PROC ; F : PROC ( P ) ; DCL P BIT ; G : PROC ; M : ; END ; END ; BEGIN ; DCL X BIT ; END ; DCL Y BIT ; END ;",

@@ -37,8 +37,8 @@ chain_more entries behind i e lt is chains known =
 four : (a x b y c z d w : Bool) → a ≡ x → b ≡ y → c ≡ z → d ≡ w → (a && b && c && d) ≡ (x && y && z && w)
 four a x b y c z d w p q r s = rw (p, q, r, s)
 
-two : (a x b y : Bool) → a ≡ x → b ≡ y → (a && b) ≡ (x && y)
-two a x b y p q = rw (p, q)
+three : (a x b y c z : Bool) → a ≡ x → b ≡ y → c ≡ z → (a && b && c) ≡ (x && y && z)
+three a x b y c z p q r = rw (p, q, r)
 
 abbrev set_at : plain.Entry → ℕ
 set_at x = set_of (map outermost (item_in x.entity).attributes)
@@ -49,7 +49,7 @@ pub nameable_more : (entries : List Entry) (i : ℕ) (e : Entry) → i < length 
     → named.is_area ≡ has (set_at (entry_view e)) area
     → chain ≡ chain_at (entries_view entries) i
     → all.is_locator ≡ (named.is_variable && named.is_locator && chain.is_unsubscripted && chain.is_not_based)
-    → all.is_area ≡ (named.is_variable && named.is_area)
+    → all.is_area ≡ (named.is_variable && named.is_area && chain.is_unsubscripted)
     → all ≡ nameable_at (entries_view entries) i
 nameable_more entries i e lt is named chain all variable locator is_area known p q =
     let view = sym (view_at entries i e lt is) in
@@ -60,5 +60,5 @@ nameable_more entries i e lt is named chain all variable locator is_area known p
     let u = ap (λ (c : Chain). c.is_unsubscripted) known in
     let n = ap (λ (c : Chain). c.is_not_based) known in
     let first : all.is_locator ≡ (nameable_at (entries_view entries) i).is_locator = p ∙ four _ _ _ _ _ _ _ _ v l u n in
-    let second : all.is_area ≡ (nameable_at (entries_view entries) i).is_area = q ∙ two _ _ _ _ v a in
+    let second : all.is_area ≡ (nameable_at (entries_view entries) i).is_area = q ∙ three _ _ _ _ _ _ v a u in
     λ k. record { is_locator = first k; is_area = second k }

@@ -1,15 +1,14 @@
 -- Where an item stands, by what is known of it.
-use Rattle.std.proofs.Common.{◌≡◌, ℕ, ◌<◌, ◌==◌, ◌&&◌, Bool, List, length, get_or, map, sym, ap, ◌∙◌}
+use Rattle.std.proofs.Common.{◌≡◌, ℕ, ◌<◌, Bool, List, length, get_or, map, sym, ap, ◌∙◌}
 use Rattle.std.specs.List.{list_any}
 use Rattle.pli_base.specs.Name.{Name}
 use Rattle.pli_base.specs.Words.{same_name}
 use Rattle.pli_declare_attributes.specs.declared.place.Place.{Place}
-use Rattle.pli_declare_scopes.specs.Levels.{level_of}
 use Rattle.pli_declare_tables.specs.TableView.{entry_view, entries_view}
 use Rattle.pli_declare_tables.specs.Tables as plain
 use Rattle.pli_declare_tables.specs.Tables.{no_entry, numbers_from}
 use Rattle.pli_declare_tables.specs.declared.entry.Entry.{Entry}
-use Rattle.pli_declare_variables.specs.Places.{item_in, position_of, is_built_in, place_in}
+use Rattle.pli_declare_variables.specs.Places.{is_bad_level, stands_alone, position_of, is_built_in, place_in}
 use Rattle.pli_declare_variables.specs.Walks.{has_members_at, above_at, placed}
 use Rattle.pli_declare_variables.specs.declared.places.Surroundings.{Surroundings}
 use Rattle.pli_declare_variables.proofs.Levelled.{view_at}
@@ -18,9 +17,8 @@ use Rattle.pli_declare_variables.proofs.Numbers.{mapped_at}
 -- the same, where it is known whether the name is that of a parameter
 abbrev known : plain.Entry → (is_named has_members : Bool) → Surroundings → Place
 known entry is_named has_members above =
-    let level = level_of (item_in entry.entity).level in
     record {
-      position = position_of ((level == 1) && is_named) level;
+      position = position_of (stands_alone entry) is_named (is_bad_level entry.entity);
       has_members = has_members;
       in_array = above.in_array;
       elements_above = above.elements;

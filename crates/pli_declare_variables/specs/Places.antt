@@ -1,5 +1,5 @@
 -- The items of a block as variables: where each stands, and its least fault apart from names.
-use Rattle.std.specs.Prelude.{ℕ, zero, suc, ◌+◌, ◌*◌, ◌^◌, ◌-◌, min, Bool, true, false, not, ◌&&◌, ◌||◌, ◌==◌, Option, Some, None, option_map, List, [], ◌∷◌, map, length, get_or, if◌then◌else◌, codes}
+use Rattle.std.specs.Prelude.{ℕ, zero, suc, ◌+◌, ◌*◌, ◌^◌, ◌-◌, min, Bool, false, not, ◌&&◌, ◌||◌, ◌==◌, Option, Some, None, is_none, option_map, List, [], ◌∷◌, map, length, get_or, if◌then◌else◌, codes}
 use Rattle.std.specs.List.{list_any, list_all, filter}
 use Rattle.std.specs.Option.{unwrap_or}
 use Rattle.pli_base.specs.Name.{Name}
@@ -13,7 +13,6 @@ use Rattle.pli_declare_attributes.specs.Sets.{outermost, set_of, has, none_of, e
 use Rattle.pli_declare_attributes.specs.declared.place.Place.{Place}
 use Rattle.pli_declare_attributes.specs.declared.place.Position.{Position}
 use Rattle.pli_declare_attributes.specs.declared.place.Position.TheVariants.{AtLevelOne, Member, Parameter}
-use Rattle.pli_declare_scopes.specs.Levels.{level_of}
 use Rattle.pli_declare_tables.specs.Tables.{Entity, AsItem, AsLabel, AsProcedure, Entry, no_entry, numbers_from}
 
 -- the items that an entry is a member of, the nearest first; each stands before it
@@ -52,9 +51,19 @@ built_in_names =
 unfoldable pub is_built_in : Name → Bool
 is_built_in name = list_any (same_name name) built_in_names
 
-abbrev pub position_of : (is_parameter : Bool) → (level : ℕ) → Position
-position_of true level = Parameter
-position_of false level = if level == 1 then AtLevelOne else Member
+-- an item's level is a fault
+abbrev pub is_bad_level : Entity → Bool
+is_bad_level (AsItem item is_bad) = is_bad
+is_bad_level (AsLabel region) = false
+is_bad_level (AsProcedure heading region) = false
+
+-- it belongs to no item
+abbrev pub stands_alone : Entry → Bool
+stands_alone e = is_none e.owner
+
+-- what belongs to no item is a parameter, where its name is one's, or else at level 1, unless its level is a fault
+abbrev pub position_of : (stands_alone is_named is_bad : Bool) → Position
+position_of alone is_named is_bad = if alone && is_named then Parameter else if alone && not is_bad then AtLevelOne else Member
 
 -- elements are counted up to here; no text gives as many values
 abbrev pub most_elements : ℕ
@@ -70,10 +79,10 @@ elements_through entries (n ∷ ns) =
 -- where an item stands; the parameters are those of the procedure that is the block
 abbrev pub place_in : List Entry → (parameters : List Name) → ℕ → Place
 place_in entries parameters n =
-    let name = (get_or entries n no_entry).identifier.name in
-    let level = level_of (item_of entries n).level in
+    let entry = get_or entries n no_entry in
+    let name = entry.identifier.name in
     record {
-      position = position_of ((level == 1) && list_any (same_name name) parameters) level;
+      position = position_of (stands_alone entry) (list_any (same_name name) parameters) (is_bad_level entry.entity);
       has_members = not (length (members_of entries n) == 0);
       in_array = list_any (λ k. is_array (item_of entries k).dimensions) (owners_of entries n);
       elements_above = elements_through entries (owners_of entries n);
@@ -103,6 +112,6 @@ is_locator entries n =
     is_variable (get_or entries n no_entry).entity && (has (set_in entries n) pointer || has (set_in entries n) offset) && is_unsubscripted entries n
     && list_all (λ k. none_of (set_in entries k) based) (n ∷ owners_of entries n)
 
--- an area that OFFSET may name: a variable with AREA; one with dimensions, or in a structure, has a fault of its own
+-- an area that OFFSET may name: a variable with AREA, unsubscripted; what else is wrong with it is a fault of its own
 abbrev pub is_area : List Entry → ℕ → Bool
-is_area entries n = is_variable (get_or entries n no_entry).entity && has (set_in entries n) area
+is_area entries n = is_variable (get_or entries n no_entry).entity && has (set_in entries n) area && is_unsubscripted entries n

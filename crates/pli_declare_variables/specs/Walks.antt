@@ -7,10 +7,9 @@ use Rattle.pli_declare_attributes.specs.Extents.{is_array}
 use Rattle.pli_declare_attributes.specs.Initials.{elements_inside}
 use Rattle.pli_declare_attributes.specs.Sets.{none_of, based, set_of, outermost}
 use Rattle.pli_declare_attributes.specs.declared.place.Place.{Place}
-use Rattle.pli_declare_scopes.specs.Levels.{level_of}
 use Rattle.pli_base.specs.Declarations.{Item}
 use Rattle.pli_declare_tables.specs.Tables.{Entry}
-use Rattle.pli_declare_variables.specs.Places.{owners_of, members_of, item_in, item_of, position_of, elements_through, is_built_in, set_in, is_locator, is_area}
+use Rattle.pli_declare_variables.specs.Places.{owners_of, members_of, item_of, is_bad_level, stands_alone, position_of, elements_through, is_built_in, set_in, is_locator, is_area}
 use Rattle.pli_declare_variables.specs.declared.places.Surroundings.{Surroundings}
 use Rattle.pli_declare_variables.specs.declared.locators.Chain.{Chain}
 use Rattle.pli_declare_variables.specs.declared.locators.Nameable.{Nameable}
@@ -39,9 +38,8 @@ above_owner aboves entries (Some o) =
 -- where an item stands
 abbrev pub placed : Entry → (parameters : List Name) → (has_members : Bool) → Surroundings → Place
 placed entry parameters has_members above =
-    let level = level_of (item_in entry.entity).level in
     record {
-      position = position_of ((level == 1) && list_any (same_name entry.identifier.name) parameters) level;
+      position = position_of (stands_alone entry) (list_any (same_name entry.identifier.name) parameters) (is_bad_level entry.entity);
       has_members = has_members;
       in_array = above.in_array;
       elements_above = above.elements;

@@ -1,7 +1,6 @@
 //! What an entry has as an item. A label and a procedure have nothing.
 ghost use Rattle.std.specs.Prelude.{◌≡◌, map};
 ghost use Rattle.pli_base.specs.DeclarationView.{attribute_view};
-ghost use Rattle.pli_declare_scopes.specs.Levels.{level_of};
 ghost use Rattle.pli_declare_tables.specs.TableView.{entry_view};
 ghost use Rattle.pli_declare_variables.specs.Places.{item_in};
 ghost use Rattle.pli_declare_variables.specs.Places as places;
@@ -10,16 +9,16 @@ use pli_base::declaration::{Attribute, Bounds};
 use pli_declare_attributes::Named;
 use pli_declare_tables::{Entity, Entry};
 
-/// The level number, 1 without one (X3.74).
-pub(crate) fn level(entry: &Entry) -> u32
-    ensures { result ≡ level_of (item_in (entry_view entry.now).entity).level }
+/// Whether its level is a fault.
+pub(crate) fn is_bad_level(entry: &Entry) -> bool
+    ensures { result ≡ places.is_bad_level (entry_view entry.now).entity }
 {
     match entry.entity {
         Entity::Item {
-            item,
-            is_bad_level: _,
-        } => item.level.unwrap_or(1),
-        Entity::Label { .. } | Entity::Procedure { .. } => 1,
+            item: _,
+            is_bad_level,
+        } => is_bad_level,
+        Entity::Label { .. } | Entity::Procedure { .. } => false,
     }
 }
 

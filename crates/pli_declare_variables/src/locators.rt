@@ -73,17 +73,17 @@ fn chained(entry: &Entry, named: Named, above: Chain) -> Chain
     }
 }
 
-/// A variable with POINTER or OFFSET, unsubscripted and not BASED, and one with AREA.
+/// A variable with POINTER or OFFSET, unsubscripted and not BASED, and one with AREA, unsubscripted.
 fn use_of(named: Named, chain: Chain) -> Nameable
     ensures locator { result.is_locator ≡ (named.is_variable && named.is_locator && chain.is_unsubscripted && chain.is_not_based) }
-    ensures area { result.is_area ≡ (named.is_variable && named.is_area) }
+    ensures area { result.is_area ≡ (named.is_variable && named.is_area && chain.is_unsubscripted) }
 {
     Nameable {
         is_locator: named.is_variable
             && named.is_locator
             && chain.is_unsubscripted
             && chain.is_not_based,
-        is_area: named.is_variable && named.is_area,
+        is_area: named.is_variable && named.is_area && chain.is_unsubscripted,
     }
 }
 

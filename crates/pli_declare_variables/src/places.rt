@@ -5,14 +5,13 @@ ghost use Rattle.pli_base.specs.Name.{Name};
 ghost use Rattle.pli_base.specs.Words.{same_name};
 ghost use Rattle.pli_declare_attributes.specs.Extents.{is_array};
 ghost use Rattle.pli_declare_attributes.specs.Initials.{elements_inside};
-ghost use Rattle.pli_declare_scopes.specs.Levels.{level_of};
 ghost use Rattle.pli_declare_tables.specs.Tables.{no_entry, numbers_from};
 ghost use Rattle.pli_declare_tables.specs.TableView.{entry_view, entries_view};
 ghost use Rattle.pli_declare_tables.specs.Answers.{AreBehindOwners};
-ghost use Rattle.pli_declare_variables.specs.Places.{item_in, is_built_in, position_of, place_in};
+ghost use Rattle.pli_declare_variables.specs.Places.{item_in, is_bad_level, stands_alone, is_built_in, position_of, place_in};
 ghost use Rattle.pli_declare_variables.specs.Walks.{has_members_at, above_at, above_owner, placed};
 
-use crate::items::{dimensions, level};
+use crate::items::{self, dimensions};
 use crate::words::is_built_in;
 use indexmap::IndexSet;
 use pli_base::Name;
@@ -96,13 +95,14 @@ fn set_of(alloc: Global, names: &[Name]) -> Result<IndexSet<Name>, AllocError>
     Ok(set)
 }
 
-/// Which rules hold for a name.
-fn position(is_parameter: bool, level: u32) -> Position
-    ensures { result ≡ position_of is_parameter level }
+/// Which rules hold for an entry, whose name is a parameter's or not.
+fn position(entry: &Entry, is_named: bool) -> Position
+    ensures { result ≡ position_of (stands_alone (entry_view entry.now)) is_named (is_bad_level (entry_view entry.now).entity) }
 {
-    if is_parameter {
+    let stands_alone = entry.owner.is_none();
+    if stands_alone && is_named {
         Position::Parameter
-    } else if level == 1 {
+    } else if stands_alone && !items::is_bad_level(entry) {
         Position::AtLevelOne
     } else {
         Position::Member
@@ -119,9 +119,8 @@ fn place(
     ensures { result ≡ placed (entry_view entry.now) parameters.now.keys has_members above }
 {
     let name = entry.identifier.name;
-    let level = level(entry);
     Place {
-        position: position(level == 1 && parameters.contains(&name), level),
+        position: position(entry, parameters.contains(&name)),
         has_members,
         in_array: above.in_array,
         elements_above: above.elements,

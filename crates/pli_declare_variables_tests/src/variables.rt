@@ -145,7 +145,7 @@ fn check(rt: &impl Abort, alloc: Global, parameters: &[&str], rows: &[Row]) -> R
 }
 
 /// Structures and what stands at level 1.
-static STRUCTURES: [Row; 12] = [
+static STRUCTURES: [Row; 18] = [
     ("1 S , 2 X FIXED BIN , 2 Y CHAR ( 4 ) ;", "- - -"),
     ("1 S ( 3 ) , 2 X ( 2 ) BIT , 2 Y , 3 Z PTR ;", "- - - -"),
     // no member has a storage class, and a structure has no type
@@ -159,9 +159,18 @@ static STRUCTURES: [Row; 12] = [
     ("1 S , 2 ABS BUILTIN ;", "- A3"),
     // an AREA stands alone
     ("A AREA ;", "-A"),
-    ("1 S ( 3 ) , 2 A AREA ;", "- A13A"),
-    ("1 S ( 3 ) , 2 T , 3 A AREA ;", "- - A13A"),
-    ("A ( 3 ) AREA ;", "A13A"),
+    ("1 S , 2 A AREA ;", "- A13A"),
+    ("1 S ( 3 ) , 2 A AREA ;", "- A13"),
+    ("1 S ( 3 ) , 2 T , 3 A AREA ;", "- - A13"),
+    ("A ( 3 ) AREA ;", "A13"),
+    // RETURNS without ENTRY, with members and without
+    ("1 T RETURNS ( BIT ) , 2 N BIT ;", "A3 -"),
+    ("1 S , 2 T RETURNS ( BIT ) ;", "- A4"),
+    // what stands behind level 0 at level 1 is no member
+    ("0 S FIXED BIN , X BIT ;", "- -"),
+    ("0 S , X BIT STATIC , 2 Y BIT STATIC ;", "A4 A3 A3"),
+    // at a bad level stands no storage class
+    ("2 X BIT STATIC , 0 Y BIT EXT , X BIT STATIC ;", "A3 A3 -"),
 ];
 
 #[test]
@@ -170,7 +179,7 @@ fn structures(rt: HostRuntime) -> Result<(), Fail> {
 }
 
 /// Declarations in a procedure of the parameters P and Q.
-static PARAMETERS: [Row; 6] = [
+static PARAMETERS: [Row; 9] = [
     ("P BIT , Q BIT ;", "- -"),
     ("P BIT STATIC , X BIT STATIC ;", "A3 -"),
     ("P BIT INIT ( 1 ) ;", "A3"),
@@ -178,6 +187,10 @@ static PARAMETERS: [Row; 6] = [
     ("1 P , 2 X BIT ;", "A3 -"),
     ("1 S , 2 P BIT ;", "- -"),
     ("P ( 3 ) BIT , Q AREA ;", "- -A"),
+    // whatever the level of an item that belongs to no item
+    ("2 P BIT INIT ( '1'B ) , 0 Q BIT ;", "A3 -"),
+    ("0 P , 2 Q BIT INIT ( '1'B ) ;", "A3 -"),
+    ("0 S , 1 P BIT INIT ( '1'B ) ;", "A4 A3"),
 ];
 
 #[test]
