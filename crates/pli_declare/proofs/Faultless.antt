@@ -5,13 +5,14 @@ use Rattle.std.proofs.lemmas.Bool.{cases_lt, eqb-true}
 use Rattle.std.proofs.lemmas.Bool.Decides.{nat_tests}
 use Rattle.std.proofs.lemmas.List.{append-nil}
 use Rattle.pli_base.specs.declared.code.Code.{Code}
+use Rattle.pli_base.specs.declared.code.Code.TheVariants.{BadLevel}
 use Rattle.pli_base.specs.declared.token.Fault.{Fault}
 use Rattle.pli_base.specs.Declarations.{DescribedAttribute}
 use Rattle.pli_base.specs.Statements.{Heading}
 use Rattle.pli_declare_outline.specs.Outlines.{Mark, Declared, Labelled, Entered, Used, Jumped, Placed, Outline}
 use Rattle.pli_declare_constructs.specs.Regions.{block_of}
 use Rattle.pli_declare_tables.specs.Tables.{Entity, AsItem, AsLabel, AsProcedure, Entry, no_entry, entries_of, entries_in, inner_marks, heading_entries, unit_entries}
-use Rattle.pli_declare_attributes.specs.Faults.{result_fault, lesser}
+use Rattle.pli_declare_attributes.specs.Faults.{result_fault, first_of, lesser}
 use Rattle.pli_declare_attributes.proofs.LeastFaults.{no_lesser}
 use Rattle.pli_declare_variables.specs.Places.{own_code}
 use Rattle.pli_declare_variables.specs.Descriptions.{is_too_large_variable}
@@ -86,10 +87,15 @@ third_none a b c d h =
 heading_sound : (are_good : Bool) (heading : Heading) → heading_code are_good heading ≡ None → AreSound (returned_by heading.options)
 heading_sound are_good heading h = sound (returned_by heading.options) (third_none _ _ (least (map result_fault (returned_by heading.options))) _ h)
 
+good_level : (is_bad : Bool) → first_of ((is_bad, BadLevel) ∷ []) ≡ None → is_bad ≡ false
+good_level true h = cc
+good_level false h = refl
+
 entity_good : (o : Outline) (b n : ℕ) (entries : List Entry) (code : Option Code) (is_too_large : Bool) (entity : Entity)
     → least (code ∷ entity_codes o b (own_code entries (parameters_of o b) n) is_too_large entity) ≡ None → IsGood entries (parameters_of o b) n entity
 entity_good o b n entries code is_too_large (AsItem item is_bad) h =
-    (no_lesser (own_code entries (parameters_of o b) n) _ (no_lesser code _ h).1).0
+    let own = no_lesser (own_code entries (parameters_of o b) n) _ (no_lesser code _ h).1 in
+    (good_level is_bad (no_lesser (first_of ((is_bad, BadLevel) ∷ [])) _ own.1).0, own.0)
 entity_good o b n entries code is_too_large (AsLabel region) h = tt
 entity_good o b n entries code is_too_large (AsProcedure heading region) h =
     let are_good = returned_are (list_all (described_is_good o b)) heading in

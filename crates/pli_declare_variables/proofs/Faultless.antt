@@ -21,7 +21,7 @@ all_codes entries names codes made = made ∙ ap (λ (n : ℕ). map (own_code (e
 
 without : (entries : List Entry) (names : List Name) (n : ℕ) (entity : Entity) → (get_or entries n no_entry).entity ≡ entity → IsGood entries names n entity
     → IsFaultless (place_in entries names n) entity
-without entries names n (AsItem item is_bad) is good = ap (λ x. item_fault (place_in entries names n) (item_in x)) (sym is) ∙ good
+without entries names n (AsItem item is_bad) is good = (good.0, ap (λ x. item_fault (place_in entries names n) (item_in x)) (sym is) ∙ good.1)
 without entries names n (AsLabel region) is good = tt
 without entries names n (AsProcedure heading region) is good = good
 

@@ -1,5 +1,5 @@
 -- What the names of a block are declared as, where none of them has a fault of its own.
-use Rattle.std.specs.Prelude.{◌≡◌, ℕ, ◌<◌, ◌&&◌, Option, Some, None, is_none, List, [], ◌∷◌, map, length, get_or, if◌then◌else◌}
+use Rattle.std.specs.Prelude.{◌≡◌, ℕ, ◌<◌, false, ◌&&◌, Option, Some, None, is_none, List, [], ◌∷◌, map, length, get_or, if◌then◌else◌}
 use Rattle.pli_base.specs.Name.{Name}
 use Rattle.pli_base.specs.Declarations.{DescribedAttribute}
 use Rattle.pli_base.specs.Statements as options
@@ -61,9 +61,9 @@ abbrev pub AreSound : List (List DescribedAttribute) → Type 0
 AreSound [] = Unit {0}
 AreSound (attributes ∷ more) = (result_fault attributes ≡ None) × AreSound more
 
--- no fault of its own
+-- no fault of its own, that of its level included
 abbrev pub IsGood : List Entry → (parameters : List Name) → ℕ → Entity → Type 0
-IsGood entries parameters n (AsItem item is_bad) = own_code entries parameters n ≡ None
+IsGood entries parameters n (AsItem item is_bad) = (is_bad ≡ false) × (own_code entries parameters n ≡ None)
 IsGood entries parameters n (AsLabel region) = Unit {0}
 IsGood entries parameters n (AsProcedure heading region) = AreSound (returned_by heading.options)
 

@@ -1,5 +1,5 @@
 -- What a name is declared as, by where it stands, its description and its fault.
-use Rattle.std.specs.Prelude.{◌≡◌, ℕ, ◌&&◌, Option, None, is_none, List, get_or, if◌then◌else◌}
+use Rattle.std.specs.Prelude.{◌≡◌, ℕ, false, ◌&&◌, Option, None, is_none, List, get_or, if◌then◌else◌}
 use Rattle.pli_base.specs.declared.code.Code.{Code}
 use Rattle.pli_map.specs.Description.{Description}
 use Rattle.pli_declare_attributes.specs.Completed.{completed_of}
@@ -18,7 +18,7 @@ kind_with place description (AsProcedure heading region) = OfProcedure (describe
 
 -- no fault of its own at a place
 abbrev pub IsFaultless : Place → Entity → Type 0
-IsFaultless place (AsItem item is_bad) = item_fault place item ≡ None
+IsFaultless place (AsItem item is_bad) = (is_bad ≡ false) × (item_fault place item ≡ None)
 IsFaultless place (AsLabel region) = Unit {0}
 IsFaultless place (AsProcedure heading region) = AreSound (returned_by heading.options)
 

@@ -88,8 +88,8 @@ fn kind(
     }
 }
 
-/// What each name of a block is declared as, where the parameters are those of the procedure that is the block. Structures nest no
-/// deeper than levels go, which is at most 255 where no level is a fault.
+/// What each name of a block is declared as, where the parameters are those of the procedure that is the block. It recurs as deep as
+/// structures nest, which is no deeper than levels go: at most 255, since no level is a fault.
 pub fn declare(
     alloc: Global,
     entries: &[Entry],

@@ -313,7 +313,10 @@ fn is_good(entry: &Entry, code: Option<Code>) -> bool
     ensures { result ≡ true → (place : Place) → code ≡ item_fault place (item_in (entry_view entry.now).entity) → IsFaultless place (entry_view entry.now).entity }
 {
     match entry.entity {
-        Entity::Item { .. } => code.is_none(),
+        Entity::Item {
+            item: _,
+            is_bad_level,
+        } => !is_bad_level && code.is_none(),
         Entity::Label { .. } => true,
         Entity::Procedure {
             procedure,

@@ -24,7 +24,7 @@ one_more P i before here n lt =
 
 good : (entries : List Entry) (names : List Name) (n : ℕ) (entity : Entity) → (get_or entries n no_entry).entity ≡ entity → IsFaultless (place_in entries names n) entity
     → IsGood entries names n entity
-good entries names n (AsItem item is_bad) is h = ap (λ x. item_fault (place_in entries names n) (item_in x)) is ∙ h
+good entries names n (AsItem item is_bad) is h = (h.0, ap (λ x. item_fault (place_in entries names n) (item_in x)) is ∙ h.1)
 good entries names n (AsLabel region) is h = tt
 good entries names n (AsProcedure heading region) is h = h
 
