@@ -1,5 +1,7 @@
 -- Laws of answered lines: some after others, and a line that was cut.
-use Rattle.std.proofs.Common.{◌≡◌, ℕ, zero, suc, ◌<◌, ◌≤◌, ◌⊎◌, inl, inr, Bool, true, false, List, [], ◌∷◌, ◌++◌, length, take, Option, Some, None, Result, Ok, Err, refl, sym, ap, subst, ◌∙◌, append_assoc, append-nil, arith, unwrap_or, take_all, length-take}
+use Rattle.std.proofs.Common.{◌≡◌, ℕ, zero, suc, ◌<◌, ◌≤◌, ◌⊎◌, inl, inr, Bool, true, false, List, [], ◌∷◌, ◌++◌, length, take, Option, Some, None, Result, Ok, Err, refl, sym, ap, subst, ◌∙◌, append_assoc, append-nil, arith, unwrap_or, take_all, length-take, length-append}
+use Rattle.std.specs.Prelude.{All}
+use Rattle.std.proofs.lemmas.List.Elements.{All-nil, All-cons, All-append}
 use Rattle.std.proofs.lemmas.Bool.{cases_lt}
 use Rattle.std.specs.Io.KnownBytes.{Appends, Consumes, IsAtEnd}
 use Rattle.pli_base.specs.Devices.{AppendsPrefix}
@@ -7,7 +9,7 @@ use Rattle.pli_base.specs.DeviceLaws.{Appends-none, Appends-then, Consumes-then}
 use Rattle.pli_bench.specs.Commands.{line_limit}
 use Rattle.pli_bench.specs.Kept.{kept_limit}
 use Rattle.pli_bench.specs.Lines.{is_line_feed, without_return, complete_from, pending_from, complete_lines, pending_line, last_line, input_lines}
-use Rattle.pli_bench.specs.Runs.{Answers, nothing, quitting, going, Broken, Answered, next_after, IsInput}
+use Rattle.pli_bench.specs.Runs.{Answers, nothing, quitting, going, Broken, Answered, QuitsWithin, Stops, next_after, IsInput}
 use Rattle.pli_bench.specs.Going.{Going}
 use Rattle.pli_bench.specs.declared.serving.Next.{Next}
 use Rattle.pli_bench.specs.declared.serving.Next.TheVariants.{Go, Quit, End}
@@ -53,6 +55,11 @@ module _ {S : Type 0} (Step : S → List ℕ → List ℕ → S → Type 0) (qui
   Answers-quit _ _ _ ys _ (quitting s t line lines answer quit step) = quitting s t line (lines ++ ys) answer quit step
   Answers-quit _ _ _ ys _ (going s t u line lines answer answers _ goes step more) =
       going s t u line (lines ++ ys) answer answers Quit goes step (Answers-quit t u lines ys answers more)
+
+  -- of lines that were answered to the end none quits
+  pub Answers-go_on : (s t : S) (lines : List (List ℕ)) (answers : List ℕ) → Answers Step quits s lines answers t End → All (λ l. quits l ≡ false) lines
+  Answers-go_on _ _ _ _ (nothing s) = All-nil (λ l. quits l ≡ false)
+  Answers-go_on _ _ _ _ (going s t u line lines answer answers _ goes step more) = All-cons (λ l. quits l ≡ false) line lines goes (Answers-go_on t u lines answers more)
 
   pub Answers-one : (s t : S) (line answer : List ℕ) → quits line ≡ false → Step s line answer t → Answers Step quits s (line ∷ []) answer t End
   Answers-one s t line answer goes step = subst (λ l. Answers Step quits s (line ∷ []) l t End) (append-nil answer) (going s t t line [] answer [] End goes step (nothing t))
@@ -192,6 +199,25 @@ module _ {S : Type 0} (Step : S → List ℕ → List ℕ → S → Type 0) (qui
         subst (λ l. Answered Step quits s l u a d (Ok Quit)) (sym (complete_from-line_feed begun bytes c more feed))
         (Answered-then s t u (complete_from begun bytes) (line ∷ complete_from [] more) so_far.answers a b d (Ok Quit) so_far.answered so_far.written one)
 
+    -- the bytes up to that line feed, and those behind it
+    pub quits_within : (s t : S) (begun bytes kept ended : List ℕ) (c : ℕ) (more : List ℕ) (a b : Option (List ℕ)) → is_line_feed c ≡ true → Going Step quits s t begun bytes kept a b → ended ≡ without_return kept
+        → quits ended ≡ true → QuitsWithin quits (length (bytes ++ c ∷ more)) begun (bytes ++ c ∷ more)
+    quits_within s t begun bytes kept ended c more a b feed so_far ended_is quit =
+        let line = without_return (pending_from begun bytes) in
+        let alike = alike_ended kept (pending_from begun bytes) ended so_far.kept_is ended_is in
+        record {
+          front = bytes ++ c ∷ [];
+          behind = more;
+          bytes_are = sym (append_assoc bytes (c ∷ []) more);
+          few = omega (arith, length-append bytes (c ∷ more));
+          lines = complete_from begun bytes;
+          line = line;
+          ended = complete_from-line_feed begun bytes c [] feed;
+          fed = pending_from-line_feed begun bytes c feed;
+          go_on = Answers-go_on s t (complete_from begun bytes) so_far.answers so_far.answered;
+          quit = quits_alike ended line alike ∙ quit;
+        }
+
     -- a line feed behind a line whose answer cannot be written
     pub broken_line : (s t u : S) (begun bytes kept ended answer : List ℕ) (c : ℕ) (more : List ℕ) (a b d : Option (List ℕ)) → is_line_feed c ≡ true → Going Step quits s t begun bytes kept a b → ended ≡ without_return kept
         → Step t ended answer u → AppendsPrefix b d answer → Broken Step quits s (complete_from begun (bytes ++ c ∷ more)) u a d
@@ -264,6 +290,28 @@ module _ {S : Type 0} (Step : S → List ℕ → List ℕ → S → Type 0) (qui
     input_ended left left_after taken (subst (Consumes left left_after) (append-nil taken) (Consumes-then left between left_after taken [] before behind)) ended,
     Answered-then Step quits s t u (complete_lines taken) (last_line (pending_line taken)) so_far.answers a b d r so_far.answered so_far.written run,
   )
+
+-- the line that quits, in a piece behind what was taken before
+pub QuitsWithin-then : (quits : List ℕ → Bool) (limit size : ℕ) (taken piece : List ℕ) → limit ≤ size → All (λ l. quits l ≡ false) (complete_lines taken)
+    → QuitsWithin quits limit (pending_line taken) piece → QuitsWithin quits size [] (taken ++ piece)
+QuitsWithin-then quits limit size taken piece within go_on q = record {
+  front = taken ++ q.front;
+  behind = q.behind;
+  bytes_are = ap (λ l. taken ++ l) q.bytes_are ∙ sym (append_assoc taken q.front q.behind);
+  few = omega (arith, q.few);
+  lines = complete_lines taken ++ q.lines;
+  line = q.line;
+  ended = complete_from-append [] taken q.front ∙ ap (λ l. complete_lines taken ++ l) q.ended ∙ sym (append_assoc (complete_lines taken) q.lines (q.line ∷ []));
+  fed = pending_from-append [] taken q.front ∙ q.fed;
+  go_on = All-append (λ l. quits l ≡ false) (complete_lines taken) q.lines go_on q.go_on;
+  quit = q.quit;
+}
+
+-- at the end of the input reading stops, whatever the last line is
+pub stops_at_end : (quits : List ℕ → Bool) (piece : ℕ) (taken : List ℕ) (left : Option (List ℕ)) (next : Next) → IsAtEnd left → Stops quits piece taken left (Ok next)
+stops_at_end quits piece taken left Go end = tt
+stops_at_end quits piece taken left Quit end = inr end
+stops_at_end quits piece taken left End end = end
 
 -- what does not quit, and is not in the middle, has come to the end
 pub end_from : (next : Next) → (next ≡ Quit → ⊥) → (◌≡◌ {A = Result Next WriteFailed} (Ok next) (Ok Go) → ⊥) → next ≡ End

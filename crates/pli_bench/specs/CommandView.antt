@@ -2,8 +2,10 @@
 use Rattle.std.specs.Prelude.{}
 use Rattle.pli_bench.specs.Commands as spelt
 use Rattle.pli_bench.specs.declared.command.Command.{Command}
-use Rattle.pli_bench.specs.declared.command.Command.TheVariants.{Add, Delete, Insert, Replace, Remove, ListLines, ListMembers, Build, Run, Quit}
+use Rattle.pli_bench.specs.declared.command.Command.TheVariants.{Add, Delete, Insert, Replace, Remove}
+use Rattle.pli_bench.specs.declared.command.Command.TheVariants.{ListLines, ListMembers, Build, Run, Quit}
 
+-- the same command, without the places of names and texts
 abbrev pub command_view : Command → spelt.Command
 command_view (Add target kind) = spelt.Add target.name kind
 command_view (Delete target) = spelt.Delete target.name

@@ -1,5 +1,7 @@
 -- The commands that a line can spell (own).
-use Rattle.std.specs.Prelude.{◌≡◌, ℕ, ◌+◌, ◌-◌, ◌*◌, nat_eq, nat_lt, nat_le, Bool, ◌&&◌, List, [], codes, length, drop, fold, Option, Some, None, option_map, unwrap_or, if◌then◌else◌, refl}
+use Rattle.std.specs.Prelude.{◌≡◌, ℕ, ◌+◌, ◌-◌, ◌*◌, nat_eq, nat_lt, nat_le, Bool, ◌&&◌, List, [], codes}
+use Rattle.std.specs.Prelude.{length, drop, fold, Option, Some, None, option_map, unwrap_or, if◌then◌else◌}
+use Rattle.std.specs.Prelude.{refl}
 use Rattle.std.specs.Option.{option_and_then}
 use Rattle.std.specs.List.{list_all, position, before_first}
 use Rattle.std.specs.Str.{str_eq_ignore_ascii_case}
@@ -7,9 +9,11 @@ use Rattle.pli_base.specs.Name.{Name, is_digit, name_of}
 use Rattle.pli_members.specs.declared.kind.Kind.{Kind}
 use Rattle.pli_members.specs.declared.kind.Kind.TheVariants.{Source, Include}
 
+-- a command
 pub data Command : Type 0 where
   -- a new member of this kind, without lines
   Add : (name : Name) (kind : Kind) → Command
+  -- a member goes
   Delete : (name : Name) → Command
   -- a new line behind the line of this number, 0 for the front
   Insert : (name : Name) (after : ℕ) (text : List ℕ) → Command
@@ -21,15 +25,18 @@ pub data Command : Type 0 where
   ListLines : (name : Name) → Command
   -- the members are listed
   ListMembers : Command
+  -- the source members are built
   Build : Command
-  -- so many steps, or the bench's own number
+  -- the module that stands is run, with so many steps, or the bench's own number
   Run : (steps : Option ℕ) → Command
+  -- the session ends
   Quit : Command
 
 -- the greatest number of bytes in a command
 abbrev pub line_limit : ℕ
 line_limit = 200
 
+-- a blank; a tab is none
 abbrev pub is_blank : ℕ → Bool
 is_blank c = nat_eq c 32
 
@@ -52,7 +59,8 @@ decimal_value digits = fold (λ value digit. value * 10 + (digit - 48)) 0 digits
 -- the number that one to so many digits spell
 abbrev pub number_of : (limit : ℕ) → List ℕ → Option ℕ
 number_of limit digits =
-    if nat_lt 0 (length digits) && nat_le (length digits) limit && list_all is_digit digits then Some (decimal_value digits) else None
+    if nat_lt 0 (length digits) && nat_le (length digits) limit && list_all is_digit digits
+    then Some (decimal_value digits) else None
 
 -- the command, where nothing stands behind its word
 abbrev pub alone : Command → Option (List ℕ) → Option Command
@@ -61,7 +69,9 @@ alone command (Some rest) = None
 
 -- the kind that a word names
 abbrev pub kind_of_word : List ℕ → Option Kind
-kind_of_word word = if is_word (codes "SOURCE") word then Some Source else (if is_word (codes "INCLUDE") word then Some Include else None)
+kind_of_word word =
+    if is_word (codes "SOURCE") word then Some Source
+    else (if is_word (codes "INCLUDE") word then Some Include else None)
 
 -- the addition, where its name and its kind are of their form
 abbrev pub add_with : Option Name → Option Kind → Option Command
@@ -70,7 +80,8 @@ add_with name kind = None
 
 -- `name SOURCE` or `name INCLUDE`
 abbrev pub add_of : List ℕ → Option Command
-add_of text = option_and_then (λ word. add_with (name_of (first_word text)) (kind_of_word word)) (behind_blank text)
+add_of text =
+    option_and_then (λ word. add_with (name_of (first_word text)) (kind_of_word word)) (behind_blank text)
 
 -- `name`
 abbrev pub delete_of : List ℕ → Option Command
@@ -93,7 +104,10 @@ numbered_with name number text = None
 
 -- `name k text`, where an empty text may stand without its blank
 abbrev pub numbered_of : List ℕ → Option NumberedText
-numbered_of text = option_and_then (λ rest. numbered_with (name_of (first_word text)) (number_of 9 (first_word rest)) (unwrap_or (behind_blank rest) [])) (behind_blank text)
+numbered_of text =
+    option_and_then
+    (λ rest. numbered_with (name_of (first_word text)) (number_of 9 (first_word rest))
+    (unwrap_or (behind_blank rest) [])) (behind_blank text)
 
 -- what stands behind INSERT
 abbrev pub insert_of : List ℕ → Option Command
@@ -113,7 +127,10 @@ abbrev pub remove_of : List ℕ → Option Command
 remove_of text = option_and_then behind_name (behind_blank text)
   where
     behind_name : List ℕ → Option Command
-    behind_name rest = option_and_then (λ last. remove_with (name_of (first_word text)) (number_of 9 (first_word rest)) (number_of 9 last)) (behind_blank rest)
+    behind_name rest =
+        option_and_then
+        (λ last. remove_with (name_of (first_word text)) (number_of 9 (first_word rest)) (number_of 9 last))
+        (behind_blank rest)
 
 -- `name`
 abbrev pub list_of : List ℕ → Option Command
@@ -141,7 +158,8 @@ command_with word rest =
 
 -- the command that a line spells
 abbrev pub command_of : List ℕ → Option Command
-command_of line = if nat_lt line_limit (length line) then None else command_with (first_word line) (behind_blank line)
+command_of line =
+    if nat_lt line_limit (length line) then None else command_with (first_word line) (behind_blank line)
 
 spelt_insert : command_of (codes "insert m 0 M: x") ≡ Some (Insert (codes "M") 0 (codes "M: x"))
 spelt_insert = refl

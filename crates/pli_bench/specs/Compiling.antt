@@ -16,6 +16,7 @@ abbrev pub tree_view : Result Unit (Vec Fault) → Result tree.Procedure (List F
 tree_view (Ok u) = Ok (unit_view u)
 tree_view (Err faults) = Err faults.items
 
+-- where each token came from, and the tree
 abbrev pub parsed_view : Parsed → scratch.Parsed
 parsed_view p = record { origins = p.expansion.origins; tree = unit_view p.tree }
 
@@ -25,6 +26,7 @@ text_of unit (Ok x) = []
 text_of unit (Err diagnostics) = flat_map (scratch.diagnostic_line unit) diagnostics
 
 -- the value that was read, if there is one, and its diagnostics at the end of the text
-pub record Tells {A : Type 0} (unit : Name) (read : Result A (List scratch.Diagnostic)) (answer : Option A) (old new : List ℕ) : Type 0 where
+pub record Tells {A : Type 0} (unit : Name) (read : Result A (List scratch.Diagnostic)) (answer : Option A)
+    (old new : List ℕ) : Type 0 where
   pub value : answer ≡ result_ok read
   pub appended : new ≡ old ++ text_of unit read

@@ -8,7 +8,8 @@ use Rattle.pli_bench.specs.declared.serving.WriteFailed.{WriteFailed}
 use Rattle.pli_bench.specs.Session.{State, ending_line}
 
 -- from one state to another over an answer, which is put
-abbrev pub Does : {A E : Type 0} → (R : State → List ℕ → State → Type 0) → (s t : State) → (old new : Option (List ℕ)) → Result A E → Type 0
+abbrev pub Does : {A E : Type 0} → (R : State → List ℕ → State → Type 0) → (s t : State)
+    → (old new : Option (List ℕ)) → Result A E → Type 0
 Does R s t old new result = (answer : List ℕ) × R s answer t × Writes old new answer result
 
 -- what stands behind the output of a run

@@ -1,9 +1,12 @@
 -- The session: what a command answers, and what it leaves.
-use Rattle.std.specs.Prelude.{◌≡◌, ℕ, ◌+◌, Bool, true, false, nat_eq, ◌⊎◌, Option, Some, None, List, [], ◌∷◌, ◌++◌, length, codes, decimal, unwrap_or, if◌then◌else◌}
+use Rattle.std.specs.Prelude.{◌≡◌, ℕ, ◌+◌, Bool, true, false, nat_eq, ◌⊎◌, Option, Some, None, List, [], ◌∷◌}
+use Rattle.std.specs.Prelude.{◌++◌, length, codes, decimal, unwrap_or, if◌then◌else◌}
 use Rattle.std.specs.List.{flat_map}
 use Rattle.pli_base.specs.Name.{Name}
-use Rattle.pli_members.specs.Members.{Store, Member, empty_store, lines_of, added, deleted, with_line, with_line_replaced, without_lines}
-use Rattle.pli_members.specs.Refusals.{refusal_of_add, refusal_of_delete, refusal_of_insert, refusal_of_replace, refusal_of_remove, refusal_label, refusal_text}
+use Rattle.pli_members.specs.Members.{Store, Member, empty_store, lines_of, added, deleted, with_line}
+use Rattle.pli_members.specs.Members.{with_line_replaced, without_lines}
+use Rattle.pli_members.specs.Refusals.{refusal_of_add, refusal_of_delete, refusal_of_insert}
+use Rattle.pli_members.specs.Refusals.{refusal_of_replace, refusal_of_remove, refusal_label, refusal_text}
 use Rattle.pli_members.specs.declared.refusal.Refusal.{Refusal}
 use Rattle.pli_members.specs.declared.refusal.Refusal.TheVariants.{NoSuchMember}
 use Rattle.pli_members.specs.declared.kind.Kind.{Kind}
@@ -13,7 +16,8 @@ use Rattle.pli_code.specs.Machine.{Outcome}
 use Rattle.pli_code.specs.declared.ending.Ending.{Ending}
 use Rattle.pli_code.specs.declared.ending.Ending.TheVariants.{Ended, OutOfSteps, Error, MachineFault}
 use Rattle.pli_meaning.specs.Scratch.{Built, Diagnosed, Made, scratch, Means}
-use Rattle.pli_bench.specs.Commands.{Command, Add, Delete, Insert, Replace, Remove, ListLines, ListMembers, Build, Run, Quit, command_of}
+use Rattle.pli_bench.specs.Commands.{Command, Add, Delete, Insert, Replace, Remove, ListLines, ListMembers}
+use Rattle.pli_bench.specs.Commands.{Build, Run, Quit, command_of}
 
 -- the members, whether a module of them stands, and the steps of a bare RUN
 pub record State : Type 0 where
@@ -21,21 +25,27 @@ pub record State : Type 0 where
   pub stands : Bool
   pub steps : ℕ
 
+-- a text with its line feed
 abbrev pub line : List ℕ → List ℕ
 line text = text ++ 10 ∷ []
 
+-- a command was done
 abbrev pub okay : List ℕ
 okay = line (codes "OK")
 
+-- memory was refused
 abbrev pub no_memory : List ℕ
 no_memory = line (codes "NO MEMORY")
 
+-- a line is no command
 abbrev pub bad_command : List ℕ
 bad_command = line (codes "B1 BAD COMMAND")
 
+-- no module stands that could be run
 abbrev pub not_built : List ℕ
 not_built = line (codes "B2 NOT BUILT")
 
+-- why an edit was refused
 abbrev pub refused : Refusal → List ℕ
 refused r = line (refusal_label r ++ 32 ∷ refusal_text r)
 
@@ -43,17 +53,20 @@ refused r = line (refusal_label r ++ 32 ∷ refusal_text r)
 abbrev pub ending_line : Ending → List ℕ
 ending_line Ended = line (codes "ENDED")
 ending_line OutOfSteps = line (codes "OUT OF STEPS")
-ending_line (Error e unit statement) = line (codes "ERROR " ++ error_label e ++ 32 ∷ error_text e ++ 32 ∷ unit ++ 32 ∷ decimal statement)
+ending_line (Error e unit statement) =
+    line (codes "ERROR " ++ error_label e ++ 32 ∷ error_text e ++ 32 ∷ unit ++ 32 ∷ decimal statement)
 ending_line MachineFault = line (codes "MACHINE FAULT")
 
 -- the output, a line end unless the next column is 1, and how the run ended
 abbrev pub run_answer : Outcome → List ℕ
 run_answer o = o.output ++ (if nat_eq o.column 1 then [] else 10 ∷ []) ++ ending_line o.ending
 
+-- the diagnostics, or that a module stands
 abbrev pub build_answer : Built → List ℕ
 build_answer (Diagnosed text) = text ++ line (codes "NOT BUILT")
 build_answer (Made m) = line (codes "BUILT")
 
+-- a build gave a module
 abbrev pub is_made : Built → Bool
 is_made (Diagnosed text) = false
 is_made (Made m) = true
@@ -66,22 +79,26 @@ Says words s answer new = (answer ≡ words) × (new ≡ s)
 abbrev pub edited : State → Store → State
 edited s store = record { store = store; stands = false; steps = s.steps }
 
--- an edit is refused, or is made; where it takes memory, that may be refused, and nothing changes
+-- an edit is refused, and nothing changes, or is made
 abbrev pub Edits : Option Refusal → Store → State → List ℕ → State → Type 0
 Edits (Some r) store s answer new = Says (refused r) s answer new
 Edits None store s answer new = (answer ≡ okay) × (new ≡ edited s store)
 
+-- the same of an edit that takes memory: where that is refused, nothing changes
 abbrev pub EditsInMemory : Option Refusal → Store → State → List ℕ → State → Type 0
 EditsInMemory (Some r) store s answer new = Says (refused r) s answer new
-EditsInMemory None store s answer new = ((answer ≡ okay) × (new ≡ edited s store)) ⊎ Says no_memory s answer new
+EditsInMemory None store s answer new =
+    ((answer ≡ okay) × (new ≡ edited s store)) ⊎ Says no_memory s answer new
 
--- a build answers what a build from scratch of the members gives; where memory is refused, the members stay and no module stands
+-- a build answers what a build from scratch of the members gives; where memory is refused, the members stay
+-- and no module stands
 abbrev pub Builds : State → List ℕ → State → Type 0
 Builds s answer new =
-    ((answer ≡ build_answer (scratch s.store.entries)) × (new ≡ record { store = s.store; stands = is_made (scratch s.store.entries); steps = s.steps }))
+    ((answer ≡ build_answer (scratch s.store.entries))
+    × (new ≡ record { store = s.store; stands = is_made (scratch s.store.entries); steps = s.steps }))
     ⊎ ((answer ≡ no_memory) × (new ≡ edited s s.store))
 
--- a prefix of the output, a line end, and that memory was refused
+-- a run broke off: some first bytes of the output, a line end, and that memory was refused
 pub record Breaks (output answer : List ℕ) : Type 0 where
   pub written : List ℕ
   pub left : List ℕ
@@ -91,7 +108,8 @@ pub record Breaks (output answer : List ℕ) : Type 0 where
 -- a run prints and ends as the members' program does, if a module of them stands
 abbrev pub Runs : Bool → ℕ → State → List ℕ → State → Type 0
 Runs false n s answer new = Says not_built s answer new
-Runs true n s answer new = (o : Outcome) × Means s.store.entries n o × ((answer ≡ run_answer o) ⊎ Breaks o.output answer) × (new ≡ s)
+Runs true n s answer new =
+    (o : Outcome) × Means s.store.entries n o × ((answer ≡ run_answer o) ⊎ Breaks o.output answer) × (new ≡ s)
 
 -- a line of a member, behind its number
 abbrev pub numbered_line : ℕ → List ℕ → List ℕ
@@ -119,11 +137,17 @@ member_line entry = line (entry.0 ++ 32 ∷ kind_word entry.1.kind ++ 32 ∷ dec
 -- what a command may answer, and what it leaves
 abbrev pub Obeys : Option Command → State → List ℕ → State → Type 0
 Obeys None s answer new = Says bad_command s answer new
-Obeys (Some (Add name kind)) s answer new = EditsInMemory (refusal_of_add s.store name) (added s.store name kind) s answer new
-Obeys (Some (Delete name)) s answer new = Edits (refusal_of_delete s.store name) (deleted s.store name) s answer new
-Obeys (Some (Insert name after text)) s answer new = EditsInMemory (refusal_of_insert s.store name after text) (with_line s.store name after text) s answer new
-Obeys (Some (Replace name number text)) s answer new = EditsInMemory (refusal_of_replace s.store name number text) (with_line_replaced s.store name number text) s answer new
-Obeys (Some (Remove name first last)) s answer new = Edits (refusal_of_remove s.store name first last) (without_lines s.store name first last) s answer new
+Obeys (Some (Add name kind)) s answer new =
+    EditsInMemory (refusal_of_add s.store name) (added s.store name kind) s answer new
+Obeys (Some (Delete name)) s answer new =
+    Edits (refusal_of_delete s.store name) (deleted s.store name) s answer new
+Obeys (Some (Insert name after text)) s answer new =
+    EditsInMemory (refusal_of_insert s.store name after text) (with_line s.store name after text) s answer new
+Obeys (Some (Replace name number text)) s answer new =
+    EditsInMemory (refusal_of_replace s.store name number text) (with_line_replaced s.store name number text)
+    s answer new
+Obeys (Some (Remove name first last)) s answer new =
+    Edits (refusal_of_remove s.store name first last) (without_lines s.store name first last) s answer new
 Obeys (Some (ListLines name)) s answer new = Lists (lines_of s.store name) s answer new
 Obeys (Some ListMembers) s answer new = Says (flat_map member_line s.store.entries ++ okay) s answer new
 Obeys (Some Build) s answer new = Builds s answer new
@@ -134,6 +158,7 @@ Obeys (Some Quit) s answer new = Says okay s answer new
 abbrev pub Step : State → List ℕ → List ℕ → State → Type 0
 Step s text answer new = Obeys (command_of text) s answer new
 
+-- the command is QUIT
 abbrev pub is_quit : Option Command → Bool
 is_quit (Some Quit) = true
 is_quit _ = false

@@ -9,8 +9,12 @@ use Rattle.pli_bench.specs.Session.{State, Obeys, Step, quits, is_quit}
 none_of : (line : List ℕ) → line_limit < length line → command_of line ≡ None
 none_of line h = rw (lt-ltb line_limit (length line) h) refl
 
-pub long_alike : (s t : State) (line other answer : List ℕ) → line_limit < length line → line_limit < length other → Step s line answer t → Step s other answer t
-long_alike s t line other answer h k step = subst (λ c. Obeys c s answer t) (none_of line h ∙ sym (none_of other k)) step
+-- what may follow one of them may follow any
+pub long_alike : (s t : State) (line other answer : List ℕ) → line_limit < length line
+    → line_limit < length other → Step s line answer t → Step s other answer t
+long_alike s t line other answer h k step =
+    subst (λ c. Obeys c s answer t) (none_of line h ∙ sym (none_of other k)) step
 
+-- none of them is QUIT
 pub long_goes : (line : List ℕ) → line_limit < length line → quits line ≡ false
 long_goes line h = ap is_quit (none_of line h)

@@ -6,6 +6,7 @@ use Rattle.pli_code.specs.declared.instruction.Module.{Module}
 use Rattle.pli_members.specs.Members.{Member}
 use Rattle.pli_meaning.specs.Scratch.{scratch, Made}
 
+-- where one stands
 abbrev pub IsStanding : List (Name × Member) → Option Module → Type 0
 IsStanding entries None = Unit {0}
 IsStanding entries (Some m) = scratch entries ≡ Made (module_view m)

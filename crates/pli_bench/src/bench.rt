@@ -4,7 +4,7 @@ ghost use Rattle.pli_bench.specs.declared.serving.ServeFault.TheVariants.{TooMan
 ghost use Rattle.pli_bench.specs.Answering.{Writes};
 ghost use Rattle.pli_bench.specs.Commands as spelt;
 ghost use Rattle.pli_bench.specs.Obeying.{Does, end_answer, gone};
-ghost use Rattle.pli_bench.specs.Runs.{AnsweredOne, Marked, Served, Blames};
+ghost use Rattle.pli_bench.specs.Runs.{AnsweredOne, Marked, Served, Takes, Blames, piece_limit};
 ghost use Rattle.pli_bench.specs.Session.{Obeys, Step, quits, opened};
 
 use crate::answer::{put_ending, put_parts, put_refusal};
@@ -276,6 +276,7 @@ impl Bench {
     ) -> Result<Next, ServeFault>
         ensures served { Served Step quits self.old self.new (R.remaining reader.old) (R.remaining reader.new) (W.contents writer.old) (W.contents writer.new) reads result }
         ensures blamed { Blames result (R.failed reader.new) (W.failed writer.new) }
+        ensures few { Takes quits piece_limit reads (R.remaining reader.old) (R.remaining reader.new) result }
         ensures unread { reads ≡ 0 → result ≡ Err TooManyReads }
     {
         serve(self, reader, writer, reads)

@@ -3,7 +3,7 @@ ghost use Rattle.std.specs.Prelude.{◌≡◌, ◌*◌, ◌<◌, ℕ, List, Bool
 ghost use Rattle.pli_bench.specs.Commands.{line_limit};
 ghost use Rattle.pli_bench.specs.Kept.{kept_limit};
 ghost use Rattle.pli_bench.specs.Lines.{without_return, complete_from, pending_from, last_line};
-ghost use Rattle.pli_bench.specs.Runs.{AnsweredOne, Answered, Served, TakesAtMost, Marked, Blames};
+ghost use Rattle.pli_bench.specs.Runs.{AnsweredOne, Answered, Served, QuitsWithin, Takes, Marked, Blames, piece_limit};
 ghost use Rattle.pli_bench.specs.declared.serving.Next.TheVariants.{Go, Quit, End};
 ghost use Rattle.pli_bench.specs.declared.serving.ServeFault.TheVariants.{TooManyReads};
 
@@ -107,6 +107,8 @@ fn answer_piece<T: Interpreter, W: Sink>(
         (W.contents writer.old) (W.contents writer.new) result }
     ensures kept { (begun : List ℕ) → line.old ≡ take kept_limit begun → result ≡ Ok End
         → line.new ≡ take kept_limit (pending_from begun piece.now) }
+    ensures quit { (begun : List ℕ) → line.old ≡ take kept_limit begun → result ≡ Ok Quit
+        → QuitsWithin T.quits (length piece.now) begun piece.now }
     ensures stops { result ≢ Ok Go }
     ensures mark { Marked (W.failed writer.old) (W.failed writer.new) result }
 {
@@ -155,8 +157,8 @@ fn serve_pieces<T: Interpreter, R: Source, W: Sink>(
     ensures served { Served T.steps T.quits bench.old bench.new (R.remaining reader.old)
         (R.remaining reader.new) (W.contents writer.old) (W.contents writer.new) reads result }
     ensures blamed { Blames result (R.failed reader.new) (W.failed writer.new) }
-    ensures few { TakesAtMost (reads * length buffer.old)
-        (R.remaining reader.old) (R.remaining reader.new) }
+    ensures few { Takes T.quits (length buffer.old) reads
+        (R.remaining reader.old) (R.remaining reader.new) result }
     ensures unread { reads ≡ 0 → result ≡ Err TooManyReads }
 {
     let mut line = Pending::new();
@@ -188,7 +190,7 @@ pub fn serve<T: Interpreter, R: Source, W: Sink>(
     ensures served { Served T.steps T.quits bench.old bench.new (R.remaining reader.old)
         (R.remaining reader.new) (W.contents writer.old) (W.contents writer.new) reads result }
     ensures blamed { Blames result (R.failed reader.new) (W.failed writer.new) }
-    ensures few { TakesAtMost (reads * PIECE) (R.remaining reader.old) (R.remaining reader.new) }
+    ensures few { Takes T.quits piece_limit reads (R.remaining reader.old) (R.remaining reader.new) result }
     ensures unread { reads ≡ 0 → result ≡ Err TooManyReads }
 {
     let mut buffer = [0; PIECE];

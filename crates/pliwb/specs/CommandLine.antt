@@ -1,7 +1,9 @@
 -- What the words of the command line say, by what the crate clap makes of them.
-use Rattle.std.specs.Prelude.{◌≡◌, ◌<◌, ◌^◌, ℕ, List, [], ◌∷◌, true, length, codes, Option, Some, None, Result, Ok, Err}
+use Rattle.std.specs.Prelude.{◌≡◌, ◌<◌, ◌^◌, ℕ, List, [], ◌∷◌, true, length, codes, Option, Some, None}
+use Rattle.std.specs.Prelude.{Result, Ok, Err}
 use Rattle.std.specs.Str.Parse.{IsNumeral, digits_value, without_leading_plus}
-use Rattle.clap.specs.Words.{App, Kinds, Rule, Text, fault_of, matches_of, new_app, new_rule, one_of, with_rule}
+use Rattle.clap.specs.Words.{App, Kinds, Rule, Text, fault_of, matches_of, new_app, new_rule, one_of}
+use Rattle.clap.specs.Words.{with_rule}
 use Rattle.clap.specs.Simple.{on_top}
 use Rattle.clap.specs.declared.builder.action.ArgAction.TheVariants.{Set}
 use Rattle.clap.specs.declared.builder.value_parser.ValueParser.TheVariants.{Unsigned}
@@ -35,7 +37,8 @@ steps_text words = one_of (codes "steps") (matches_of program words)
 abbrev pub Spells : Option Text → ℕ → Type 0
 Spells None n = n ≡ 1000000
 Spells (Some text) n =
-    IsNumeral 10 (without_leading_plus text) → digits_value 10 (without_leading_plus text) < 2 ^ 64 → n ≡ digits_value 10 (without_leading_plus text)
+    IsNumeral 10 (without_leading_plus text) → digits_value 10 (without_leading_plus text) < 2 ^ 64 → n
+    ≡ digits_value 10 (without_leading_plus text)
 
 -- words without fault give the steps of a bare RUN
 abbrev pub Gives : List Text → ℕ → Type 0

@@ -1,8 +1,8 @@
 //! The program over any reader and writers.
-ghost use Rattle.std.specs.Prelude.{◌≡◌, ◌≢◌, ◌≤◌, ◌<◌, ℕ, length, map};
+ghost use Rattle.std.specs.Prelude.{◌≡◌, ◌≢◌, ◌≤◌, ◌<◌, ℕ, drop, map};
 ghost use Rattle.std.specs.String.{string_bytes};
-ghost use Rattle.pliwb.specs.CommandLine.{Gives, faults};
-ghost use Rattle.pliwb.specs.Statuses.{Answers, Breaks, status_of, reads_limit};
+ghost use Rattle.pliwb.specs.CommandLine.{Gives};
+ghost use Rattle.pliwb.specs.Statuses.{Answers, Breaks, Refused, Tells, status_of, reads_limit};
 
 use crate::arguments::{ArgumentsError, read_arguments};
 use pli_base::{Sink, Source, put_all};
@@ -29,8 +29,10 @@ pub fn serve<R: Source, W: Sink>(
     writer: &mut W,
     reads: u64,
 ) -> u8
-    ensures answered { result ≡ 0 → Answers steps reads (R.remaining reader.old) (R.remaining reader.new) (W.contents writer.old) (W.contents writer.new) }
-    ensures broke { result ≡ 1 → Breaks steps reads (R.remaining reader.old) (R.remaining reader.new) (W.contents writer.old) (W.contents writer.new) (R.failed reader.new) (W.failed writer.new) }
+    ensures answered { result ≡ 0 → Answers steps reads (R.remaining reader.old) (R.remaining reader.new)
+        (W.contents writer.old) (W.contents writer.new) (R.failed reader.new) (W.failed writer.new) }
+    ensures broke { result ≡ 1 → Breaks steps reads (R.remaining reader.old) (R.remaining reader.new)
+        (W.contents writer.old) (W.contents writer.new) (R.failed reader.new) (W.failed writer.new) }
     ensures range { result ≤ 1 }
 {
     match Bench::new(alloc, steps).serve(reader, writer, reads) {
@@ -42,6 +44,7 @@ pub fn serve<R: Source, W: Sink>(
 /// The status where the words say nothing. The text for the user goes to `errors`, whose failure changes no status.
 pub fn refuse<F: Sink>(error: ArgumentsError, errors: &mut F) -> u8
     ensures status { result ≡ status_of error }
+    ensures told { Tells error (F.contents errors.old) (F.contents errors.new) (F.failed errors.new) }
     ensures silent { result ≢ 2 → errors.new ≡ errors.old }
 {
     match error {
@@ -53,8 +56,15 @@ pub fn refuse<F: Sink>(error: ArgumentsError, errors: &mut F) -> u8
     }
 }
 
-/// Reads the words behind the program's name, serves `reader` to `writer`, and answers the status (own). `errors` takes
-/// the text of status 2 alone, and its failure changes no status.
+/// The words behind the program's name, which is the first.
+fn words_behind_name(words: &[String]) -> &[String]
+    ensures { result.now ≡ drop 1 words.now }
+{
+    words.get(1..).unwrap_or(&[])
+}
+
+/// Reads the words, of which the first is the program's name, serves `reader` to `writer`, and answers the status (own).
+/// `errors` takes the text of status 2 alone, and its failure changes no status.
 pub fn go<R: Source, W: Sink, F: Sink>(
     alloc: Global,
     words: &[String],
@@ -62,14 +72,19 @@ pub fn go<R: Source, W: Sink, F: Sink>(
     writer: &mut W,
     errors: &mut F,
 ) -> u8
-    ensures answered { result ≡ 0 → (steps : ℕ) × Gives (map string_bytes words.now) steps × Answers steps reads_limit (R.remaining reader.old) (R.remaining reader.new) (W.contents writer.old) (W.contents writer.new) }
-    ensures broke { result ≡ 1 → (steps : ℕ) × Gives (map string_bytes words.now) steps × Breaks steps reads_limit (R.remaining reader.old) (R.remaining reader.new) (W.contents writer.old) (W.contents writer.new) (R.failed reader.new) (W.failed writer.new) }
-    ensures refused { result ≡ 2 → 0 < length (faults (map string_bytes words.now)) }
+    ensures answered { result ≡ 0 → (steps : ℕ) × Gives (map string_bytes (drop 1 words.now)) steps
+        × Answers steps reads_limit (R.remaining reader.old) (R.remaining reader.new)
+        (W.contents writer.old) (W.contents writer.new) (R.failed reader.new) (W.failed writer.new) }
+    ensures broke { result ≡ 1 → (steps : ℕ) × Gives (map string_bytes (drop 1 words.now)) steps
+        × Breaks steps reads_limit (R.remaining reader.old) (R.remaining reader.new)
+        (W.contents writer.old) (W.contents writer.new) (R.failed reader.new) (W.failed writer.new) }
+    ensures refused { 1 < result → Refused (map string_bytes (drop 1 words.now)) result
+        (F.contents errors.old) (F.contents errors.new) (F.failed errors.new) }
     ensures unserved { 1 < result → (reader.new ≡ reader.old) × (writer.new ≡ writer.old) }
     ensures silent { result ≢ 2 → errors.new ≡ errors.old }
     ensures range { result ≤ 3 }
 {
-    match read_arguments(alloc, words) {
+    match read_arguments(alloc, words_behind_name(words)) {
         Ok(arguments) => serve(alloc, arguments.steps, reader, writer, READS),
         Err(error) => refuse(error, errors),
     }

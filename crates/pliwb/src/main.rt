@@ -11,7 +11,7 @@ use std::process::ExitCode;
 fn main(rt: HostRuntime) -> ExitCode {
     let alloc = rt.alloc();
     let words: Vec<String> = match std::env::args(&rt) {
-        Ok(words) => match words.skip(1).collect(alloc) {
+        Ok(words) => match words.collect(alloc) {
             Ok(words) => words,
             Err(_) => return ExitCode::from(3),
         },

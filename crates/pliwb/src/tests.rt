@@ -14,46 +14,70 @@ const PROGRAM: &str = "ADD M SOURCE\nINSERT M 0 M: PROC OPTIONS(MAIN); ; END;\nB
 /// What the program is answered.
 const ANSWERS: &[u8] = b"OK\nOK\nBUILT\nENDED\n";
 
-/// Words of the command line.
+/// Words of the command line, behind the program's name.
 fn words_of(alloc: Global, words: &[&str]) -> Result<Vec<String>, Fail> {
     let mut given = Vec::new(alloc);
+    given.push(String::from_str(alloc, "--steps")?)?;
     for word in words {
         given.push(String::from_str(alloc, word)?)?;
     }
     Ok(given)
 }
 
-/// What `go` answers for words and an input: its status, what it writes, and whether it tells an error.
-fn ran(rt: &HostRuntime, words: &[&str], input: &str) -> Result<(u8, Vec<u8>, bool), Fail> {
+/// What `go` answers for words behind the program's name and an input: its status, what it writes, and what it tells.
+fn ran(rt: &HostRuntime, words: &[&str], input: &str) -> Result<(u8, Vec<u8>, Vec<u8>), Fail> {
     let alloc = rt.alloc();
     let given = words_of(alloc, words)?;
     let mut reader = Device::over(Cursor::new(input.as_bytes()));
     let mut writer = Device::over(Vec::new(alloc));
     let mut errors = Device::over(Vec::new(alloc));
     let status = go(alloc, &given, &mut reader, &mut writer, &mut errors);
-    Ok((status, writer.into_inner(), !errors.into_inner().is_empty()))
+    Ok((status, writer.into_inner(), errors.into_inner()))
 }
+
+/// Wrong words with the text that tells what is wrong with them, and the word that asks for help with the help.
+static WRONG: [(&[&str], &str); 6] = [
+    (
+        &["--steps", "x"],
+        "error: invalid value 'x' for '--steps <N>': invalid digit found in string\n\nFor more information, try '--help'.\n",
+    ),
+    (
+        &["--steps=1000000000000000000"],
+        "error: invalid value '1000000000000000000' for '--steps <N>': 1000000000000000000 is not in 0..=999999999999999999\n\nFor more information, try '--help'.\n",
+    ),
+    (
+        &["--steps"],
+        "error: a value is required for '--steps <N>' but none was supplied\n\nFor more information, try '--help'.\n",
+    ),
+    (
+        &["--steps", "-1"],
+        "error: unexpected argument '-1' found\n\nUsage: pliwb [OPTIONS]\n\nFor more information, try '--help'.\n",
+    ),
+    (
+        &["FILE", "FILE"],
+        "error: unexpected argument 'FILE' found\n\nUsage: pliwb [OPTIONS]\n\nFor more information, try '--help'.\n",
+    ),
+    (
+        &["--help"],
+        "The workbench: commands from standard input, answers to standard output\n\nUsage: pliwb [OPTIONS]\n\nOptions:\n      --steps <N>  The steps of a bare RUN [default: 1000000]\n  -h, --help       Print help\n",
+    ),
+];
 
 #[test]
 fn statuses(rt: HostRuntime) -> Result<(), Fail> {
     let (status, text, told) = ran(&rt, &[], PROGRAM)?;
     assert_eq!(rt; status, 0);
     assert!(rt; text.as_slice() == ANSWERS);
-    assert!(rt; !told);
-    let (status, text, _) = ran(&rt, &["--steps", "1"], PROGRAM)?;
+    assert!(rt; told.is_empty());
+    let (status, text, told) = ran(&rt, &["--steps", "1"], PROGRAM)?;
     assert_eq!(rt; status, 0);
     assert!(rt; text.as_slice() == b"OK\nOK\nBUILT\nOUT OF STEPS\n".as_slice());
-    for words in [
-        ["--steps", "-1"],
-        ["--steps", "x"],
-        ["--steps", "1000000000000000000"],
-        ["FILE", "FILE"],
-        ["--help", "--help"],
-    ] {
-        let (status, text, told) = ran(&rt, &words, PROGRAM)?;
-        assert_eq!(rt; status, 2);
-        assert!(rt; text.is_empty());
-        assert!(rt; told);
+    assert!(rt; told.is_empty());
+    for &(words, wanted) in &WRONG {
+        let (status, text, told) = ran(&rt, words, PROGRAM)?;
+        assert_eq!(rt; status, 2, "{wanted}");
+        assert!(rt; text.is_empty(), "{wanted}");
+        assert!(rt; told.as_slice() == wanted.as_bytes(), "{wanted}");
     }
     Ok(())
 }

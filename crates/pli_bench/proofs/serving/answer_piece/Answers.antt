@@ -3,9 +3,9 @@ use Rattle.std.proofs.lemmas.List.{take_more, drop_more}
 use Rattle.std.proofs.lemmas.Result.{err_from_is_err_and}
 use Rattle.pli_bench.specs.Lines.{is_line_feed, without_return, complete_from, pending_from}
 use Rattle.pli_bench.specs.Kept.{kept_limit}
-use Rattle.pli_bench.specs.Runs.{Broken, Answers}
+use Rattle.pli_bench.specs.Runs.{Broken, Answers, QuitsWithin}
 use Rattle.pli_bench.specs.declared.serving.Next.TheVariants.{End}
-use Rattle.pli_bench.proofs.RunLaws.{Going-none, Going-other, Going-line, quit_line, broken_line, quits_from, goes_from}
+use Rattle.pli_bench.proofs.RunLaws.{Going-none, Going-other, Going-line, quit_line, quits_within, broken_line, quits_from, goes_from}
 use Rattle.pli_bench.proofs.serving.answer_piece.Goals as goal
 use Rattle.pli_bench.proofs.serving.answer_piece.Goals.{then-byte-eq10+in_ok-command+in_default, else-byte-eq10}
 
@@ -40,6 +40,17 @@ returns-in-Quit-clause-answered g c = λ begun is.
     let quit = quits_from (g.T.Interpreter.quits c.without_return.result.now) (sym c.in-Quit.is ∙ one.3) in
     let done = quit_line g.T.Interpreter.steps g.T.Interpreter.quits g.met.T.Interpreter.too_long g.met.T.Interpreter.too_long_goes c.args.bench.now c.loop-byte.bench c.command.new.self begun (take i text) c.loop-byte.line c.without_return.result.now one.0 (get_or text i 0) (drop (i + 1) text) (g.W.Sink.contents c.args.writer.now) (g.W.Sink.contents c.loop-byte.writer) (g.W.Sink.contents c.command.new.writer) feed (c.loop-byte.invariant.lines begun is) ended quit one.1 one.2 in
     rw (← split text i (omega arith)) done
+
+pub returns-in-Quit-clause-quit : goal.returns-in-Quit-clause-quit
+returns-in-Quit-clause-quit g c = λ begun is _.
+    let text = c.args.piece.now in
+    let i = c.loop-byte.byte-index in
+    let feed : is_line_feed (get_or text i 0) ≡ true = search (rules, c.if-byte-eq10.true) in
+    let one = c.in_ok-command.ensures.answered in
+    let ended = c.without_return.ensures ∙ ap without_return c.bytes.ensures in
+    let quit = quits_from (g.T.Interpreter.quits c.without_return.result.now) (sym c.in-Quit.is ∙ one.3) in
+    let found = quits_within g.T.Interpreter.steps g.T.Interpreter.quits g.met.T.Interpreter.too_long g.met.T.Interpreter.too_long_goes c.args.bench.now c.loop-byte.bench begun (take i text) c.loop-byte.line c.without_return.result.now (get_or text i 0) (drop (i + 1) text) (g.W.Sink.contents c.args.writer.now) (g.W.Sink.contents c.loop-byte.writer) feed (c.loop-byte.invariant.lines begun is) ended quit in
+    subst (λ l. QuitsWithin g.T.Interpreter.quits (length l) begun l) (split text i (omega arith)) found
 
 pub loop-byte-preserved : goal.loop-byte-preserved
 loop-byte-preserved g c =

@@ -1,12 +1,14 @@
 use Rattle.std.proofs.Math.Nat.{mul-le-mul_left}
-use Rattle.std.proofs.Common.{◌≡◌, ℕ, ◌+◌, ◌*◌, ◌<◌, ◌≤◌, List, [], ◌++◌, length, take, Option, Ok, Err, refl, ap, ◌∙◌, subst, arith, length-append, length-take-le}
+use Rattle.std.proofs.Common.{◌≡◌, ℕ, ◌+◌, ◌*◌, ◌<◌, ◌≤◌, List, [], ◌++◌, length, take, Bool, Option, Result, Ok, Err, inl, refl, ap, ◌∙◌, subst, arith, length-append, length-take-le}
 use Rattle.std.proofs.lemmas.Result.{err_from_is_err_and}
 use Rattle.std.specs.Io.KnownBytes.{Consumes}
 use Rattle.pli_base.specs.DeviceLaws.{Consumes-none, Consumes-then, Consumes-then_Keeps}
-use Rattle.pli_bench.specs.Lines.{pending_line, complete_from}
-use Rattle.pli_bench.specs.Runs.{Answered, TakesAtMost}
+use Rattle.pli_bench.specs.Lines.{pending_line, complete_lines, complete_from}
+use Rattle.pli_bench.specs.Runs.{Answered, Stops, Takes}
+use Rattle.pli_bench.specs.declared.serving.Next.{Next}
+use Rattle.pli_bench.specs.declared.serving.ServeFault.{ServeFault}
 use Rattle.pli_bench.specs.declared.serving.Next.TheVariants.{Quit}
-use Rattle.pli_bench.proofs.RunLaws.{Going-none, Going-then, Answered-quit, Broken-more, served_part, served_end, end_from}
+use Rattle.pli_bench.proofs.RunLaws.{Going-none, Going-then, Answered-quit, Broken-more, Answers-go_on, QuitsWithin-then, served_part, served_end, stops_at_end, end_from}
 use Rattle.pli_bench.proofs.serving.serve_pieces.Goals as goal
 
 -- a piece that is not empty adds a byte at least
@@ -23,15 +25,16 @@ few_reads : (taken : List ℕ) (read reads size : ℕ) → length taken ≤ read
 few_reads taken read reads size few h = omega (arith, mul-le-mul_left size h)
 
 -- what was taken with one read more
-module _ (left between left_after : Option (List ℕ)) (taken buffer : List ℕ) (count read reads size : ℕ) where
+module _ (quits : List ℕ → Bool) (left between left_after : Option (List ℕ)) (taken buffer : List ℕ) (count read reads size : ℕ) (r : Result Next ServeFault) where
   takes_piece : Consumes left between taken → Consumes between left_after (take count buffer) → length taken ≤ read * size → count ≤ length buffer → length buffer ≡ size → read < reads
-      → TakesAtMost (reads * size) left left_after
-  takes_piece before behind few within sized h =
-      let next : read + 1 ≤ reads = omega arith in (
-        taken ++ take count buffer,
-        Consumes-then left between left_after taken (take count buffer) before behind,
-        few_reads (taken ++ take count buffer) (read + 1) reads size (few_more taken buffer count read size few within sized) next,
-      )
+      → Stops quits size (taken ++ take count buffer) left_after r → Takes quits size reads left left_after r
+  takes_piece before behind few within sized h stops =
+      let next : read + 1 ≤ reads = omega arith in record {
+        taken = taken ++ take count buffer;
+        consumed = Consumes-then left between left_after taken (take count buffer) before behind;
+        few = few_reads (taken ++ take count buffer) (read + 1) reads size (few_more taken buffer count read size few within sized) next;
+        stops = stops;
+      }
 
 pub loop-read-init : goal.loop-read-init
 loop-read-init g c = (
@@ -103,29 +106,47 @@ returns-clause-served g c =
 pub returns-in_default-clause-few : goal.returns-in_default-clause-few
 returns-in_default-clause-few g c =
     let (taken, before, reads, so_far, sized, few) = c.loop-read.invariant in
-    (taken, Consumes-then_Keeps _ _ _ taken before c.in_default.ensures.moved, few_reads taken c.loop-read._read c.args.reads (length c.args.buffer.now) few (omega arith))
+    record {
+      taken = taken;
+      consumed = Consumes-then_Keeps _ _ _ taken before c.in_default.ensures.moved;
+      few = few_reads taken c.loop-read._read c.args.reads (length c.args.buffer.now) few (omega arith);
+      stops = tt;
+    }
 
 pub returns-in_err-answer_last-clause-few : goal.returns-in_err-answer_last-clause-few
 returns-in_err-answer_last-clause-few g c =
+    let p = err_from_is_err_and c.from_residual.result c.from_residual.ensures.1 in
     let (taken, before, reads, so_far, sized, few) = c.loop-read.invariant in
-    takes_piece _ _ _ taken c.take.new.buffer c.in-Ok.count c.loop-read._read c.args.reads (length c.args.buffer.now) before c.in-Ok.ensures.moved.0 few c.in-Ok.ensures.bound (omega (arith, sized)) (omega arith)
+    rw p.1 (takes_piece g.T.Interpreter.quits _ _ _ taken c.take.new.buffer c.in-Ok.count c.loop-read._read c.args.reads (length c.args.buffer.now) (Err p.0) before c.in-Ok.ensures.moved.0 few c.in-Ok.ensures.bound (omega (arith, sized)) (omega arith) tt)
 
 pub returns-then-count-eq0-clause-few : goal.returns-then-count-eq0-clause-few
 returns-then-count-eq0-clause-few g c =
     let (taken, before, reads, so_far, sized, few) = c.loop-read.invariant in
-    takes_piece _ _ _ taken c.take.new.buffer c.in-Ok.count c.loop-read._read c.args.reads (length c.args.buffer.now) before c.in-Ok.ensures.moved.0 few c.in-Ok.ensures.bound (omega (arith, sized)) (omega arith)
+    let ended = c.in-Ok.ensures.moved.1 c.if-count-eq0.true (omega (arith, sized)) in
+    takes_piece g.T.Interpreter.quits _ _ _ taken c.take.new.buffer c.in-Ok.count c.loop-read._read c.args.reads (length c.args.buffer.now) (Ok c.in_ok-answer_last.field-0) before c.in-Ok.ensures.moved.0 few c.in-Ok.ensures.bound (omega (arith, sized)) (omega arith) (stops_at_end g.T.Interpreter.quits (length c.args.buffer.now) _ _ c.in_ok-answer_last.field-0 ended)
 
 pub returns-in_err-answer_piece-clause-few : goal.returns-in_err-answer_piece-clause-few
 returns-in_err-answer_piece-clause-few g c =
+    let p = err_from_is_err_and c.from_residual-in_err-answer_piece.result c.from_residual-in_err-answer_piece.ensures.1 in
     let (taken, before, reads, so_far, sized, few) = c.loop-read.invariant in
-    takes_piece _ _ _ taken c.take.new.buffer c.in-Ok.count c.loop-read._read c.args.reads (length c.args.buffer.now) before c.in-Ok.ensures.moved.0 few c.in-Ok.ensures.bound (omega (arith, sized)) (omega arith)
+    rw p.1 (takes_piece g.T.Interpreter.quits _ _ _ taken c.take.new.buffer c.in-Ok.count c.loop-read._read c.args.reads (length c.args.buffer.now) (Err p.0) before c.in-Ok.ensures.moved.0 few c.in-Ok.ensures.bound (omega (arith, sized)) (omega arith) tt)
 
 pub returns-in-Quit-clause-few : goal.returns-in-Quit-clause-few
 returns-in-Quit-clause-few g c =
     let (taken, before, reads, so_far, sized, few) = c.loop-read.invariant in
-    takes_piece _ _ _ taken c.take.new.buffer c.in-Ok.count c.loop-read._read c.args.reads (length c.args.buffer.now) before c.in-Ok.ensures.moved.0 few c.in-Ok.ensures.bound (omega (arith, sized)) (omega arith)
+    let piece = take c.in-Ok.count c.take.new.buffer in
+    let size = length c.args.buffer.now in
+    let fits : length piece ≤ size = omega (arith, sized, length-take-le c.in-Ok.count c.take.new.buffer c.in-Ok.ensures.bound, c.in-Ok.ensures.bound) in
+    let found = c.in_ok-answer_piece.ensures.quit (pending_line taken) so_far.kept_is (ap Ok c.in-Quit.is) in
+    let go_on = Answers-go_on g.T.Interpreter.steps g.T.Interpreter.quits c.args.bench.now c.loop-read.bench (complete_lines taken) so_far.answers so_far.answered in
+    takes_piece g.T.Interpreter.quits _ _ _ taken c.take.new.buffer c.in-Ok.count c.loop-read._read c.args.reads size (Ok Quit) before c.in-Ok.ensures.moved.0 few c.in-Ok.ensures.bound (omega (arith, sized)) (omega arith) (inl (QuitsWithin-then g.T.Interpreter.quits (length piece) size taken piece fits go_on found))
 
 pub returns-clause-few : goal.returns-clause-few
 returns-clause-few g c =
     let (taken, before, reads, so_far, sized, few) = c.loop-read.invariant in
-    (taken, before, few_reads taken c.loop-read._read c.args.reads (length c.args.buffer.now) few (omega arith))
+    record {
+      taken = taken;
+      consumed = before;
+      few = few_reads taken c.loop-read._read c.args.reads (length c.args.buffer.now) few (omega arith);
+      stops = tt;
+    }
