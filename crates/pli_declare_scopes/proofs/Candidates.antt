@@ -7,8 +7,8 @@ use Rattle.pli_base.specs.Name.{Name}
 use Rattle.pli_base.specs.NameLaws.{pointwise-refl}
 use Rattle.pli_base.specs.Words.{same_name}
 use Rattle.pli_declare_scopes.specs.declared.found.Found.{Found}
-use Rattle.pli_declare_scopes.specs.declared.found.Found.TheVariants.{Nothing}
-use Rattle.pli_declare_scopes.specs.Scopes.{Block, item_at, is_named, chain_at, chain_over, is_part, fits_chain, is_chain, fits, fits_fully, with_number, found_below, preferred, found_in}
+use Rattle.pli_declare_scopes.specs.declared.found.Found.TheVariants.{Nothing, One, Several}
+use Rattle.pli_declare_scopes.specs.Scopes.{Block, item_at, is_named, chain_at, chain_over, is_part, fits_chain, is_chain, fits, fits_fully, with_number, found_below}
 use Rattle.pli_declare_scopes.specs.Indexes.{last_below, OwnersBefore}
 use Rattle.pli_declare_scopes.proofs.IndexKept.{both_true}
 use Rattle.pli_declare_scopes.proofs.Chains.{rank, chain_is, backwards}
@@ -21,11 +21,49 @@ same_turned : (x y : Name) → same_name x y ≡ true → same_name y x ≡ true
 same_turned x y h = subst (λ z. same_name z x ≡ true) (same_text x y (sym h)) (pointwise-refl x)
 
 -- nothing is found where nothing passes
-none_found : (test : ℕ → Bool) (k : ℕ) (found : Found) → ((j : ℕ) → j < k → test j ≡ false) → found_below test k found ≡ found
+pub none_found : (test : ℕ → Bool) (k : ℕ) (found : Found) → ((j : ℕ) → j < k → test j ≡ false) → found_below test k found ≡ found
 none_found test zero found none = refl
 none_found test (suc k) found none =
     ap (λ b. found_below test k (if b then with_number k found else found)) (none k (omega arith))
     ∙ none_found test k found (λ j lt. none j (omega arith))
+
+-- two that are found stay two
+pub several_stay : (test : ℕ → Bool) (k : ℕ) → found_below test k Several ≡ Several
+several_stay test zero = refl
+several_stay test (suc k) = by (test k) ∙ several_stay test k
+  where
+    by : (b : Bool) → found_below test k (if b then with_number k Several else Several) ≡ found_below test k Several
+    by true = refl
+    by false = refl
+
+-- what is found of more numbers, the last of them at last
+found_with : (test : ℕ → Bool) (k m : ℕ) (found : Found) → with_number m (found_below test k found) ≡ found_below test k (with_number m found)
+found_with test zero m found = refl
+found_with test (suc k) m found = by (test k) (found_with test k m)
+  where
+    several : (f : Found) → with_number k (with_number m f) ≡ with_number m (with_number k f)
+    several Nothing = refl
+    several (One n) = refl
+    several Several = refl
+
+    by : (b : Bool) → ((f : Found) → with_number m (found_below test k f) ≡ found_below test k (with_number m f))
+        → with_number m (found_below test k (if b then with_number k found else found)) ≡ found_below test k (if b then with_number k (with_number m found) else with_number m found)
+    by true go = go (with_number k found) ∙ ap (found_below test k) (sym (several found))
+    by false go = go found
+
+pub found_more : (test : ℕ → Bool) (k : ℕ) → found_below test (suc k) Nothing ≡ (if test k then with_number k (found_below test k Nothing) else found_below test k Nothing)
+found_more test k = by (test k)
+  where
+    by : (b : Bool) → found_below test k (if b then with_number k Nothing else Nothing) ≡ (if b then with_number k (found_below test k Nothing) else found_below test k Nothing)
+    by true = sym (found_with test k k Nothing)
+    by false = refl
+
+-- what is found is found by each test that is the same
+pub found_same : (test other : ℕ → Bool) (k : ℕ) (found : Found) → ((j : ℕ) → j < k → test j ≡ other j) → found_below test k found ≡ found_below other k found
+found_same test other zero found same = refl
+found_same test other (suc k) found same =
+    ap (λ b. found_below test k (if b then with_number k found else found)) (same k (omega arith))
+    ∙ found_same test other k (if other k then with_number k found else found) (λ j lt. same j (omega arith))
 
 skipped_step : (test named : ℕ → Bool) (k : ℕ) (found : Found) (b : Bool) → named k ≡ b → (test k ≡ true → named k ≡ true)
     → found_below test k found ≡ found_below test (rank (last_below named k)) found
@@ -75,12 +113,12 @@ last_passes named (suc k) = by (named k) refl (last_passes named k)
 
 module _ (items : Block) (owners : OwnersBefore items) where
   -- no names fit nothing
-  pub no_names : found_in items [] ≡ Nothing
-  no_names =
-      let fully : found_below (fits_fully items []) (length items) Nothing ≡ Nothing = none_found (fits_fully items []) (length items) Nothing
-      (λ j lt. ap (λ chain. (item_at items j).counts && is_chain [] chain) (chain_is items j owners lt) ∙ and_false (item_at items j).counts) in
-      let partly : found_below (fits items []) (length items) Nothing ≡ Nothing = none_found (fits items []) (length items) Nothing (λ j lt. and_false (item_at items j).counts) in
-      ap (λ f. preferred f (found_below (fits items []) (length items) Nothing)) fully ∙ partly
+  pub no_names : found_below (fits items []) (length items) Nothing ≡ Nothing
+  no_names = none_found (fits items []) (length items) Nothing (λ j lt. and_false (item_at items j).counts)
+
+  pub no_names_fully : found_below (fits_fully items []) (length items) Nothing ≡ Nothing
+  no_names_fully = none_found (fits_fully items []) (length items) Nothing
+      (λ j lt. ap (λ chain. (item_at items j).counts && is_chain [] chain) (chain_is items j owners lt) ∙ and_false (item_at items j).counts)
 
   module _ (names : List Name) (some : 0 < length names) where
     abbrev pub own : Name
@@ -107,13 +145,6 @@ module _ (items : Block) (owners : OwnersBefore items) where
         ap (λ b. b && fits_chain (reverse names) (chain_at items n)) t.0
         ∙ chained n lt t.0 (same_turned (item_at items n).name own t.1)
 
-    pub fully_named : (n : ℕ) → n < length items → is_named items own n ≡ true → fits_fully items names n ≡ is_chain front (chain_over items (item_at items n).owner)
-    fully_named n lt named =
-        let t = both_true (item_at items n).counts (same_name (item_at items n).name own) named in
-        ap (λ b. b && is_chain (reverse names) (chain_at items n)) t.0
-        ∙ ap (λ ns. is_chain ns (chain_at items n)) turned ∙ ap (is_chain (own ∷ front)) (chain_is items n owners lt)
-        ∙ ap (λ b. b && is_chain front (chain_over items (item_at items n).owner)) (same_turned (item_at items n).name own t.1)
-
     -- what fits is of the last name
     pub only_named : (n : ℕ) → n < length items → fits items names n ≡ true → is_named items own n ≡ true
     only_named n lt h =
@@ -123,20 +154,11 @@ module _ (items : Block) (owners : OwnersBefore items) where
         let u = both_true (same_name own (item_at items n).name) (is_part front (chain_over items (item_at items n).owner)) split in
         ap (λ b. b && same_name (item_at items n).name own) t.0 ∙ same_turned own (item_at items n).name u.0
 
-    pub only_fully : (n : ℕ) → n < length items → fits_fully items names n ≡ true → is_named items own n ≡ true
-    only_fully n lt h =
-        let t = both_true (item_at items n).counts (is_chain (reverse names) (chain_at items n)) h in
-        let split : is_chain (own ∷ front) ((item_at items n).name ∷ chain_over items (item_at items n).owner) ≡ true =
-        sym (ap (λ ns. is_chain ns (chain_at items n)) turned ∙ ap (is_chain (own ∷ front)) (chain_is items n owners lt)) ∙ t.1 in
-        let u = both_true (same_name own (item_at items n).name) (is_chain front (chain_over items (item_at items n).owner)) split in
-        ap (λ b. b && same_name (item_at items n).name own) t.0 ∙ same_turned own (item_at items n).name u.0
-
 -- the items of a name are walked from the last: what is found so far, and what those from the next on give, is what all give
-pub record Looking (items : Block) (names : List Name) (next : Option ℕ) (partly fully : Found) : Type 0 where
+pub record Looking (items : Block) (names : List Name) (next : Option ℕ) (found : Found) : Type 0 where
   pub within : IfSome next (λ n. n < length items)
   pub named : IfSome next (λ n. is_named items (get_or names (length names - 1) []) n ≡ true)
-  pub part : found_below (fits items names) (rank next) partly ≡ found_below (fits items names) (length items) Nothing
-  pub whole : found_below (fits_fully items names) (rank next) fully ≡ found_below (fits_fully items names) (length items) Nothing
+  pub part : found_below (fits items names) (rank next) found ≡ found_below (fits items names) (length items) Nothing
 
 wider_next : (next : Option ℕ) (m n : ℕ) → m ≤ n → IfSome next (λ o. o < m) → IfSome next (λ o. o < n)
 wider_next None m n le h = tt
@@ -148,17 +170,28 @@ rank_below (Some o) n h = omega (arith, h)
 
 module _ (items : Block) (owners : OwnersBefore items) (names : List Name) (some : 0 < length names) where
   -- the walk begins
-  pub looking_first : (next : Option ℕ) → next ≡ last_below (is_named items (get_or names (length names - 1) [])) (length items) → Looking items names next Nothing Nothing
+  pub looking_first : (next : Option ℕ) → next ≡ last_below (is_named items (get_or names (length names - 1) [])) (length items) → Looking items names next Nothing
   looking_first next e =
       let named : ℕ → Bool = is_named items (get_or names (length names - 1) []) in
       rw e (record {
         within = last_within named (length items);
         named = last_passes named (length items);
         part = sym (skipped (fits items names) named (length items) Nothing (only_named items owners names some));
-        whole = sym (skipped (fits_fully items names) named (length items) Nothing (only_fully items owners names some));
       })
 
-  module _ (at : Option ℕ) (n : ℕ) (partly fully : Found) (so_far : Looking items names at partly fully) (is : at ≡ Some n) where
+  -- two are found
+  pub looking_several : (at : Option ℕ) (n : ℕ) (found now : Found) (p : Bool) → Looking items names at found → at ≡ Some n
+      → p ≡ is_part (reverse (take (length names - 1) names)) (chain_over items (item_at items n).owner)
+      → now ≡ (if p then with_number n found else found) → now ≡ Several → Several ≡ found_below (fits items names) (length items) Nothing
+  looking_several at n found now p so_far is is_p told two =
+      let within : n < length items = subst (λ a. IfSome a (λ o. o < length items)) is so_far.within in
+      let named : is_named items (get_or names (length names - 1) []) n ≡ true = subst (λ a. IfSome a (λ o. is_named items (get_or names (length names - 1) []) o ≡ true)) is so_far.named in
+      let one : fits items names n ≡ p = fits_named items owners names some n within named ∙ sym is_p in
+      sym (several_stay (fits items names) n) ∙ ap (found_below (fits items names) n) (sym two ∙ told ∙ ap (λ b. if b then with_number n found else found) (sym one))
+      ∙ ap (λ m. found_below (fits items names) m found) (let on : suc n ≡ n + 1 = omega arith in on)
+      ∙ ap (λ a. found_below (fits items names) (rank a) found) (sym is) ∙ so_far.part
+
+  module _ (at : Option ℕ) (n : ℕ) (found : Found) (so_far : Looking items names at found) (is : at ≡ Some n) where
     pub stands : n < length items
     stands = subst (λ a. IfSome a (λ o. o < length items)) is so_far.within
 
@@ -174,23 +207,19 @@ module _ (items : Block) (owners : OwnersBefore items) (names : List Name) (some
           rw is less
 
       -- one more item is looked at
-      pub looking_on : (now_partly now_fully : Found) (p f : Bool)
+      pub looking_on : (now : Found) (p : Bool)
           → p ≡ is_part (reverse (take (length names - 1) names)) (chain_over items (item_at items n).owner)
-          → f ≡ is_chain (reverse (take (length names - 1) names)) (chain_over items (item_at items n).owner)
-          → now_partly ≡ (if p then with_number n partly else partly) → now_fully ≡ (if f then with_number n fully else fully)
-          → Looking items names next now_partly now_fully
-      looking_on now_partly now_fully p f is_p is_f found_p found_f =
+          → now ≡ (if p then with_number n found else found)
+          → Looking items names next now
+      looking_on now p is_p told =
           let named : ℕ → Bool = is_named items (get_or names (length names - 1) []) in
           let one : fits items names n ≡ p = fits_named items owners names some n stands is_there ∙ sym is_p in
-          let two : fits_fully items names n ≡ f = fully_named items owners names some n stands is_there ∙ sym is_f in
           let below : n ≤ length items = omega (arith, stands) in
           rw further (record {
             within = wider_next (last_below named n) n (length items) below (last_within named n);
             named = last_passes named n;
-            part = looked_at (fits items names) named n p partly now_partly one found_p (λ j lt. only_named items owners names some j (omega (arith, stands)))
-                ∙ ap (λ a. found_below (fits items names) (rank a) partly) (sym is) ∙ so_far.part;
-            whole = looked_at (fits_fully items names) named n f fully now_fully two found_f (λ j lt. only_fully items owners names some j (omega (arith, stands)))
-                ∙ ap (λ a. found_below (fits_fully items names) (rank a) fully) (sym is) ∙ so_far.whole;
+            part = looked_at (fits items names) named n p found now one told (λ j lt. only_named items owners names some j (omega (arith, stands)))
+                ∙ ap (λ a. found_below (fits items names) (rank a) found) (sym is) ∙ so_far.part;
           })
 
 -- a branch taken or not

@@ -31,10 +31,10 @@ module _ (items : Block) (i : Declared) where
   abbrev more : Block
   more = items ++ i ∷ []
 
-  item_front : (k : ℕ) → k < length items → item_at more k ≡ item_at items k
+  pub item_front : (k : ℕ) → k < length items → item_at more k ≡ item_at items k
   item_front k lt = get_or-append items (i ∷ []) no_item k lt
 
-  item_last : item_at more (length items) ≡ i
+  pub item_last : item_at more (length items) ≡ i
   item_last = get_or-append_seam items i [] no_item
 
   named_front : (name : Name) (k : ℕ) → k < length items → is_named more name k ≡ is_named items name k
@@ -58,7 +58,7 @@ both_true true b h = (refl, h)
 both_true false b h = cc
 
 -- a number below one more is below, or that one
-below_or_last : (n k : ℕ) → n < k + 1 → (n < k) ⊎ (n ≡ k)
+pub below_or_last : (n k : ℕ) → n < k + 1 → (n < k) ⊎ (n ≡ k)
 below_or_last n k lt = by (nat_lt n k) refl
   where
     by : (b : Bool) → nat_lt n k ≡ b → (n < k) ⊎ (n ≡ k)
@@ -84,7 +84,7 @@ module _ {S : Type 0} (items : Block) (earlier : List (Option ℕ)) (latest late
         ∙ sym (last_front items i name (length items) (omega arith)) ∙ ap (last_below (is_named (items ++ i ∷ []) name)) (sym last))
   ]
 
-  owners_more : OwnersBefore (items ++ i ∷ [])
+  pub owners_more : OwnersBefore (items ++ i ∷ [])
   owners_more n lt = elim (below_or_last n (length items) (omega (arith, length-append items (i ∷ [])))) [
     | inl front ↦ subst (λ (j : Declared). IfSome j.owner (λ o. o < n)) (sym (item_front items i n front)) (kept.owners n front)
     | inr last ↦ subst (λ (k : ℕ). IfSome (item_at (items ++ i ∷ []) k).owner (λ o. o < k)) (sym last)

@@ -78,7 +78,7 @@ any_here test (x ∷ xs) (suc n) lt h = ap (λ b. test x || b) (any_here test xs
     or_true true = refl
     or_true false = refl
 
-owner_refl : (o : Option ℕ) → option_eq nat_eq o o ≡ true
+pub owner_refl : (o : Option ℕ) → option_eq nat_eq o o ≡ true
 owner_refl None = refl
 owner_refl (Some n) = grind (arith, nat_tests)
 

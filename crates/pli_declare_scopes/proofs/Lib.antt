@@ -7,3 +7,4 @@ pub mod Candidates
 pub mod Outwards
 pub mod Repeated
 pub mod Judged
+pub mod PathsKept

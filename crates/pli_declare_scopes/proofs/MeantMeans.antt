@@ -58,7 +58,7 @@ chain_from [] chain h = absurd h
 chain_from (n ∷ ns) [] h = absurd h
 chain_from (n ∷ ns) (own ∷ above) h = ap (λ b. b && is_part ns above) (same_from n own h.0) ∙ part_from above ns h.1
 
-whole_to : (ns chain : List Name) → is_chain ns chain ≡ true → ns ≡ chain
+pub whole_to : (ns chain : List Name) → is_chain ns chain ≡ true → ns ≡ chain
 whole_to [] [] h = refl
 whole_to [] (c ∷ cs) h = cc
 whole_to (n ∷ ns) [] h = cc
@@ -70,7 +70,7 @@ whole_same : (ns : List Name) → is_chain ns ns ≡ true
 whole_same [] = refl
 whole_same (n ∷ ns) = ap (λ b. b && is_chain ns ns) (pointwise-refl n) ∙ whole_same ns
 
-whole_from : (ns chain : List Name) → ns ≡ chain → is_chain ns chain ≡ true
+pub whole_from : (ns chain : List Name) → ns ≡ chain → is_chain ns chain ≡ true
 whole_from ns chain e = subst (λ c. is_chain ns c ≡ true) e (whole_same ns)
 
 -- a number from k on, below the length, that passes

@@ -19,7 +19,7 @@ any_both test (x ∷ xs) ys = ap (λ b. test x || b) (any_both test xs ys) ∙ b
     by true b c = refl
     by false b c = refl
 
-same_owners : (a b : Option ℕ) → option_eq nat_eq a b ≡ true → a ≡ b
+pub same_owners : (a b : Option ℕ) → option_eq nat_eq a b ≡ true → a ≡ b
 same_owners None None h = refl
 same_owners None (Some m) h = cc
 same_owners (Some n) None h = cc

@@ -6,3 +6,4 @@ pub mod Scopes
 pub mod Examples
 pub mod ScopeLaws
 pub mod Indexes
+pub mod Paths

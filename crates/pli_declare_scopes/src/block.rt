@@ -3,11 +3,13 @@ ghost use Rattle.std.specs.Prelude.{◌≡◌, ◌<◌, ◌-◌, reverse, take, 
 ghost use Rattle.indexmap.specs.IndexMap.{get, IsUnchanged};
 ghost use Rattle.pli_base.specs.Name.{Name as Characters};
 ghost use Rattle.pli_base.specs.Words.{same_name};
-ghost use Rattle.pli_declare_scopes.specs.Scopes.{declares, item_at, chain_over, is_part, is_chain, found_in};
+ghost use Rattle.pli_declare_scopes.specs.Scopes.{declares, item_at, chain_over, is_part, fits, fits_fully, found_below, found_in};
+ghost use Rattle.pli_declare_scopes.specs.declared.found.Found.TheVariants as variants;
 ghost use Rattle.pli_declare_scopes.specs.Indexes.{OwnersBefore};
 
 use crate::found::Found;
-use indexmap::IndexMap;
+use crate::path::{Step, note_end, path_above, path_of};
+use indexmap::{IndexMap, IndexSet};
 use pli_base::Name;
 use std::alloc::{AllocError, AllocFailed, Global};
 use std::marker::Model;
@@ -26,52 +28,50 @@ pub struct Declared {
 #[derive(Drop)]
 pub struct Block {
     items: Vec<Declared>,
+    /// For each item the one of its name before it.
     earlier: Vec<Option<usize>>,
+    /// The last item of each name.
     latest: IndexMap<Name, usize>,
+    /// The paths of items.
+    steps: IndexSet<Step>,
+    /// The path of each item.
+    paths: Vec<usize>,
+    /// Which items have each path.
+    ended: Vec<Found>,
 }
 
 impl Model for Block {
     ghost use Rattle.std.specs.Prelude.{List};
     ghost use Rattle.pli_declare_scopes.specs.declared.block.Declared.{Declared as Item};
     ghost use Rattle.pli_declare_scopes.specs.Indexes.{IsIndexed};
+    ghost use Rattle.pli_declare_scopes.specs.Paths.{ArePaths};
 
     ghost Value = { List Item };
 
     ghost view = { λ b. b.items.items };
 
-    ghost invariant = { λ b. IsIndexed b.items.items b.earlier.items b.latest };
+    ghost invariant = { λ b. IsIndexed b.items.items b.earlier.items b.latest × ArePaths b.items.items b.steps.keys b.paths.items b.ended.items };
 }
 
-/// How an item fits the names of a reference.
-#[derive(Clone, Copy)]
-struct Fit {
-    partly: bool,
-    fully: bool,
-}
-
-/// How names fit the chain of the item of this number, where the last of them is its own name.
-fn fit_of(items: &[Declared], names: &[Name], number: usize) -> Fit
+/// Whether names fit the item of this number, where the last of them is its own name. No more levels are looked at than it takes.
+fn fits(items: &[Declared], names: &[Name], number: usize) -> bool
     requires within { number < length items.now }
     requires owners { OwnersBefore items.now }
     requires some { 0 < length names.now }
-    ensures partly { result.partly ≡ is_part (reverse (take (length names.now - 1) names.now)) (chain_over items.now (item_at items.now number).owner) }
-    ensures fully { result.fully ≡ is_chain (reverse (take (length names.now - 1) names.now)) (chain_over items.now (item_at items.now number).owner) }
+    ensures { result ≡ is_part (reverse (take (length names.now - 1) names.now)) (chain_over items.now (item_at items.now number).owner) }
 {
     let mut left = names.len() - 1;
-    let mut fully = true;
     let mut above = items[number].owner;
-    while let Some(place) = above {
-        if left > 0 && names[left - 1] == items[place].name {
+    while left > 0 {
+        let Some(place) = above else {
+            return false;
+        };
+        if names[left - 1] == items[place].name {
             left -= 1;
-        } else {
-            fully = false;
         }
         above = items[place].owner;
     }
-    Fit {
-        partly: left == 0,
-        fully: fully && left == 0,
-    }
+    true
 }
 
 /// Notes an item that counts as the last of its name. Gives the one before it.
@@ -99,6 +99,9 @@ impl Block {
             items: Vec::new(alloc),
             earlier: Vec::new(alloc),
             latest: IndexMap::new(alloc),
+            steps: IndexSet::new(alloc),
+            paths: Vec::new(alloc),
+            ended: Vec::new(alloc),
         }
     }
 
@@ -120,8 +123,16 @@ impl Block {
         let number = self.items.len();
         self.items.reserve(1)?;
         self.earlier.reserve(1)?;
+        self.paths.reserve(1)?;
+        let step = Step {
+            name: item.name,
+            above: path_above(&self.paths, item.owner),
+        };
+        let path = path_of(&mut self.steps, &mut self.ended, step)?;
         let before = note(&mut self.latest, &item, number)?;
         self.earlier.push(before)?;
+        self.paths.push(path)?;
+        note_end(&mut self.ended, path, item.counts, number);
         self.items.push(item)?;
         Ok(number)
     }
@@ -133,27 +144,53 @@ impl Block {
         self.latest.contains_key(&name)
     }
 
-    /// What items fit the names of a reference: one that they qualify fully is preferred.
-    pub fn find(&self, names: &[Name]) -> Found
-        ensures { result ≡ found_in self.now names.now }
+    /// What items a reference qualifies fully.
+    fn found_fully(&self, names: &[Name]) -> Found
+        ensures { result ≡ found_below (fits_fully self.now names.now) (length self.now) variants.Nothing }
+    {
+        let mut above = None;
+        for name in names {
+            let step = Step { name: *name, above };
+            let Some(path) = self.steps.get_index_of(&step) else {
+                return Found::Nothing;
+            };
+            above = Some(path);
+        }
+        match above {
+            Some(path) => self.ended[path],
+            None => Found::Nothing,
+        }
+    }
+
+    /// What items a reference qualifies, in part or fully. Two of them are enough.
+    fn found_partly(&self, names: &[Name]) -> Found
+        ensures { result ≡ found_below (fits self.now names.now) (length self.now) variants.Nothing }
     {
         let items = self.items.as_slice();
         let Some(last) = names.last() else {
             return Found::Nothing;
         };
-        let mut fully = Found::Nothing;
-        let mut partly = Found::Nothing;
+        let mut found = Found::Nothing;
         let mut next = self.latest.get(last).copied();
         while let Some(number) = next {
-            let fit = fit_of(items, names, number);
-            if fit.partly {
-                partly = partly.with_number(number);
+            if fits(items, names, number) {
+                found = found.with_number(number);
             }
-            if fit.fully {
-                fully = fully.with_number(number);
+            if let Found::Several = found {
+                return Found::Several;
             }
             next = self.earlier[number];
         }
-        Found::preferred(fully, partly)
+        found
+    }
+
+    /// What items fit the names of a reference: one that they qualify fully is preferred.
+    pub fn find(&self, names: &[Name]) -> Found
+        ensures { result ≡ found_in self.now names.now }
+    {
+        match self.found_fully(names) {
+            Found::Nothing => self.found_partly(names),
+            fully => fully,
+        }
     }
 }

@@ -1,6 +1,6 @@
 //! What a reference means.
 ghost use Rattle.std.specs.Prelude.{◌≡◌};
-ghost use Rattle.pli_declare_scopes.specs.Scopes.{with_number, preferred, meant_there};
+ghost use Rattle.pli_declare_scopes.specs.Scopes.{with_number, meant_there};
 
 /// What items of a block fit a reference: none, just one, by its number, or several.
 #[derive(Clone, Copy, Debug, PartialEq, Eq)]
@@ -29,16 +29,6 @@ impl Found {
         match self {
             Found::Nothing => Found::One(number),
             Found::One(_) | Found::Several => Found::Several,
-        }
-    }
-
-    /// What is found by full qualification, or else what is found by partial.
-    pub fn preferred(fully: Found, partly: Found) -> Found
-        ensures { result ≡ preferred fully partly }
-    {
-        match fully {
-            Found::Nothing => partly,
-            Found::One(_) | Found::Several => fully,
         }
     }
 

@@ -5,6 +5,7 @@ mod block;
 mod found;
 mod laws;
 mod level;
+mod path;
 mod repeat;
 mod scope;
 

@@ -313,10 +313,6 @@ fn declared_names(rt: HostRuntime) -> Result<(), Fail> {
 fn found_items(rt: HostRuntime) {
     assert_eq!(rt; Found::Nothing.with_number(3), Found::One(3));
     assert_eq!(rt;
-        Found::preferred(Found::Several, Found::One(1)),
-        Found::Several
-    );
-    assert_eq!(rt;
         Found::One(2).meant(4),
         Meant::Item {
             number: 2,

@@ -6,5 +6,5 @@ use Rattle.pli_declare_scopes.proofs.block.Block.declares.Goals as goal
 pub returns : goal.returns
 returns c =
     let items = c.self.inside.items.items in
-    c.contains_key.ensures ∙ ap is_some (c.self.invariant.last c.args.name) ∙ last_is_any (is_named items c.args.name) (length items)
+    c.contains_key.ensures ∙ ap is_some (c.self.invariant.0.last c.args.name) ∙ last_is_any (is_named items c.args.name) (length items)
     ∙ ap (λ block. declares block c.args.name) c.self.view_is

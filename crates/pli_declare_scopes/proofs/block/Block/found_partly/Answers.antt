@@ -1,0 +1,70 @@
+use Rattle.std.proofs.Common.{◌≡◌, ◌-◌, ◌<◌, [], length, get_or, None, if◌then◌else◌, sym, ap, ◌∙◌, arith}
+use Rattle.std.proofs.lemmas.List.{nil_from_length, get_or_default}
+use Rattle.indexmap.specs.IndexMap.{get}
+use Rattle.pli_base.specs.Words.{same_name}
+use Rattle.pli_declare_scopes.specs.Scopes.{fits, found_below, with_number}
+use Rattle.pli_declare_scopes.specs.declared.found.Found.TheVariants.{Nothing}
+use Rattle.pli_declare_scopes.proofs.Candidates.{no_names, stands, is_there, looking_first, looking_several, looking_on, looking_ends, if_taken, if_passed}
+use Rattle.pli_declare_scopes.proofs.block.Block.found_partly.Goals as goal
+use Rattle.pli_declare_scopes.proofs.block.Block.found_partly.Goals.{then-fits, else-fits}
+
+pub returns-in_default : goal.returns-in_default
+returns-in_default c =
+    let items = c.self.inside.items.items in
+    let none : c.args.names.now ≡ [] = nil_from_length c.args.names.now (omega (arith, c.in_default.ensures.item.3)) in
+    sym (ap (λ ns. found_below (fits c.args.self.now ns) (length c.args.self.now) Nothing) none ∙ ap (λ block. found_below (fits block []) (length block) Nothing) (sym c.self.view_is) ∙ no_names items c.self.invariant.0.owners)
+
+pub loop-next-init : goal.loop-next-init
+loop-next-init c =
+    let items = c.self.inside.items.items in
+    let names = c.args.names.now in
+    let last = c.in-Some.ensures.item.3 in
+    looking_first items c.self.invariant.0.owners names last.0 c.copied-next.result
+    (c.copied-next.ensures ∙ c.get.ensures.value ∙ ap (get same_name c.self.inside.latest) (last.1 []) ∙ c.self.invariant.0.last (get_or names (length names - 1) []))
+
+pub returns-in-Several : goal.returns-in-Several
+returns-in-Several c =
+    let items = c.self.inside.items.items in
+    let names = c.args.names.now in
+    let n = c.in-Some-next.number in
+    let some = c.in-Some.ensures.item.3.0 in
+    let told : c.if-fits.found ≡ (if c.fits.result then with_number n c.loop-next.found else c.loop-next.found) = elim c.if-fits.branch [
+      | then-fits w ↦ if_taken _ _ _ _ w.if-fits.true (w.found-is ∙ w.with_number-found.ensures)
+      | else-fits w ↦ if_passed _ _ _ _ w.if-fits.false w.found-is
+    ] in
+    looking_several items c.self.invariant.0.owners names some c.loop-next.next n c.loop-next.found c.if-fits.found c.fits.result c.loop-next.invariant c.in-Some-next.is
+    (rw c.as_slice-items.ensures.value at c.fits.ensures) told c.in-Several.is
+    ∙ ap (λ block. found_below (fits block names) (length block) Nothing) c.self.view_is
+
+pub loop-next-smaller : goal.loop-next-smaller
+loop-next-smaller c =
+    let items = c.self.inside.items.items in
+    let names = c.args.names.now in
+    let n = c.in-Some-next.number in
+    let some = c.in-Some.ensures.item.3.0 in
+    let h = c.loop-next.invariant in
+    let here : n < length items = stands items c.self.invariant.0.owners names some c.loop-next.next n c.loop-next.found h c.in-Some-next.is in
+    let there = is_there items c.self.invariant.0.owners names some c.loop-next.next n c.loop-next.found h c.in-Some-next.is in
+    looking_ends items c.self.invariant.0.owners names some c.loop-next.next n c.loop-next.found h c.in-Some-next.is c.index-next.result.now
+    (c.index-next.ensures ∙ get_or_default c.self.inside.earlier.items n c.index-next.result.now None (omega (arith, here, c.self.invariant.0.count))
+    ∙ c.self.invariant.0.links (get_or names (length names - 1) []) n here there)
+
+pub loop-next-preserved : goal.loop-next-preserved
+loop-next-preserved c =
+    let items = c.self.inside.items.items in
+    let names = c.args.names.now in
+    let n = c.in-Some-next.number in
+    let some = c.in-Some.ensures.item.3.0 in
+    let h = c.loop-next.invariant in
+    let here : n < length items = stands items c.self.invariant.0.owners names some c.loop-next.next n c.loop-next.found h c.in-Some-next.is in
+    let there = is_there items c.self.invariant.0.owners names some c.loop-next.next n c.loop-next.found h c.in-Some-next.is in
+    let told : c.if-fits.found ≡ (if c.fits.result then with_number n c.loop-next.found else c.loop-next.found) = elim c.if-fits.branch [
+      | then-fits w ↦ if_taken _ _ _ _ w.if-fits.true (w.found-is ∙ w.with_number-found.ensures)
+      | else-fits w ↦ if_passed _ _ _ _ w.if-fits.false w.found-is
+    ] in
+    looking_on items c.self.invariant.0.owners names some c.loop-next.next n c.loop-next.found h c.in-Some-next.is c.index-next.result.now
+    (c.index-next.ensures ∙ get_or_default c.self.inside.earlier.items n c.index-next.result.now None (omega (arith, here, c.self.invariant.0.count))
+    ∙ c.self.invariant.0.links (get_or names (length names - 1) []) n here there)
+    c.if-fits.found c.fits.result
+    (rw c.as_slice-items.ensures.value at c.fits.ensures)
+    told

@@ -1,0 +1,15 @@
+use Rattle.std.proofs.Common.{◌≡◌, ◌-◌, ◌<◌, length, take, IfSome}
+use Rattle.std.specs.Prelude.{reverse}
+use Rattle.pli_declare_scopes.specs.Scopes.{item_at, chain_over, is_part}
+use Rattle.pli_declare_scopes.proofs.Chains.{rank}
+use Rattle.pli_declare_scopes.proofs.block.fits.Given as goal
+
+abbrev pub invariant-loop-left : goal.invariant-loop-left
+invariant-loop-left l = record {
+  left : l.left < length l.names;
+  above : IfSome l.above (λ o. o < length l.items);
+  partly : is_part (reverse (take l.left l.names)) (chain_over l.items l.above) ≡ is_part (reverse (take (length l.names - 1) l.names)) (chain_over l.items (item_at l.items l.number).owner);
+}
+
+abbrev pub decreases-loop-left : goal.decreases-loop-left
+decreases-loop-left l = rank l.above
