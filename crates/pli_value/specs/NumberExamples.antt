@@ -1,0 +1,24 @@
+-- Worked examples of the operations on numbers.
+use Rattle.std.specs.Prelude.{◌≡◌, ◌+ℤ◌, ◌-ℤ◌, ◌*ℤ◌, pos, negsuc, Ok, Err}
+use Rattle.pli_value.specs.declared.number.Raised.{Raised}
+use Rattle.pli_value.specs.declared.number.Raised.TheVariants.{Overflow, ZeroDivide}
+use Rattle.pli_value.specs.Numbers.{within, quotient, remainder}
+
+-- 2147483647 has 31 binary digits, and so has -2147483647; one more on either side has 32
+abbrev pub GreatestNumbers : Type 0
+GreatestNumbers = (within 31 (pos 2147483646 +ℤ pos 1) ≡ Ok (pos 2147483647)) × (within 31 (pos 2147483647 +ℤ pos 1) ≡ Err Overflow)
+    × (within 31 (negsuc 2147483645 -ℤ pos 1) ≡ Ok (negsuc 2147483646)) × (within 31 (negsuc 2147483646 -ℤ pos 1) ≡ Err Overflow)
+    × (within 31 (pos 65536 *ℤ pos 32768) ≡ Err Overflow) × (within 63 (pos 65536 *ℤ pos 32768) ≡ Ok (pos 2147483648))
+    × (within 3 (pos 7) ≡ Ok (pos 7)) × (within 3 (negsuc 6) ≡ Ok (negsuc 6)) × (within 3 (negsuc 7) ≡ Err Overflow)
+
+-- 7 and -7 divided by 2 and -2, rounded toward zero; a quotient of too many digits; a divisor that is zero
+abbrev pub Quotients : Type 0
+Quotients = (quotient 31 (pos 7) (pos 2) ≡ Ok (pos 3)) × (quotient 31 (negsuc 6) (pos 2) ≡ Ok (negsuc 2))
+    × (quotient 31 (pos 7) (negsuc 1) ≡ Ok (negsuc 2)) × (quotient 31 (negsuc 6) (negsuc 1) ≡ Ok (pos 3))
+    × (quotient 2 (pos 8) (pos 2) ≡ Err Overflow) × (quotient 2 (pos 8) (pos 0) ≡ Err ZeroDivide)
+
+-- MOD(7, 3), MOD(-7, 3), MOD(7, -3), MOD(-7, -3), MOD(-6, 3) and MOD(7, 0)
+abbrev pub Remainders : Type 0
+Remainders = (remainder (pos 7) (pos 3) ≡ Ok (pos 1)) × (remainder (negsuc 6) (pos 3) ≡ Ok (pos 2))
+    × (remainder (pos 7) (negsuc 2) ≡ Ok (pos 1)) × (remainder (negsuc 6) (negsuc 2) ≡ Ok (pos 2))
+    × (remainder (negsuc 5) (pos 3) ≡ Ok (pos 0)) × (remainder (pos 7) (pos 0) ≡ Err ZeroDivide)

@@ -1,0 +1,5 @@
+//! Tests of values: numbers, and strings of characters and of bits.
+#![tactic(auto)]
+
+#[cfg(test)]
+mod numbers;

@@ -1,0 +1,134 @@
+use Raised::{Overflow, ZeroDivide};
+use pli_value::number::{Raised, add, divide, fit, modulo, multiply, subtract};
+use pli_value::{number_examples, remainders_are_least};
+use std::test::*;
+
+/// The greatest number of 31 binary digits, and of 63.
+const MOST: i64 = 2_147_483_647;
+
+const WIDE: i64 = 9_223_372_036_854_775_807;
+
+/// Two operands, the greatest precision, the result.
+type Row = (i64, i64, u8, Result<i64, Raised>);
+
+static SUMS: [Row; 8] = [
+    (2, 3, 31, Ok(5)),
+    (MOST, 0, 31, Ok(MOST)),
+    (MOST, 1, 31, Err(Overflow)),
+    (-MOST, -1, 31, Err(Overflow)),
+    (MOST, 1, 63, Ok(2_147_483_648)),
+    (WIDE, 1, 63, Err(Overflow)),
+    (-WIDE, -1, 63, Err(Overflow)),
+    (-WIDE, WIDE, 63, Ok(0)),
+];
+
+static DIFFERENCES: [Row; 6] = [
+    (2, 3, 31, Ok(-1)),
+    (-MOST, 1, 31, Err(Overflow)),
+    (-MOST, -1, 31, Ok(-2_147_483_646)),
+    (MOST, -1, 31, Err(Overflow)),
+    (-WIDE, 1, 63, Err(Overflow)),
+    (-WIDE, 2, 63, Err(Overflow)),
+];
+
+static PRODUCTS: [Row; 6] = [
+    (-6, 7, 31, Ok(-42)),
+    (46_341, 46_341, 31, Err(Overflow)),
+    (46_340, -46_341, 31, Ok(-2_147_441_940)),
+    (65_536, 32_768, 63, Ok(2_147_483_648)),
+    (WIDE, 2, 63, Err(Overflow)),
+    (-MOST, 0, 31, Ok(0)),
+];
+
+/// Dividend, divisor, precision of the quotient.
+static QUOTIENTS: [Row; 9] = [
+    (7, 2, 31, Ok(3)),
+    (-7, 2, 31, Ok(-3)),
+    (7, -2, 31, Ok(-3)),
+    (-7, -2, 31, Ok(3)),
+    (0, -5, 31, Ok(0)),
+    (1, 0, 31, Err(ZeroDivide)),
+    (0, 0, 3, Err(ZeroDivide)),
+    (8, 1, 3, Err(Overflow)),
+    (-7, 1, 3, Ok(-7)),
+];
+
+/// What is assigned, and the precision of the target.
+static ASSIGNED: [(i64, u8, Result<i64, Raised>); 8] = [
+    (7, 3, Ok(7)),
+    (-7, 3, Ok(-7)),
+    (8, 3, Err(Overflow)),
+    (-8, 3, Err(Overflow)),
+    (1, 1, Ok(1)),
+    (2, 1, Err(Overflow)),
+    (-MOST, 31, Ok(-MOST)),
+    (WIDE, 63, Ok(WIDE)),
+];
+
+static REMAINDERS: [(i64, i64, Result<i64, Raised>); 9] = [
+    (7, 3, Ok(1)),
+    (-7, 3, Ok(2)),
+    (7, -3, Ok(1)),
+    (-7, -3, Ok(2)),
+    (-6, 3, Ok(0)),
+    (2, 5, Ok(2)),
+    (-MOST, -1, Ok(0)),
+    (-1, WIDE, Ok(9_223_372_036_854_775_806)),
+    (5, 0, Err(ZeroDivide)),
+];
+
+#[test]
+fn sums_differences_products(rt: HostRuntime) {
+    for &(left, right, greatest, wanted) in &SUMS {
+        assert_eq!(rt;
+            add(left, right, greatest.min(63)),
+            wanted,
+            "{left} + {right} at {greatest}"
+        );
+    }
+    for &(left, right, greatest, wanted) in &DIFFERENCES {
+        assert_eq!(rt;
+            subtract(left, right, greatest.min(63)),
+            wanted,
+            "{left} - {right} at {greatest}"
+        );
+    }
+    for &(left, right, greatest, wanted) in &PRODUCTS {
+        assert_eq!(rt;
+            multiply(left, right, greatest.min(63)),
+            wanted,
+            "{left} * {right} at {greatest}"
+        );
+    }
+}
+
+#[test]
+fn quotients_and_remainders(rt: HostRuntime) {
+    for &(left, right, precision, wanted) in &QUOTIENTS {
+        assert_eq!(rt;
+            divide(left, right, precision.min(63)),
+            wanted,
+            "{left} / {right} at {precision}"
+        );
+    }
+    for &(left, right, wanted) in &REMAINDERS {
+        assert_eq!(rt; modulo(left, right), wanted, "MOD({left}, {right})");
+    }
+}
+
+#[test]
+fn assignments(rt: HostRuntime) {
+    for &(number, precision, wanted) in &ASSIGNED {
+        assert_eq!(rt;
+            fit(number, precision.min(63)),
+            wanted,
+            "{number} at {precision}"
+        );
+    }
+}
+
+#[test]
+fn laws_of_numbers() {
+    number_examples();
+    remainders_are_least();
+}
