@@ -1,2 +1,5 @@
+pub mod Conversions
 pub mod NumberExamples
 pub mod Numbers
+pub mod StringExamples
+pub mod Strings

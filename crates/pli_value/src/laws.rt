@@ -1,10 +1,17 @@
 //! Laws and worked examples of the operations on values.
 ghost use Rattle.pli_value.specs.NumberExamples.{GreatestNumbers, Quotients, Remainders};
 ghost use Rattle.pli_value.specs.Numbers.{RemaindersAreLeast};
+ghost use Rattle.pli_value.specs.StringExamples.{CharacterOrders, BitOrders, Places, Parts, Assigned, BitOperations, Converted};
+ghost use Rattle.pli_value.specs.Strings.{IndexIsTheFirstPlace};
 
 /// A law: what MOD gives is the least number from 0 on from which the first operand differs by a multiple of the second.
 pub fn remainders_are_least()
     ensures { RemaindersAreLeast }
+{}
+
+/// A law: INDEX is the first place, from 1 on, at which a string stands in another, and 0 where it stands nowhere.
+pub fn index_is_the_first_place()
+    ensures { IndexIsTheFirstPlace }
 {}
 
 /// Worked examples of numbers.
@@ -12,4 +19,15 @@ pub fn number_examples()
     ensures greatest { GreatestNumbers }
     ensures quotients { Quotients }
     ensures remainders { Remainders }
+{}
+
+/// Worked examples of strings.
+pub fn string_examples()
+    ensures character_orders { CharacterOrders }
+    ensures bit_orders { BitOrders }
+    ensures places { Places }
+    ensures parts { Parts }
+    ensures assigned { Assigned }
+    ensures bit_operations { BitOperations }
+    ensures converted { Converted }
 {}

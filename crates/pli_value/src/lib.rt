@@ -1,7 +1,9 @@
 //! Values of the language and the operations on them: numbers, and strings of characters and of bits.
 #![tactic(auto)]
 
+pub mod character;
 mod laws;
 pub mod number;
+pub mod part;
 
-pub use laws::{number_examples, remainders_are_least};
+pub use laws::{index_is_the_first_place, number_examples, remainders_are_least, string_examples};

@@ -1,0 +1,5 @@
+use Rattle.pli_value.proofs.Places.{index_is_first}
+use Rattle.pli_value.proofs.laws.index_is_the_first_place.Goals as goal
+
+pub returns : goal.returns
+returns c = index_is_first

@@ -1,0 +1,15 @@
+-- Numbers and bits as characters, by their codes.
+use Rattle.std.specs.Prelude.{ℕ, ◌-◌, Bool, ℤ, List, ◌++◌, length, map, replicate, if◌then◌else◌}
+use Rattle.std.specs.Fmt.{signed_decimal}
+
+-- a number at the right of so many characters, behind blanks: its digits without leading zeros, behind a minus sign where it is negative
+abbrev pub number_characters : (width : ℕ) → ℤ → List ℕ
+number_characters width x = replicate (width - length (signed_decimal x)) 32 ++ signed_decimal x
+
+-- the character of a bit, 1 or 0
+abbrev pub bit_character : Bool → ℕ
+bit_character b = if b then 49 else 48
+
+-- a character for each bit
+abbrev pub bit_characters : List Bool → List ℕ
+bit_characters bits = map bit_character bits

@@ -1,0 +1,173 @@
+use pli_value::character::{
+    STRING_LIMIT, compare, concat, fit, fit_varying, index, is_held, rest, substr, to_char,
+};
+use pli_value::{index_is_the_first_place, string_examples};
+use std::cmp::Ordering::{self, Equal, Greater, Less};
+use std::test::*;
+
+static ORDERS: [(&str, &str, Ordering); 10] = [
+    ("", "", Equal),
+    ("", " ", Equal),
+    ("AB", "AB ", Equal),
+    ("AB  ", "AB", Equal),
+    ("A", "B", Less),
+    ("B", "AZ", Greater),
+    ("AB", "AC", Less),
+    ("A", "AB", Less),
+    ("A", "A\t", Greater),
+    ("", "\t", Greater),
+];
+
+/// A string, what is sought in it, and the place.
+static PLACES: [(&str, &str, usize); 10] = [
+    ("AABAB", "AB", 2),
+    ("ABC", "C", 3),
+    ("ABC", "ABC", 1),
+    ("AB", "ABC", 0),
+    ("ABC", "D", 0),
+    ("AAAB", "AAB", 2),
+    ("ABABAC", "ABAC", 3),
+    ("AB", "", 0),
+    ("", "A", 0),
+    ("", "", 0),
+];
+
+/// A string, the first place and the length of a part, and the part.
+static PARTS: [(&str, i64, i64, Option<&str>); 11] = [
+    ("ABC", 1, 3, Some("ABC")),
+    ("ABC", 2, 1, Some("B")),
+    ("ABC", 4, 0, Some("")),
+    ("", 1, 0, Some("")),
+    ("ABC", 5, 0, None),
+    ("ABC", 3, 2, None),
+    ("ABC", 0, 1, None),
+    ("ABC", -1, 1, None),
+    ("ABC", 2, -1, None),
+    ("ABC", 2_147_483_647, 2_147_483_647, None),
+    (
+        "ABC",
+        9_223_372_036_854_775_807,
+        9_223_372_036_854_775_807,
+        None,
+    ),
+];
+
+static RESTS: [(&str, i64, Option<&str>); 6] = [
+    ("ABC", 1, Some("ABC")),
+    ("ABC", 3, Some("C")),
+    ("ABC", 4, Some("")),
+    ("ABC", 5, None),
+    ("ABC", 0, None),
+    ("", 1, Some("")),
+];
+
+/// A string, the length of its target, and what CHARACTER and CHARACTER VARYING of that length hold then.
+static ASSIGNED: [(&str, usize, &str, &str); 5] = [
+    ("ABC", 2, "AB", "AB"),
+    ("ABC", 3, "ABC", "ABC"),
+    ("ABC", 5, "ABC  ", "ABC"),
+    ("", 2, "  ", ""),
+    ("", 0, "", ""),
+];
+
+static NUMBERS: [(i64, usize, &str); 6] = [
+    (5, 4, "   5"),
+    (-5, 4, "  -5"),
+    (0, 1, "0"),
+    (-2_147_483_647, 14, "   -2147483647"),
+    (2_147_483_647, 20, "          2147483647"),
+    (-9_223_372_036_854_775_807, 20, "-9223372036854775807"),
+];
+
+#[test]
+fn orders_and_places(rt: HostRuntime) {
+    for &(left, right, wanted) in &ORDERS {
+        assert_eq!(rt;
+            compare(left.as_bytes(), right.as_bytes()),
+            wanted,
+            "{left:?} and {right:?}"
+        );
+    }
+    for &(string, sought, wanted) in &PLACES {
+        assert_eq!(rt;
+            index(string.as_bytes(), sought.as_bytes()),
+            wanted,
+            "INDEX({string:?}, {sought:?})"
+        );
+    }
+}
+
+#[test]
+fn parts(rt: HostRuntime) {
+    for &(string, first, count, wanted) in &PARTS {
+        assert!(rt;
+            substr(string.as_bytes(), first, count) == wanted.map(|part| part.as_bytes()),
+            "SUBSTR({string:?}, {first}, {count})"
+        );
+    }
+    for &(string, first, wanted) in &RESTS {
+        assert!(rt;
+            rest(string.as_bytes(), first) == wanted.map(|part| part.as_bytes()),
+            "SUBSTR({string:?}, {first})"
+        );
+    }
+}
+
+#[test]
+fn assignments(rt: HostRuntime) -> Result<(), Fail> {
+    for &(string, size, fixed, varying) in &ASSIGNED {
+        let new = fit(rt.alloc(), string.as_bytes(), size)?;
+        assert!(rt; new.as_slice() == fixed.as_bytes(), "{string:?} in {size}");
+        assert!(rt;
+            fit_varying(string.as_bytes(), size) == varying.as_bytes(),
+            "{string:?} in at most {size}"
+        );
+    }
+    Ok(())
+}
+
+#[test]
+fn concatenations(rt: HostRuntime) -> Result<(), Fail> {
+    let both = concat(rt.alloc(), b"AB", b"C")?.ok_or("AB || C")?;
+    assert!(rt; both.as_slice() == b"ABC".as_slice());
+    let longest = fit(rt.alloc(), b"A", STRING_LIMIT - 1)?;
+    let both = concat(rt.alloc(), &longest, b"B")?.ok_or("a result of 32,767")?;
+    assert_eq!(rt; both.len(), 32_767);
+    assert!(rt; concat(rt.alloc(), &both, b"")?.is_some());
+    assert!(rt; concat(rt.alloc(), &longest, b"BC")?.is_none());
+    assert!(rt; concat(rt.alloc(), b"C", &both)?.is_none());
+    Ok(())
+}
+
+#[test]
+fn searches_are_linear(rt: HostRuntime) -> Result<(), Fail> {
+    let mut string = fit(rt.alloc(), b"", STRING_LIMIT)?;
+    string.fill(b'A');
+    let mut sought = fit(rt.alloc(), b"", STRING_LIMIT / 2)?;
+    sought.fill(b'A');
+    sought.push(b'B')?;
+    for _ in 0..10 {
+        assert_eq!(rt; index(&string, &sought), 0);
+    }
+    Ok(())
+}
+
+#[test]
+fn laws_of_strings() {
+    index_is_the_first_place();
+    string_examples();
+}
+
+#[test]
+fn numbers_as_characters(rt: HostRuntime) -> Result<(), Fail> {
+    for &(number, width, wanted) in &NUMBERS {
+        assert!(rt; is_held(number, width), "{number} in {width}");
+        assert!(rt;
+            !is_held(number, wanted.trim_start().len().saturating_sub(1)),
+            "{number} in less"
+        );
+        let text = to_char(rt.alloc(), number, width)?;
+        assert!(rt; text.as_slice() == wanted.as_bytes(), "{number} in {width}");
+    }
+    Ok(())
+}
