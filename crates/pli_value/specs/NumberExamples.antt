@@ -1,6 +1,5 @@
 -- Worked examples of the operations on numbers.
 use Rattle.std.specs.Prelude.{◌≡◌, ◌+ℤ◌, ◌-ℤ◌, ◌*ℤ◌, pos, negsuc, Ok, Err}
-use Rattle.pli_value.specs.declared.number.Raised.{Raised}
 use Rattle.pli_value.specs.declared.number.Raised.TheVariants.{Overflow, ZeroDivide}
 use Rattle.pli_value.specs.Numbers.{within, quotient, remainder}
 

@@ -1,5 +1,5 @@
 -- Worked examples of the operations on strings.
-use Rattle.std.specs.Prelude.{◌≡◌, ℕ, zero, suc, Bool, true, false, ℤ, pos, negsuc, List, [], ◌∷◌, Some, None, codes}
+use Rattle.std.specs.Prelude.{◌≡◌, ℕ, zero, suc, Bool, true, false, pos, negsuc, List, [], ◌∷◌, Some, None, codes}
 use Rattle.std.specs.declared.cmp.Ordering.TheVariants.{Less, Equal, Greater}
 use Rattle.std.specs.Ordering.{nat_cmp, bool_cmp}
 use Rattle.pli_value.specs.Conversions.{number_characters, bit_characters}

@@ -1,6 +1,7 @@
 //! Values of the language and the operations on them: numbers, and strings of characters and of bits.
 #![tactic(auto)]
 
+pub mod bit;
 pub mod character;
 mod laws;
 pub mod number;

@@ -1,4 +1,4 @@
-use Rattle.std.proofs.Common.{◌≡◌, ℕ, ◌<◌, ◌≤◌, max, length, get_or, sym, ap, ◌∙◌, arith}
+use Rattle.std.proofs.Common.{◌<◌, max, length, arith}
 use Rattle.std.specs.Ordering.{nat_cmp}
 use Rattle.pli_value.proofs.Orders.{passed, stopped, ended}
 use Rattle.pli_value.proofs.character.compare.Goals as goal

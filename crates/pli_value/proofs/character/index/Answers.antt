@@ -1,4 +1,4 @@
-use Rattle.std.proofs.Common.{ℕ, Some, None, ◌<◌, ◌≡◌, length, arith, Option}
+use Rattle.std.proofs.Common.{ℕ, Some, None, ◌<◌, length, arith, Option}
 use Rattle.std.proofs.lemmas.Bool.{eqb-false}
 use Rattle.pli_value.proofs.Places.{index_is}
 use Rattle.pli_value.proofs.character.index.Goals as goal

@@ -1,0 +1,6 @@
+use Rattle.std.proofs.Common.{◌≡◌, false, get_or, ◌||◌}
+use Rattle.pli_value.proofs.Loops.{tabulated}
+use Rattle.pli_value.proofs.bit.or.Given as goal
+
+abbrev pub invariant-loop-place : goal.invariant-loop-place
+invariant-loop-place l = l.joined ≡ tabulated (λ k. get_or l.left k false || get_or l.right k false) l.place

@@ -1,0 +1,18 @@
+-- Bit strings packed, eight bits to a byte, the first bit highest.
+use Rattle.std.specs.Prelude.{◌≡◌, ℕ, ◌+◌, ◌-◌, ◌/◌, ◌%◌, ◌≤◌, nat_eq, Bool, false, List, length, map, slice_index}
+use Rattle.std.specs.Int.{bit_at}
+use Rattle.std.specs.List.{range_with_len}
+
+-- the bit at a place of such bytes; 0 behind their end
+abbrev pub packed_bit : List ℕ → (place : ℕ) → Bool
+packed_bit bytes place = nat_eq (bit_at (slice_index bytes (place / 8)) (7 - place % 8)) 1
+
+-- the first so many bits
+abbrev pub unpacked : (bits : ℕ) → List ℕ → List Bool
+unpacked bits bytes = map (packed_bit bytes) (range_with_len 0 bits)
+
+-- as many bytes as so many bits need, with nothing behind the last bit, and no more than a string may have
+pub record IsPacked (bits : ℕ) (bytes : List ℕ) : Type 0 where
+  pub needed : length bytes ≡ (bits + 7) / 8
+  pub blank : (place : ℕ) → bits ≤ place → packed_bit bytes place ≡ false
+  pub limit : bits ≤ 32767
