@@ -5,6 +5,7 @@ pub mod Name
 pub mod NameFields
 pub mod NameLaws
 pub mod Reading
+pub mod ReadingAnswers
 pub mod Tree
 pub mod TreeView
 pub mod Words

@@ -1,8 +1,8 @@
 -- The words and signs of the language, and tests of tokens.
-use Rattle.std.specs.Prelude.{ℕ, Bool, true, false, ◌||◌, nat_eq, List, codes}
+use Rattle.std.specs.Prelude.{ℕ, Bool, true, false, ◌||◌, nat_eq, List, [], ◌∷◌, Option, Some, None, codes, if◌then◌else◌}
 use Rattle.std.specs.Cmp.Lexicographic.{pointwise}
 use Rattle.pli_base.specs.Name.{Name}
-use Rattle.pli_base.specs.declared.token.Sign.TheVariants.{Semicolon, Comma, OpenParenthesis, CloseParenthesis}
+use Rattle.pli_base.specs.declared.token.Sign.TheVariants.{Colon, Semicolon, Comma, Period, OpenParenthesis, CloseParenthesis}
 use Rattle.pli_base.specs.declared.token.TokenText.{TokenText}
 use Rattle.pli_base.specs.declared.token.TokenText.TheVariants.{Word, Sign}
 
@@ -36,6 +36,24 @@ is_close _ = false
 abbrev pub is_comma : TokenText → Bool
 is_comma (Sign Comma) = true
 is_comma _ = false
+
+abbrev pub is_colon : TokenText → Bool
+is_colon (Sign Colon) = true
+is_colon _ = false
+
+abbrev pub is_period : TokenText → Bool
+is_period (Sign Period) = true
+is_period _ = false
+
+-- the tokens behind the first, if it fits
+unfoldable pub behind : (TokenText → Bool) → Tokens → Option Tokens
+behind fits [] = None
+behind fits (t ∷ ts) = if fits t then Some ts else None
+
+-- the name that the tokens begin with, and those behind it
+unfoldable pub name_first : Tokens → Option (Name × Tokens)
+name_first (Word n ∷ ts) = Some (n, ts)
+name_first _ = None
 
 -- the precision of the FIXED BINARY variables that can be declared
 abbrev pub declared_precision : ℕ

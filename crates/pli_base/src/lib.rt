@@ -6,6 +6,7 @@ pub mod declaration;
 mod device;
 mod line;
 mod name;
+mod reading;
 pub mod statement;
 mod string;
 pub mod syntax;
@@ -16,6 +17,10 @@ pub use code::{Code, code_order, one_code};
 pub use device::{Device, Failed, Sink, Source, put_all, take_all};
 pub use line::Line;
 pub use name::{NAME_LIMIT, Name};
+pub use reading::{
+    Front, ParseError, behind_close, behind_colon, behind_comma, behind_open, behind_period,
+    close_taken, fault, misfit, name_first, open_taken, semicolon_taken,
+};
 pub use string::{BitString, CharacterString};
 pub use token::{Fault, Origin, Sign, Token, TokenText};
 pub use tree::{Body, Expression, Reference, Statement, Unit};

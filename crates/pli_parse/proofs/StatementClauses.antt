@@ -1,17 +1,16 @@
 -- An IF statement whose second clause is at fault.
 use Rattle.std.proofs.Common.{◌≡◌, ℕ, ◌+◌, Ok, refl, codes}
 use Rattle.pli_base.specs.Words.{Tokens, is_word}
-use Rattle.pli_base.specs.Reading.{Front}
+use Rattle.pli_base.specs.Reading.{Front, taken}
 use Rattle.pli_base.specs.Syntax.{Expression}
 use Rattle.pli_base.specs.declared.code.Code.TheVariants.{ThenExpected}
-use Rattle.pli_parse_declaration.specs.declared.answer.ParseError.{ParseError}
-use Rattle.pli_parse_declaration.specs.declared.answer.ParseError.TheVariants as errors
-use Rattle.pli_parse_declaration.specs.DeclarationAnswers.{Fails}
-use Rattle.pli_parse_declaration.specs.DeclarationReading.{taken}
+use Rattle.pli_base.specs.declared.reading.ParseError.TheVariants as errors
 use Rattle.pli_base.specs.Statements.{Statement, count}
 use Rattle.pli_parse_statement.specs.StatementWords.{Context, standing}
 use Rattle.pli_parse_statement.specs.declared.keyword.Standing.TheVariants.{AsClause}
 use Rattle.pli_parse_statement.specs.StatementReading.{Inside, expression_in, alternative_from, else_first, if_at}
+use Rattle.pli_base.specs.declared.reading.ParseError.{ParseError}
+use Rattle.pli_base.specs.ReadingAnswers.{Fails}
 
 -- behind a condition, THEN and the first clause, a fault of the second clause is the fault of the statement; m is the number of the next statement
 pub alternative_fails : (i : Inside) (c : Context) (p k m : ℕ) (ts us : Tokens) (condition : Front Expression) (first : Front Statement) (e : ParseError)

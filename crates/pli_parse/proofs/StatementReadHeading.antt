@@ -2,8 +2,8 @@
 use Rattle.std.proofs.Common.{◌≡◌, ◌+◌, ◌≤◌, ⊎_elim, ℕ, suc, zero, true, List, [], ◌∷◌, ◌++◌, Option, Some, None, Result, Ok, option_map, length, codes, refl, ap, ◌∙◌, sym, subst, arith}
 use Rattle.pli_base.specs.Name.{Name}
 use Rattle.pli_base.specs.NameLaws.{equal_from_pointwise}
-use Rattle.pli_base.specs.Words.{Tokens, same_name, is_open, is_word}
-use Rattle.pli_base.specs.Reading.{◌>>=◌, Front}
+use Rattle.pli_base.specs.Words.{Tokens, same_name, is_open, is_word, behind}
+use Rattle.pli_base.specs.Reading.{◌>>=◌, Front, read_as, taken, mapped, if_open, or_none}
 use Rattle.pli_base.specs.Syntax.{Arguments}
 use Rattle.pli_base.specs.declared.code.Code.TheVariants.{BadOption}
 use Rattle.pli_base.specs.declared.token.Fault.{Fault}
@@ -16,19 +16,19 @@ use Rattle.pli_parse_expression.specs.Reading.{arguments_at, argument_of, inside
 use Rattle.pli_parse_expression.specs.Reading as expressions
 use Rattle.pli_parse_expression.proofs.ReadIsSpelled.{IsRead, IsReadBy, list_reads, expression_at_read}
 use Rattle.pli_parse_expression.proofs.ReadingTools as grammar
-use Rattle.pli_parse_declaration.specs.DeclarationWords.{behind}
-use Rattle.pli_parse_declaration.specs.DeclarationReading.{Commas, taken, mapped, returned_at, if_open, or_none}
+use Rattle.pli_parse_declaration.specs.DeclarationReading.{returned_at, identifier_at}
 use Rattle.pli_parse_declaration.specs.DeclarationReading as items
 use Rattle.pli_parse_declaration.specs.DeclarationGrammar.{SpellsFront, SpellsListed}
 use Rattle.pli_parse_declaration.proofs.DeclarationSteps.{same_ok, bind_ok, mapped_ok, taken_ok, two}
 use Rattle.pli_parse_declaration.proofs.DeclarationRead.{Reads}
 use Rattle.pli_parse_declaration.proofs.DeclarationItemsRead.{returned_reads}
 use Rattle.pli_base.specs.Statements.{ProcedureOption, Main, Returns, Recursive, Heading, Body, Call}
-use Rattle.pli_parse_statement.specs.StatementReading.{identifier_at, uncounted, call_at, OptionWord, OptionsWord, ReturnsWord, RecursiveWord, option_word, option_first, main_at, options_by, options_from, heading_at}
+use Rattle.pli_parse_statement.specs.StatementReading.{uncounted, call_at, OptionWord, OptionsWord, ReturnsWord, RecursiveWord, option_word, option_first, main_at, options_by, options_from, heading_at}
 use Rattle.pli_parse_statement.specs.StatementGrammar.{SpellsIdentifier, SpellsCall, SpellsParameters, SpellsOption, SpellsOptions, SpellsHeading}
 use Rattle.pli_parse.proofs.StatementReadTools as tools
 use Rattle.pli_parse.proofs.StatementReadTools.{uncounted_ok, stopped_ok, identifier_reads, parenthesized_reads, paired_is, word_first}
 use Rattle.pli_parse.proofs.StatementReadParts.{MaybeEnclosed, open_reads, of_three}
+use Rattle.pli_parse_declaration.specs.declared.list.Separator.TheVariants.{Commas}
 
 -- an argument of CALL is an outermost expression
 outermost_read : (n : ℕ) → IsReadBy (OutermostFits n) (λ e. 0) (outermost (expression_at n))
@@ -123,7 +123,7 @@ main_reads p ts y h =
     let f = parenthesized_reads _ (λ q us o. (us ≡ Word (codes "MAIN") ∷ []) × (o ≡ Main)) word p ts y h in
     (f.0, f.1, f.2, (f.3.1 ∙ ap (λ us. Sign signs.OpenParenthesis ∷ us ++ Sign signs.CloseParenthesis ∷ []) f.3.2.0, f.3.2.1))
   where
-    word : Reads (λ q us. taken (is_word (codes "MAIN")) BadOption q us >>= λ vs. items.read_as Main (q + 1) vs) (λ q us o. (us ≡ Word (codes "MAIN") ∷ []) × (o ≡ Main))
+    word : Reads (λ q us. taken (is_word (codes "MAIN")) BadOption q us >>= λ vs. read_as Main (q + 1) vs) (λ q us o. (us ≡ Word (codes "MAIN") ∷ []) × (o ≡ Main))
     word q us z g =
         let m = bind_ok (taken (is_word (codes "MAIN")) BadOption q us) _ z g in
         subst (SpellsFront (λ q us o. (us ≡ Word (codes "MAIN") ∷ []) × (o ≡ Main)) q us) (same_ok m.2) (

@@ -2,12 +2,11 @@
 use Rattle.std.proofs.Common.{◌≡◌, ◌+◌, ℕ, suc, ◌∷◌, ◌++◌, Option, Some, None, Ok, length, codes, refl, ap, ◌∙◌, sym, subst, arith, append_assoc, length-append}
 use Rattle.pli_base.specs.Name.{Name}
 use Rattle.pli_base.specs.Words.{Tokens, is_semicolon, is_word}
-use Rattle.pli_base.specs.Reading.{Front}
+use Rattle.pli_base.specs.Reading.{Front, taken}
 use Rattle.pli_base.specs.declared.code.Code.TheVariants.{SemicolonExpected, ThenExpected}
 use Rattle.pli_base.specs.declared.token.Sign.TheVariants.{Semicolon}
 use Rattle.pli_base.specs.declared.token.TokenText.TheVariants.{Word, Sign}
 use Rattle.pli_base.specs.declared.syntax.Identifier.{Identifier}
-use Rattle.pli_parse_declaration.specs.DeclarationReading.{taken}
 use Rattle.pli_parse_declaration.proofs.DeclarationSteps.{same_ok, bind_ok, semicolon_first, taken_ok, two}
 use Rattle.pli_base.specs.Statements as body
 use Rattle.pli_base.specs.Statements.{Body, count}

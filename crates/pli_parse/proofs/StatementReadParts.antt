@@ -2,15 +2,13 @@
 use Rattle.std.proofs.Common.{◌≡◌, ◌+◌, ◌⊎◌, ⊎_elim, inl, inr, ℕ, Bool, true, false, cond, [], ◌∷◌, ◌++◌, Option, Some, None, Result, Ok, length, codes, refl, ap, ◌∙◌, subst, arith}
 use Rattle.pli_base.specs.Name.{Name}
 use Rattle.pli_base.specs.NameLaws.{equal_from_pointwise}
-use Rattle.pli_base.specs.Words.{Tokens, same_name, is_open}
-use Rattle.pli_base.specs.Reading.{Front}
+use Rattle.pli_base.specs.Words.{Tokens, same_name, is_open, behind}
+use Rattle.pli_base.specs.Reading.{Front, taken, enclosed, if_open}
 use Rattle.pli_base.specs.declared.code.Code.TheVariants.{BadDo}
 use Rattle.pli_base.specs.declared.token.Fault.{Fault}
 use Rattle.pli_base.specs.declared.token.Sign.TheVariants.{OpenParenthesis, Equals}
 use Rattle.pli_base.specs.declared.token.TokenText.TheVariants.{Word, Sign}
 use Rattle.pli_parse_expression.specs.Expressions.{SpellsOutermost}
-use Rattle.pli_parse_declaration.specs.DeclarationWords.{behind}
-use Rattle.pli_parse_declaration.specs.DeclarationReading.{taken, enclosed, if_open}
 use Rattle.pli_parse_declaration.specs.DeclarationGrammar.{SpellsFront}
 use Rattle.pli_parse_declaration.proofs.DeclarationSteps.{same_ok, some_same, bind_ok, mapped_ok, open_first, taken_ok, two}
 use Rattle.pli_parse_declaration.proofs.DeclarationRead.{Reads, enclosed_spelled}

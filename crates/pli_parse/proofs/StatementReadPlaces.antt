@@ -12,10 +12,11 @@ use Rattle.pli_parse_declaration.specs.DeclarationGrammar.{SpellsFront}
 use Rattle.pli_parse_declaration.proofs.DeclarationSteps.{same_ok, bind_ok, two}
 use Rattle.pli_parse_declaration.proofs.DeclarationRead.{Reads}
 use Rattle.pli_base.specs.Statements.{Allocation}
-use Rattle.pli_parse_statement.specs.StatementReading.{reference_in, parenthesized, identifier_at, PlaceWord, InWord, SetWord, place_word, place_first, placed_by, places_from, allocation_at}
+use Rattle.pli_parse_statement.specs.StatementReading.{reference_in, parenthesized, PlaceWord, InWord, SetWord, place_word, place_first, placed_by, places_from, allocation_at}
 use Rattle.pli_parse_statement.specs.StatementGrammar.{SpellsEnclosed, SpellsOptional, SpellsPlaced, SpellsAllocation}
 use Rattle.pli_parse.proofs.StatementReadTools.{reference_reads, identifier_reads, parenthesized_reads, paired_is}
 use Rattle.pli_parse.proofs.StatementReadParts.{of_two}
+use Rattle.pli_parse_declaration.specs.DeclarationReading.{identifier_at}
 
 -- the places of an allocation
 abbrev place_spelling : PlaceWord → Name

@@ -7,7 +7,7 @@ use Rattle.pli_base.specs.Reading.{Front}
 use Rattle.pli_base.specs.Syntax.{Expression}
 use Rattle.pli_base.specs.declared.token.TokenText.TheVariants.{Word}
 use Rattle.pli_parse_expression.specs.Expressions.{SpellsOutermost}
-use Rattle.pli_parse_declaration.specs.DeclarationReading.{Commas, list_at}
+use Rattle.pli_parse_declaration.specs.DeclarationReading.{list_at}
 use Rattle.pli_parse_declaration.specs.DeclarationGrammar.{SpellsFront, SpellsListed}
 use Rattle.pli_parse_declaration.proofs.DeclarationSteps.{same_ok, bind_ok, two}
 use Rattle.pli_parse_declaration.proofs.DeclarationRead.{Reads}
@@ -16,6 +16,7 @@ use Rattle.pli_parse_statement.specs.StatementReading.{expression_in, parenthesi
 use Rattle.pli_parse_statement.specs.StatementGrammar.{SpellsEnclosed, SpellsSkip, SpellsItems, SpellsPut}
 use Rattle.pli_parse.proofs.StatementReadTools.{expression_reads, parenthesized_reads, list_reads, paired_is}
 use Rattle.pli_parse.proofs.StatementReadParts.{of_two}
+use Rattle.pli_parse_declaration.specs.declared.list.Separator.TheVariants.{Commas}
 
 abbrev put_spelling : PutWord → Name
 put_spelling SkipWord = codes "SKIP"

@@ -1,8 +1,8 @@
 -- What is read is spelled so: the statements in which none stands.
 use Rattle.std.proofs.Common.{◌≡◌, ◌+◌, inl, inr, ℕ, [], ◌∷◌, ◌++◌, Option, Some, None, Result, Ok, length, codes, refl, ap, ◌∙◌, sym, subst, arith, append_assoc}
 use Rattle.pli_base.specs.Name.{Name}
-use Rattle.pli_base.specs.Words.{Tokens, is_open}
-use Rattle.pli_base.specs.Reading.{Front}
+use Rattle.pli_base.specs.Words.{Tokens, is_open, behind}
+use Rattle.pli_base.specs.Reading.{Front, read_as, taken, mapped, if_open}
 use Rattle.pli_base.specs.Syntax.{Expression}
 use Rattle.pli_base.specs.declared.code.Code.TheVariants.{NotAStatement}
 use Rattle.pli_base.specs.declared.token.Fault.{Fault}
@@ -10,8 +10,7 @@ use Rattle.pli_base.specs.declared.token.Sign.TheVariants.{Semicolon, Equals}
 use Rattle.pli_base.specs.declared.token.TokenText.TheVariants.{Word, Sign}
 use Rattle.pli_base.specs.declared.syntax.Identifier.{Identifier}
 use Rattle.pli_parse_expression.specs.Expressions.{SpellsOutermost, SpellsReferenceAlone}
-use Rattle.pli_parse_declaration.specs.DeclarationWords.{behind}
-use Rattle.pli_parse_declaration.specs.DeclarationReading.{Commas, read_as, taken, mapped, if_open, list_at, declaration_at}
+use Rattle.pli_parse_declaration.specs.DeclarationReading.{list_at, declaration_at, identifier_at}
 use Rattle.pli_parse_declaration.specs.DeclarationGrammar.{SpellsFront, SpellsListed}
 use Rattle.pli_parse_declaration.proofs.DeclarationSteps.{same_ok, bind_ok, mapped_ok, taken_ok, two}
 use Rattle.pli_parse_declaration.proofs.DeclarationRead.{Reads}
@@ -19,7 +18,7 @@ use Rattle.pli_parse_declaration.proofs.DeclarationItemsRead.{declaration_reads}
 use Rattle.pli_base.specs.Statements as body
 use Rattle.pli_base.specs.Statements.{Body, BodyAwaitsElse}
 use Rattle.pli_parse_statement.specs.StatementWords.{Context, keyword_of}
-use Rattle.pli_parse_statement.specs.StatementReading.{expression_in, reference_in, closing, identifier_at, is_equals, assignment_at, condition_at, allocation_at, put_at, call_at, is_labelled, else_first, standing_misplaced, misplacement}
+use Rattle.pli_parse_statement.specs.StatementReading.{expression_in, reference_in, closing, is_equals, assignment_at, condition_at, allocation_at, put_at, call_at, is_labelled, else_first, standing_misplaced, misplacement}
 use Rattle.pli_parse_statement.specs.StatementGrammar.{BeginsAssignment, IsOfItsKind, SpellsIdentifier, SpellsCondition, SpellsAllocation, SpellsValue, StandsIn, MayReturn, SpellsBody}
 use Rattle.pli_parse_statement.specs.declared.keyword.Keyword.TheVariants as words
 use Rattle.pli_parse.proofs.StatementReadTools.{expression_reads, reference_reads, identifier_reads, list_reads, stopped_ok, equals_first}
@@ -28,6 +27,7 @@ use Rattle.pli_parse.proofs.StatementReadPlaces.{allocation_reads}
 use Rattle.pli_parse.proofs.StatementReadPut.{IsPut, put_reads}
 use Rattle.pli_parse.proofs.StatementReadHeading.{IsCall, call_reads}
 use Rattle.pli_parse.proofs.StatementReadStands.{LabelFits, plain_stands, may_return, return_stands, declare_stands}
+use Rattle.pli_parse_declaration.specs.declared.list.Separator.TheVariants.{Commas}
 
 -- a body that may stand where it does
 abbrev pub BodySpelled : Context → (levels : ℕ) → (label : Option Identifier) → (p k : ℕ) → Tokens → Body → Type 0

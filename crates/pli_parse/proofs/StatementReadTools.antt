@@ -2,8 +2,8 @@
 use Rattle.std.proofs.Common.{◌≡◌, ◌+◌, ℕ, Bool, true, false, cond, [], ◌∷◌, Option, Some, None, Result, Ok, Err, length, refl, ap, ◌∙◌, sym, subst, arith}
 use Rattle.pli_base.specs.Name.{Name}
 use Rattle.pli_base.specs.NameLaws.{equal_from_pointwise}
-use Rattle.pli_base.specs.Words.{Tokens, same_name, is_semicolon, is_open, is_word}
-use Rattle.pli_base.specs.Reading.{Front}
+use Rattle.pli_base.specs.Words.{Tokens, same_name, is_semicolon, is_open, is_word, behind, name_first}
+use Rattle.pli_base.specs.Reading.{Front, taken}
 use Rattle.pli_base.specs.declared.code.Code.TheVariants.{SemicolonExpected, ParenthesisExpected}
 use Rattle.pli_base.specs.declared.token.Fault.{Fault}
 use Rattle.pli_base.specs.declared.token.Sign.TheVariants.{Semicolon, Equals}
@@ -12,14 +12,14 @@ use Rattle.pli_base.specs.declared.token.TokenText.TheVariants.{Word, Sign}
 use Rattle.pli_parse_expression.specs.Reading as expressions
 use Rattle.pli_parse_expression.specs.Expressions.{SpellsOutermost, SpellsReferenceAlone}
 use Rattle.pli_parse_expression.proofs.ReadIsSpelled.{expression_spelled, reference_spelled}
-use Rattle.pli_parse_declaration.specs.DeclarationWords.{behind}
-use Rattle.pli_parse_declaration.specs.DeclarationReading.{taken, Commas, list_at}
+use Rattle.pli_parse_declaration.specs.DeclarationReading.{list_at, identifier_at, name_at}
 use Rattle.pli_parse_declaration.specs.DeclarationGrammar.{SpellsFront, SpellsListed}
 use Rattle.pli_parse_declaration.proofs.DeclarationSteps.{same_ok, some_same, bind_ok, mapped_ok, first_is, open_first, semicolon_first, taken_ok}
 use Rattle.pli_parse_declaration.proofs.DeclarationRead.{Reads, enclosed_spelled, listed_reads}
 use Rattle.pli_parse_statement.specs.StatementWords.{behind_word}
-use Rattle.pli_parse_statement.specs.StatementReading.{uncounted, expression_in, reference_in, stopped, parenthesized, identifier_at, is_equals, if_word, optional_at, paired}
+use Rattle.pli_parse_statement.specs.StatementReading.{uncounted, expression_in, reference_in, stopped, parenthesized, is_equals, if_word, optional_at, paired}
 use Rattle.pli_parse_statement.specs.StatementGrammar.{SpellsIdentifier, SpellsEnclosed, SpellsOptional}
+use Rattle.pli_parse_declaration.specs.declared.list.Separator.TheVariants.{Commas}
 
 -- the count of operators is dropped
 pub uncounted_ok : {A : Type 0} (r : Result (expressions.Front A) Fault) (y : Front A) → uncounted r ≡ Ok y → (x : expressions.Front A) × (r ≡ Ok x) × (record { value = x.value; next = x.next; rest = x.rest } ≡ y)
@@ -41,7 +41,7 @@ reference_reads levels p ts y h =
     subst (SpellsFront (SpellsReferenceAlone levels) p ts) u.2 (f.0, f.1, f.2, f.3)
 
 pub identifier_reads : Reads identifier_at SpellsIdentifier
-unfolding identifier_at
+unfolding identifier_at name_at name_first
 identifier_reads p [] y h = cc
 identifier_reads p (Word n ∷ us) y h = subst (SpellsFront SpellsIdentifier p (Word n ∷ us)) (same_ok h) (Word n ∷ [], refl, refl, (refl, refl))
 identifier_reads p (t ∷ us) y h = cc

@@ -1,19 +1,18 @@
 -- Statements of a block or group, read by a loop.
 use Rattle.std.proofs.Common.{◌≡◌, ◌<◌, ℕ, ◌+◌, suc, zero, List, [], ◌∷◌, ◌++◌, Option, Result, Ok, Err, length, refl, ap, ◌∙◌, sym, arith}
 use Rattle.pli_base.specs.Words.{Tokens}
-use Rattle.pli_base.specs.Reading.{◌>>=◌, Front}
+use Rattle.pli_base.specs.Reading.{◌>>=◌, Front, read_as}
 use Rattle.pli_base.specs.declared.syntax.Identifier.{Identifier}
 use Rattle.pli_base.specs.declared.token.Fault.{Fault}
-use Rattle.pli_parse_declaration.specs.declared.answer.ParseError.{ParseError}
-use Rattle.pli_parse_declaration.specs.declared.answer.ParseError.TheVariants as errors
-use Rattle.pli_parse_declaration.specs.DeclarationAnswers.{Fails}
-use Rattle.pli_parse_declaration.specs.DeclarationReading.{read_as}
+use Rattle.pli_base.specs.declared.reading.ParseError.TheVariants as errors
 use Rattle.pli_base.specs.Statements as tree
 use Rattle.pli_base.specs.Statements.{count, list_count}
 use Rattle.pli_parse_statement.specs.StatementWords.{Context}
 use Rattle.pli_base.specs.StatementView.{statement_view, statements_view}
 use Rattle.pli_base.specs.declared.statement.Statement.{Statement}
 use Rattle.pli_parse_statement.specs.StatementReading.{StatementReader, Listing, Next, EndsHere, Another, next_of, list_by, list_from, before, ending_at}
+use Rattle.pli_base.specs.declared.reading.ParseError.{ParseError}
+use Rattle.pli_base.specs.ReadingAnswers.{Fails}
 
 -- statements in front of others
 abbrev pub in_front : List Statement → tree.Statements → tree.Statements

@@ -5,7 +5,6 @@ use Rattle.pli_base.specs.Words.{Tokens}
 use Rattle.pli_base.specs.declared.syntax.Identifier.{Identifier}
 use Rattle.pli_base.specs.declared.token.Sign.TheVariants.{Semicolon, Equals}
 use Rattle.pli_base.specs.declared.token.TokenText.TheVariants.{Word, Sign}
-use Rattle.pli_parse_declaration.specs.DeclarationReading.{Commas}
 use Rattle.pli_parse_declaration.specs.DeclarationGrammar.{SpellsListed}
 use Rattle.pli_parse_expression.specs.Expressions.{SpellsReferenceAlone}
 use Rattle.pli_base.specs.Statements.{Statement, Numbered, Body, Null, Assign, Declare, Procedure, Begin, Do, If, On, Revert, Signal, Stop, Allocate, Free, Call, Goto, Return, Put}
@@ -15,6 +14,7 @@ use Rattle.pli_parse_statement.specs.declared.keyword.Keyword.{Keyword}
 use Rattle.pli_parse_statement.specs.declared.keyword.Keyword.TheVariants as words
 use Rattle.pli_parse.proofs.StatementSpelledTools.{HasSemicolon, semicolon_first, semicolon_later, semicolon_front, semicolon_back}
 use Rattle.pli_parse.proofs.StatementSpelledStarts.{NotColon, not_colon_front, Started, expression_not_colon, target_word, declaration_not_colon, closed_not_colon, allocations_not_colon, references_not_colon, heading_not_colon, control_not_colon, put_not_colon, value_not_colon, keyed_started, goto_started}
+use Rattle.pli_parse_declaration.specs.declared.list.Separator.TheVariants.{Commas}
 
 -- what a condition, or what one of them and more spell, is a word
 condition_not_colon : (Spells : Tokens → Type 0) → ((us : Tokens) → Spells us → (n : Name) × (vs : Tokens) × (us ≡ Word n ∷ vs)) → (ts : Tokens) → SpellsClosed Spells ts → NotColon ts

@@ -1,16 +1,14 @@
 -- What is spelled so is read: the range and the control of a DO group.
 use Rattle.std.proofs.Common.{⊎_elim, ◌⊎◌, inl, inr, ◌≡◌, ◌+◌, ℕ, Bool, true, false, cond, [], ◌∷◌, ◌++◌, Option, Some, None, Result, Ok, length, codes, refl, ap, ◌∙◌, sym, subst, arith, append_assoc, length-append}
 use Rattle.pli_base.specs.Name.{Name}
-use Rattle.pli_base.specs.Words.{Tokens, same_name}
-use Rattle.pli_base.specs.Reading.{◌>>=◌, Front}
+use Rattle.pli_base.specs.Words.{Tokens, same_name, behind}
+use Rattle.pli_base.specs.Reading.{◌>>=◌, Front, read_as, mapped, taken}
 use Rattle.pli_base.specs.Syntax.{Expression, Reference, Named}
 use Rattle.pli_base.specs.declared.code.Code.TheVariants.{BadDo}
 use Rattle.pli_base.specs.declared.token.Fault.{Fault}
 use Rattle.pli_base.specs.declared.token.Sign.TheVariants.{Semicolon, Equals, OpenParenthesis, CloseParenthesis}
 use Rattle.pli_base.specs.declared.token.TokenText.TheVariants.{Word, Sign}
 use Rattle.pli_parse_expression.specs.Expressions.{SpellsOutermost, SpellsReferenceAlone, EndsExpression}
-use Rattle.pli_parse_declaration.specs.DeclarationWords.{behind}
-use Rattle.pli_parse_declaration.specs.DeclarationReading.{read_as, mapped, taken}
 use Rattle.pli_parse_declaration.proofs.DeclarationReadAgain.{Anyhow, placed}
 use Rattle.pli_base.specs.Statements.{Range, To, By, Repeat, Control, While, Iterate}
 use Rattle.pli_parse_statement.specs.StatementGrammar.{SpellsOptional, SpellsEnclosed, SpellsRange, BeginsWithWhile, SpellsControl}

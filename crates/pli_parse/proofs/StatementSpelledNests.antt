@@ -1,8 +1,8 @@
 -- What is spelled so is read: lists of statements, and the statements that contain others, where the law holds one level deeper.
 use Rattle.std.proofs.Common.{⊎_elim, ◌⊎◌, inl, inr, ◌≡◌, ◌+◌, ◌<◌, ℕ, suc, zero, false, [], ◌∷◌, ◌++◌, Option, Some, None, Result, Ok, option_map, length, codes, refl, ap, ◌∙◌, sym, subst, arith, append_assoc, length-append}
 use Rattle.pli_base.specs.Name.{Name}
-use Rattle.pli_base.specs.Words.{Tokens, is_word, is_semicolon}
-use Rattle.pli_base.specs.Reading.{◌>>=◌, Front}
+use Rattle.pli_base.specs.Words.{Tokens, is_word, is_semicolon, behind}
+use Rattle.pli_base.specs.Reading.{◌>>=◌, Front, read_as, mapped, taken}
 use Rattle.pli_base.specs.Syntax.{Expression}
 use Rattle.pli_base.specs.declared.code.Code.TheVariants.{ThenExpected, SemicolonExpected}
 use Rattle.pli_base.specs.declared.syntax.Identifier.{Identifier}
@@ -11,8 +11,6 @@ use Rattle.pli_base.specs.declared.token.Sign.TheVariants.{Colon, Semicolon}
 use Rattle.pli_base.specs.declared.token.TokenText.TheVariants.{Word, Sign}
 use Rattle.pli_parse_expression.specs.Assignments.{accepts, is_assignment}
 use Rattle.pli_parse_expression.specs.Expressions.{SpellsOutermost}
-use Rattle.pli_parse_declaration.specs.DeclarationWords.{behind}
-use Rattle.pli_parse_declaration.specs.DeclarationReading.{read_as, mapped, taken}
 use Rattle.pli_parse_declaration.proofs.DeclarationReadAgain.{placed}
 use Rattle.pli_base.specs.Statements.{Heading, Control, Statement, Numbered, Body, If, On, Do, Begin, Procedure, Statements, Ended, Before, Alternative, NoElse, Else, count, list_count, AwaitsElse, BodyAwaitsElse, AlternativeAwaitsElse}
 use Rattle.pli_parse_statement.specs.StatementGrammar.{SpellsCondition, SpellsControl, SpellsHeading, SpellsEnd, IsUnitBody, SpellsStatement, SpellsStatements, SpellsAlternative}

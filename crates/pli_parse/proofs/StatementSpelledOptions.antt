@@ -2,8 +2,8 @@
 use Rattle.std.proofs.Common.{⊎_elim, ◌⊎◌, inl, inr, ◌≡◌, ◌+◌, ◌<◌, ◌≤◌, ℕ, suc, zero, Bool, true, false, List, [], ◌∷◌, ◌++◌, Option, Some, None, Result, Ok, option_map, length, codes, refl, ap, ◌∙◌, sym, arith, append_assoc, length-append}
 use Rattle.std.proofs.lemmas.List.{append-nil}
 use Rattle.pli_base.specs.Name.{Name}
-use Rattle.pli_base.specs.Words.{Tokens}
-use Rattle.pli_base.specs.Reading.{◌>>=◌, Front}
+use Rattle.pli_base.specs.Words.{Tokens, name_first}
+use Rattle.pli_base.specs.Reading.{◌>>=◌, Front, read_as}
 use Rattle.pli_base.specs.Syntax.{Expression, Reference, Named, JoinedParts, Alone, Joined, Arguments}
 use Rattle.pli_base.specs.declared.syntax.Identifier.{Identifier}
 use Rattle.pli_base.specs.declared.syntax.Joining.{Joining}
@@ -12,18 +12,19 @@ use Rattle.pli_base.specs.declared.token.Fault.{Fault}
 use Rattle.pli_base.specs.declared.token.Sign.TheVariants.{Comma, Semicolon}
 use Rattle.pli_base.specs.declared.token.TokenText.TheVariants.{Word, Sign}
 use Rattle.pli_parse_expression.specs.Expressions.{SpellsReferenceAlone, EndsReference}
-use Rattle.pli_parse_expression.specs.Operators.{joining_at, name_at}
+use Rattle.pli_parse_expression.specs.Operators.{joining_at}
 use Rattle.pli_parse_expression.specs.Reading as expressions
 use Rattle.pli_parse_expression.specs.Reading.{Reader, arguments_at, argument_of, joined_from, parts_behind, part_behind, reference_of, reference_at}
 use Rattle.pli_parse_expression.proofs.SpelledIsRead.{reference_is_read}
 use Rattle.pli_parse_expression.proofs.ReadingTools as tools
-use Rattle.pli_parse_declaration.specs.DeclarationReading.{read_as, Commas, list_at}
+use Rattle.pli_parse_declaration.specs.DeclarationReading.{list_at, identifier_at, name_at}
 use Rattle.pli_parse_declaration.proofs.DeclarationReadAgain.{placed}
 use Rattle.pli_base.specs.Statements.{Allocation, Body}
 use Rattle.pli_base.specs.Statements as body
 use Rattle.pli_parse_statement.specs.StatementGrammar.{SpellsOptional, SpellsEnclosed, SpellsPlaced, SpellsAllocation, SpellsSkip, SpellsItems, SpellsPut, SpellsCall}
-use Rattle.pli_parse_statement.specs.StatementReading.{expression_in, parenthesized, uncounted, identifier_at, InWord, SetWord, place_word, place_first, placed_by, places_from, allocation_at, PutWord, SkipWord, ListWord, put_word, put_first, put_by, put_from, put_begun, put_at, call_at}
+use Rattle.pli_parse_statement.specs.StatementReading.{expression_in, parenthesized, uncounted, InWord, SetWord, place_word, place_first, placed_by, places_from, allocation_at, PutWord, SkipWord, ListWord, put_word, put_first, put_by, put_from, put_begun, put_at, call_at}
 use Rattle.pli_parse.proofs.StatementSpelledParts.{enclosed_reference, expressions_again}
+use Rattle.pli_parse_declaration.specs.declared.list.Separator.TheVariants.{Commas}
 
 in_first : (us : Tokens) → place_first (Word (codes "IN") ∷ us) ≡ Some (InWord, us)
 unfolding place_first place_word
@@ -116,7 +117,7 @@ unfolding place_first
 no_place_semicolon zs = refl
 
 identifier_there : (p : ℕ) (n : Name) (us : Tokens) → identifier_at p (Word n ∷ us) ≡ read_as (record { name = n; at = p }) (p + 1) us
-unfolding identifier_at
+unfolding identifier_at name_at name_first
 identifier_there p n us = refl
 
 pub allocation_again : (levels p : ℕ) (ts more : Tokens) (a : Allocation) → SpellsAllocation levels p ts a → NoPlace more → allocation_at levels p (ts ++ more) ≡ read_as a (p + length ts) more
@@ -145,7 +146,7 @@ joined_ends one bound count p ts y h alone = by (joining_at ts) h
   where
     by : (o : Option (Joining × Tokens)) → parts_behind one (joined_from one bound) count p ts o ≡ Ok y → (y.next ≡ p) × (y.rest ≡ ts)
     by None g = let e = tools.same_ok g in (sym (ap (λ (z : expressions.Front JoinedParts). z.next) e), sym (ap (λ (z : expressions.Front JoinedParts). z.rest) e))
-    by (Some x) g = part (name_at x.1) g
+    by (Some x) g = part (name_first x.1) g
       where
         part : (o : Option (Name × Tokens)) → part_behind one (joined_from one bound) x.0 count (p + 1) x.1 o ≡ Ok y → (y.next ≡ p) × (y.rest ≡ ts)
         part None g = absurd (tools.wanted_none NameExpected (p + 1) x.1 y g)
@@ -161,7 +162,7 @@ named_same m n a b k l h = (cc, cc)
 alone_again : (one : Option Reader) (p : ℕ) (n : Name) (name : Identifier) (ts more : Tokens) (a : Arguments) (q : ℕ)
     → reference_of one 0 p (Word n ∷ ts) ≡ Ok (record { value = Named name a Alone; count = 0; next = q; rest = more })
     → uncounted (arguments_at one 0 (p + 1) ts) ≡ read_as a q more
-unfolding reference_of name_at
+unfolding reference_of name_first
 alone_again one p n name ts more a q h =
     let f = tools.bind_ok (arguments_at one 0 (p + 1) ts) _ _ h in
     let g = tools.bind_ok (joined_from one (length f.0.rest + 1) f.0.count f.0.next f.0.rest) _ _ f.2 in

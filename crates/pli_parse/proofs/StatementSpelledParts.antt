@@ -1,8 +1,8 @@
 -- What is spelled so is read: parts of statements.
 use Rattle.std.proofs.Common.{◌≡◌, ◌+◌, ◌<◌, ℕ, cond, [], ◌∷◌, ◌++◌, Some, None, Result, Ok, length, refl, ap, ◌∙◌, sym, subst, arith, append_assoc, length-append}
 use Rattle.pli_base.specs.Name.{Name}
-use Rattle.pli_base.specs.Words.{Tokens, is_semicolon}
-use Rattle.pli_base.specs.Reading.{◌>>=◌, Front}
+use Rattle.pli_base.specs.Words.{Tokens, is_semicolon, behind, name_first}
+use Rattle.pli_base.specs.Reading.{◌>>=◌, Front, read_as, mapped, taken, enclosed}
 use Rattle.pli_base.specs.Syntax.{Expression, Referred, Constant, Parenthesized, Prefix, Infix, Reference, Named}
 use Rattle.pli_base.specs.declared.code.Code.TheVariants.{SemicolonExpected}
 use Rattle.pli_base.specs.declared.token.Fault.{Fault}
@@ -11,14 +11,15 @@ use Rattle.pli_base.specs.declared.token.TokenText.TheVariants.{Word, Sign}
 use Rattle.pli_parse_expression.specs.Operators.{infix_sign}
 use Rattle.pli_parse_expression.specs.Expressions.{SpellsExpression, SpellsOutermost, SpellsReferenceAlone, EndsExpression, EndsReference}
 use Rattle.pli_parse_expression.proofs.SpelledIsRead.{expression_is_read, reference_is_read}
-use Rattle.pli_parse_declaration.specs.DeclarationWords.{behind}
 use Rattle.pli_parse_declaration.specs.DeclarationGrammar.{Anywhere, SpellsListed}
-use Rattle.pli_parse_declaration.specs.DeclarationReading.{read_as, mapped, taken, enclosed, Commas, list_at, separated}
+use Rattle.pli_parse_declaration.specs.DeclarationReading.{list_at, identifier_at, name_at}
 use Rattle.pli_parse_declaration.proofs.DeclarationReadAgain.{ReadAgain, Anyhow, ListEnds, placed, open_taken, enclosed_again, listed_again, comma_goes, commas_close}
 use Rattle.pli_parse_statement.specs.StatementGrammar.{SpellsIdentifier, SpellsCondition, SpellsClosed, SpellsEnclosed, SpellsOptional}
-use Rattle.pli_parse_statement.specs.StatementReading.{uncounted, expression_in, reference_in, stopped, closing, parenthesized, identifier_at, condition_from, condition_at, if_word, optional_at}
+use Rattle.pli_parse_statement.specs.StatementReading.{uncounted, expression_in, reference_in, stopped, closing, parenthesized, condition_from, condition_at, if_word, optional_at}
 use Rattle.pli_parse_statement.specs.StatementWords.{behind_word}
 use Rattle.pli_parse.proofs.StatementSpelledTools.{same_again}
+use Rattle.pli_parse_declaration.specs.Separators.{separated}
+use Rattle.pli_parse_declaration.specs.declared.list.Separator.TheVariants.{Commas}
 
 pub expression_again : (levels : ℕ) → ReadAgain (expression_in levels) (SpellsOutermost levels) EndsExpression
 unfolding expression_in
@@ -29,7 +30,7 @@ unfolding reference_in
 reference_again levels p ts more r spelled stops = ap uncounted (reference_is_read levels p ts more r spelled stops)
 
 pub identifier_again : ReadAgain identifier_at SpellsIdentifier Anyhow
-unfolding identifier_at
+unfolding identifier_at name_at name_first
 identifier_again p ts more i (e, at) stops =
     subst (λ us. identifier_at p (us ++ more) ≡ read_as i (p + length us) more) (sym e) (ap (λ (q : ℕ). read_as (record { name = i.name; at = q }) (p + 1) more) (sym at))
 

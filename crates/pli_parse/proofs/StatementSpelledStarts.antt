@@ -12,7 +12,6 @@ use Rattle.pli_base.specs.declared.token.TokenText.TheVariants.{Word, Sign}
 use Rattle.pli_parse_expression.specs.Operators.{infix_sign}
 use Rattle.pli_parse_expression.specs.Expressions.{SpellsExpression, SpellsArguments, SpellsJoined, SpellsReferenceAlone}
 use Rattle.pli_base.specs.Declarations.{Item}
-use Rattle.pli_parse_declaration.specs.DeclarationReading.{Commas}
 use Rattle.pli_parse_declaration.specs.DeclarationGrammar.{SpellsListed, SpellsLevel, SpellsItem, SpellsNames, SpellsDeclaration}
 use Rattle.pli_base.specs.Statements.{Heading, Control, While, Iterate, Allocation, ProcedureOption, Main, Returns, Recursive}
 use Rattle.pli_parse_statement.specs.StatementGrammar.{BeginsAssignment, SpellsKeyed, SpellsClosed, SpellsIdentifier, SpellsParameters, SpellsOptions, SpellsHeading, SpellsControl, SpellsAllocation, SpellsSkip, SpellsItems, SpellsPut, SpellsValue, SpellsGoto}
@@ -22,6 +21,7 @@ use Rattle.pli_parse_statement.specs.declared.keyword.Keyword.{Keyword}
 use Rattle.pli_parse_statement.specs.declared.keyword.Keyword.TheVariants.{End}
 use Rattle.pli_parse_statement.specs.declared.keyword.Keyword.TheVariants as words
 use Rattle.pli_parse.proofs.StatementSpelledTools.{name_is, assignment_begins}
+use Rattle.pli_parse_declaration.specs.declared.list.Separator.TheVariants.{Commas}
 
 -- something stands there that is no `:`
 abbrev pub NotColon : Tokens → Type 0

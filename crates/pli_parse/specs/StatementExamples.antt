@@ -2,7 +2,7 @@
 use Rattle.std.specs.Prelude.{◌≡◌, ℕ, Some, None, Result, Ok, [], ◌∷◌, codes, true, false}
 use Rattle.pli_base.specs.Name.{Name}
 use Rattle.pli_base.specs.Words.{Tokens}
-use Rattle.pli_base.specs.Reading.{at_fault, Front}
+use Rattle.pli_base.specs.Reading.{at_fault, Front, read_as}
 use Rattle.pli_base.specs.Syntax.{Expression, Referred, Constant, Infix, Reference, Named, Alone, Absent, Given, Empty, Listed}
 use Rattle.pli_base.specs.declared.syntax.ConstantValue.TheVariants as constants
 use Rattle.pli_base.specs.declared.syntax.Identifier.{Identifier}
@@ -13,7 +13,6 @@ use Rattle.pli_base.specs.declared.token.Sign.TheVariants.{Colon, Semicolon, Ope
 use Rattle.pli_base.specs.declared.token.TokenText.{TokenText}
 use Rattle.pli_base.specs.declared.token.TokenText.TheVariants.{Word, Decimal, Sign}
 use Rattle.pli_base.specs.Declarations as declarations
-use Rattle.pli_parse_declaration.specs.DeclarationReading.{read_as}
 use Rattle.pli_base.specs.Statements.{Main, Returns, Recursive, To, By, Iterate, While, Statement, Numbered, Body, Statements, Ended, Before, NoElse, Else, ExternalProcedure}
 use Rattle.pli_base.specs.Statements as body
 use Rattle.pli_parse_statement.specs.StatementReading.{statement_at, unit_of}

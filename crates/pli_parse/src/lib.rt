@@ -8,7 +8,7 @@ mod spelling;
 mod unit;
 
 pub use laws::{faults_stand_at_tokens, tokens_of_units_rise, worked_examples};
-pub use pli_parse_declaration::ParseError;
+pub use pli_base::ParseError;
 pub use reading::units_read_are_spelled;
 pub use spelling::{one_unit, units_spelled_are_read};
 pub use unit::parse;

@@ -1,6 +1,5 @@
 //! Statements, with those inside them.
-ghost use Rattle.std.specs.Prelude.{◌≡◌, ◌≤◌, ◌<◌, ◌+◌, ◌-◌, length, codes, IfOk};
-ghost use Rattle.pli_parse_declaration.specs.DeclarationAnswers.{Gives, Advances, front_view};
+ghost use Rattle.std.specs.Prelude.{◌≡◌, ◌≤◌, ◌<◌, ◌+◌, ◌-◌, length, IfOk};
 ghost use Rattle.pli_base.specs.Statements.{count, body_count, list_count, alternative_count};
 ghost use Rattle.pli_base.specs.StatementLaws.{boxed_view};
 ghost use Rattle.pli_base.specs.StatementView.{body_view, statement_view, statements_view};
@@ -8,16 +7,16 @@ ghost use Rattle.pli_parse_statement.specs.StatementReading.{is_label, ending_at
 ghost use Rattle.pli_parse_statement.specs.StatementReading as reading;
 ghost use Rattle.pli_base.specs.Statements as tree;
 ghost use Rattle.pli_parse_statement.specs.StatementWords as grammar;
-ghost use Rattle.pli_parse_statement.specs.StatementAnswers.{heading_view, counted_view, Counts, inside_at, listing_view, context_view, kind_view, words, BehindKind};
+ghost use Rattle.pli_parse_statement.specs.StatementAnswers.{heading_view, counted_view, Counts, inside_at, listing_view, context_view, words};
+ghost use Rattle.pli_base.specs.ReadingAnswers.{Gives, Advances, front_view};
 
 use pli_base::statement::{Body, Procedure, Statement};
 use pli_base::syntax::Identifier;
-use pli_base::{Code, Name, TokenText};
-use pli_parse_declaration::{Front, ParseError, semicolon_taken};
+use pli_base::{Code, Front, Name, ParseError, TokenText, fault, semicolon_taken};
 use pli_parse_statement::{
     Context, Counted, Heading, Keyword, Kind, Listing, Misplacement, Next, Standing, assignment_at,
-    bad_label, condition_at, control_at, else_first, expression_in, fault, has_semicolon,
-    heading_at, kind_of, label_at, next_of, simple_at, why_misplaced, word_taken,
+    bad_label, condition_at, control_at, else_first, expression_in, has_semicolon, heading_at,
+    kind_of, label_at, next_of, simple_at, why_misplaced, word_taken,
 };
 use std::alloc::Global;
 

@@ -2,16 +2,15 @@
 ghost use Rattle.std.specs.Prelude.{◌≡◌, ◌≤◌, ◌+◌, length};
 ghost use Rattle.pli_base.specs.Reading.{misplaced};
 ghost use Rattle.pli_base.specs.Words.{is_procedure};
-ghost use Rattle.pli_parse_declaration.specs.DeclarationAnswers.{Gives};
 ghost use Rattle.pli_base.specs.StatementView.{unit_view};
 ghost use Rattle.pli_parse_statement.specs.StatementReading.{external_at, unit_of};
+ghost use Rattle.pli_base.specs.ReadingAnswers.{Gives};
 
 use crate::reader::{last_place, list_in};
 use pli_base::statement::Procedure;
 use pli_base::syntax::Identifier;
-use pli_base::{Code, Name, Sign, TokenText};
-use pli_parse_declaration::ParseError;
-use pli_parse_statement::{Context, Standing, fault, has_semicolon, heading_at, is_name};
+use pli_base::{Code, Name, ParseError, Sign, TokenText, fault};
+use pli_parse_statement::{Context, Standing, has_semicolon, heading_at, is_name};
 use std::alloc::Global;
 
 /// The greatest number of levels that may be opened (own): the unit is the first.

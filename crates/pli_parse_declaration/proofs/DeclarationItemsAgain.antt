@@ -1,20 +1,21 @@
 -- What is spelled so is read: attributes, descriptions and items.
 use Rattle.std.proofs.Common.{⊎_elim, ◌⊎◌, inl, inr, ◌≡◌, ◌+◌, ◌<◌, ℕ, true, cond, List, [], ◌∷◌, ◌++◌, Option, Some, None, Ok, length, codes, refl, ap, ◌∙◌, sym, subst, arith, append_assoc, length-append}
 use Rattle.pli_base.specs.Name.{Name}
-use Rattle.pli_base.specs.Words.{Tokens, is_open, is_close, is_semicolon}
-use Rattle.pli_base.specs.Reading.{◌>>=◌, Front}
+use Rattle.pli_base.specs.Words.{Tokens, is_open, is_close, is_semicolon, behind}
+use Rattle.pli_base.specs.Reading.{◌>>=◌, Front, read_as, mapped, expected, taken, enclosed}
 use Rattle.pli_base.specs.declared.code.Code.TheVariants.{ParenthesisExpected, SemicolonExpected}
 use Rattle.pli_base.specs.declared.token.Sign.TheVariants.{Semicolon, Comma, OpenParenthesis, CloseParenthesis}
 use Rattle.pli_base.specs.declared.token.TokenText.TheVariants.{Word, Sign}
-use Rattle.pli_parse_declaration.specs.DeclarationWords.{attribute_first, behind, if_first, with_attribute, begins_description}
+use Rattle.pli_parse_declaration.specs.DeclarationWords.{attribute_first, if_first, with_attribute, begins_description}
 use Rattle.pli_base.specs.Declarations as tree
-use Rattle.pli_parse_declaration.specs.DeclarationReading.{read_as, mapped, expected, taken, enclosed, Commas, Nothing, list_at, dimensions_at, identifier_at, described_from, described_at, parameter_at, parameters_from, parameters_at, entry_from, entry_at, returned_at, attribute_from, attribute_at, attributes_from, attributes_at, level_at, names_from, names_at, item_at, items_at, declaration_at}
+use Rattle.pli_parse_declaration.specs.DeclarationReading.{list_at, dimensions_at, identifier_at, described_from, described_at, parameter_at, parameters_from, parameters_at, entry_from, entry_at, returned_at, attribute_from, attribute_at, attributes_from, attributes_at, level_at, names_from, names_at, item_at, items_at, declaration_at}
 use Rattle.pli_parse_declaration.specs.DeclarationGrammar.{between, SpellsListed, Anywhere, SpellsList, SpellsOptional, SpellsSimple, word_of, SpellsDescribed, SpellsParameter, SpellsParameters, SpellsReturned, SpellsAttribute, SpellsAttributes, SpellsIdentifier, SpellsNames, SpellsLevel, SpellsItem, SpellsItems, SpellsDeclaration, EndsItems}
 use Rattle.pli_base.specs.declared.syntax.Identifier.{Identifier}
 use Rattle.pli_parse_declaration.specs.declared.word.AttributeWord.TheVariants as attribute
 use Rattle.pli_parse_declaration.proofs.DeclarationSteps.{same_ok}
 use Rattle.pli_parse_declaration.proofs.DeclarationReadAgain.{ReadAgain, Anyhow, NoOpen, ListEnds, no_open_close, no_open_comma, no_open_word, placed, open_taken, open_behind, enclosed_again, listed_again, list_again, comma_goes, commas_close, identifier_again, dimensions_again, simple_again, word_again}
 use Rattle.pli_parse_declaration.proofs.DeclarationNestsAgain.{entry_word, returns_word, FirstWord, FirstOfDescription, dimensions_describe, first_no_open, nest_again}
+use Rattle.pli_parse_declaration.specs.declared.list.Separator.TheVariants.{Commas, Nothing}
 
 simple_first : (ts : Tokens) (a : tree.SimpleAttribute) → SpellsSimple ts a → FirstWord ts
 simple_first ts a (k, us, e, word, spelled) = (k, us, attribute.Simple (word_of a), e, word)

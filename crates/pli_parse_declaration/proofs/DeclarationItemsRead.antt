@@ -1,19 +1,20 @@
 -- What is read is spelled so: attributes, descriptions and items.
 use Rattle.std.proofs.Common.{◌≡◌, ◌+◌, ℕ, Bool, true, false, cond, List, [], ◌∷◌, ◌++◌, Option, Some, None, Ok, length, codes, refl, ap, ◌∙◌, sym, subst, arith, inl, inr}
-use Rattle.pli_base.specs.Words.{Tokens, is_open, is_close, is_semicolon}
-use Rattle.pli_base.specs.Reading.{Front}
+use Rattle.pli_base.specs.Words.{Tokens, is_open, is_close, is_semicolon, behind}
+use Rattle.pli_base.specs.Reading.{Front, expected, taken, enclosed}
 use Rattle.pli_base.specs.declared.code.Code.TheVariants.{ParenthesisExpected, SemicolonExpected}
 use Rattle.pli_base.specs.declared.token.Sign.TheVariants.{Semicolon, OpenParenthesis, CloseParenthesis}
 use Rattle.pli_base.specs.declared.token.TokenText.TheVariants.{Word, Decimal, Binary, Sign}
-use Rattle.pli_parse_declaration.specs.DeclarationWords.{attribute_first, behind, if_first, begins_description}
+use Rattle.pli_parse_declaration.specs.DeclarationWords.{attribute_first, if_first, begins_description}
 use Rattle.pli_base.specs.Declarations as tree
-use Rattle.pli_parse_declaration.specs.DeclarationReading.{expected, taken, enclosed, Commas, Nothing, list_at, dimensions_at, identifier_at, nest_at, simple_of, described_from, described_at, parameter_at, parameters_from, parameters_at, entry_from, entry_at, returned_at, attribute_from, attribute_at, attributes_from, attributes_at, level_at, names_from, names_at, item_at, items_at, declaration_at}
+use Rattle.pli_parse_declaration.specs.DeclarationReading.{list_at, dimensions_at, identifier_at, nest_at, simple_of, described_from, described_at, parameter_at, parameters_from, parameters_at, entry_from, entry_at, returned_at, attribute_from, attribute_at, attributes_from, attributes_at, level_at, names_from, names_at, item_at, items_at, declaration_at}
 use Rattle.pli_parse_declaration.specs.DeclarationGrammar.{SpellsFront, SpellsListed, Anywhere, SpellsList, SpellsEnclosed, SpellsOptional, Part, OneAttribute, IsWellFormed, simple, entry, entry_of_none, entry_of, returns_of, last_attribute, more_attributes, description, last_description, more_descriptions, SpellsDescribed, SpellsParameter, SpellsParameters, SpellsReturned, SpellsAttribute, SpellsAttributes, SpellsIdentifier, SpellsNames, SpellsLevel, SpellsItem, SpellsItems, SpellsDeclaration}
 use Rattle.pli_parse_declaration.specs.declared.word.AttributeWord.{AttributeWord}
 use Rattle.pli_parse_declaration.specs.declared.word.AttributeWord.TheVariants as attribute
 use Rattle.pli_parse_declaration.proofs.DeclarationSteps.{same_ok, bind_ok, mapped_ok, open_first, close_first, semicolon_first, taken_ok, two}
 use Rattle.pli_parse_declaration.proofs.DeclarationRead.{Reads, enclosed_spelled, listed_reads, list_reads, dimensions_reads, identifier_reads, word_first, simple_spelled, entry_is, returns_is}
 use Rattle.pli_parse_declaration.proofs.DeclarationNestsRead.{nest_reads}
+use Rattle.pli_parse_declaration.specs.declared.list.Separator.TheVariants.{Commas, Nothing}
 
 -- a well formed attribute has a first token
 abbrev HasFirst : Tokens → Type 0

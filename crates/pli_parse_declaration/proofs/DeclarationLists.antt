@@ -1,12 +1,14 @@
 -- A list, read by a loop.
 use Rattle.std.proofs.Common.{◌≡◌, ◌<◌, ℕ, suc, zero, List, [], ◌∷◌, ◌++◌, Some, None, Result, Ok, Err, length, refl, ap, ◌∙◌, sym, arith, append_assoc}
 use Rattle.pli_base.specs.Words.{Tokens}
-use Rattle.pli_base.specs.Reading.{◌>>=◌, Front}
+use Rattle.pli_base.specs.Reading.{◌>>=◌, Front, read_as}
 use Rattle.pli_base.specs.declared.token.Fault.{Fault}
-use Rattle.pli_parse_declaration.specs.declared.answer.ParseError.{ParseError}
-use Rattle.pli_parse_declaration.specs.declared.answer.ParseError.TheVariants as errors
-use Rattle.pli_parse_declaration.specs.DeclarationAnswers.{Fails}
-use Rattle.pli_parse_declaration.specs.DeclarationReading.{read_as, Separator, separated, behind_separator, listed_after, listed_at}
+use Rattle.pli_base.specs.declared.reading.ParseError.TheVariants as errors
+use Rattle.pli_parse_declaration.specs.DeclarationReading.{listed_after, listed_at}
+use Rattle.pli_base.specs.declared.reading.ParseError.{ParseError}
+use Rattle.pli_base.specs.ReadingAnswers.{Fails}
+use Rattle.pli_parse_declaration.specs.Separators.{separated, behind_separator}
+use Rattle.pli_parse_declaration.specs.declared.list.Separator.{Separator}
 
 -- what was read before, and what is still read
 abbrev pub with_done : {A : Type 0} → List A → Result (Front (List A)) Fault → Result (Front (List A)) Fault

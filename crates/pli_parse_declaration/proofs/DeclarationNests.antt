@@ -2,15 +2,15 @@
 use Rattle.std.proofs.Common.{◌≡◌, ◌<◌, ◌+◌, ℕ, suc, zero, true, false, List, [], ◌∷◌, Result, Ok, length, refl, ap, ◌∙◌, sym, arith}
 use Rattle.std.proofs.lemmas.Bool.{eqb-true}
 use Rattle.pli_base.specs.Words.{Tokens}
-use Rattle.pli_base.specs.Reading.{◌>>=◌, Front}
+use Rattle.pli_base.specs.Reading.{◌>>=◌, Front, read_as}
 use Rattle.pli_base.specs.declared.token.Fault.{Fault}
-use Rattle.pli_parse_declaration.specs.declared.answer.ParseError.{ParseError}
-use Rattle.pli_parse_declaration.specs.declared.answer.ParseError.TheVariants as errors
+use Rattle.pli_base.specs.declared.reading.ParseError.TheVariants as errors
 use Rattle.pli_parse_declaration.specs.declared.nest.Open.{Open}
 use Rattle.pli_parse_declaration.specs.declared.nest.Expects.{Expects}
 use Rattle.pli_parse_declaration.specs.declared.nest.Expects.TheVariants as expects
-use Rattle.pli_parse_declaration.specs.DeclarationAnswers.{Fails}
-use Rattle.pli_parse_declaration.specs.DeclarationReading.{read_as, Walk, step_at, is_over, walked_after, walked, nest_at}
+use Rattle.pli_parse_declaration.specs.DeclarationReading.{Walk, step_at, is_over, walked_after, walked, nest_at}
+use Rattle.pli_base.specs.declared.reading.ParseError.{ParseError}
+use Rattle.pli_base.specs.ReadingAnswers.{Fails}
 
 -- the walk from here is the whole walk
 abbrev pub Walks : List Open → Expects → ℕ → Tokens → Result (Front (Unit {0})) Fault → Type 0

@@ -2,15 +2,15 @@
 use Rattle.std.proofs.Common.{◌≡◌, ◌+◌, ◌<◌, ℕ, suc, zero, true, cond, List, [], ◌∷◌, ◌++◌, Some, None, Result, Ok, length, codes, refl, ap, ◌∙◌, sym, subst, arith, append_assoc, length-append}
 use Rattle.std.specs.Prelude.{is_some}
 use Rattle.pli_base.specs.Name.{Name}
-use Rattle.pli_base.specs.Words.{Tokens, is_close}
-use Rattle.pli_base.specs.Reading.{◌>>=◌, Front}
+use Rattle.pli_base.specs.Words.{Tokens, is_close, behind}
+use Rattle.pli_base.specs.Reading.{◌>>=◌, Front, read_as, expected}
 use Rattle.pli_base.specs.declared.code.Code.TheVariants.{ParenthesisExpected}
 use Rattle.pli_base.specs.declared.token.Fault.{Fault}
 use Rattle.pli_base.specs.declared.token.Sign.TheVariants.{Comma, OpenParenthesis, CloseParenthesis}
 use Rattle.pli_base.specs.declared.token.TokenText.TheVariants.{Word, Sign}
-use Rattle.pli_parse_declaration.specs.DeclarationWords.{data_word, storage_word, nesting_word, attribute_word, attribute_first, behind, begins_description}
+use Rattle.pli_parse_declaration.specs.DeclarationWords.{data_word, storage_word, nesting_word, attribute_word, attribute_first, begins_description}
 use Rattle.pli_base.specs.Declarations.{SimpleAttribute}
-use Rattle.pli_parse_declaration.specs.DeclarationReading.{read_as, expected, simple_of, Walk, description_walk, parameters_walk, entry_walk, word_walk, behind_walk, walk_by, step_at, walked_after, walked, nest_at}
+use Rattle.pli_parse_declaration.specs.DeclarationReading.{simple_of, Walk, description_walk, parameters_walk, entry_walk, word_walk, behind_walk, walk_by, step_at, walked_after, walked, nest_at}
 use Rattle.pli_parse_declaration.specs.DeclarationGrammar.{SpellsDimensions, SpellsSimple, word_of, Part, OneAttribute, Attributes, OneDescription, Descriptions, IsWellFormed, simple, entry, entry_of_none, entry_of, returns_of, last_attribute, more_attributes, description, last_description, more_descriptions}
 use Rattle.pli_base.specs.declared.declaration.Bounds.{Bounds}
 use Rattle.pli_parse_declaration.specs.declared.nest.Open.{Open}

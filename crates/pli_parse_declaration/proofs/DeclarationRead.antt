@@ -2,15 +2,15 @@
 use Rattle.std.proofs.Common.{⊎_elim, ◌≡◌, ◌+◌, ℕ, suc, zero, Bool, true, false, cond, List, [], ◌∷◌, ◌++◌, Option, Some, None, Result, Ok, length, codes, refl, ap, ◌∙◌, sym, subst, arith, ◌⊎◌, inl, inr, append_assoc, length-append}
 use Rattle.pli_base.specs.Name.{Name}
 use Rattle.pli_base.specs.NameLaws.{equal_from_pointwise}
-use Rattle.pli_base.specs.Words.{Tokens, same_name, is_open, is_close, is_comma}
-use Rattle.pli_base.specs.Reading.{Front}
+use Rattle.pli_base.specs.Words.{Tokens, same_name, is_open, is_close, is_comma, behind, name_first, is_colon}
+use Rattle.pli_base.specs.Reading.{Front, read_as, mapped, expected, taken, enclosed, if_open, or_none}
 use Rattle.pli_base.specs.declared.code.Code.TheVariants.{ParenthesisExpected, ConstantExpected}
 use Rattle.pli_base.specs.declared.token.Fault.{Fault}
 use Rattle.pli_base.specs.declared.token.Sign.TheVariants.{Colon, Comma, OpenParenthesis, CloseParenthesis, Plus, Minus}
 use Rattle.pli_base.specs.declared.token.TokenText.TheVariants.{Word, Decimal, Binary, Characters, Bits, Sign}
-use Rattle.pli_parse_declaration.specs.DeclarationWords.{data_word, storage_word, nesting_word, word_or, attribute_word, with_rest, attribute_first, behind, name_first, is_colon, is_zero}
+use Rattle.pli_parse_declaration.specs.DeclarationWords.{data_word, storage_word, nesting_word, word_or, attribute_word, with_rest, attribute_first, is_zero}
 use Rattle.pli_base.specs.Declarations as tree
-use Rattle.pli_parse_declaration.specs.DeclarationReading.{read_as, mapped, expected, taken, enclosed, if_open, Separator, Commas, Periods, separated, behind_separator, listed_after, listed_at, list_at, number_at, signed, integer_at, bounds_from, bounds_at, or_none, dimensions_at, length_at, with_scale, scaled_at, precision_at, name_at, identifier_at, area_at, locator_at, repeated_at, null_from, value_at, values_at, simple_of}
+use Rattle.pli_parse_declaration.specs.DeclarationReading.{listed_after, listed_at, list_at, number_at, signed, integer_at, bounds_from, bounds_at, dimensions_at, length_at, with_scale, scaled_at, precision_at, name_at, identifier_at, area_at, locator_at, repeated_at, null_from, value_at, values_at, simple_of}
 use Rattle.pli_parse_declaration.specs.DeclarationGrammar.{SpellsFront, between, SpellsListed, Anywhere, SpellsList, SpellsEnclosed, SpellsOptional, SpellsNumber, SpellsInteger, SpellsBounds, SpellsDimensions, SpellsScaled, SpellsName, SpellsValue, word_of, SpellsBehind, SpellsSimple, SpellsIdentifier}
 use Rattle.pli_base.specs.declared.declaration.Integer.{Integer}
 use Rattle.pli_base.specs.declared.declaration.Bounds.{Bounds}
@@ -21,6 +21,9 @@ use Rattle.pli_parse_declaration.specs.declared.word.SimpleWord.TheVariants as w
 use Rattle.pli_parse_declaration.specs.declared.word.AttributeWord.{AttributeWord}
 use Rattle.pli_parse_declaration.specs.declared.word.AttributeWord.TheVariants as attribute
 use Rattle.pli_parse_declaration.proofs.DeclarationSteps.{same_ok, some_same, bind_ok, mapped_ok, open_first, close_first, comma_first, colon_first, zero_first, taken_ok, enclosed_ok, two, separator_first, separator_place}
+use Rattle.pli_parse_declaration.specs.Separators.{separated, behind_separator}
+use Rattle.pli_parse_declaration.specs.declared.list.Separator.{Separator}
+use Rattle.pli_parse_declaration.specs.declared.list.Separator.TheVariants.{Commas, Periods}
 
 -- what `one` reads is spelled so
 abbrev pub Reads : {A : Type 0} → (one : ℕ → Tokens → Result (Front A) Fault) → (Spells : ℕ → Tokens → A → Type 0) → Type 0

@@ -1,18 +1,20 @@
 -- Steps of reading, taken apart.
 use Rattle.std.proofs.Common.{◌≡◌, ◌+◌, ℕ, Bool, true, false, cond, [], ◌∷◌, ◌++◌, Option, Some, None, Result, Ok, Err, length, refl, ap, ◌∙◌, sym, arith, append_assoc, length-append}
 use Rattle.std.proofs.lemmas.Bool.{eqb-true}
-use Rattle.pli_base.specs.Words.{Tokens, is_open, is_close, is_comma, is_semicolon}
-use Rattle.pli_base.specs.Reading.{◌>>=◌, Front}
+use Rattle.pli_base.specs.Words.{Tokens, is_open, is_close, is_comma, is_semicolon, behind, is_colon, is_period}
+use Rattle.pli_base.specs.Reading.{◌>>=◌, Front, mapped, taken, taken_or, enclosed}
 use Rattle.pli_base.specs.declared.code.Code.{Code}
 use Rattle.pli_base.specs.declared.code.Code.TheVariants.{ParenthesisExpected}
 use Rattle.pli_base.specs.declared.token.Fault.{Fault}
 use Rattle.pli_base.specs.declared.token.Sign.TheVariants.{Colon, Semicolon, Comma, Period, OpenParenthesis, CloseParenthesis}
 use Rattle.pli_base.specs.declared.token.TokenText.{TokenText}
 use Rattle.pli_base.specs.declared.token.TokenText.TheVariants.{Decimal, Sign}
-use Rattle.pli_parse_declaration.specs.DeclarationWords.{attribute_first, behind, is_colon, is_period, is_zero, if_first}
-use Rattle.pli_parse_declaration.specs.DeclarationReading.{mapped, taken, taken_or, enclosed, Separator, Commas, Periods, Nothing, separated, behind_separator}
+use Rattle.pli_parse_declaration.specs.DeclarationWords.{attribute_first, is_zero, if_first}
 use Rattle.pli_parse_declaration.specs.DeclarationGrammar.{between}
 use Rattle.pli_parse_declaration.specs.declared.word.AttributeWord.{AttributeWord}
+use Rattle.pli_parse_declaration.specs.Separators.{separated, behind_separator}
+use Rattle.pli_parse_declaration.specs.declared.list.Separator.{Separator}
+use Rattle.pli_parse_declaration.specs.declared.list.Separator.TheVariants.{Commas, Periods, Nothing}
 
 pub same_ok : {A : Type 0} {x y : A} → ◌≡◌ {A = Result A Fault} (Ok x) (Ok y) → x ≡ y
 same_ok h = cc

@@ -3,7 +3,6 @@ pub mod DeclarationFaults
 pub mod DeclarationItemsAgain
 pub mod DeclarationItemsRead
 pub mod DeclarationLists
-pub mod DeclarationNames
 pub mod DeclarationNests
 pub mod DeclarationNestsAgain
 pub mod DeclarationNestsRead

@@ -1,12 +1,12 @@
 -- Items and what they are read as, and faults: computed. Each text begins at token 1, behind DECLARE.
 use Rattle.std.specs.Prelude.{◌≡◌, ℕ, Some, None, List, [], ◌∷◌, codes, true, false}
 use Rattle.pli_base.specs.Words.{Tokens}
-use Rattle.pli_base.specs.Reading.{at_fault}
+use Rattle.pli_base.specs.Reading.{at_fault, read_as}
 use Rattle.pli_base.specs.declared.code.Code.TheVariants.{ParenthesisExpected, SemicolonExpected, NameExpected, EndMissing, BadAttribute, ConstantExpected}
 use Rattle.pli_base.specs.declared.token.Sign.TheVariants.{Colon, Semicolon, Comma, Period, OpenParenthesis, CloseParenthesis, Minus}
 use Rattle.pli_base.specs.declared.token.TokenText.{TokenText}
 use Rattle.pli_base.specs.declared.token.TokenText.TheVariants.{Word, Decimal, Characters, Sign}
-use Rattle.pli_parse_declaration.specs.DeclarationReading.{read_as, declaration_at}
+use Rattle.pli_parse_declaration.specs.DeclarationReading.{declaration_at}
 use Rattle.pli_base.specs.Declarations as tree
 use Rattle.pli_base.specs.declared.syntax.Identifier.{Identifier}
 use Rattle.pli_base.specs.declared.declaration.InitialValue.TheVariants as initial

@@ -1,12 +1,11 @@
 -- The grammar of what stands behind DECLARE: which tokens spell which tree. Tokens are counted from 0; p, where it is given, is the place of the first.
 use Rattle.std.specs.Prelude.{◌≡◌, ℕ, ◌+◌, ◌⊎◌, Bool, true, false, Option, Some, None, List, [], ◌∷◌, ◌++◌, length, codes}
 use Rattle.pli_base.specs.Name.{Name}
-use Rattle.pli_base.specs.Words.{Tokens, is_open, is_comma}
+use Rattle.pli_base.specs.Words.{Tokens, is_open, is_comma, behind}
 use Rattle.pli_base.specs.Reading.{Front}
 use Rattle.pli_base.specs.declared.token.Sign.TheVariants.{Colon, Semicolon, Comma, Period, OpenParenthesis, CloseParenthesis, Plus, Minus}
 use Rattle.pli_base.specs.declared.token.TokenText.TheVariants.{Word, Decimal, Binary, Characters, Bits, Sign}
-use Rattle.pli_parse_declaration.specs.DeclarationWords.{attribute_word, behind, with_attribute}
-use Rattle.pli_parse_declaration.specs.DeclarationReading.{Separator, Commas, Periods, Nothing, behind_separator}
+use Rattle.pli_parse_declaration.specs.DeclarationWords.{attribute_word, with_attribute}
 use Rattle.pli_base.specs.Declarations as tree
 use Rattle.pli_base.specs.declared.syntax.Identifier.{Identifier}
 use Rattle.pli_base.specs.declared.declaration.Integer.{Integer}
@@ -16,6 +15,9 @@ use Rattle.pli_base.specs.declared.declaration.InitialValue.TheVariants as initi
 use Rattle.pli_parse_declaration.specs.declared.word.SimpleWord.{SimpleWord}
 use Rattle.pli_parse_declaration.specs.declared.word.SimpleWord.TheVariants as words
 use Rattle.pli_parse_declaration.specs.declared.word.AttributeWord.TheVariants as attribute
+use Rattle.pli_parse_declaration.specs.Separators.{behind_separator}
+use Rattle.pli_parse_declaration.specs.declared.list.Separator.{Separator}
+use Rattle.pli_parse_declaration.specs.declared.list.Separator.TheVariants.{Commas, Periods, Nothing}
 
 -- what stands between two of a list
 abbrev pub between : Separator → Tokens

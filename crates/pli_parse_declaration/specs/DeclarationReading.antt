@@ -2,15 +2,15 @@
 -- A part that need not stand is passed over, so a fault is about what must stand next.
 use Rattle.std.specs.Prelude.{ℕ, zero, suc, ◌+◌, ◌-◌, nat_eq, Bool, true, false, Option, Some, None, Result, Ok, Err, List, [], ◌∷◌, length, codes, if◌then◌else◌}
 use Rattle.pli_base.specs.Name.{Name}
-use Rattle.pli_base.specs.Words.{Tokens, same_name, is_open, is_close, is_comma, is_semicolon}
-use Rattle.pli_base.specs.Reading.{◌>>=◌, at_fault, Front}
+use Rattle.pli_base.specs.Words.{Tokens, same_name, is_open, is_close, is_comma, is_semicolon, behind, name_first, is_colon, is_period}
+use Rattle.pli_base.specs.Reading.{◌>>=◌, at_fault, Front, expected, read_as, mapped, taken, enclosed, if_open, or_none}
 use Rattle.pli_base.specs.declared.code.Code.{Code}
 use Rattle.pli_base.specs.declared.code.Code.TheVariants.{ParenthesisExpected, SemicolonExpected, NameExpected, EndMissing, BadAttribute, ConstantExpected}
 use Rattle.pli_base.specs.declared.token.Fault.{Fault}
 use Rattle.pli_base.specs.declared.token.Sign.TheVariants.{OpenParenthesis, Plus, Minus}
 use Rattle.pli_base.specs.declared.token.TokenText.{TokenText}
 use Rattle.pli_base.specs.declared.token.TokenText.TheVariants.{Word, Decimal, Binary, Characters, Bits, Sign}
-use Rattle.pli_parse_declaration.specs.DeclarationWords.{attribute_first, behind, name_first, with_attribute, begins_description, is_colon, is_period, is_zero}
+use Rattle.pli_parse_declaration.specs.DeclarationWords.{attribute_first, with_attribute, begins_description, is_zero}
 use Rattle.pli_base.specs.Declarations as tree
 use Rattle.pli_base.specs.declared.syntax.Identifier.{Identifier}
 use Rattle.pli_base.specs.declared.declaration.Integer.{Integer}
@@ -25,56 +25,9 @@ use Rattle.pli_parse_declaration.specs.declared.nest.Open.{Open}
 use Rattle.pli_parse_declaration.specs.declared.nest.Open.TheVariants as opened
 use Rattle.pli_parse_declaration.specs.declared.nest.Expects.{Expects}
 use Rattle.pli_parse_declaration.specs.declared.nest.Expects.TheVariants as expects
-
--- the fault where something else must stand, or at the last token where the text has ended
-unfoldable pub fault_at : Code → ℕ → Tokens → Fault
-fault_at code p [] = record { code = EndMissing; at = p - 1 }
-fault_at code p (t ∷ ts) = record { code = code; at = p }
-
-abbrev pub expected : {A : Type 0} → Code → ℕ → Tokens → Result A Fault
-expected code p ts = Err (fault_at code p ts)
-
--- a value that was read, with what is behind it
-abbrev pub read_as : {A : Type 0} → A → ℕ → Tokens → Result (Front A) Fault
-read_as value p ts = Ok (record { value = value; next = p; rest = ts })
-
--- the value becomes another
-abbrev pub mapped : {A B : Type 0} → (A → B) → Result (Front A) Fault → Result (Front B) Fault
-mapped f read = read >>= λ x. read_as (f x.value) x.next x.rest
-
--- behind a token that must stand
-abbrev pub taken_or : Code → ℕ → Tokens → Option Tokens → Result Tokens Fault
-taken_or code p ts (Some us) = Ok us
-taken_or code p ts None = expected code p ts
-
-unfoldable pub taken : (TokenText → Bool) → Code → ℕ → Tokens → Result Tokens Fault
-taken fits code p ts = taken_or code p ts (behind fits ts)
-
--- what is read, and the `)` behind it
-abbrev pub enclosed : {A : Type 0} → Result (Front A) Fault → Result (Front A) Fault
-enclosed read = read >>= λ x. taken is_close ParenthesisExpected x.next x.rest >>= λ rest. read_as x.value (x.next + 1) rest
-
--- what stands in parentheses, if there is a `(`
-abbrev pub if_open : {A : Type 0} → (ℕ → Tokens → Result (Front A) Fault) → ℕ → Tokens → Option Tokens → Result (Front (Option A)) Fault
-if_open read p ts None = read_as None p ts
-if_open read p ts (Some us) = mapped Some (enclosed (read (p + 1) us))
-
--- what stands between two of a list
-pub data Separator : Type 0 where
-  Commas : Separator
-  Periods : Separator
-  Nothing : Separator
-
--- the tokens of what comes next in a list, if it goes on: behind a comma, behind a period, or at an attribute's keyword
-abbrev pub separated : Separator → Tokens → Option Tokens
-separated Commas ts = behind is_comma ts
-separated Periods ts = behind is_period ts
-separated Nothing ts = with_attribute ts
-
-abbrev pub behind_separator : Separator → ℕ → ℕ
-behind_separator Commas p = p + 1
-behind_separator Periods p = p + 1
-behind_separator Nothing p = p
+use Rattle.pli_parse_declaration.specs.Separators.{separated, behind_separator}
+use Rattle.pli_parse_declaration.specs.declared.list.Separator.{Separator}
+use Rattle.pli_parse_declaration.specs.declared.list.Separator.TheVariants.{Commas, Periods, Nothing}
 
 -- behind a value of a list: what more reads, or the list's end
 abbrev pub listed_after : {A : Type 0} → Separator → (more : ℕ → Tokens → Result (Front (List A)) Fault) → Front A → Option Tokens → Result (Front (List A)) Fault
@@ -112,10 +65,6 @@ bounds_from x (Some us) = mapped (λ high. record { low = Some x.value; high = h
 
 unfoldable pub bounds_at : ℕ → Tokens → Result (Front Bounds) Fault
 bounds_at p ts = integer_at p ts >>= λ x. bounds_from x (behind is_colon x.rest)
-
-abbrev pub or_none : {A : Type 0} → Option (List A) → List A
-or_none (Some xs) = xs
-or_none None = []
 
 -- dimensions in parentheses, or none
 unfoldable pub dimensions_at : ℕ → Tokens → Result (Front (List Bounds)) Fault

@@ -1,7 +1,7 @@
 -- The keywords of attributes, and tests of tokens.
 use Rattle.std.specs.Prelude.{Bool, true, false, ◌||◌, ◌&&◌, is_some, nat_eq, [], ◌∷◌, codes, Option, Some, None, if◌then◌else◌}
 use Rattle.pli_base.specs.Name.{Name}
-use Rattle.pli_base.specs.Words.{Tokens, same_name, is_open}
+use Rattle.pli_base.specs.Words.{Tokens, same_name, is_open, behind}
 use Rattle.pli_base.specs.declared.token.TokenText.{TokenText}
 use Rattle.pli_base.specs.declared.token.Sign.TheVariants.{Colon, Period}
 use Rattle.pli_base.specs.declared.token.TokenText.TheVariants.{Word, Decimal, Sign}
@@ -59,28 +59,10 @@ unfoldable pub attribute_first : Tokens → Option (AttributeWord × Tokens)
 attribute_first (Word n ∷ us) = with_rest us (attribute_word n)
 attribute_first _ = None
 
-abbrev pub is_colon : TokenText → Bool
-is_colon (Sign Colon) = true
-is_colon _ = false
-
-abbrev pub is_period : TokenText → Bool
-is_period (Sign Period) = true
-is_period _ = false
-
 -- the decimal constant of the one digit 0
 abbrev pub is_zero : TokenText → Bool
 is_zero (Decimal v d) = nat_eq v 0 && nat_eq d 1
 is_zero _ = false
-
--- the tokens behind the first, if it fits
-unfoldable pub behind : (TokenText → Bool) → Tokens → Option Tokens
-behind fits [] = None
-behind fits (t ∷ ts) = if fits t then Some ts else None
-
--- the name that the tokens begin with, and those behind it
-unfoldable pub name_first : Tokens → Option (Name × Tokens)
-name_first (Word n ∷ ts) = Some (n, ts)
-name_first _ = None
 
 -- the tokens, if an attribute's keyword is the first of them
 abbrev pub if_first : {A : Type 0} → Tokens → Option A → Option Tokens

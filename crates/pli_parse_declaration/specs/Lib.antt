@@ -3,3 +3,4 @@ pub mod DeclarationExamples
 pub mod DeclarationGrammar
 pub mod DeclarationReading
 pub mod DeclarationWords
+pub mod Separators

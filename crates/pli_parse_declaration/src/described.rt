@@ -1,146 +1,118 @@
 //! Descriptions of parameters and of results.
 ghost use Rattle.std.specs.Prelude.{◌≡◌, ◌≤◌, ◌+◌, length, map, IfOk};
 ghost use Rattle.pli_base.specs.DeclarationView.{described_view, parameter_view};
-ghost use Rattle.pli_parse_declaration.specs.DeclarationReading.{Commas, Nothing, list_at, described_at, parameter_at, parameters_at, returned_at};
-ghost use Rattle.pli_parse_declaration.specs.DeclarationAnswers.{Gives, Advances, front_view};
+ghost use Rattle.pli_parse_declaration.specs.DeclarationReading.{list_at, described_at, parameter_at, parameters_at, returned_at};
+ghost use Rattle.pli_base.specs.ReadingAnswers.{Gives, Advances, front_view};
+ghost use Rattle.pli_parse_declaration.specs.declared.list.Separator.TheVariants.{Commas, Nothing};
+ghost use Rattle.std.proofs.Common.{refl};
+ghost use Rattle.pli_base.specs.Declarations as tree;
 
-use crate::answer::{Front, ParseError};
 use crate::extent::dimensions_at;
-use crate::front::{
-    attribute_first, begins_description, behind_close, behind_comma, close_taken, fault_at,
-    open_taken, with_attribute,
-};
+use crate::front::{attribute_first, begins_description};
+use crate::list::{ReadsOne, Separator, list_at};
 use crate::nest::nest_at;
 use crate::simple::simple_of;
 use crate::word::AttributeWord;
 use pli_base::declaration::{DescribedAttribute, ParameterDescription};
-use pli_base::{Code, TokenText};
+use pli_base::{Code, Front, ParseError, TokenText, behind_close, close_taken, misfit, open_taken};
 use std::alloc::Global;
 
 /// An attribute of a description.
-#[tactic(auto, unfolding(crate::specs::DeclarationReading::described_at))]
-fn described_at<'a>(
+#[derive(Clone, Copy)]
+struct EachDescribed {
     alloc: Global,
-    at: u32,
-    texts: &'a [TokenText],
-) -> Result<Front<'a, DescribedAttribute>, ParseError>
-    requires { at + length texts.now ≤ 200000 }
-    ensures value { Gives (front_view described_view) result (described_at at texts.now) }
-    ensures place { IfOk result (Advances at texts.now) }
-{
-    match attribute_first(texts) {
-        Some((AttributeWord::Simple(word), rest)) => {
-            let read = simple_of(alloc, word, at + 1, rest)?;
-            Ok(Front {
-                value: DescribedAttribute::Simple(read.value),
-                next: read.next,
-                rest: read.rest,
-            })
-        }
-        Some((AttributeWord::Entry, _)) => {
-            let nest = nest_at(alloc, at, texts)?;
-            Ok(Front {
-                value: DescribedAttribute::Entry,
-                next: nest.next,
-                rest: nest.rest,
-            })
-        }
-        Some((AttributeWord::Returns, _)) => {
-            let nest = nest_at(alloc, at, texts)?;
-            Ok(Front {
-                value: DescribedAttribute::Returns,
-                next: nest.next,
-                rest: nest.rest,
-            })
-        }
-        None => Err(fault_at(Code::BadAttribute, at, texts)),
-    }
 }
 
-/// Attributes of a description, one or more.
-fn described_listed<'a>(
-    alloc: Global,
-    at: u32,
-    texts: &'a [TokenText],
-) -> Result<Front<'a, Vec<DescribedAttribute>>, ParseError>
-    requires { at + length texts.now ≤ 200000 }
-    ensures value { Gives (front_view (λ v. map described_view v.items)) result (list_at Nothing described_at at texts.now) }
-    ensures place { IfOk result (Advances at texts.now) }
-{
-    let mut values = Vec::new(alloc);
-    let mut next = at;
-    let mut rest = texts;
-    loop {
-        let read = described_at(alloc, next, rest)?;
-        values.push(read.value)?;
-        match with_attribute(read.rest) {
-            Some(behind) => {
-                next = read.next;
-                rest = behind;
-            }
-            None => {
-                return Ok(Front {
-                    value: values,
+impl ReadsOne for EachDescribed {
+    type Value = DescribedAttribute;
+
+    ghost Tree = { tree.DescribedAttribute };
+
+    ghost tree = { described_view };
+
+    ghost trees = { map described_view };
+
+    ghost one = { λ _. described_at };
+
+    ghost each = { λ vs. refl };
+
+    #[tactic(auto, unfolding(crate::specs::DeclarationReading::described_at))]
+    fn read<'a>(
+        &self,
+        at: u32,
+        texts: &'a [TokenText],
+    ) -> Result<Front<'a, DescribedAttribute>, ParseError> {
+        match attribute_first(texts) {
+            Some((AttributeWord::Simple(word), rest)) => {
+                let read = simple_of(self.alloc, word, at + 1, rest)?;
+                Ok(Front {
+                    value: DescribedAttribute::Simple(read.value),
                     next: read.next,
                     rest: read.rest,
-                });
+                })
             }
+            Some((AttributeWord::Entry, _)) => {
+                let nest = nest_at(self.alloc, at, texts)?;
+                Ok(Front {
+                    value: DescribedAttribute::Entry,
+                    next: nest.next,
+                    rest: nest.rest,
+                })
+            }
+            Some((AttributeWord::Returns, _)) => {
+                let nest = nest_at(self.alloc, at, texts)?;
+                Ok(Front {
+                    value: DescribedAttribute::Returns,
+                    next: nest.next,
+                    rest: nest.rest,
+                })
+            }
+            None => Err(misfit(Code::BadAttribute, at, texts)),
         }
     }
 }
 
 /// The description of a parameter.
-#[tactic(auto, unfolding(crate::specs::DeclarationReading::parameter_at))]
-fn parameter_at<'a>(
+#[derive(Clone, Copy)]
+struct EachParameter {
     alloc: Global,
-    at: u32,
-    texts: &'a [TokenText],
-) -> Result<Front<'a, ParameterDescription>, ParseError>
-    requires { at + length texts.now ≤ 200000 }
-    ensures value { Gives (front_view parameter_view) result (parameter_at at texts.now) }
-    ensures place { IfOk result (Advances at texts.now) }
-{
-    let dimensions = dimensions_at(alloc, at, texts)?;
-    let attributes = described_listed(alloc, dimensions.next, dimensions.rest)?;
-    Ok(Front {
-        value: ParameterDescription {
-            dimensions: dimensions.value,
-            attributes: attributes.value,
-        },
-        next: attributes.next,
-        rest: attributes.rest,
-    })
 }
 
-/// Descriptions of parameters, with commas between.
-fn parameters_listed<'a>(
-    alloc: Global,
-    at: u32,
-    texts: &'a [TokenText],
-) -> Result<Front<'a, Vec<ParameterDescription>>, ParseError>
-    requires { at + length texts.now ≤ 200000 }
-    ensures value { Gives (front_view (λ v. map parameter_view v.items)) result (list_at Commas parameter_at at texts.now) }
-    ensures place { IfOk result (Advances at texts.now) }
-{
-    let mut values = Vec::new(alloc);
-    let mut next = at;
-    let mut rest = texts;
-    loop {
-        let read = parameter_at(alloc, next, rest)?;
-        values.push(read.value)?;
-        match behind_comma(read.rest) {
-            Some(behind) => {
-                next = read.next + 1;
-                rest = behind;
-            }
-            None => {
-                return Ok(Front {
-                    value: values,
-                    next: read.next,
-                    rest: read.rest,
-                });
-            }
-        }
+impl ReadsOne for EachParameter {
+    type Value = ParameterDescription;
+
+    ghost Tree = { tree.ParameterDescription };
+
+    ghost tree = { parameter_view };
+
+    ghost trees = { map parameter_view };
+
+    ghost one = { λ _. parameter_at };
+
+    ghost each = { λ vs. refl };
+
+    #[tactic(auto, unfolding(crate::specs::DeclarationReading::parameter_at))]
+    fn read<'a>(
+        &self,
+        at: u32,
+        texts: &'a [TokenText],
+    ) -> Result<Front<'a, ParameterDescription>, ParseError> {
+        let dimensions = dimensions_at(self.alloc, at, texts)?;
+        let attributes = list_at(
+            self.alloc,
+            Separator::Nothing,
+            &EachDescribed { alloc: self.alloc },
+            dimensions.next,
+            dimensions.rest,
+        )?;
+        Ok(Front {
+            value: ParameterDescription {
+                dimensions: dimensions.value,
+                attributes: attributes.value,
+            },
+            next: attributes.next,
+            rest: attributes.rest,
+        })
     }
 }
 
@@ -163,9 +135,15 @@ pub fn parameters_at<'a>(
         }),
         None => {
             if !begins_description(texts) {
-                return Err(fault_at(Code::ParenthesisExpected, at, texts));
+                return Err(misfit(Code::ParenthesisExpected, at, texts));
             }
-            let parameters = parameters_listed(alloc, at, texts)?;
+            let parameters = list_at(
+                alloc,
+                Separator::Commas,
+                &EachParameter { alloc },
+                at,
+                texts,
+            )?;
             let rest = close_taken(parameters.next, parameters.rest)?;
             Ok(Front {
                 value: parameters.value,
@@ -188,7 +166,13 @@ pub fn returned_at<'a>(
     ensures place { IfOk result (Advances at texts.now) }
 {
     let inside = open_taken(at, texts)?;
-    let attributes = described_listed(alloc, at + 1, inside)?;
+    let attributes = list_at(
+        alloc,
+        Separator::Nothing,
+        &EachDescribed { alloc },
+        at + 1,
+        inside,
+    )?;
     let rest = close_taken(attributes.next, attributes.rest)?;
     Ok(Front {
         value: attributes.value,

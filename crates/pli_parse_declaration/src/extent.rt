@@ -1,12 +1,18 @@
 //! Dimensions, lengths and precisions.
 ghost use Rattle.std.specs.Prelude.{◌≡◌, ◌≤◌, ◌+◌, length, IfOk};
-ghost use Rattle.pli_parse_declaration.specs.DeclarationReading.{Commas, list_at, integer_at, bounds_at, dimensions_at, length_at, scaled_at, precision_at};
-ghost use Rattle.pli_parse_declaration.specs.DeclarationAnswers.{Gives, Advances, Continues, front_view};
+ghost use Rattle.pli_parse_declaration.specs.DeclarationReading.{list_at, integer_at, bounds_at, dimensions_at, length_at, scaled_at, precision_at};
+ghost use Rattle.pli_base.specs.ReadingAnswers.{Gives, Advances, Continues, front_view};
+ghost use Rattle.pli_parse_declaration.specs.declared.list.Separator.TheVariants.{Commas};
+ghost use Rattle.pli_base.specs.declared.declaration.Bounds as bounds;
+ghost use Rattle.std.proofs.Common.{sym};
+ghost use Rattle.std.proofs.lemmas.List.{map-id};
 
-use crate::answer::{Front, ParseError};
-use crate::front::{behind_colon, behind_comma, behind_open, close_taken, number_at, zero_taken};
+use crate::front::{number_at, zero_taken};
+use crate::list::{ReadsOne, Separator, list_at};
 use pli_base::declaration::{Bounds, Integer};
-use pli_base::{Sign, TokenText};
+use pli_base::{
+    Front, ParseError, Sign, TokenText, behind_colon, behind_comma, behind_open, close_taken,
+};
 use std::alloc::Global;
 
 /// A constant with or without a sign.
@@ -54,64 +60,45 @@ pub fn integer_at(at: u32, texts: &[TokenText]) -> Result<Front<'_, Integer>, Pa
 }
 
 /// The bounds of a dimension.
-#[tactic(auto, unfolding(crate::specs::DeclarationReading::bounds_at))]
-fn bounds_at(at: u32, texts: &[TokenText]) -> Result<Front<'_, Bounds>, ParseError>
-    requires { at + length texts.now ≤ 200000 }
-    ensures value { Gives (front_view (λ n. n)) result (bounds_at at texts.now) }
-    ensures place { IfOk result (Advances at texts.now) }
-{
-    let first = integer_at(at, texts)?;
-    match behind_colon(first.rest) {
-        Some(rest) => {
-            let high = integer_at(first.next + 1, rest)?;
-            Ok(Front {
-                value: Bounds {
-                    low: Some(first.value),
-                    high: high.value,
-                },
-                next: high.next,
-                rest: high.rest,
-            })
-        }
-        None => Ok(Front {
-            value: Bounds {
-                low: None,
-                high: first.value,
-            },
-            next: first.next,
-            rest: first.rest,
-        }),
-    }
-}
+#[derive(Clone, Copy)]
+struct EachBounds;
 
-/// Bounds with commas between.
-fn bounds_listed<'a>(
-    alloc: Global,
-    at: u32,
-    texts: &'a [TokenText],
-) -> Result<Front<'a, Vec<Bounds>>, ParseError>
-    requires { at + length texts.now ≤ 200000 }
-    ensures value { Gives (front_view (λ v. v.items)) result (list_at Commas bounds_at at texts.now) }
-    ensures place { IfOk result (Advances at texts.now) }
-{
-    let mut values = Vec::new(alloc);
-    let mut next = at;
-    let mut rest = texts;
-    loop {
-        let read = bounds_at(next, rest)?;
-        values.push(read.value)?;
-        match behind_comma(read.rest) {
-            Some(behind) => {
-                next = read.next + 1;
-                rest = behind;
+impl ReadsOne for EachBounds {
+    type Value = Bounds;
+
+    ghost Tree = { bounds.Bounds };
+
+    ghost tree = { λ v. v };
+
+    ghost trees = { λ vs. vs };
+
+    ghost one = { λ _. bounds_at };
+
+    ghost each = { λ vs. sym (map-id vs) };
+
+    #[tactic(auto, unfolding(crate::specs::DeclarationReading::bounds_at))]
+    fn read<'a>(&self, at: u32, texts: &'a [TokenText]) -> Result<Front<'a, Bounds>, ParseError> {
+        let first = integer_at(at, texts)?;
+        match behind_colon(first.rest) {
+            Some(rest) => {
+                let high = integer_at(first.next + 1, rest)?;
+                Ok(Front {
+                    value: Bounds {
+                        low: Some(first.value),
+                        high: high.value,
+                    },
+                    next: high.next,
+                    rest: high.rest,
+                })
             }
-            None => {
-                return Ok(Front {
-                    value: values,
-                    next: read.next,
-                    rest: read.rest,
-                });
-            }
+            None => Ok(Front {
+                value: Bounds {
+                    low: None,
+                    high: first.value,
+                },
+                next: first.next,
+                rest: first.rest,
+            }),
         }
     }
 }
@@ -129,7 +116,7 @@ pub fn dimensions_at<'a>(
 {
     match behind_open(texts) {
         Some(inside) => {
-            let bounds = bounds_listed(alloc, at + 1, inside)?;
+            let bounds = list_at(alloc, Separator::Commas, &EachBounds, at + 1, inside)?;
             let rest = close_taken(bounds.next, bounds.rest)?;
             Ok(Front {
                 value: bounds.value,

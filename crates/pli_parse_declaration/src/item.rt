@@ -2,21 +2,23 @@
 ghost use Rattle.std.specs.Prelude.{◌≡◌, ◌≤◌, ◌+◌, length, map, IfOk};
 ghost use Rattle.pli_base.specs.Declarations as tree;
 ghost use Rattle.pli_base.specs.DeclarationView.{attribute_view, item_view};
-ghost use Rattle.pli_parse_declaration.specs.DeclarationReading.{Commas, Nothing, mapped, list_at, entry_at, attribute_at, attributes_at, identifier_at, names_at, item_at, declaration_at};
-ghost use Rattle.pli_parse_declaration.specs.DeclarationAnswers.{Gives, Advances, Continues, front_view};
+ghost use Rattle.pli_parse_declaration.specs.DeclarationReading.{list_at, entry_at, attribute_at, attributes_at, identifier_at, names_at, item_at, declaration_at};
+ghost use Rattle.pli_base.specs.Reading.{mapped};
+ghost use Rattle.pli_base.specs.ReadingAnswers.{Gives, Advances, Continues, front_view};
+ghost use Rattle.pli_parse_declaration.specs.declared.list.Separator.TheVariants.{Commas, Nothing};
+ghost use Rattle.pli_base.specs.declared.syntax.Identifier as syntax;
+ghost use Rattle.std.proofs.Common.{refl, sym};
+ghost use Rattle.std.proofs.lemmas.List.{map-id};
 
-use crate::answer::{Front, ParseError};
 use crate::described::{parameters_at, returned_at};
 use crate::extent::dimensions_at;
-use crate::front::{
-    attribute_first, behind_comma, behind_open, close_taken, fault_at, level_at, name_first,
-    semicolon_taken, with_attribute,
-};
+use crate::front::{attribute_first, level_at, with_attribute};
+use crate::list::{ReadsOne, Separator, list_at};
 use crate::simple::simple_of;
 use crate::word::AttributeWord;
 use pli_base::declaration::{Attribute, Item};
 use pli_base::syntax::Identifier;
-use pli_base::{Code, TokenText};
+use pli_base::{Code, Front, ParseError, TokenText, behind_open, close_taken, misfit, name_first, semicolon_taken};
 use std::alloc::Global;
 
 /// Descriptions of parameters in parentheses, or none: what stands behind ENTRY.
@@ -48,66 +50,49 @@ fn entry_at<'a>(
 }
 
 /// An attribute of an item.
-#[tactic(auto, unfolding(crate::specs::DeclarationReading::attribute_at))]
-fn attribute_at<'a>(
+#[derive(Clone, Copy)]
+struct EachAttribute {
     alloc: Global,
-    at: u32,
-    texts: &'a [TokenText],
-) -> Result<Front<'a, Attribute>, ParseError>
-    requires { at + length texts.now ≤ 200000 }
-    ensures value { Gives (front_view attribute_view) result (attribute_at at texts.now) }
-    ensures place { IfOk result (Advances at texts.now) }
-{
-    match attribute_first(texts) {
-        Some((AttributeWord::Simple(word), rest)) => {
-            let read = simple_of(alloc, word, at + 1, rest)?;
-            Ok(Front {
-                value: Attribute::Simple(read.value),
-                next: read.next,
-                rest: read.rest,
-            })
-        }
-        Some((AttributeWord::Entry, rest)) => entry_at(alloc, at + 1, rest),
-        Some((AttributeWord::Returns, rest)) => {
-            let read = returned_at(alloc, at + 1, rest)?;
-            Ok(Front {
-                value: Attribute::Returns(read.value),
-                next: read.next,
-                rest: read.rest,
-            })
-        }
-        None => Err(fault_at(Code::BadAttribute, at, texts)),
-    }
 }
 
-/// Attributes, one or more.
-fn attributes_listed<'a>(
-    alloc: Global,
-    at: u32,
-    texts: &'a [TokenText],
-) -> Result<Front<'a, Vec<Attribute>>, ParseError>
-    requires { at + length texts.now ≤ 200000 }
-    ensures value { Gives (front_view (λ v. map attribute_view v.items)) result (list_at Nothing attribute_at at texts.now) }
-    ensures place { IfOk result (Advances at texts.now) }
-{
-    let mut values = Vec::new(alloc);
-    let mut next = at;
-    let mut rest = texts;
-    loop {
-        let read = attribute_at(alloc, next, rest)?;
-        values.push(read.value)?;
-        match with_attribute(read.rest) {
-            Some(behind) => {
-                next = read.next;
-                rest = behind;
-            }
-            None => {
-                return Ok(Front {
-                    value: values,
+impl ReadsOne for EachAttribute {
+    type Value = Attribute;
+
+    ghost Tree = { tree.Attribute };
+
+    ghost tree = { attribute_view };
+
+    ghost trees = { map attribute_view };
+
+    ghost one = { λ _. attribute_at };
+
+    ghost each = { λ vs. refl };
+
+    #[tactic(auto, unfolding(crate::specs::DeclarationReading::attribute_at))]
+    fn read<'a>(
+        &self,
+        at: u32,
+        texts: &'a [TokenText],
+    ) -> Result<Front<'a, Attribute>, ParseError> {
+        match attribute_first(texts) {
+            Some((AttributeWord::Simple(word), rest)) => {
+                let read = simple_of(self.alloc, word, at + 1, rest)?;
+                Ok(Front {
+                    value: Attribute::Simple(read.value),
                     next: read.next,
                     rest: read.rest,
-                });
+                })
             }
+            Some((AttributeWord::Entry, rest)) => entry_at(self.alloc, at + 1, rest),
+            Some((AttributeWord::Returns, rest)) => {
+                let read = returned_at(self.alloc, at + 1, rest)?;
+                Ok(Front {
+                    value: Attribute::Returns(read.value),
+                    next: read.next,
+                    rest: read.rest,
+                })
+            }
+            None => Err(misfit(Code::BadAttribute, at, texts)),
         }
     }
 }
@@ -124,7 +109,13 @@ fn attributes_at<'a>(
     ensures place { IfOk result (Continues at texts.now) }
 {
     match with_attribute(texts) {
-        Some(_) => attributes_listed(alloc, at, texts),
+        Some(_) => list_at(
+            alloc,
+            Separator::Nothing,
+            &EachAttribute { alloc },
+            at,
+            texts,
+        ),
         None => Ok(Front {
             value: Vec::new(alloc),
             next: at,
@@ -133,8 +124,43 @@ fn attributes_at<'a>(
     }
 }
 
+/// Names with their places.
+#[derive(Clone, Copy)]
+struct EachIdentifier;
+
+impl ReadsOne for EachIdentifier {
+    type Value = Identifier;
+
+    ghost Tree = { syntax.Identifier };
+
+    ghost tree = { λ v. v };
+
+    ghost trees = { λ vs. vs };
+
+    ghost one = { λ _. identifier_at };
+
+    ghost each = { λ vs. sym (map-id vs) };
+
+    #[tactic(auto, unfolding(crate::specs::DeclarationReading::identifier_at, crate::specs::DeclarationReading::name_at))]
+    fn read<'a>(
+        &self,
+        at: u32,
+        texts: &'a [TokenText],
+    ) -> Result<Front<'a, Identifier>, ParseError> {
+        let Some(first) = name_first(texts) else {
+            return Err(misfit(Code::NameExpected, at, texts));
+        };
+        let (name, rest) = first;
+        Ok(Front {
+            value: Identifier { name, at },
+            next: at + 1,
+            rest,
+        })
+    }
+}
+
 /// Names with commas between.
-fn names_listed<'a>(
+pub fn identifiers_at<'a>(
     alloc: Global,
     at: u32,
     texts: &'a [TokenText],
@@ -143,29 +169,7 @@ fn names_listed<'a>(
     ensures value { Gives (front_view (λ v. v.items)) result (list_at Commas identifier_at at texts.now) }
     ensures place { IfOk result (Advances at texts.now) }
 {
-    let mut values = Vec::new(alloc);
-    let mut next = at;
-    let mut rest = texts;
-    loop {
-        let Some(first) = name_first(rest) else {
-            return Err(fault_at(Code::NameExpected, next, rest));
-        };
-        let (name, read) = first;
-        values.push(Identifier { name, at: next })?;
-        match behind_comma(read) {
-            Some(behind) => {
-                next += 2;
-                rest = behind;
-            }
-            None => {
-                return Ok(Front {
-                    value: values,
-                    next: next + 1,
-                    rest: read,
-                });
-            }
-        }
-    }
+    list_at(alloc, Separator::Commas, &EachIdentifier, at, texts)
 }
 
 /// One name, or names in parentheses.
@@ -181,7 +185,7 @@ fn names_at<'a>(
 {
     match behind_open(texts) {
         Some(inside) => {
-            let names = names_listed(alloc, at + 1, inside)?;
+            let names = identifiers_at(alloc, at + 1, inside)?;
             let rest = close_taken(names.next, names.rest)?;
             Ok(Front {
                 value: names.value,
@@ -191,7 +195,7 @@ fn names_at<'a>(
         }
         None => {
             let Some(first) = name_first(texts) else {
-                return Err(fault_at(Code::NameExpected, at, texts));
+                return Err(misfit(Code::NameExpected, at, texts));
             };
             let (name, rest) = first;
             let mut names = Vec::new(alloc);
@@ -206,30 +210,41 @@ fn names_at<'a>(
 }
 
 /// An item.
-#[tactic(auto, unfolding(crate::specs::DeclarationReading::item_at))]
-fn item_at<'a>(
+#[derive(Clone, Copy)]
+struct EachItem {
     alloc: Global,
-    at: u32,
-    texts: &'a [TokenText],
-) -> Result<Front<'a, Item>, ParseError>
-    requires { at + length texts.now ≤ 200000 }
-    ensures value { Gives (front_view item_view) result (item_at at texts.now) }
-    ensures place { IfOk result (Advances at texts.now) }
-{
-    let level = level_at(at, texts);
-    let names = names_at(alloc, level.next, level.rest)?;
-    let dimensions = dimensions_at(alloc, names.next, names.rest)?;
-    let attributes = attributes_at(alloc, dimensions.next, dimensions.rest)?;
-    Ok(Front {
-        value: Item {
-            level: level.value,
-            names: names.value,
-            dimensions: dimensions.value,
-            attributes: attributes.value,
-        },
-        next: attributes.next,
-        rest: attributes.rest,
-    })
+}
+
+impl ReadsOne for EachItem {
+    type Value = Item;
+
+    ghost Tree = { tree.Item };
+
+    ghost tree = { item_view };
+
+    ghost trees = { map item_view };
+
+    ghost one = { λ _. item_at };
+
+    ghost each = { λ vs. refl };
+
+    #[tactic(auto, unfolding(crate::specs::DeclarationReading::item_at))]
+    fn read<'a>(&self, at: u32, texts: &'a [TokenText]) -> Result<Front<'a, Item>, ParseError> {
+        let level = level_at(at, texts);
+        let names = names_at(self.alloc, level.next, level.rest)?;
+        let dimensions = dimensions_at(self.alloc, names.next, names.rest)?;
+        let attributes = attributes_at(self.alloc, dimensions.next, dimensions.rest)?;
+        Ok(Front {
+            value: Item {
+                level: level.value,
+                names: names.value,
+                dimensions: dimensions.value,
+                attributes: attributes.value,
+            },
+            next: attributes.next,
+            rest: attributes.rest,
+        })
+    }
 }
 
 /// Items with commas between: what stands behind DECLARE, up to what neither continues an item nor is a comma.
@@ -242,26 +257,7 @@ pub fn items_at<'a>(
     ensures value { Gives (front_view (λ v. map item_view v.items)) result (list_at Commas item_at at texts.now) }
     ensures place { IfOk result (Advances at texts.now) }
 {
-    let mut values = Vec::new(alloc);
-    let mut next = at;
-    let mut rest = texts;
-    loop {
-        let read = item_at(alloc, next, rest)?;
-        values.push(read.value)?;
-        match behind_comma(read.rest) {
-            Some(behind) => {
-                next = read.next + 1;
-                rest = behind;
-            }
-            None => {
-                return Ok(Front {
-                    value: values,
-                    next: read.next,
-                    rest: read.rest,
-                });
-            }
-        }
-    }
+    list_at(alloc, Separator::Commas, &EachItem { alloc }, at, texts)
 }
 
 /// Items with the statement's `;`: all that stands behind DECLARE.

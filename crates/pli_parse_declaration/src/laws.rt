@@ -3,10 +3,10 @@ ghost use Rattle.std.specs.Prelude.{◌≡◌, ◌+◌, ◌++◌, ℕ, List, Ok,
 ghost use Rattle.pli_base.specs.FaultPlaces.{FaultStands};
 ghost use Rattle.pli_base.specs.TreeTokens.{Rises, tokens_of_each, item_tokens};
 ghost use Rattle.pli_base.specs.Words.{Tokens};
-ghost use Rattle.pli_base.specs.Reading.{Front};
+ghost use Rattle.pli_base.specs.Reading.{Front, read_as};
 ghost use Rattle.pli_base.specs.Declarations as tree;
 ghost use Rattle.pli_base.specs.declared.token.Fault.{Fault};
-ghost use Rattle.pli_parse_declaration.specs.DeclarationReading.{read_as, items_at, declaration_at, returned_at};
+ghost use Rattle.pli_parse_declaration.specs.DeclarationReading.{items_at, declaration_at, returned_at};
 ghost use Rattle.pli_parse_declaration.specs.DeclarationGrammar.{SpellsFront, SpellsItems, SpellsDeclaration, SpellsReturned, Anywhere, EndsItems};
 ghost use Rattle.pli_parse_declaration.specs.DeclarationExamples.{NameThatIsKeyword, Levels, Nest, Values, WrongWord, NoLevelInParentheses, NoScaleButZero, NoFactorOfString, NoDescription, NoDescriptionBehindComma, NoAttributeInNest, TextEnds};
 

@@ -1,20 +1,16 @@
 //! An ENTRY or RETURNS in a description. Nothing is kept of it, and it may be as deep as a text is long: so it is walked by a
 //! loop, with a list of the parentheses that are open.
-ghost use Rattle.std.specs.Prelude.{◌≡◌, ◌≤◌, ◌+◌, ◌<◌, [], ◌∷◌, List, Some, option_map, length, nat_eq, IfOk, IfSome, MatchOption, IsTrue, ◌↔◌};
-ghost use Rattle.pli_base.specs.Words.{is_open, is_close};
-ghost use Rattle.pli_parse_declaration.specs.DeclarationWords.{behind};
-ghost use Rattle.pli_parse_declaration.specs.DeclarationReading.{description_walk, parameters_walk, entry_walk, word_walk, closed_walk, behind_walk, step_at, is_over, nest_at};
-ghost use Rattle.pli_parse_declaration.specs.DeclarationAnswers.{Gives, Advances, Continues, front_view, walk_view};
+ghost use Rattle.std.specs.Prelude.{◌≡◌, ◌≤◌, ◌+◌, ◌<◌, [], ◌∷◌, List, Some, length, nat_eq, IfOk, MatchOption};
+ghost use Rattle.pli_base.specs.Words.{is_close, behind};
+ghost use Rattle.pli_parse_declaration.specs.DeclarationReading.{description_walk, parameters_walk, word_walk, closed_walk, behind_walk, step_at, is_over, nest_at};
+ghost use Rattle.pli_parse_declaration.specs.DeclarationAnswers.{walk_view};
+ghost use Rattle.pli_base.specs.ReadingAnswers.{Gives, Advances, Continues, front_view};
 
-use crate::answer::{Front, ParseError};
 use crate::extent::dimensions_at;
-use crate::front::{
-    attribute_first, begins_description, behind_close, behind_comma, behind_open, close_taken,
-    fault_at, open_taken,
-};
+use crate::front::{attribute_first, begins_description};
 use crate::simple::simple_of;
 use crate::word::AttributeWord;
-use pli_base::{Code, TokenText};
+use pli_base::{Code, Front, ParseError, TokenText, behind_close, behind_comma, behind_open, misfit, open_taken};
 use std::alloc::{AllocError, Global};
 use std::marker::Model;
 
@@ -126,7 +122,7 @@ fn parameters_step<'a>(
             if begins_description(texts) {
                 description_step(alloc, nest, at, texts)
             } else {
-                Err(fault_at(Code::ParenthesisExpected, at, texts))
+                Err(misfit(Code::ParenthesisExpected, at, texts))
             }
         }
     }
@@ -186,7 +182,7 @@ fn closing_step(at: u32, texts: &[TokenText]) -> Result<Front<'_, Expects>, Pars
             next: at + 1,
             rest,
         }),
-        None => Err(fault_at(Code::ParenthesisExpected, at, texts)),
+        None => Err(misfit(Code::ParenthesisExpected, at, texts)),
     }
 }
 
@@ -209,7 +205,7 @@ fn behind_step<'a>(
             None => closing_step(at, texts),
         },
         Some(Open::Returns) => closing_step(at, texts),
-        None => Err(fault_at(Code::ParenthesisExpected, at, texts)),
+        None => Err(misfit(Code::ParenthesisExpected, at, texts)),
     }
 }
 
@@ -229,7 +225,7 @@ fn step_at<'a>(
     match attribute_first(texts) {
         Some((word, rest)) => word_step(alloc, nest, word, at + 1, rest),
         None => match expects {
-            Expects::Attribute => Err(fault_at(Code::BadAttribute, at, texts)),
+            Expects::Attribute => Err(misfit(Code::BadAttribute, at, texts)),
             Expects::More => behind_step(alloc, nest, at, texts),
         },
     }

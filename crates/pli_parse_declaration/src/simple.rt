@@ -2,20 +2,22 @@
 ghost use Rattle.std.specs.Prelude.{◌≡◌, ◌≤◌, ◌+◌, length, IfOk};
 ghost use Rattle.pli_base.specs.Declarations as tree;
 ghost use Rattle.pli_base.specs.DeclarationView.{simple_view};
-ghost use Rattle.pli_parse_declaration.specs.DeclarationReading.{Commas, Periods, mapped, list_at, name_at, area_at, locator_at, repeated_at, null_from, value_at, values_at, simple_of};
-ghost use Rattle.pli_parse_declaration.specs.DeclarationAnswers.{Gives, Advances, Continues, front_view};
-ghost use Rattle.pli_parse_declaration.specs.DeclarationWords.{behind};
-ghost use Rattle.pli_base.specs.Words.{is_open};
+ghost use Rattle.pli_parse_declaration.specs.DeclarationReading.{list_at, name_at, area_at, locator_at, repeated_at, null_from, value_at, values_at, simple_of};
+ghost use Rattle.pli_base.specs.Words.{is_open, behind};
+ghost use Rattle.pli_base.specs.Reading.{mapped};
+ghost use Rattle.pli_base.specs.ReadingAnswers.{Gives, Advances, Continues, front_view};
+ghost use Rattle.pli_parse_declaration.specs.declared.list.Separator.TheVariants.{Commas, Periods};
+ghost use Rattle.pli_base.specs.Name as spelling;
+ghost use Rattle.pli_base.specs.declared.declaration.InitialValue as initial;
+ghost use Rattle.std.proofs.Common.{sym};
+ghost use Rattle.std.proofs.lemmas.List.{map-id};
 
-use crate::answer::{Front, ParseError};
 use crate::extent::{integer_at, length_at, precision_at};
-use crate::front::{
-    behind_comma, behind_open, behind_period, close_taken, fault_at, name_first, number_at,
-    open_taken,
-};
+use crate::front::number_at;
+use crate::list::{ReadsOne, Separator, list_at};
 use crate::word::SimpleWord;
 use pli_base::declaration::{InitialValue, SimpleAttribute};
-use pli_base::{Code, Name, Sign, TokenText};
+use pli_base::{Code, Front, Name, ParseError, Sign, TokenText, behind_open, close_taken, misfit, name_first, open_taken};
 use std::alloc::Global;
 
 /// The name of an area in parentheses, or none: what stands behind OFFSET.
@@ -35,7 +37,7 @@ fn offset_at(at: u32, texts: &[TokenText]) -> Result<Front<'_, SimpleAttribute>,
                     rest,
                 })
             }
-            None => Err(fault_at(Code::NameExpected, at + 1, inside)),
+            None => Err(misfit(Code::NameExpected, at + 1, inside)),
         },
         None => Ok(Front {
             value: SimpleAttribute::Offset(None),
@@ -45,38 +47,34 @@ fn offset_at(at: u32, texts: &[TokenText]) -> Result<Front<'_, SimpleAttribute>,
     }
 }
 
-/// Names with periods between.
-fn names_qualified<'a>(
-    alloc: Global,
-    at: u32,
-    texts: &'a [TokenText],
-) -> Result<Front<'a, Vec<Name>>, ParseError>
-    requires { at + length texts.now ≤ 200000 }
-    ensures value { Gives (front_view (λ v. v.items)) result (list_at Periods name_at at texts.now) }
-    ensures place { IfOk result (Advances at texts.now) }
-{
-    let mut values = Vec::new(alloc);
-    let mut next = at;
-    let mut rest = texts;
-    loop {
-        let Some(first) = name_first(rest) else {
-            return Err(fault_at(Code::NameExpected, next, rest));
+/// Names.
+#[derive(Clone, Copy)]
+struct EachName;
+
+impl ReadsOne for EachName {
+    type Value = Name;
+
+    ghost Tree = { spelling.Name };
+
+    ghost tree = { λ v. v };
+
+    ghost trees = { λ vs. vs };
+
+    ghost one = { λ _. name_at };
+
+    ghost each = { λ vs. sym (map-id vs) };
+
+    #[tactic(auto, unfolding(crate::specs::DeclarationReading::name_at))]
+    fn read<'a>(&self, at: u32, texts: &'a [TokenText]) -> Result<Front<'a, Name>, ParseError> {
+        let Some(first) = name_first(texts) else {
+            return Err(misfit(Code::NameExpected, at, texts));
         };
-        let (name, read) = first;
-        values.push(name)?;
-        match behind_period(read) {
-            Some(behind) => {
-                next += 2;
-                rest = behind;
-            }
-            None => {
-                return Ok(Front {
-                    value: values,
-                    next: next + 1,
-                    rest: read,
-                });
-            }
-        }
+        let (name, rest) = first;
+        Ok(Front {
+            value: name,
+            next: at + 1,
+            rest,
+        })
     }
 }
 
@@ -93,7 +91,7 @@ fn based_at<'a>(
 {
     match behind_open(texts) {
         Some(inside) => {
-            let names = names_qualified(alloc, at + 1, inside)?;
+            let names = list_at(alloc, Separator::Periods, &EachName, at + 1, inside)?;
             let rest = close_taken(names.next, names.rest)?;
             Ok(Front {
                 value: SimpleAttribute::Based(Some(names.value)),
@@ -153,76 +151,59 @@ fn null_at(at: u32, texts: &[TokenText]) -> Result<Front<'_, InitialValue>, Pars
 }
 
 /// A value in INITIAL.
-#[tactic(auto, unfolding(crate::specs::DeclarationReading::value_at))]
-fn value_at<'a>(
+#[derive(Clone, Copy)]
+struct EachValue {
     alloc: Global,
-    at: u32,
-    texts: &'a [TokenText],
-) -> Result<Front<'a, InitialValue>, ParseError>
-    requires { at + length texts.now ≤ 200000 }
-    ensures value { Gives (front_view (λ n. n)) result (value_at at texts.now) }
-    ensures place { IfOk result (Advances at texts.now) }
-{
-    match texts {
-        [TokenText::Characters(string), rest @ ..] => Ok(Front {
-            value: InitialValue::Characters(string.copy(alloc)?),
-            next: at + 1,
-            rest,
-        }),
-        [TokenText::Bits(string), rest @ ..] => Ok(Front {
-            value: InitialValue::Bits(string.copy(alloc)?),
-            next: at + 1,
-            rest,
-        }),
-        [TokenText::Sign(Sign::OpenParenthesis), rest @ ..] => repeated_at(at + 1, rest),
-        [TokenText::Word(name), rest @ ..] => {
-            if name.is(b"NULL") {
-                null_at(at + 1, rest)
-            } else {
-                Err(fault_at(Code::ConstantExpected, at, texts))
-            }
-        }
-        _ => {
-            let integer = integer_at(at, texts)?;
-            Ok(Front {
-                value: InitialValue::Integer {
-                    factor: None,
-                    value: integer.value,
-                },
-                next: integer.next,
-                rest: integer.rest,
-            })
-        }
-    }
 }
 
-/// Values with commas between.
-fn values_listed<'a>(
-    alloc: Global,
-    at: u32,
-    texts: &'a [TokenText],
-) -> Result<Front<'a, Vec<InitialValue>>, ParseError>
-    requires { at + length texts.now ≤ 200000 }
-    ensures value { Gives (front_view (λ v. v.items)) result (list_at Commas value_at at texts.now) }
-    ensures place { IfOk result (Advances at texts.now) }
-{
-    let mut values = Vec::new(alloc);
-    let mut next = at;
-    let mut rest = texts;
-    loop {
-        let read = value_at(alloc, next, rest)?;
-        values.push(read.value)?;
-        match behind_comma(read.rest) {
-            Some(behind) => {
-                next = read.next + 1;
-                rest = behind;
+impl ReadsOne for EachValue {
+    type Value = InitialValue;
+
+    ghost Tree = { initial.InitialValue };
+
+    ghost tree = { λ v. v };
+
+    ghost trees = { λ vs. vs };
+
+    ghost one = { λ _. value_at };
+
+    ghost each = { λ vs. sym (map-id vs) };
+
+    #[tactic(auto, unfolding(crate::specs::DeclarationReading::value_at))]
+    fn read<'a>(
+        &self,
+        at: u32,
+        texts: &'a [TokenText],
+    ) -> Result<Front<'a, InitialValue>, ParseError> {
+        match texts {
+            [TokenText::Characters(string), rest @ ..] => Ok(Front {
+                value: InitialValue::Characters(string.copy(self.alloc)?),
+                next: at + 1,
+                rest,
+            }),
+            [TokenText::Bits(string), rest @ ..] => Ok(Front {
+                value: InitialValue::Bits(string.copy(self.alloc)?),
+                next: at + 1,
+                rest,
+            }),
+            [TokenText::Sign(Sign::OpenParenthesis), rest @ ..] => repeated_at(at + 1, rest),
+            [TokenText::Word(name), rest @ ..] => {
+                if name.is(b"NULL") {
+                    null_at(at + 1, rest)
+                } else {
+                    Err(misfit(Code::ConstantExpected, at, texts))
+                }
             }
-            None => {
-                return Ok(Front {
-                    value: values,
-                    next: read.next,
-                    rest: read.rest,
-                });
+            _ => {
+                let integer = integer_at(at, texts)?;
+                Ok(Front {
+                    value: InitialValue::Integer {
+                        factor: None,
+                        value: integer.value,
+                    },
+                    next: integer.next,
+                    rest: integer.rest,
+                })
             }
         }
     }
@@ -240,7 +221,13 @@ fn initial_at<'a>(
     ensures place { IfOk result (Advances at texts.now) }
 {
     let inside = open_taken(at, texts)?;
-    let values = values_listed(alloc, at + 1, inside)?;
+    let values = list_at(
+        alloc,
+        Separator::Commas,
+        &EachValue { alloc },
+        at + 1,
+        inside,
+    )?;
     let rest = close_taken(values.next, values.rest)?;
     Ok(Front {
         value: SimpleAttribute::Initial(values.value),

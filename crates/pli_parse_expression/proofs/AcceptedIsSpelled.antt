@@ -14,11 +14,12 @@ use Rattle.pli_base.specs.declared.syntax.Joining.TheVariants.{Member, Located}
 use Rattle.pli_base.specs.declared.token.Sign.TheVariants as signs
 use Rattle.pli_base.specs.declared.token.TokenText.{TokenText}
 use Rattle.pli_base.specs.declared.token.TokenText.TheVariants as tokens
-use Rattle.pli_parse_expression.specs.Operators.{Tokens, operand_level, level, level_of, prefix_sign, infix_sign, joining_sign, constant_token, infix_of}
+use Rattle.pli_parse_expression.specs.Operators.{operand_level, level, level_of, prefix_sign, infix_sign, joining_sign, constant_token, infix_of}
 use Rattle.pli_parse_expression.specs.Expressions.{SpellsExpression, SpellsJoined, SpellsArguments, SpellsListed, SpellsFurther}
 use Rattle.pli_parse_expression.specs.Assignments.{IsAssignment, NameWanted, OperandWanted, ListBegun, BehindName, BehindList, BehindOperand, Frame, Target, Whole, Group, Arguments, may_end, accepts, is_assignment}
 use Rattle.pli_parse_expression.proofs.ReadingTools.{infix_is, level_small}
 use Rattle.pli_parse_expression.proofs.SpelledIsAccepted.{InExpression, infix_on}
+use Rattle.pli_base.specs.Words.{Tokens}
 
 -- an operator and its right operand behind an expression: it takes as much of the expression's end as its priority lets it
 abbrev Inserted : (e : Expression) (q : ℕ) (ls rs : Tokens) (o : InfixOperator) → Type 0

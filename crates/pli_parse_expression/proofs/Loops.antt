@@ -4,18 +4,20 @@ use Rattle.std.proofs.lemmas.Bool.{le-ltb, lt-ltb}
 use Rattle.pli_base.specs.Name.{Name}
 use Rattle.pli_base.specs.Syntax.{Expression, Infix, Named, JoinedParts, Alone, Joined, Arguments, Expressions, Empty, Listed}
 use Rattle.pli_base.specs.SyntaxView.{expression_view}
-use Rattle.pli_base.specs.declared.code.Code.TheVariants.{NestedTooDeep, NameExpected}
+use Rattle.pli_base.specs.declared.code.Code.TheVariants.{NestedTooDeep, NameExpected, ParenthesisExpected}
 use Rattle.pli_base.specs.declared.syntax.Expression as made
 use Rattle.pli_base.specs.declared.syntax.JoinedPart.{JoinedPart}
 use Rattle.pli_base.specs.declared.syntax.InfixOperator.{InfixOperator}
 use Rattle.pli_base.specs.declared.syntax.Joining.{Joining}
 use Rattle.pli_base.specs.declared.token.Fault.{Fault}
-use Rattle.pli_parse_expression.specs.Operators.{Tokens, operator_limit, level_of, operator_at, joining_at, name_at, comma_at}
-use Rattle.pli_parse_expression.specs.Reading.{◌>>=◌, Front, Reader, at_fault, misfit, limited, operand_then, grouped, infix_from, behind_close, closed, listed_behind, further_from, listed_at, arguments_at, part_behind, parts_behind, joined_from, reference_behind, reference_of}
-use Rattle.pli_parse_expression.specs.declared.front.ParseError.{ParseError}
-use Rattle.pli_parse_expression.specs.declared.front.ParseError.TheVariants as errors
-use Rattle.pli_parse_expression.specs.Answers.{Fails}
+use Rattle.pli_parse_expression.specs.Operators.{operator_limit, level_of, operator_at, joining_at}
+use Rattle.pli_parse_expression.specs.Reading.{Front, Reader, limited, operand_then, grouped, infix_from, closed, listed_behind, further_from, listed_at, arguments_at, part_behind, parts_behind, joined_from, reference_behind, reference_of}
+use Rattle.pli_base.specs.declared.reading.ParseError.TheVariants as errors
 use Rattle.pli_base.specs.SyntaxView.{expressions_view, arguments_view, joined_view}
+use Rattle.pli_base.specs.Words.{Tokens, name_first, behind, is_comma, is_close}
+use Rattle.pli_base.specs.Reading.{◌>>=◌, at_fault, misfit, taken}
+use Rattle.pli_base.specs.declared.reading.ParseError.{ParseError}
+use Rattle.pli_base.specs.ReadingAnswers.{Fails}
 
 -- the operators that are left go on with the expression so far, for a bound that is great enough
 abbrev pub OperatorsLeft : Reader → (min count : ℕ) → Expression → ℕ → Tokens → Result (Front Expression) Fault → Type 0
@@ -113,15 +115,15 @@ parts_regroup done x (Err f) = refl
 
 -- where a part is joined
 module _ (one : Option Reader) (done : List JoinedPart) (count p : ℕ) (ts : Tokens) (j : Joining × Tokens) (total : Result (Front JoinedParts) Fault) (found : joining_at ts ≡ Some j) where
-  joining_turned : (bound : ℕ) → with_parts done (joined_from one (suc bound) count p ts) ≡ total → total ≡ with_parts done (part_behind one (joined_from one bound) j.0 count (p + 1) j.1 (name_at j.1))
+  joining_turned : (bound : ℕ) → with_parts done (joined_from one (suc bound) count p ts) ≡ total → total ≡ with_parts done (part_behind one (joined_from one bound) j.0 count (p + 1) j.1 (name_first j.1))
   unfolding joined_from
   joining_turned bound so_far = sym so_far ∙ ap (λ o. with_parts done (parts_behind one (joined_from one bound) count p ts o)) found
 
-  pub no_name : name_at j.1 ≡ None → PartsLeft one done count p ts total → total ≡ Err (misfit NameExpected (p + 1) j.1)
+  pub no_name : name_first j.1 ≡ None → PartsLeft one done count p ts total → total ≡ Err (misfit NameExpected (p + 1) j.1)
   no_name none (zero, small, so_far) = absurd (omega arith)
   no_name none (suc bound, small, so_far) = joining_turned bound so_far ∙ ap (λ o. with_parts done (part_behind one (joined_from one bound) j.0 count (p + 1) j.1 o)) none
 
-  module _ (n : Name × Tokens) (named : name_at j.1 ≡ Some n) where
+  module _ (n : Name × Tokens) (named : name_first j.1 ≡ Some n) where
     -- behind the name
     abbrev behind_list : ℕ → Front Arguments → Result (Front JoinedParts) Fault
     behind_list bound x = joined_from one bound x.count x.next x.rest >>= λ y. Ok (record { value = Joined j.0 (record { name = n.0; at = p + 1 }) x.value y.value; count = y.count; next = y.next; rest = y.rest })
@@ -180,7 +182,7 @@ expressions_regroup done e (Ok y) = ap (λ v. closed v y.count y.next y.rest) (e
 expressions_regroup done e (Err f) = refl
 
 -- where a comma stands
-module _ (one : Reader) (done : List made.Expression) (count p : ℕ) (ts us : Tokens) (total : Result (Front Expressions) Fault) (found : comma_at ts ≡ Some us) where
+module _ (one : Reader) (done : List made.Expression) (count p : ℕ) (ts us : Tokens) (total : Result (Front Expressions) Fault) (found : behind is_comma ts ≡ Some us) where
   abbrev behind_one : ℕ → Front Expression → Result (Front Expressions) Fault
   behind_one bound x = further_from one bound x.count x.next x.rest >>= λ y. Ok (record { value = Listed x.value y.value; count = y.count; next = y.next; rest = y.rest })
 
@@ -219,22 +221,22 @@ list_begins one count p ts done e x all same read = (
       ∙ sym (ap (λ r. r >>= λ x. further_from one (length x.rest + 1) x.count x.next x.rest >>= λ y. closed (Listed x.value y.value) y.count y.next y.rest) read),
 )
 
-module _ (one : Reader) (done : List made.Expression) (count p : ℕ) (ts : Tokens) (total : Result (Front Expressions) Fault) (none : comma_at ts ≡ None) where
+module _ (one : Reader) (done : List made.Expression) (count p : ℕ) (ts : Tokens) (total : Result (Front Expressions) Fault) (none : behind is_comma ts ≡ None) where
   list_turned : (bound : ℕ) → closed_list done (further_from one (suc bound) count p ts) ≡ total → total ≡ closed (expressions_view done) count p ts
   unfolding further_from
   list_turned bound so_far =
       sym so_far ∙ ap (λ o. closed_list done (listed_behind one (further_from one bound) count p ts o)) none ∙ ap (λ v. closed v count p ts) (expressions_all done)
 
-  pub close_fails : (e : ParseError) → Fails e (behind_close p ts) → ListLeft one done count p ts total → Fails e total
+  pub close_fails : (e : ParseError) → Fails e (taken is_close ParenthesisExpected p ts) → ListLeft one done count p ts total → Fails e total
   close_fails errors.OutOfMemory h left_over = tt
   close_fails (errors.Fault f) h (zero, small, so_far) = absurd (omega arith)
   close_fails (errors.Fault f) h (suc bound, small, so_far) = list_turned bound so_far ∙ ap (λ r. r >>= λ us. Ok (record { value = expressions_view done; count = count; next = p + 1; rest = us })) h
 
-  pub list_ends : (us : Tokens) → behind_close p ts ≡ Ok us → ListLeft one done count p ts total → total ≡ Ok (record { value = expressions_view done; count = count; next = p + 1; rest = us })
+  pub list_ends : (us : Tokens) → taken is_close ParenthesisExpected p ts ≡ Ok us → ListLeft one done count p ts total → total ≡ Ok (record { value = expressions_view done; count = count; next = p + 1; rest = us })
   list_ends us h (zero, small, so_far) = absurd (omega arith)
   list_ends us h (suc bound, small, so_far) = list_turned bound so_far ∙ ap (λ r. r >>= λ us. Ok (record { value = expressions_view done; count = count; next = p + 1; rest = us })) h
 
-pub reference_done : (one : Option Reader) (count p : ℕ) (ts : Tokens) (n : Name × Tokens) (a : Front Arguments) (y : Front JoinedParts) → name_at ts ≡ Some n → arguments_at one count (p + 1) n.1 ≡ Ok a
+pub reference_done : (one : Option Reader) (count p : ℕ) (ts : Tokens) (n : Name × Tokens) (a : Front Arguments) (y : Front JoinedParts) → name_first ts ≡ Some n → arguments_at one count (p + 1) n.1 ≡ Ok a
     → ((bound : ℕ) → length a.rest < bound → joined_from one bound a.count a.next a.rest ≡ Ok y)
     → reference_of one count p ts ≡ Ok (record { value = Named (record { name = n.0; at = p }) a.value y.value; count = y.count; next = y.next; rest = y.rest })
 unfolding reference_of

@@ -13,11 +13,13 @@ use Rattle.pli_base.specs.declared.token.Fault.{Fault}
 use Rattle.pli_base.specs.declared.token.Sign.TheVariants as signs
 use Rattle.pli_base.specs.declared.token.TokenText.{TokenText}
 use Rattle.pli_base.specs.declared.token.TokenText.TheVariants.{Word, Decimal, Binary, Characters, Bits, Sign}
-use Rattle.pli_parse_expression.specs.Operators.{Tokens, operator_limit, operand_level, level, level_of, prefix_sign, infix_sign, joining_sign, constant_token, operator_at, joining_at, name_at, comma_at, begins_expression}
+use Rattle.pli_parse_expression.specs.Operators.{operator_limit, operand_level, level, level_of, prefix_sign, infix_sign, joining_sign, constant_token, operator_at, joining_at, begins_expression}
 use Rattle.pli_parse_expression.specs.Expressions.{SpellsExpression, SpellsReference, SpellsJoined, SpellsArguments, SpellsListed, SpellsFurther, operators, reference_operators, joined_operators, listed_operators, Deeper, NestsWithin, ReferenceNests, JoinedNest, ArgumentsNest, ListNests, OutermostFits, SpellsOutermost, Every, GivenFits, JoinedFits, ReferenceFits, SpellsReferenceAlone}
-use Rattle.pli_parse_expression.specs.Reading.{◌>>=◌, Front, Reader, opened, closed, operand_then, grouped, infix_from, expression_of, listed_behind, further_from, listed_at, list_at, arguments_at, part_behind, parts_behind, joined_from, reference_behind, reference_of, prefix_of, parenthesis_of, constant_at, operand_of, inside, operand_at, expression_at, outermost, argument_of, reference_at}
+use Rattle.pli_parse_expression.specs.Reading.{Front, Reader, opened, closed, operand_then, grouped, infix_from, expression_of, listed_behind, further_from, listed_at, list_at, arguments_at, part_behind, parts_behind, joined_from, reference_behind, reference_of, prefix_of, parenthesis_of, constant_at, operand_of, inside, operand_at, expression_at, outermost, argument_of, reference_at}
 use Rattle.pli_parse_expression.specs.Laws.{FrontSpells}
 use Rattle.pli_parse_expression.proofs.ReadingTools.{same_ok, bind_ok, limited_ok, wanted_none, closed_ok, operator_ok, operator_below, level_small, none_above, joining_ok, name_ok, comma_ok}
+use Rattle.pli_base.specs.Words.{Tokens, name_first, behind, is_comma}
+use Rattle.pli_base.specs.Reading.{◌>>=◌}
 
 -- the front of the tokens spells what was read, which has so many operators and fits; the rest is left
 pub record IsRead {A : Type 0} (Spells : ℕ → Tokens → A → Type 0) (count_of : A → ℕ) (Fits : A → Type 0) (count p : ℕ) (ts : Tokens) (x : Front A) : Type 0 where
@@ -140,7 +142,7 @@ module _ (Fits : Expression → Type 0) (count_of : Expression → ℕ) (one : R
   abbrev FurtherReads : ℕ → Type 0
   FurtherReads bound = (count p : ℕ) (ts : Tokens) (x : Front Expressions) → further_from one bound count p ts ≡ Ok x → IsRead SpellsFurther (total count_of) (Every Fits) count p ts x
 
-  further_step : (bound : ℕ) → FurtherReads bound → (count p : ℕ) (ts : Tokens) (x : Front Expressions) (o : Option Tokens) → comma_at ts ≡ o → listed_behind one (further_from one bound) count p ts o ≡ Ok x
+  further_step : (bound : ℕ) → FurtherReads bound → (count p : ℕ) (ts : Tokens) (x : Front Expressions) (o : Option Tokens) → behind is_comma ts ≡ o → listed_behind one (further_from one bound) count p ts o ≡ Ok x
       → IsRead SpellsFurther (total count_of) (Every Fits) count p ts x
   further_step bound more_read count p ts x None found h =
       subst (IsRead SpellsFurther (total count_of) (Every Fits) count p ts) (same_ok h) (record { front = []; whole = refl; spelled = refl; place = omega arith; counted = omega arith; few = λ f. f; fits = tt })
@@ -162,7 +164,7 @@ module _ (Fits : Expression → Type 0) (count_of : Expression → ℕ) (one : R
   further_reads : (bound : ℕ) → FurtherReads bound
   unfolding further_from
   further_reads zero count p ts x h = absurd (wanted_none ExpressionExpected p ts x h)
-  further_reads (suc bound) count p ts x h = further_step bound (further_reads bound) count p ts x (comma_at ts) refl h
+  further_reads (suc bound) count p ts x h = further_step bound (further_reads bound) count p ts x (behind is_comma ts) refl h
 
   listed_reads : (count p : ℕ) (ts : Tokens) (x : Front Expressions) → listed_at one count p ts ≡ Ok x → IsRead SpellsClosed (total count_of) (Every Fits) count p ts x
   unfolding listed_at
@@ -261,7 +263,7 @@ module _ (Fits : Expressions → Type 0) (count_of : Expressions → ℕ) where
     abbrev MoreRead : ℕ → Type 0
     MoreRead bound = (count p : ℕ) (ts : Tokens) (x : Front JoinedParts) → joined_from one bound count p ts ≡ Ok x → PartsRead count p ts x
 
-    part_step : (bound : ℕ) → MoreRead bound → (joining : Joining) (count p : ℕ) (us : Tokens) (x : Front JoinedParts) (o : Option (Name × Tokens)) → name_at us ≡ o
+    part_step : (bound : ℕ) → MoreRead bound → (joining : Joining) (count p : ℕ) (us : Tokens) (x : Front JoinedParts) (o : Option (Name × Tokens)) → name_first us ≡ o
         → part_behind one (joined_from one bound) joining count (p + 1) us o ≡ Ok x → PartsRead count p (Sign (joining_sign joining) ∷ us) x
     part_step bound more_read joining count p us x None found h = absurd (wanted_none NameExpected (p + 1) us x h)
     part_step bound more_read joining count p us x (Some n) found h =
@@ -285,14 +287,14 @@ module _ (Fits : Expressions → Type 0) (count_of : Expressions → ℕ) where
     parts_step bound more_read count p ts x None found h =
         subst (PartsRead count p ts) (same_ok h) (record { front = []; whole = refl; spelled = refl; place = omega arith; counted = omega arith; few = λ f. f; fits = tt })
     parts_step bound more_read count p ts x (Some j) found h =
-        subst (λ us. PartsRead count p us x) (sym (joining_ok ts j found)) (part_step bound more_read j.0 count p j.1 x (name_at j.1) refl h)
+        subst (λ us. PartsRead count p us x) (sym (joining_ok ts j found)) (part_step bound more_read j.0 count p j.1 x (name_first j.1) refl h)
 
     parts_read : (bound : ℕ) → MoreRead bound
     unfolding joined_from
     parts_read zero count p ts x h = absurd (wanted_none NameExpected p ts x h)
     parts_read (suc bound) count p ts x h = parts_step bound (parts_read bound) count p ts x (joining_at ts) refl h
 
-    reference_step : (count p : ℕ) (ts : Tokens) (x : Front Reference) (o : Option (Name × Tokens)) → name_at ts ≡ o → reference_behind one count p ts o ≡ Ok x → IsRead SpellsReference (count_reference count_of) (ReferenceFits Fits) count p ts x
+    reference_step : (count p : ℕ) (ts : Tokens) (x : Front Reference) (o : Option (Name × Tokens)) → name_first ts ≡ o → reference_behind one count p ts o ≡ Ok x → IsRead SpellsReference (count_reference count_of) (ReferenceFits Fits) count p ts x
     reference_step count p ts x None found h = absurd (wanted_none NameExpected p ts x h)
     reference_step count p ts x (Some n) found h =
         let a = bind_ok (arguments_at one count (p + 1) n.1) _ x h in
@@ -311,7 +313,7 @@ module _ (Fits : Expressions → Type 0) (count_of : Expressions → ℕ) where
 
     pub reference_reads : (count p : ℕ) (ts : Tokens) (x : Front Reference) → reference_of one count p ts ≡ Ok x → IsRead SpellsReference (count_reference count_of) (ReferenceFits Fits) count p ts x
     unfolding reference_of
-    reference_reads count p ts x h = reference_step count p ts x (name_at ts) refl h
+    reference_reads count p ts x h = reference_step count p ts x (name_first ts) refl h
 
 -- the words of the grammar for operators and nesting, and those for lists
 pub total_is : (list : Expressions) → total operators list ≡ listed_operators list

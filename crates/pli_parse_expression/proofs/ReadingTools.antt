@@ -3,7 +3,7 @@ use Rattle.std.proofs.Common.{◌≡◌, ◌<◌, ◌≤◌, ◌+◌, ℕ, suc, 
 use Rattle.std.proofs.lemmas.Bool.{ltb-true, ltb-false}
 use Rattle.pli_base.specs.Name.{Name}
 use Rattle.pli_base.specs.declared.code.Code.{Code}
-use Rattle.pli_base.specs.declared.code.Code.TheVariants.{NestedTooDeep}
+use Rattle.pli_base.specs.declared.code.Code.TheVariants.{NestedTooDeep, ParenthesisExpected}
 use Rattle.pli_base.specs.declared.syntax.InfixOperator.{InfixOperator}
 use Rattle.pli_base.specs.declared.syntax.InfixOperator.TheVariants.{Or, And, Equal, NotEqual, Less, LessOrEqual, Greater, GreaterOrEqual, Concatenate, Add, Subtract, Multiply}
 use Rattle.pli_base.specs.declared.syntax.Joining.{Joining}
@@ -11,8 +11,10 @@ use Rattle.pli_base.specs.declared.token.Fault.{Fault}
 use Rattle.pli_base.specs.declared.token.Sign.TheVariants as signs
 use Rattle.pli_base.specs.declared.token.TokenText.{TokenText}
 use Rattle.pli_base.specs.declared.token.TokenText.TheVariants.{Word, Sign}
-use Rattle.pli_parse_expression.specs.Operators.{Tokens, operator_limit, operand_level, level_of, infix_sign, joining_sign, infix_of, not_below, operator_at, joining_at, name_at, comma_at}
-use Rattle.pli_parse_expression.specs.Reading.{◌>>=◌, Front, wanted, limited, behind_close, closed}
+use Rattle.pli_parse_expression.specs.Operators.{operator_limit, operand_level, level_of, infix_sign, joining_sign, infix_of, not_below, operator_at, joining_at}
+use Rattle.pli_parse_expression.specs.Reading.{Front, limited, closed}
+use Rattle.pli_base.specs.Words.{Tokens, name_first, behind, is_comma, is_close}
+use Rattle.pli_base.specs.Reading.{◌>>=◌, expected, taken}
 
 pub same_ok : {A : Type 0} {x y : A} → ◌≡◌ {A = Result A Fault} (Ok x) (Ok y) → x ≡ y
 same_ok h = cc
@@ -33,18 +35,18 @@ guard_ok false r e x h = cc
 pub limited_ok : {A : Type 0} (count p : ℕ) (read : Result A Fault) (x : A) → limited count p read ≡ Ok x → (count < operator_limit) × (read ≡ Ok x)
 limited_ok count p read x h = let g = guard_ok (nat_lt count operator_limit) read (record { code = NestedTooDeep; at = p }) x h in (ltb-true count operator_limit g.0, g.1)
 
-pub wanted_none : {A : Type 0} (code : Code) (p : ℕ) (ts : Tokens) (x : A) → wanted code p ts ≡ Ok x → ⊥
+pub wanted_none : {A : Type 0} (code : Code) (p : ℕ) (ts : Tokens) (x : A) → expected code p ts ≡ Ok x → ⊥
 wanted_none code p ts x h = cc
 
-close_ok : (p : ℕ) (ts us : Tokens) → behind_close p ts ≡ Ok us → ts ≡ Sign signs.CloseParenthesis ∷ us
-unfolding behind_close
+close_ok : (p : ℕ) (ts us : Tokens) → taken is_close ParenthesisExpected p ts ≡ Ok us → ts ≡ Sign signs.CloseParenthesis ∷ us
+unfolding taken behind
 close_ok p [] us h = cc
 close_ok p (Sign signs.CloseParenthesis ∷ ts) us h = ap (λ vs. Sign signs.CloseParenthesis ∷ vs) (same_ok h)
 close_ok p (t ∷ ts) us h = cc
 
 pub closed_ok : {A : Type 0} (value : A) (count p : ℕ) (ts : Tokens) (x : Front A) → closed value count p ts ≡ Ok x
     → (us : Tokens) × (ts ≡ Sign signs.CloseParenthesis ∷ us) × (◌≡◌ {A = Front A} (record { value = value; count = count; next = p + 1; rest = us }) x)
-closed_ok value count p ts x h = let b = bind_ok (behind_close p ts) _ x h in (b.0, close_ok p ts b.0 b.1, same_ok b.2)
+closed_ok value count p ts x h = let b = bind_ok (taken is_close ParenthesisExpected p ts) _ x h in (b.0, close_ok p ts b.0 b.1, same_ok b.2)
 
 pub infix_is : (t : TokenText) (o : InfixOperator) → infix_of t ≡ Some o → t ≡ Sign (infix_sign o)
 infix_is (Sign signs.Or) o h = ap (λ p. Sign (infix_sign p)) (some_same h)
@@ -139,14 +141,14 @@ joining_ok (Sign signs.Period ∷ ts) x h = ap (λ (y : Joining × Tokens). Sign
 joining_ok (Sign signs.Arrow ∷ ts) x h = ap (λ (y : Joining × Tokens). Sign (joining_sign y.0) ∷ y.1) (some_same h)
 joining_ok (t ∷ ts) x h = cc
 
-pub comma_ok : (ts us : Tokens) → comma_at ts ≡ Some us → ts ≡ Sign signs.Comma ∷ us
-unfolding comma_at
+pub comma_ok : (ts us : Tokens) → behind is_comma ts ≡ Some us → ts ≡ Sign signs.Comma ∷ us
+unfolding behind
 comma_ok [] us h = cc
 comma_ok (Sign signs.Comma ∷ ts) us h = ap (λ vs. Sign signs.Comma ∷ vs) (some_same h)
 comma_ok (t ∷ ts) us h = cc
 
-pub name_ok : (ts : Tokens) (x : Name × Tokens) → name_at ts ≡ Some x → ts ≡ Word x.0 ∷ x.1
-unfolding name_at
+pub name_ok : (ts : Tokens) (x : Name × Tokens) → name_first ts ≡ Some x → ts ≡ Word x.0 ∷ x.1
+unfolding name_first
 name_ok [] x h = cc
 name_ok (Word n ∷ ts) x h = ap (λ (y : Name × Tokens). Word y.0 ∷ y.1) (some_same h)
 name_ok (t ∷ ts) x h = cc

@@ -14,9 +14,10 @@ use Rattle.pli_base.specs.declared.syntax.Joining.TheVariants.{Member, Located}
 use Rattle.pli_base.specs.declared.token.Sign.TheVariants as signs
 use Rattle.pli_base.specs.declared.token.TokenText.{TokenText}
 use Rattle.pli_base.specs.declared.token.TokenText.TheVariants as tokens
-use Rattle.pli_parse_expression.specs.Operators.{Tokens, prefix_sign, infix_sign, joining_sign, constant_token}
+use Rattle.pli_parse_expression.specs.Operators.{prefix_sign, infix_sign, joining_sign, constant_token}
 use Rattle.pli_parse_expression.specs.Expressions.{SpellsExpression, SpellsReference, SpellsJoined, SpellsArguments, SpellsListed, SpellsFurther}
 use Rattle.pli_parse_expression.specs.Assignments.{IsAssignment, Kind, Name, Value, Opens, Closes, Separates, Joins, Equal, Sign, Negates, Operates, Foreign, kind_of, State, NameWanted, OperandWanted, ListBegun, BehindName, BehindList, BehindOperand, Frame, Target, Whole, Group, Arguments, Move, Goes, Enters, Leaves, Turns, move, may_end, moved, accepts, is_assignment}
+use Rattle.pli_base.specs.Words.{Tokens}
 
 -- behind an operand
 abbrev pub IsBehind : State → Type 0

@@ -14,11 +14,13 @@ use Rattle.pli_base.specs.declared.syntax.Joining.TheVariants.{Member, Located}
 use Rattle.pli_base.specs.declared.token.Fault.{Fault}
 use Rattle.pli_base.specs.declared.token.Sign.TheVariants as signs
 use Rattle.pli_base.specs.declared.token.TokenText.TheVariants.{Word, Sign}
-use Rattle.pli_parse_expression.specs.Operators.{Tokens, operator_limit, operand_level, level, level_of, prefix_sign, infix_sign, joining_sign, infix_of, not_below, operator_at, joining_at, name_at, comma_at, begins_expression, continues_reference}
+use Rattle.pli_parse_expression.specs.Operators.{operator_limit, operand_level, level, level_of, prefix_sign, infix_sign, joining_sign, infix_of, not_below, operator_at, joining_at, begins_expression, continues_reference}
 use Rattle.pli_parse_expression.specs.Expressions.{SpellsExpression, SpellsReference, SpellsJoined, SpellsArguments, SpellsListed, SpellsFurther, operators, reference_operators, listed_operators, Deeper, NestsWithin, ReferenceNests, JoinedNest, ArgumentsNest, ListNests, OutermostFits, SpellsOutermost, Every, GivenFits, JoinedFits, ReferenceFits, SpellsReferenceAlone, EndsReference, EndsExpression}
-use Rattle.pli_parse_expression.specs.Reading.{◌>>=◌, at_fault, Front, Reader, behind_close, closed, operand_then, grouped, infix_from, expression_of, further_from, listed_at, list_at, arguments_at, parts_behind, joined_from, reference_of, prefix_of, parenthesis_of, constant_at, operand_of, inside, operand_at, expression_at, outermost, argument_of, reference_at}
+use Rattle.pli_parse_expression.specs.Reading.{Front, Reader, closed, operand_then, grouped, infix_from, expression_of, further_from, listed_at, list_at, arguments_at, parts_behind, joined_from, reference_of, prefix_of, parenthesis_of, constant_at, operand_of, inside, operand_at, expression_at, outermost, argument_of, reference_at}
 use Rattle.pli_parse_expression.proofs.ReadingTools.{same_ok, level_small}
 use Rattle.pli_parse_expression.proofs.ReadIsSpelled.{IsOperandOf, total, count_given, count_joined, count_reference, total_is, reference_is, ListFits}
+use Rattle.pli_base.specs.Words.{Tokens, name_first, behind}
+use Rattle.pli_base.specs.Reading.{◌>>=◌, at_fault, taken}
 
 -- what is read of tokens with more behind them
 abbrev pub all_read : {A : Type 0} → A → (count next : ℕ) → Tokens → Result (Front A) Fault
@@ -190,7 +192,7 @@ further_stops (Listed e list) p ts more spelled = subst (λ us. EndsExpression (
 module _ (Fits : Expression → Type 0) (count_of : Expression → ℕ) (one : Reader) (one_again : ReadsAgain Fits count_of EndsExpression one) where
   further_again : (list : Expressions) (bound count p : ℕ) (ts more : Tokens) → SpellsFurther p ts list → Every Fits list → count + total count_of list ≤ operator_limit → length (ts ++ Sign signs.CloseParenthesis ∷ more) < bound
       → further_from one bound count p (ts ++ Sign signs.CloseParenthesis ∷ more) ≡ all_read list (count + total count_of list) (p + length ts) (Sign signs.CloseParenthesis ∷ more)
-  unfolding further_from comma_at
+  unfolding further_from behind
   further_again list zero count p ts more spelled fits few small = absurd (omega arith)
   further_again Empty (suc bound) count p ts more shape fits few small =
       ap (λ us. further_from one (suc bound) count p (us ++ Sign signs.CloseParenthesis ∷ more)) shape ∙ nothing_read Empty count p (Sign signs.CloseParenthesis ∷ more) ∙ ap (λ (us : Tokens). all_read Empty (count + 0) (p + length us) (Sign signs.CloseParenthesis ∷ more)) (sym shape)
@@ -209,7 +211,7 @@ module _ (Fits : Expression → Type 0) (count_of : Expression → ℕ) (one : R
 
   pub list_again : (list : Expressions) (count p : ℕ) (ts more : Tokens) → SpellsListed p ts list → Every Fits list → count + total count_of list ≤ operator_limit
       → list_at one count p (ts ++ Sign signs.CloseParenthesis ∷ more) ≡ all_read list (count + total count_of list) (p + length ts + 1) more
-  unfolding list_at listed_at behind_close begins_expression
+  unfolding list_at listed_at taken behind begins_expression
   list_again Empty count p ts more shape fits few =
       ap (λ us. list_at one count p (us ++ Sign signs.CloseParenthesis ∷ more)) shape ∙ closing_read Empty count p more ∙ ap (λ (us : Tokens). all_read Empty (count + 0) (p + length us + 1) more) (sym shape)
   list_again (Listed e list) count p ts more (front, rest, shape, spelled, later) fits few =
@@ -285,7 +287,7 @@ module _ (Fits : Expressions → Type 0) (count_of : Expressions → ℕ) where
   module _ (one : Option Reader) (lists : ListsAgain Fits count_of one) where
     parts_again : (m : JoinedParts) (bound count p : ℕ) (ts more : Tokens) → SpellsJoined p ts m → JoinedFits Fits m → count + count_joined count_of m ≤ operator_limit → EndsReference more → length (ts ++ more) < bound
         → joined_from one bound count p (ts ++ more) ≡ all_read m (count + count_joined count_of m) (p + length ts) more
-    unfolding joined_from name_at
+    unfolding joined_from name_first
     parts_again m zero count p ts more spelled fits few stops small = absurd (omega arith)
     parts_again Alone (suc bound) count p ts more shape fits few stops small =
         let e : count ≡ count + 0 = omega arith in
@@ -313,7 +315,7 @@ module _ (Fits : Expressions → Type 0) (count_of : Expressions → ℕ) where
 
     pub reference_again : (r : Reference) (count p : ℕ) (ts more : Tokens) → SpellsReference p ts r → ReferenceFits Fits r → count + count_reference count_of r ≤ operator_limit → EndsReference more
         → reference_of one count p (ts ++ more) ≡ all_read r (count + count_reference count_of r) (p + length ts) more
-    unfolding reference_of name_at
+    unfolding reference_of name_first
     reference_again (Named name arguments m) count p ts more (front, rest, shape, at, spelled, later) fits few stops =
         let tail : Tokens = front ++ (rest ++ more) in
         let whole : ts ++ more ≡ Word name.name ∷ tail = ap (λ us. us ++ more) shape ∙ ap (λ us. Word name.name ∷ us) (append_assoc front rest more) in
@@ -393,7 +395,7 @@ constant_again one at (constants.Bits v) count p ts more (shape, place) =
 
 parenthesis_again : (n : ℕ) (one : Option Reader) → OperandsAgain n one → (at : ℕ) (e : Expression) (count p : ℕ) (ts more : Tokens) → SpellsExpression p ts (Parenthesized at e) → NestsWithin n (Parenthesized at e)
     → count + operators e ≤ operator_limit → operand_of one count p (ts ++ more) ≡ all_read (Parenthesized at e) (count + operators e) (p + length ts) more
-unfolding operand_of parenthesis_of behind_close
+unfolding operand_of parenthesis_of taken behind
 parenthesis_again zero one again at e count p ts more spelled nests few = absurd nests
 parenthesis_again (suc n) None again at e count p ts more spelled nests few = absurd again
 parenthesis_again (suc n) (Some operand) again at e count p ts more (us, shape, place, spelled) nests few =

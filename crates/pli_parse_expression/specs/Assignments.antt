@@ -4,8 +4,8 @@ use Rattle.pli_base.specs.Syntax.{Expression, Reference}
 use Rattle.pli_base.specs.declared.token.Sign.TheVariants as signs
 use Rattle.pli_base.specs.declared.token.TokenText.{TokenText}
 use Rattle.pli_base.specs.declared.token.TokenText.TheVariants as tokens
-use Rattle.pli_parse_expression.specs.Operators.{Tokens}
 use Rattle.pli_parse_expression.specs.Expressions.{SpellsReference, SpellsExpression}
+use Rattle.pli_base.specs.Words.{Tokens}
 
 -- the tokens are a reference, `=` and one expression; no word is reserved
 abbrev pub IsAssignment : ℕ → Tokens → Type 0

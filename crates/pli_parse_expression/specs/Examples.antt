@@ -9,7 +9,8 @@ use Rattle.pli_base.specs.declared.syntax.InfixOperator.TheVariants.{Or, And, Eq
 use Rattle.pli_base.specs.declared.syntax.Joining.TheVariants.{Member, Located}
 use Rattle.pli_base.specs.declared.token.Sign.TheVariants as signs
 use Rattle.pli_base.specs.declared.token.TokenText.TheVariants.{Word, Decimal, Characters, Sign}
-use Rattle.pli_parse_expression.specs.Reading.{at_fault, expression_at, reference_at}
+use Rattle.pli_parse_expression.specs.Reading.{expression_at, reference_at}
+use Rattle.pli_base.specs.Reading.{at_fault}
 
 -- a name alone
 abbrev pub plain : Name → ℕ → Expression

@@ -3,7 +3,8 @@ use Rattle.std.specs.Prelude.{◌≡◌, ℕ, zero, suc, ◌+◌, ◌≤◌, ◌
 use Rattle.pli_base.specs.Syntax.{Expression, Referred, Constant, Parenthesized, Prefix, Infix, Reference, Named, JoinedParts, Alone, Joined, Arguments, Absent, Given, Expressions, Empty, Listed}
 use Rattle.pli_base.specs.declared.token.Sign.TheVariants.{OpenParenthesis, CloseParenthesis, Comma}
 use Rattle.pli_base.specs.declared.token.TokenText.TheVariants.{Word, Sign}
-use Rattle.pli_parse_expression.specs.Operators.{Tokens, operator_limit, operand_level, level, level_of, prefix_sign, infix_sign, joining_sign, constant_token, infix_of, continues_reference}
+use Rattle.pli_parse_expression.specs.Operators.{operator_limit, operand_level, level, level_of, prefix_sign, infix_sign, joining_sign, constant_token, infix_of, continues_reference}
+use Rattle.pli_base.specs.Words.{Tokens}
 
 -- e1 = e2 {"|" e2}                     e2 = e3 {"&" e3}             e3 = e4 {comparison e4}
 -- e4 = e5 {"||" e5}                    e5 = e6 {("+" | "-") e6}     e6 = e7 {"*" e7}

@@ -14,9 +14,7 @@ use Rattle.pli_base.specs.declared.token.Sign.{Sign}
 use Rattle.pli_base.specs.declared.token.Sign.TheVariants as signs
 use Rattle.pli_base.specs.declared.token.TokenText.{TokenText}
 use Rattle.pli_base.specs.declared.token.TokenText.TheVariants as tokens
-
-abbrev pub Tokens : Type 0
-Tokens = List TokenText
+use Rattle.pli_base.specs.Words.{Tokens}
 
 -- the greatest number of operators in an expression, and of levels of nesting (own)
 abbrev pub operator_limit : ℕ
@@ -109,16 +107,6 @@ unfoldable pub joining_at : Tokens → Option (Joining × Tokens)
 joining_at (tokens.Sign signs.Period ∷ ts) = Some (Member, ts)
 joining_at (tokens.Sign signs.Arrow ∷ ts) = Some (Located, ts)
 joining_at ts = None
-
--- the name that the tokens begin with, and what stands behind it
-unfoldable pub name_at : Tokens → Option (Name × Tokens)
-name_at (tokens.Word n ∷ ts) = Some (n, ts)
-name_at ts = None
-
--- what stands behind a comma
-unfoldable pub comma_at : Tokens → Option Tokens
-comma_at (tokens.Sign signs.Comma ∷ ts) = Some ts
-comma_at ts = None
 
 -- an expression can begin with the first token
 unfoldable pub begins_expression : Tokens → Bool

@@ -12,24 +12,9 @@ use Rattle.pli_base.specs.declared.code.Code.TheVariants.{ExpressionExpected, Pa
 use Rattle.pli_base.specs.declared.token.Fault.{Fault}
 use Rattle.pli_base.specs.declared.token.Sign.TheVariants.{OpenParenthesis, CloseParenthesis, Plus, Minus, Not}
 use Rattle.pli_base.specs.declared.token.TokenText.TheVariants.{Word, Decimal, Binary, Characters, Bits, Sign}
-use Rattle.pli_parse_expression.specs.Operators.{Tokens, operator_limit, level_of, operator_at, joining_at, name_at, comma_at, begins_expression}
-
-infixl 10 ◌>>=◌
--- goes on with what was read, or stays at the fault
-abbrev pub ◌>>=◌ : {A B : Type 0} → Result A Fault → (A → Result B Fault) → Result B Fault
-(Ok x) >>= f = f x
-(Err e) >>= f = Err e
-
-abbrev pub at_fault : {A : Type 0} → Code → ℕ → Result A Fault
-at_fault code p = Err (record { code = code; at = p })
-
--- the fault at the first token, which cannot stand there; where the text ends, at its last token
-unfoldable pub misfit : Code → ℕ → Tokens → Fault
-misfit code p [] = record { code = EndMissing; at = p - 1 }
-misfit code p (t ∷ ts) = record { code = code; at = p }
-
-abbrev pub wanted : {A : Type 0} → Code → ℕ → Tokens → Result A Fault
-wanted code p ts = Err (misfit code p ts)
+use Rattle.pli_parse_expression.specs.Operators.{operator_limit, level_of, operator_at, joining_at, begins_expression}
+use Rattle.pli_base.specs.Words.{Tokens, name_first, behind, is_comma, is_close}
+use Rattle.pli_base.specs.Reading.{◌>>=◌, at_fault, expected, taken}
 
 -- what was read, how many operators the outermost expression has so far, the place behind it and the tokens from there
 pub record Front (A : Type 0) : Type 0 where
@@ -51,14 +36,9 @@ abbrev pub opened : {A : Type 0} → Option Reader → (p : ℕ) → (Reader →
 opened None p read = at_fault NestedTooDeep p
 opened (Some inside) p read = read inside
 
--- behind a closing parenthesis
-unfoldable pub behind_close : ℕ → Tokens → Result Tokens Fault
-behind_close p (Sign CloseParenthesis ∷ ts) = Ok ts
-behind_close p ts = wanted ParenthesisExpected p ts
-
 -- behind a value: its closing parenthesis
 abbrev pub closed : {A : Type 0} → A → (count p : ℕ) → Tokens → Result (Front A) Fault
-closed value count p ts = behind_close p ts >>= λ us. Ok (record { value = value; count = count; next = p + 1; rest = us })
+closed value count p ts = taken is_close ParenthesisExpected p ts >>= λ us. Ok (record { value = value; count = count; next = p + 1; rest = us })
 
 -- an operand, and then what more makes of it
 abbrev pub operand_then : Reader → (more : (min count : ℕ) → Expression → ℕ → Tokens → Result (Front Expression) Fault) → (min : ℕ) → Reader
@@ -72,7 +52,7 @@ grouped operand more min count left p ts (Some x) =
 
 -- goes on as long as infix operators of level min or more come; each takes one of the bound, which is more than the number of tokens
 unfoldable pub infix_from : Reader → (bound min count : ℕ) → Expression → ℕ → Tokens → Result (Front Expression) Fault
-infix_from operand zero min count left p ts = wanted ExpressionExpected p ts
+infix_from operand zero min count left p ts = expected ExpressionExpected p ts
 infix_from operand (suc bound) min count left p ts = grouped operand (infix_from operand bound) min count left p ts (operator_at min ts)
 
 -- the longest expression of such operands
@@ -87,8 +67,8 @@ listed_behind one more count p ts (Some us) =
 
 -- expressions, each behind a comma, as long as commas come; each takes one of the bound, which is more than the number of tokens
 unfoldable pub further_from : Reader → (bound count p : ℕ) → Tokens → Result (Front Expressions) Fault
-further_from one zero count p ts = wanted ExpressionExpected p ts
-further_from one (suc bound) count p ts = listed_behind one (further_from one bound) count p ts (comma_at ts)
+further_from one zero count p ts = expected ExpressionExpected p ts
+further_from one (suc bound) count p ts = listed_behind one (further_from one bound) count p ts (behind is_comma ts)
 
 -- one expression or more, with commas between, and the closing parenthesis
 unfoldable pub listed_at : Reader → (count p : ℕ) → Tokens → Result (Front Expressions) Fault
@@ -107,30 +87,30 @@ arguments_at one count p ts = Ok (record { value = Absent; count = count; next =
 
 -- a part that is joined, from its name on, and then what more reads
 abbrev pub part_behind : Option Reader → (more : (count p : ℕ) → Tokens → Result (Front JoinedParts) Fault) → Joining → (count p : ℕ) → Tokens → Option (Name × Tokens) → Result (Front JoinedParts) Fault
-part_behind one more joining count p ts None = wanted NameExpected p ts
+part_behind one more joining count p ts None = expected NameExpected p ts
 part_behind one more joining count p ts (Some n) =
     arguments_at one count (p + 1) n.1 >>= λ x. more x.count x.next x.rest
     >>= λ y. Ok (record { value = Joined joining (record { name = n.0; at = p }) x.value y.value; count = y.count; next = y.next; rest = y.rest })
 
 abbrev pub parts_behind : Option Reader → (more : (count p : ℕ) → Tokens → Result (Front JoinedParts) Fault) → (count p : ℕ) → Tokens → Option (Joining × Tokens) → Result (Front JoinedParts) Fault
 parts_behind one more count p ts None = Ok (record { value = Alone; count = count; next = p; rest = ts })
-parts_behind one more count p ts (Some x) = part_behind one more x.0 count (p + 1) x.1 (name_at x.1)
+parts_behind one more count p ts (Some x) = part_behind one more x.0 count (p + 1) x.1 (name_first x.1)
 
 -- parts, as long as `.` or `->` comes; each takes one of the bound, which is more than the number of tokens
 unfoldable pub joined_from : Option Reader → (bound count p : ℕ) → Tokens → Result (Front JoinedParts) Fault
-joined_from one zero count p ts = wanted NameExpected p ts
+joined_from one zero count p ts = expected NameExpected p ts
 joined_from one (suc bound) count p ts = parts_behind one (joined_from one bound) count p ts (joining_at ts)
 
 -- a reference from its first name on
 abbrev pub reference_behind : Option Reader → (count p : ℕ) → Tokens → Option (Name × Tokens) → Result (Front Reference) Fault
-reference_behind one count p ts None = wanted NameExpected p ts
+reference_behind one count p ts None = expected NameExpected p ts
 reference_behind one count p ts (Some n) =
     arguments_at one count (p + 1) n.1 >>= λ x. joined_from one (length x.rest + 1) x.count x.next x.rest
     >>= λ y. Ok (record { value = Named (record { name = n.0; at = p }) x.value y.value; count = y.count; next = y.next; rest = y.rest })
 
 -- a reference, whose arguments are read by one
 unfoldable pub reference_of : Option Reader → (count p : ℕ) → Tokens → Result (Front Reference) Fault
-reference_of one count p ts = reference_behind one count p ts (name_at ts)
+reference_of one count p ts = reference_behind one count p ts (name_first ts)
 
 -- a prefix operator, which opens a level, and its operand
 unfoldable pub prefix_of : Option Reader → PrefixOperator → (count p : ℕ) → Tokens → Result (Front Expression) Fault
@@ -148,7 +128,7 @@ constant_at count p (Decimal v d ∷ ts) = Ok (record { value = Constant p (cons
 constant_at count p (Binary v d ∷ ts) = Ok (record { value = Constant p (constants.Binary v d); count = count; next = p + 1; rest = ts })
 constant_at count p (Characters s ∷ ts) = Ok (record { value = Constant p (constants.Characters s); count = count; next = p + 1; rest = ts })
 constant_at count p (Bits s ∷ ts) = Ok (record { value = Constant p (constants.Bits s); count = count; next = p + 1; rest = ts })
-constant_at count p ts = wanted ExpressionExpected p ts
+constant_at count p ts = expected ExpressionExpected p ts
 
 -- an operand, whose inside is made of such operands
 unfoldable pub operand_of : Option Reader → Reader

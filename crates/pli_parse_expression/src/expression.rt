@@ -1,18 +1,20 @@
 //! Reading expressions and references.
-ghost use Rattle.std.specs.Option.{option_copied};
 ghost use Rattle.std.specs.Prelude.{◌≡◌, ℕ, ◌+◌, ◌<◌, ◌≤◌, length, option_map, IfOk, IfSome, false, true};
 ghost use Rattle.pli_base.specs.SyntaxView.{expression_view, reference_view};
-ghost use Rattle.pli_parse_expression.specs.Operators.{infix_of, level_of, operator_at, joining_at, name_at, comma_at, begins_expression};
-ghost use Rattle.pli_parse_expression.specs.Reading.{behind_close, infix_from, operand_at, inside, expression_at, expression_of, argument_of, further_from, listed_at, list_at, arguments_at, joined_from, reference_of, reference_at, prefix_of, parenthesis_of, constant_at};
-ghost use Rattle.pli_parse_expression.specs.Answers.{Gives, front_view, Advances, Stays};
+ghost use Rattle.pli_parse_expression.specs.Operators.{infix_of, level_of, operator_at, joining_at, begins_expression};
+ghost use Rattle.pli_parse_expression.specs.Reading.{infix_from, operand_at, inside, expression_at, expression_of, argument_of, listed_at, list_at, arguments_at, joined_from, reference_of, reference_at, prefix_of, parenthesis_of, constant_at};
+ghost use Rattle.pli_base.specs.ReadingAnswers.{Gives};
+ghost use Rattle.pli_parse_expression.specs.Answers.{front_view, Advances, Stays};
 ghost use Rattle.pli_base.specs.SyntaxView.{expressions_view, arguments_view, joined_view};
 
-use crate::front::{Front, ParseError, fault, misfit};
+use crate::front::Front;
 use pli_base::syntax::{
     ConstantValue, Expression, Identifier, InfixOperator, JoinedPart, Joining, Part,
     PrefixOperator, Reference,
 };
-use pli_base::{Code, Name, Sign, TokenText};
+use pli_base::{
+    Code, ParseError, Sign, TokenText, behind_comma, close_taken, fault, misfit, name_first,
+};
 use std::alloc::Global;
 
 /// The greatest number of operators in an expression (own).
@@ -86,42 +88,6 @@ fn joining_at(texts: &[TokenText]) -> Option<(Joining, &[TokenText])>
         [TokenText::Sign(Sign::Period), rest @ ..] => Some((Joining::Member, rest)),
         [TokenText::Sign(Sign::Arrow), rest @ ..] => Some((Joining::Located, rest)),
         _ => None,
-    }
-}
-
-/// The name that the tokens begin with, and the tokens behind it.
-#[tactic(auto, unfolding(crate::specs::Operators::name_at))]
-fn name_at(texts: &[TokenText]) -> Option<(Name, &[TokenText])>
-    ensures value { name_at texts.now ≡ option_map (λ x. (x.0, x.1.now)) result }
-    ensures place { IfSome result (λ x. length x.1.now + 1 ≡ length texts.now) }
-{
-    match texts {
-        [TokenText::Word(name), rest @ ..] => Some((*name, rest)),
-        _ => None,
-    }
-}
-
-/// The tokens behind `,`, if they begin with it.
-#[tactic(auto, unfolding(crate::specs::Operators::comma_at))]
-fn comma_at(texts: &[TokenText]) -> Option<&[TokenText]>
-    ensures value { comma_at texts.now ≡ option_copied result }
-    ensures place { IfSome result (λ rest. length rest.now + 1 ≡ length texts.now) }
-{
-    match texts {
-        [TokenText::Sign(Sign::Comma), rest @ ..] => Some(rest),
-        _ => None,
-    }
-}
-
-/// The tokens behind `)`.
-#[tactic(auto, unfolding(crate::specs::Reading::behind_close))]
-fn behind_close(at: u32, texts: &[TokenText]) -> Result<&[TokenText], ParseError>
-    ensures value { Gives (λ rest. rest.now) result (behind_close at texts.now) }
-    ensures place { IfOk result (λ rest. length rest.now + 1 ≡ length texts.now) }
-{
-    match texts {
-        [TokenText::Sign(Sign::CloseParenthesis), rest @ ..] => Ok(rest),
-        _ => Err(misfit(Code::ParenthesisExpected, at, texts)),
     }
 }
 
@@ -346,7 +312,7 @@ fn parenthesis_of<'a>(
         return Err(fault(Code::NestedTooDeep, at));
     }
     let inner = expression_at(alloc, levels - 1, operators, at + 1, rest)?;
-    let behind = behind_close(inner.next, inner.rest)?;
+    let behind = close_taken(inner.next, inner.rest)?;
     Ok(Front {
         value: Expression::Parenthesized {
             at,
@@ -373,7 +339,7 @@ fn reference_of<'a>(
     ensures value { Gives (front_view reference_view) result (reference_of (option_map (argument_of outermost) (inside levels)) operators at texts.now) }
     ensures place { IfOk result (Advances at texts.now) }
 {
-    let Some(named) = name_at(texts) else {
+    let Some(named) = name_first(texts) else {
         return Err(misfit(Code::NameExpected, at, texts));
     };
     let (name, rest) = named;
@@ -423,7 +389,7 @@ fn joined_from<'a>(
     let mut rest = texts;
     while let Some((joining, behind)) = joining_at(rest) {
         let at = next + 1;
-        let Some(named) = name_at(behind) else {
+        let Some(named) = name_first(behind) else {
             return Err(misfit(Code::NameExpected, at, behind));
         };
         let (name, more) = named;
@@ -499,7 +465,7 @@ fn list_at<'a>(
     if begins_expression(texts) {
         return listed_at(alloc, outermost, levels, operators, at, texts);
     }
-    let behind = behind_close(at, texts)?;
+    let behind = close_taken(at, texts)?;
     Ok(Front {
         value: Vec::new(alloc),
         operators,
@@ -529,14 +495,14 @@ fn listed_at<'a>(
     let mut operators = first.operators;
     let mut next = first.next;
     let mut rest = first.rest;
-    while let Some(behind) = comma_at(rest) {
+    while let Some(behind) = behind_comma(rest) {
         let one = argument_at(alloc, outermost, levels, operators, next + 1, behind)?;
         list.push(one.value)?;
         operators = one.operators;
         next = one.next;
         rest = one.rest;
     }
-    let behind = behind_close(next, rest)?;
+    let behind = close_taken(next, rest)?;
     Ok(Front {
         value: list,
         operators,

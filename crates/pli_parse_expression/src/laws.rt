@@ -4,15 +4,15 @@ ghost use Rattle.pli_base.specs.FaultPlaces.{FaultStands};
 ghost use Rattle.pli_base.specs.Syntax.{Expression, Reference};
 ghost use Rattle.pli_base.specs.TreeTokens.{Rises, expression_tokens, reference_tokens};
 ghost use Rattle.pli_base.specs.declared.token.Fault.{Fault};
-ghost use Rattle.pli_parse_expression.specs.Operators.{Tokens};
 ghost use Rattle.pli_parse_expression.specs.Expressions.{operators, SpellsOutermost, SpellsReferenceAlone, EndsExpression, EndsReference};
 ghost use Rattle.pli_parse_expression.specs.Reading.{Front, expression_at, reference_at};
 ghost use Rattle.pli_parse_expression.specs.Laws.{FrontSpells};
 ghost use Rattle.pli_parse_expression.specs.Assignments.{IsAssignment, is_assignment};
 ghost use Rattle.pli_parse_expression.specs.Examples.{SignAndSum, Differences, AllLevels, Comparisons, Alternatives, LocatedMember, NoArguments, InParentheses, TwoLists, TextEnds, NoOperand, NotClosed, NoListThere, NothingBehindComma, NoMember, NothingLocated, DeepestList, TooDeepList, TooDeepSign, LastOperator, TooManyOperators, Target};
+ghost use Rattle.pli_base.specs.Words.{Tokens};
 
 /// Worked examples: what is read at the front of tokens, and the faults.
-#[tactic(auto, unfolding(crate::specs::Reading::misfit, crate::specs::Reading::behind_close, crate::specs::Reading::infix_from, crate::specs::Reading::expression_of, crate::specs::Reading::further_from, crate::specs::Reading::listed_at, crate::specs::Reading::list_at, crate::specs::Reading::arguments_at, crate::specs::Reading::joined_from, crate::specs::Reading::reference_of, crate::specs::Reading::prefix_of, crate::specs::Reading::parenthesis_of, crate::specs::Reading::constant_at, crate::specs::Reading::operand_of, crate::specs::Reading::inside, crate::specs::Reading::expression_at, crate::specs::Reading::reference_at, crate::specs::Operators::operator_at, crate::specs::Operators::joining_at, crate::specs::Operators::name_at, crate::specs::Operators::comma_at, crate::specs::Operators::begins_expression))]
+#[tactic(auto, unfolding(pli_base::specs::Reading::misfit, pli_base::specs::Reading::taken, crate::specs::Reading::infix_from, crate::specs::Reading::expression_of, crate::specs::Reading::further_from, crate::specs::Reading::listed_at, crate::specs::Reading::list_at, crate::specs::Reading::arguments_at, crate::specs::Reading::joined_from, crate::specs::Reading::reference_of, crate::specs::Reading::prefix_of, crate::specs::Reading::parenthesis_of, crate::specs::Reading::constant_at, crate::specs::Reading::operand_of, crate::specs::Reading::inside, crate::specs::Reading::expression_at, crate::specs::Reading::reference_at, crate::specs::Operators::operator_at, crate::specs::Operators::joining_at, pli_base::specs::Words::name_first, pli_base::specs::Words::behind, crate::specs::Operators::begins_expression))]
 pub fn worked_examples()
     ensures sign_and_sum { SignAndSum }
     ensures differences { Differences }

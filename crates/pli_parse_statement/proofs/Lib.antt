@@ -1,3 +1,2 @@
-mod StatementNames
 mod StatementOptions
 mod StatementTexts

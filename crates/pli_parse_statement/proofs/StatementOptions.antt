@@ -1,16 +1,16 @@
 -- Options of a procedure, read by a loop.
 use Rattle.std.proofs.Common.{◌≡◌, ◌<◌, ℕ, ◌+◌, suc, zero, List, [], ◌∷◌, ◌++◌, Some, None, Result, Ok, Err, length, refl, ap, ◌∙◌, sym, arith, append_assoc, append-nil}
 use Rattle.pli_base.specs.Words.{Tokens}
-use Rattle.pli_base.specs.Reading.{◌>>=◌, Front}
+use Rattle.pli_base.specs.Reading.{◌>>=◌, Front, read_as, mapped}
 use Rattle.pli_base.specs.declared.token.Fault.{Fault}
-use Rattle.pli_parse_declaration.specs.declared.answer.ParseError.{ParseError}
-use Rattle.pli_parse_declaration.specs.declared.answer.ParseError.TheVariants as errors
-use Rattle.pli_parse_declaration.specs.DeclarationAnswers.{Fails}
-use Rattle.pli_parse_declaration.specs.DeclarationReading.{read_as, mapped, returned_at}
+use Rattle.pli_base.specs.declared.reading.ParseError.TheVariants as errors
+use Rattle.pli_parse_declaration.specs.DeclarationReading.{returned_at}
 use Rattle.pli_parse_declaration.proofs.DeclarationLists.{with_done}
 use Rattle.pli_base.specs.Statements.{ProcedureOption}
 use Rattle.pli_parse_statement.specs.StatementReading.{OptionWord, OptionsWord, ReturnsWord, RecursiveWord, option_first, options_by, options_from}
 use Rattle.pli_parse_statement.specs.StatementAnswers.{option_of}
+use Rattle.pli_base.specs.declared.reading.ParseError.{ParseError}
+use Rattle.pli_base.specs.ReadingAnswers.{Fails}
 
 -- with what was read before, the options that are left are all of them
 abbrev pub OptionsLeft : List ProcedureOption → ℕ → Tokens → Result (Front (List ProcedureOption)) Fault → Type 0

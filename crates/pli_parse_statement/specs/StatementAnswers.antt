@@ -1,10 +1,10 @@
 -- What the parser of statements answers.
 use Rattle.std.specs.Prelude.{◌≡◌, ◌+◌, ◌<◌, ◌≤◌, ℕ, Result, length, map}
 use Rattle.pli_base.specs.Words.{Tokens}
-use Rattle.pli_base.specs.Reading.{Front}
+use Rattle.pli_base.specs.Reading.{Front, mapped, read_as}
 use Rattle.pli_base.specs.declared.token.Fault.{Fault}
 use Rattle.pli_base.specs.declared.syntax.Identifier.{Identifier}
-use Rattle.pli_parse_declaration.specs.DeclarationReading.{mapped, read_as, returned_at}
+use Rattle.pli_parse_declaration.specs.DeclarationReading.{returned_at}
 use Rattle.pli_base.specs.Statements as tree
 use Rattle.pli_base.specs.StatementView as views
 use Rattle.pli_parse_statement.specs.StatementWords.{Context}
@@ -17,10 +17,6 @@ use Rattle.pli_parse_statement.specs.declared.first.Misplacement.TheVariants as 
 use Rattle.pli_parse_statement.specs.declared.first.Next.{Next}
 use Rattle.pli_parse_statement.specs.declared.first.Next.TheVariants as nexts
 use Rattle.pli_parse_statement.specs.declared.heading.Heading.{Heading}
-use Rattle.pli_parse_expression.specs.declared.front.ParseError.TheVariants as expressions
-use Rattle.pli_parse_expression.specs.declared.front.ParseError as expression
-use Rattle.pli_parse_declaration.specs.declared.answer.ParseError.{ParseError}
-use Rattle.pli_parse_declaration.specs.declared.answer.ParseError.TheVariants as errors
 use Rattle.pli_parse_statement.specs.StatementReading as reading
 use Rattle.pli_parse_statement.specs.declared.keyword.Keyword.{Keyword}
 use Rattle.pli_parse_statement.specs.declared.keyword.Keyword.TheVariants.{GoTo}
@@ -34,11 +30,6 @@ use Rattle.pli_parse_statement.specs.declared.word.RangeWord.{RangeWord}
 use Rattle.pli_parse_statement.specs.declared.word.RangeWord.TheVariants as ranges
 use Rattle.pli_parse_statement.specs.declared.word.OptionWord.{OptionWord}
 use Rattle.pli_parse_statement.specs.declared.word.OptionWord.TheVariants as options
-
--- an error of the parser of expressions, as one of the parser of statements
-abbrev pub error_view : expression.ParseError → ParseError
-error_view (expressions.Fault f) = errors.Fault f
-error_view expressions.OutOfMemory = errors.OutOfMemory
 
 -- how many tokens the keyword has
 abbrev pub words : Keyword → ℕ

@@ -10,7 +10,6 @@ use Rattle.pli_base.specs.declared.token.TokenText.TheVariants.{Word, Sign}
 use Rattle.pli_parse_expression.specs.Operators.{nesting_limit}
 use Rattle.pli_parse_expression.specs.Assignments.{IsAssignment}
 use Rattle.pli_parse_expression.specs.Expressions.{SpellsArguments, SpellsOutermost, SpellsReferenceAlone, GivenFits, Every, OutermostFits, Deeper}
-use Rattle.pli_parse_declaration.specs.DeclarationReading.{Commas}
 use Rattle.pli_parse_declaration.specs.DeclarationGrammar.{SpellsListed, SpellsReturned, SpellsDeclaration}
 use Rattle.pli_base.specs.Statements.{ProcedureOption, Main, Returns, Recursive, Heading, Range, To, By, Repeat, Control, While, Iterate, Allocation, Statement, Numbered, Body, Null, Assign, Declare, Procedure, Begin, Do, If, On, Revert, Signal, Stop, Allocate, Free, Call, Goto, Return, Put, Statements, Ended, Before, Alternative, NoElse, Else, ExternalProcedure, count, list_count, AwaitsElse}
 use Rattle.pli_parse_statement.specs.StatementWords.{Context, standing, the_unit, a_procedure, keyword_of, condition_of}
@@ -19,6 +18,7 @@ use Rattle.pli_parse_statement.specs.declared.keyword.Keyword.TheVariants as wor
 use Rattle.pli_parse_statement.specs.declared.keyword.Standing.{Standing}
 use Rattle.pli_parse_statement.specs.declared.keyword.Standing.TheVariants.{InBlock, InGroup, AsClause, AsUnit}
 use Rattle.pli_base.specs.declared.statement.Condition.{Condition}
+use Rattle.pli_parse_declaration.specs.declared.list.Separator.TheVariants.{Commas}
 
 -- the tokens up to the first `;` are a reference, `=` and one expression, whatever the words are; there is no `;` in those, and no limit counts
 abbrev pub BeginsAssignment : ℕ → Tokens → Type 0

@@ -2,8 +2,8 @@
 -- statements are numbered from 1, and k is the number of the next. A part that need not stand is passed over, so a fault is about what must stand next.
 use Rattle.std.specs.Prelude.{ℕ, zero, suc, ◌+◌, ◌-◌, Bool, true, false, ◌||◌, Option, Some, None, Result, Ok, Err, List, [], ◌∷◌, length, option_map, codes, if◌then◌else◌}
 use Rattle.pli_base.specs.Name.{Name}
-use Rattle.pli_base.specs.Words.{Tokens, same_name, is_word, is_open, is_semicolon}
-use Rattle.pli_base.specs.Reading.{◌>>=◌, at_fault, Front, misplaced}
+use Rattle.pli_base.specs.Words.{Tokens, same_name, is_word, is_open, is_semicolon, behind}
+use Rattle.pli_base.specs.Reading.{◌>>=◌, at_fault, Front, misplaced, expected, read_as, mapped, taken, enclosed, if_open, or_none}
 use Rattle.pli_base.specs.Syntax.{Expression, Reference}
 use Rattle.pli_base.specs.declared.syntax.Identifier.{Identifier}
 use Rattle.pli_base.specs.declared.code.Code.{Code}
@@ -15,8 +15,7 @@ use Rattle.pli_base.specs.declared.token.TokenText.TheVariants.{Word, Sign}
 use Rattle.pli_parse_expression.specs.Operators.{nesting_limit}
 use Rattle.pli_parse_expression.specs.Reading.{expression_at, reference_at, arguments_at, argument_of}
 use Rattle.pli_parse_expression.specs.Reading as expressions
-use Rattle.pli_parse_declaration.specs.DeclarationWords.{behind}
-use Rattle.pli_parse_declaration.specs.DeclarationReading.{expected, read_as, mapped, taken, enclosed, if_open, or_none, Commas, list_at, declaration_at, returned_at}
+use Rattle.pli_parse_declaration.specs.DeclarationReading.{list_at, declaration_at, returned_at, identifier_at}
 use Rattle.pli_base.specs.Statements.{ProcedureOption, Main, Returns, Recursive, Heading, Range, To, By, Repeat, Control, While, Iterate, Allocation, Statement, Numbered, Body, Statements, Ended, Before, Alternative, NoElse, Else, ExternalProcedure, count}
 use Rattle.pli_base.specs.Statements as body
 use Rattle.pli_parse_statement.specs.StatementWords.{Context, standing, the_unit, a_procedure, condition_of, behind_word, begins_assignment, Kind, Assigns, Empty, Keyed, Unknown, kind_of}
@@ -25,6 +24,7 @@ use Rattle.pli_parse_statement.specs.declared.keyword.Keyword.TheVariants.{Proce
 use Rattle.pli_parse_statement.specs.declared.keyword.Standing.{Standing}
 use Rattle.pli_parse_statement.specs.declared.keyword.Standing.TheVariants.{InBlock, InGroup, AsClause, AsUnit}
 use Rattle.pli_base.specs.declared.statement.Condition.{Condition}
+use Rattle.pli_parse_declaration.specs.declared.list.Separator.TheVariants.{Commas}
 
 -- parts of statements; so many levels may still be opened in their expressions
 
@@ -49,10 +49,6 @@ closing f read = read >>= λ x. stopped (f x.value) x.next x.rest
 -- in parentheses
 unfoldable pub parenthesized : {A : Type 0} → (ℕ → Tokens → Result (Front A) Fault) → ℕ → Tokens → Result (Front A) Fault
 parenthesized read p ts = taken is_open ParenthesisExpected p ts >>= λ us. enclosed (read (p + 1) us)
-
-unfoldable pub identifier_at : ℕ → Tokens → Result (Front Identifier) Fault
-identifier_at p (Word n ∷ us) = read_as (record { name = n; at = p }) (p + 1) us
-identifier_at p ts = expected NameExpected p ts
 
 abbrev pub is_equals : TokenText → Bool
 is_equals (Sign Equals) = true

@@ -2,16 +2,15 @@
 ghost use Rattle.std.specs.Option.{option_copied};
 ghost use Rattle.std.specs.Prelude.{◌≡◌, ◌≤◌, ◌+◌, length, position, option_map, is_some, IfOk, IfSome};
 ghost use Rattle.pli_base.specs.Words.{is_semicolon};
-ghost use Rattle.pli_parse_declaration.specs.DeclarationAnswers.{Continues, front_view};
 ghost use Rattle.pli_parse_statement.specs.StatementWords.{up_to_semicolon, begins_assignment, keyword_of, word_kind, first_kind, kind_of};
 ghost use Rattle.pli_parse_statement.specs.StatementReading.{has_semicolon, label_at, bad_label, unit_misplaced, standing_misplaced, misplacement, else_first, next_of};
 ghost use Rattle.pli_parse_statement.specs.StatementAnswers.{context_view, kind_view, BehindKind, misplacement_view, next_view, BehindNext};
+ghost use Rattle.pli_base.specs.ReadingAnswers.{Continues, front_view};
 
 use crate::cursor::{behind_word, is_name};
 use crate::keyword::{Keyword, Standing, statement_keyword};
 use pli_base::syntax::Identifier;
-use pli_base::{Code, Name, Sign, TokenText};
-use pli_parse_declaration::Front;
+use pli_base::{Code, Front, Name, Sign, TokenText};
 use pli_parse_expression::is_assignment;
 use std::alloc::{AllocError, Global};
 

@@ -1,22 +1,24 @@
 //! The heading of a procedure.
 ghost use Rattle.std.specs.Prelude.{◌≡◌, ℕ, ◌≤◌, ◌<◌, ◌+◌, length, map, IfOk};
-ghost use Rattle.pli_base.specs.Words.{is_word, is_open};
+ghost use Rattle.pli_base.specs.Words.{is_word, is_open, behind};
 ghost use Rattle.pli_base.specs.declared.syntax.Identifier as identifier;
-ghost use Rattle.pli_parse_declaration.specs.DeclarationReading.{taken, mapped, or_none, if_open, list_at, Commas};
-ghost use Rattle.pli_parse_declaration.specs.DeclarationWords.{behind};
-ghost use Rattle.pli_parse_declaration.specs.DeclarationAnswers.{Gives, Advances, Continues, front_view};
+ghost use Rattle.pli_parse_declaration.specs.DeclarationReading.{list_at, identifier_at};
 ghost use Rattle.pli_base.specs.StatementView as views;
-ghost use Rattle.pli_parse_statement.specs.StatementReading.{identifier_at, main_at, options_from, heading_at};
+ghost use Rattle.pli_parse_statement.specs.StatementReading.{main_at, options_from, heading_at};
 ghost use Rattle.pli_parse_statement.specs.StatementAnswers.{heading_view, option_view, option_of};
+ghost use Rattle.pli_base.specs.Reading.{taken, mapped, or_none, if_open};
+ghost use Rattle.pli_base.specs.ReadingAnswers.{Gives, Advances, Continues, front_view};
+ghost use Rattle.pli_parse_declaration.specs.declared.list.Separator.TheVariants.{Commas};
 
-use crate::cursor::{identifiers_listed, is_name};
+use crate::cursor::is_name;
 use crate::word::{OptionWord, option_first};
 use pli_base::statement::ProcedureOption;
 use pli_base::syntax::Identifier;
-use pli_base::{Code, TokenText};
-use pli_parse_declaration::{
-    Front, ParseError, behind_open, close_taken, fault_at, open_taken, returned_at, semicolon_taken,
+use pli_base::{
+    Code, Front, ParseError, TokenText, behind_open, close_taken, misfit, open_taken,
+    semicolon_taken,
 };
+use pli_parse_declaration::{identifiers_at, returned_at};
 use std::alloc::Global;
 
 /// What a heading has behind its PROCEDURE.
@@ -37,7 +39,7 @@ fn is_word(text: &TokenText, word: &[u8]) -> bool
 }
 
 /// The tokens behind the word, which must stand.
-#[tactic(auto, unfolding(pli_parse_declaration::specs::DeclarationReading::taken, pli_parse_declaration::specs::DeclarationWords::behind))]
+#[tactic(auto, unfolding(pli_base::specs::Reading::taken, pli_base::specs::Words::behind))]
 pub fn word_taken<'a>(
     word: &[u8],
     code: Code,
@@ -49,7 +51,7 @@ pub fn word_taken<'a>(
 {
     match texts {
         [first, rest @ ..] if is_word(first, word) => Ok(rest),
-        _ => Err(fault_at(code, at, texts)),
+        _ => Err(misfit(code, at, texts)),
     }
 }
 
@@ -139,7 +141,7 @@ fn parameters_at<'a>(
 {
     match behind_open(texts) {
         Some(inside) => {
-            let names = identifiers_listed(alloc, at + 1, inside)?;
+            let names = identifiers_at(alloc, at + 1, inside)?;
             let rest = close_taken(names.next, names.rest)?;
             Ok(Front {
                 value: names.value,

@@ -13,7 +13,7 @@ mod word;
 
 pub use control::control_at;
 pub use counted::{Counted, Listing};
-pub use cursor::{expression_in, fault, is_name};
+pub use cursor::{expression_in, is_name};
 pub use first::{
     Context, Kind, Misplacement, Next, bad_label, else_first, has_semicolon, kind_of, label_at,
     next_of, why_misplaced,

@@ -1,30 +1,31 @@
 //! Statements with no statement inside.
 ghost use Rattle.std.specs.Prelude.{◌≡◌, ◌≤◌, ◌+◌, ◌<◌, length, map, is_some, IfOk, None};
-ghost use Rattle.pli_parse_declaration.specs.DeclarationReading.{Commas, list_at, if_open, mapped, declaration_at};
-ghost use Rattle.pli_parse_declaration.specs.DeclarationWords.{behind};
-ghost use Rattle.pli_base.specs.Words.{is_open};
+ghost use Rattle.pli_parse_declaration.specs.DeclarationReading.{list_at, declaration_at, identifier_at};
+ghost use Rattle.pli_base.specs.Words.{is_open, behind};
 ghost use Rattle.pli_base.specs.SyntaxView.{expression_view};
-ghost use Rattle.pli_parse_declaration.specs.DeclarationAnswers.{Gives, Advances, Continues, front_view};
 ghost use Rattle.pli_base.specs.Statements as tree;
 ghost use Rattle.pli_base.specs.Statements.{body_count};
 ghost use Rattle.pli_base.specs.StatementView.{allocation_view, body_view};
 ghost use Rattle.pli_parse_statement.specs.StatementAnswers.{words};
 ghost use Rattle.pli_parse_statement.specs.StatementWords.{the_unit};
-ghost use Rattle.pli_parse_statement.specs.StatementReading.{stopped, closing, identifier_at, condition_at, assignment_at, places_from, allocation_at, put_first, put_from, put_at, call_at, keyed_at, expression_in, reference_in};
+ghost use Rattle.pli_parse_statement.specs.StatementReading.{stopped, closing, condition_at, assignment_at, places_from, allocation_at, put_first, put_from, put_at, call_at, keyed_at, expression_in, reference_in};
+ghost use Rattle.pli_base.specs.Reading.{if_open, mapped};
+ghost use Rattle.pli_base.specs.ReadingAnswers.{Gives, Advances, Continues, front_view};
+ghost use Rattle.pli_parse_declaration.specs.declared.list.Separator.TheVariants.{Commas};
+ghost use Rattle.std.proofs.Common.{refl};
 
 use crate::cursor::{
-    arguments_in, equals_taken, expression_in, fault, is_name, parenthesized_expressions,
-    parenthesized_reference, reference_in, references_listed,
+    EachReference, arguments_in, equals_taken, expression_in, is_name, parenthesized_expressions,
+    parenthesized_reference, reference_in,
 };
 use crate::keyword::{Keyword, named_condition};
 use crate::word::{PlaceWord, place_first};
 use pli_base::statement::{Allocation, Body, Condition};
 use pli_base::syntax::{Expression, Identifier};
-use pli_base::{Code, TokenText};
-use pli_parse_declaration::{
-    Front, ParseError, behind_comma, behind_open, close_taken, declaration_at, fault_at,
-    semicolon_taken,
+use pli_base::{
+    Code, Front, ParseError, TokenText, behind_open, close_taken, fault, misfit, semicolon_taken,
 };
+use pli_parse_declaration::{ReadsOne, Separator, declaration_at, list_at};
 use std::alloc::Global;
 
 /// The statement's `;`, behind all else.
@@ -73,14 +74,14 @@ pub fn assignment_at<'a>(
 }
 
 /// A condition.
-#[tactic(auto, unfolding(crate::specs::StatementReading::condition_at, pli_parse_declaration::specs::DeclarationReading::fault_at))]
+#[tactic(auto, unfolding(crate::specs::StatementReading::condition_at, pli_base::specs::Reading::misfit))]
 pub fn condition_at(at: u32, texts: &[TokenText]) -> Result<Front<'_, Condition>, ParseError>
     requires { at + length texts.now ≤ 200000 }
     ensures value { Gives (front_view (λ c. c)) result (condition_at at texts.now) }
     ensures place { IfOk result (Advances at texts.now) }
 {
     let [TokenText::Word(name), rest @ ..] = texts else {
-        return Err(fault_at(Code::BadCondition, at, texts));
+        return Err(misfit(Code::BadCondition, at, texts));
     };
     match named_condition(name) {
         Some(condition) => Ok(Front {
@@ -142,58 +143,40 @@ fn places_from<'a>(
 }
 
 /// A variable of ALLOCATE, with its area and its locator.
-#[tactic(auto, unfolding(crate::specs::StatementReading::allocation_at, crate::specs::StatementReading::identifier_at))]
-fn allocation_at<'a>(
+#[derive(Clone, Copy)]
+struct EachAllocation {
     alloc: Global,
     levels: u32,
-    at: u32,
-    texts: &'a [TokenText],
-) -> Result<Front<'a, Allocation>, ParseError>
-    requires { at + length texts.now ≤ 200000 }
-    ensures value { Gives (front_view allocation_view) result (allocation_at levels at texts.now) }
-    ensures place { IfOk result (Advances at texts.now) }
-{
-    let [TokenText::Word(name), rest @ ..] = texts else {
-        return Err(fault_at(Code::NameExpected, at, texts));
-    };
-    let allocation = Allocation {
-        name: Identifier { name: *name, at },
-        area: None,
-        target: None,
-    };
-    places_from(alloc, levels, 3, allocation, at + 1, rest)
 }
 
-/// Variables of ALLOCATE with commas between.
-fn allocations_listed<'a>(
-    alloc: Global,
-    levels: u32,
-    at: u32,
-    texts: &'a [TokenText],
-) -> Result<Front<'a, Vec<Allocation>>, ParseError>
-    requires { at + length texts.now ≤ 200000 }
-    ensures value { Gives (front_view (λ v. map allocation_view v.items)) result (list_at Commas (allocation_at levels) at texts.now) }
-    ensures place { IfOk result (Advances at texts.now) }
-{
-    let mut values = Vec::new(alloc);
-    let mut next = at;
-    let mut rest = texts;
-    loop {
-        let read = allocation_at(alloc, levels, next, rest)?;
-        values.push(read.value)?;
-        match behind_comma(read.rest) {
-            Some(behind) => {
-                next = read.next + 1;
-                rest = behind;
-            }
-            None => {
-                return Ok(Front {
-                    value: values,
-                    next: read.next,
-                    rest: read.rest,
-                });
-            }
-        }
+impl ReadsOne for EachAllocation {
+    type Value = Allocation;
+
+    ghost Tree = { tree.Allocation };
+
+    ghost tree = { allocation_view };
+
+    ghost trees = { map allocation_view };
+
+    ghost one = { λ r. allocation_at r.levels };
+
+    ghost each = { λ vs. refl };
+
+    #[tactic(auto, unfolding(crate::specs::StatementReading::allocation_at, pli_parse_declaration::specs::DeclarationReading::identifier_at, pli_parse_declaration::specs::DeclarationReading::name_at, pli_base::specs::Words::name_first))]
+    fn read<'a>(
+        &self,
+        at: u32,
+        texts: &'a [TokenText],
+    ) -> Result<Front<'a, Allocation>, ParseError> {
+        let [TokenText::Word(name), rest @ ..] = texts else {
+            return Err(misfit(Code::NameExpected, at, texts));
+        };
+        let allocation = Allocation {
+            name: Identifier { name: *name, at },
+            area: None,
+            target: None,
+        };
+        places_from(self.alloc, self.levels, 3, allocation, at + 1, rest)
     }
 }
 
@@ -278,12 +261,12 @@ fn put_at<'a>(
     if begins_put(texts) {
         put_from(alloc, levels, 3, false, Vec::new(alloc), at, texts)
     } else {
-        Err(fault_at(Code::BadOption, at, texts))
+        Err(misfit(Code::BadOption, at, texts))
     }
 }
 
 /// What stands behind CALL, without its `;`.
-#[tactic(auto, unfolding(crate::specs::StatementReading::call_at, crate::specs::StatementReading::identifier_at))]
+#[tactic(auto, unfolding(crate::specs::StatementReading::call_at, pli_parse_declaration::specs::DeclarationReading::identifier_at, pli_parse_declaration::specs::DeclarationReading::name_at, pli_base::specs::Words::name_first))]
 fn call_at<'a>(
     alloc: Global,
     levels: u32,
@@ -296,7 +279,7 @@ fn call_at<'a>(
     ensures place { IfOk result (Advances at texts.now) }
 {
     let [TokenText::Word(name), rest @ ..] = texts else {
-        return Err(fault_at(Code::NameExpected, at, texts));
+        return Err(misfit(Code::NameExpected, at, texts));
     };
     let arguments = arguments_in(alloc, levels, at + 1, rest)?;
     Ok(Front {
@@ -310,7 +293,7 @@ fn call_at<'a>(
 }
 
 /// What stands behind GOTO or GO TO.
-#[tactic(auto, unfolding(crate::specs::StatementReading::identifier_at))]
+#[tactic(auto, unfolding(pli_parse_declaration::specs::DeclarationReading::identifier_at, pli_parse_declaration::specs::DeclarationReading::name_at, pli_base::specs::Words::name_first))]
 fn goto_at(at: u32, texts: &[TokenText]) -> Result<Front<'_, Body>, ParseError>
     requires { at + length texts.now ≤ 200000 }
     ensures value { Gives (front_view body_view) result (closing tree.Goto (identifier_at at texts.now)) }
@@ -318,7 +301,7 @@ fn goto_at(at: u32, texts: &[TokenText]) -> Result<Front<'_, Body>, ParseError>
     ensures place { IfOk result (Advances at texts.now) }
 {
     let [TokenText::Word(name), rest @ ..] = texts else {
-        return Err(fault_at(Code::NameExpected, at, texts));
+        return Err(misfit(Code::NameExpected, at, texts));
     };
     stopped(Body::Goto(Identifier { name: *name, at }), at + 1, rest)
 }
@@ -407,7 +390,13 @@ fn allocate_at<'a>(
     ensures alone { IfOk result (λ x. body_count (body_view x.value) ≡ 0) }
     ensures place { IfOk result (Advances at texts.now) }
 {
-    let allocations = allocations_listed(alloc, levels, at, texts)?;
+    let allocations = list_at(
+        alloc,
+        Separator::Commas,
+        &EachAllocation { alloc, levels },
+        at,
+        texts,
+    )?;
     stopped(
         Body::Allocate(allocations.value),
         allocations.next,
@@ -428,7 +417,13 @@ fn free_at<'a>(
     ensures alone { IfOk result (λ x. body_count (body_view x.value) ≡ 0) }
     ensures place { IfOk result (Advances at texts.now) }
 {
-    let references = references_listed(alloc, levels, at, texts)?;
+    let references = list_at(
+        alloc,
+        Separator::Commas,
+        &EachReference { alloc, levels },
+        at,
+        texts,
+    )?;
     stopped(
         Body::Free(references.value),
         references.next,

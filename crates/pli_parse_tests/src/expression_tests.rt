@@ -1,5 +1,6 @@
 use crate::showing::expression::{show_expression, show_reference};
-use pli_parse_expression::{ParseError, is_assignment, outermost_expression_at, reference_at};
+use pli_base::ParseError;
+use pli_parse_expression::{is_assignment, outermost_expression_at, reference_at};
 use pli_text_tests::tokens_of;
 use std::alloc::{AllocError, Global};
 use std::test::Fail;

@@ -4,7 +4,7 @@ pub mod expression;
 pub mod item;
 pub mod statement;
 
-use pli_parse_declaration::ParseError;
+use pli_base::ParseError;
 use std::alloc::{AllocError, Global};
 
 /// The fault as `P6 at 1`.

@@ -6,9 +6,9 @@ use Rattle.pli_parse_statement.specs.StatementReading.{begin_at, do_at, list_in,
 use Rattle.pli_base.specs.StatementView.{statement_view}
 use Rattle.pli_parse.proofs.StatementClauses.{alternative_fails}
 use Rattle.pli_parse.proofs.StatementRows.{goes_on, statement_fails, end_fails, ends, one_more}
-use Rattle.pli_parse_declaration.specs.DeclarationAnswers.{front_view}
 use Rattle.pli_base.specs.SyntaxView.{expression_view}
 use Rattle.pli_parse.proofs.reader.+reader.Goals as goal
+use Rattle.pli_base.specs.ReadingAnswers.{front_view}
 
 pub begin_at-returns-clause-value : goal.begin_at-returns-clause-value
 unfolding begin_at

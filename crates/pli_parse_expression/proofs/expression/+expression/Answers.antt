@@ -57,12 +57,12 @@ joined_from-loop-joining-init t c =
       place = (omega arith, refl);
     }
 
-pub joined_from-returns-in_default-name_at-clause-value : goal.joined_from-returns-in_default-name_at-clause-value
-joined_from-returns-in_default-name_at-clause-value t c = λ bound small.
+pub joined_from-returns-in_default-name_first-clause-value : goal.joined_from-returns-in_default-name_first-clause-value
+joined_from-returns-in_default-name_first-clause-value t c = λ bound small.
     rw c.misfit.ensures
     (no_name (option_map (argument_of c.args.outermost) (inside c.args.levels)) c.loop-joining.parts.items c.loop-joining.operators c.loop-joining.next c.loop-joining.rest.now (c.in-Some.joining, c.in-Some.behind.now)
     (joined_from (option_map (argument_of c.args.outermost) (inside c.args.levels)) bound c.args.operators c.args.at c.args.texts.now) c.in-Some.ensures.value
-    c.in_default-name_at.ensures.value (c.loop-joining.invariant.value bound small))
+    c.in_default-name_first.ensures.value (c.loop-joining.invariant.value bound small))
 
 pub joined_from-returns-in_err-list-clause-value : goal.joined_from-returns-in_err-list-clause-value
 joined_from-returns-in_err-list-clause-value t c = λ bound small.
@@ -70,21 +70,21 @@ joined_from-returns-in_err-list-clause-value t c = λ bound small.
     rw (p.1, p.2)
     (arguments_fail (option_map (argument_of c.args.outermost) (inside c.args.levels)) c.loop-joining.parts.items c.loop-joining.operators c.loop-joining.next c.loop-joining.rest.now (c.in-Some.joining, c.in-Some.behind.now)
     (joined_from (option_map (argument_of c.args.outermost) (inside c.args.levels)) bound c.args.operators c.args.at c.args.texts.now) c.in-Some.ensures.value
-    (c.in-Some-name_at.named.0, c.in-Some-name_at.named.1.now) c.in-Some-name_at.ensures.value c.in_err-list.field-0.0 c.in_err-list.ensures.value (c.loop-joining.invariant.value bound small))
+    (c.in-Some-name_first.named.0, c.in-Some-name_first.named.1.now) c.in-Some-name_first.ensures.value c.in_err-list.field-0.0 c.in_err-list.ensures.value (c.loop-joining.invariant.value bound small))
 
 pub joined_from-loop-joining-preserved : goal.joined_from-loop-joining-preserved
 joined_from-loop-joining-preserved t c =
-    let x = roll-JoinedPart (record { joining = c.in-Some.joining; part = roll-Part (record { name = record { name = c.in-Some-name_at.named.0; at = c.loop-joining.next + 1 }; arguments = c.in_ok-list.list.value }) }) in
+    let x = roll-JoinedPart (record { joining = c.in-Some.joining; part = roll-Part (record { name = record { name = c.in-Some-name_first.named.0; at = c.loop-joining.next + 1 }; arguments = c.in_ok-list.list.value }) }) in
     record {
       value = λ bound small.
           rw c.in_ok-push.ensures.items
           (part_goes_on (option_map (argument_of c.args.outermost) (inside c.args.levels)) c.loop-joining.parts.items c.loop-joining.operators c.loop-joining.next c.loop-joining.rest.now (c.in-Some.joining, c.in-Some.behind.now)
           (joined_from (option_map (argument_of c.args.outermost) (inside c.args.levels)) bound c.args.operators c.args.at c.args.texts.now) c.in-Some.ensures.value
-          (c.in-Some-name_at.named.0, c.in-Some-name_at.named.1.now) c.in-Some-name_at.ensures.value x (front_view arguments_view c.in_ok-list.list) refl c.in_ok-list.ensures.value
-          (omega (arith, c.in_ok-list.ensures.place, c.in-Some-name_at.ensures.place, c.in-Some.ensures.place)) (c.loop-joining.invariant.value bound small));
+          (c.in-Some-name_first.named.0, c.in-Some-name_first.named.1.now) c.in-Some-name_first.ensures.value x (front_view arguments_view c.in_ok-list.list) refl c.in_ok-list.ensures.value
+          (omega (arith, c.in_ok-list.ensures.place, c.in-Some-name_first.ensures.place, c.in-Some.ensures.place)) (c.loop-joining.invariant.value bound small));
       place = (
-        omega (arith, c.in_ok-list.ensures.place, c.in-Some-name_at.ensures.place, c.in-Some.ensures.place),
-        omega (arith, c.in_ok-list.ensures.place, c.in-Some-name_at.ensures.place, c.in-Some.ensures.place),
+        omega (arith, c.in_ok-list.ensures.place, c.in-Some-name_first.ensures.place, c.in-Some.ensures.place),
+        omega (arith, c.in_ok-list.ensures.place, c.in-Some-name_first.ensures.place, c.in-Some.ensures.place),
       );
     }
 
