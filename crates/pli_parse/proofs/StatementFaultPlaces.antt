@@ -14,17 +14,19 @@ use Rattle.pli_base.specs.declared.syntax.Identifier.{Identifier}
 use Rattle.pli_base.specs.Statements as body
 use Rattle.pli_base.specs.Statements.{Statement, Numbered, Body, Before, Alternative, Else, ExternalProcedure, count}
 use Rattle.pli_parse_expression.specs.Operators.{nesting_limit}
-use Rattle.pli_parse_declaration.specs.DeclarationWords.{behind}
-use Rattle.pli_parse_declaration.specs.DeclarationReading.{read_as, mapped, taken, if_open, Commas, list_at, declaration_at}
-use Rattle.pli_parse_declaration.proofs.DeclarationFaults.{Stands, at_least, stands_behind, stands_then, stands_made, mapped_stands, taken_then, optional_stands, list_sound, declaration_stands, fault_of}
+use Rattle.pli_base.specs.Words.{behind}
+use Rattle.pli_parse_declaration.specs.DeclarationReading.{identifier_at, list_at, declaration_at}
+use Rattle.pli_parse_declaration.specs.declared.list.Separator.TheVariants.{Commas}
+use Rattle.pli_base.specs.Reading.{read_as, mapped, taken, if_open}
+use Rattle.pli_parse_declaration.proofs.DeclarationFaults.{identifier_sound, Stands, at_least, stands_behind, stands_then, stands_made, mapped_stands, taken_then, optional_stands, list_sound, declaration_stands, fault_of}
 use Rattle.pli_parse_statement.specs.StatementWords.{Context, standing, the_unit, a_procedure, Kind, Assigns, Empty, Keyed, Unknown, kind_of}
-use Rattle.pli_parse_statement.specs.StatementReading.{expression_in, reference_in, stopped, closing, identifier_at, assignment_at, condition_at, control_at, allocation_at, put_at, call_at, heading_at, StatementReader, Inside, deeper, has_semicolon, label_at, is_labelled, second_label, bad_label, Misplacement, AtLabel, AtStatement, standing_misplaced, misplacement, at_label, Listing, is_label, named_end, ending_at, Next, EndsHere, Another, next_of, list_by, list_from, list_in, else_first, alternative_from, if_at, on_at, do_at, begin_at, inner_list, procedure_at, keyed_at, unless_misplaced, body_from, behind_label, begun, statement_of, inside_of, statement_at, finished, external_at, unit_from, unit_of}
+use Rattle.pli_parse_statement.specs.StatementReading.{expression_in, reference_in, stopped, closing, assignment_at, condition_at, control_at, allocation_at, put_at, call_at, heading_at, StatementReader, Inside, deeper, has_semicolon, label_at, is_labelled, second_label, bad_label, Misplacement, AtLabel, AtStatement, standing_misplaced, misplacement, at_label, Listing, is_label, named_end, ending_at, Next, EndsHere, Another, next_of, list_by, list_from, list_in, else_first, alternative_from, if_at, on_at, do_at, begin_at, inner_list, procedure_at, keyed_at, unless_misplaced, body_from, behind_label, begun, statement_of, inside_of, statement_at, finished, external_at, unit_from, unit_of}
 use Rattle.pli_parse_statement.specs.declared.keyword.Keyword.{Keyword}
 use Rattle.pli_parse_statement.specs.declared.keyword.Keyword.TheVariants as words
 use Rattle.pli_parse_statement.specs.declared.keyword.Standing.{Standing}
 use Rattle.pli_parse_statement.specs.declared.keyword.Standing.TheVariants.{InBlock, InGroup, AsClause, AsUnit}
 use Rattle.pli_parse.proofs.StatementReadFirst.{empty_begins, word_begins, two_words_begin, end_begins, else_begins}
-use Rattle.pli_parse.proofs.StatementFaults.{expression_sound, reference_sound, identifier_sound, stopped_sound, closing_stands, behind_first, assignment_stands, condition_sound, control_stands, allocation_sound, put_stands, call_sound, heading_stands}
+use Rattle.pli_parse.proofs.StatementFaults.{expression_sound, reference_sound, stopped_sound, closing_stands, behind_first, assignment_stands, condition_sound, control_stands, allocation_sound, put_stands, call_sound, heading_stands}
 
 -- what reads statements passes over a token at least, and a fault stands at one of those that it looks at
 abbrev pub IsSoundReader : StatementReader → Type 0

@@ -19,13 +19,15 @@ use Rattle.pli_parse_expression.specs.Reading as expressions
 use Rattle.pli_parse_expression.specs.Reading.{expression_at, reference_at, arguments_at, argument_of}
 use Rattle.pli_parse_expression.proofs.ReadFaults as found
 use Rattle.pli_parse_expression.proofs.ReadFaults.{expression_at_sound, reference_at_stands, arguments_stand, arguments_sound}
-use Rattle.pli_parse_declaration.specs.DeclarationWords.{behind}
-use Rattle.pli_parse_declaration.specs.DeclarationReading.{expected, read_as, mapped, taken, enclosed, if_open, or_none, Commas, list_at, returned_at}
+use Rattle.pli_base.specs.Words.{behind}
+use Rattle.pli_parse_declaration.specs.DeclarationReading.{identifier_at, list_at, returned_at}
+use Rattle.pli_parse_declaration.specs.declared.list.Separator.TheVariants.{Commas}
+use Rattle.pli_base.specs.Reading.{expected, read_as, mapped, taken, enclosed, if_open, or_none}
 use Rattle.pli_parse_declaration.specs.DeclarationGrammar.{SpellsListed}
 use Rattle.pli_parse_declaration.proofs.DeclarationSteps.{some_same}
-use Rattle.pli_parse_declaration.proofs.DeclarationFaults.{Stands, IsSound, fault_at_stands, at_least, stands_behind, stands_then, stands_made, mapped_stands, one_less, taken_then, enclosed_stands, optional_stands, list_sound, returned_stands}
+use Rattle.pli_parse_declaration.proofs.DeclarationFaults.{identifier_sound, Stands, IsSound, misfit_stands, at_least, stands_behind, stands_then, stands_made, mapped_stands, one_less, taken_then, enclosed_stands, optional_stands, list_sound, returned_stands}
 use Rattle.pli_parse_statement.specs.StatementWords.{condition_of, behind_word}
-use Rattle.pli_parse_statement.specs.StatementReading.{uncounted, expression_in, reference_in, stopped, closing, parenthesized, identifier_at, is_equals, assignment_at, condition_from, condition_at, if_word, optional_at, paired, RangeWord, ToWord, ByWord, RepeatWord, range_word, range_first, range_from, range_at, Specified, Unspecified, Conditioned, Iterated, specified, control_from, control_at, PlaceWord, InWord, SetWord, place_word, place_first, placed_by, places_from, allocation_at, PutWord, SkipWord, ListWord, put_word, put_first, put_by, put_from, put_begun, put_at, call_at, OptionWord, OptionsWord, ReturnsWord, RecursiveWord, option_word, option_first, main_at, options_by, options_from, heading_at}
+use Rattle.pli_parse_statement.specs.StatementReading.{uncounted, expression_in, reference_in, stopped, closing, parenthesized, is_equals, assignment_at, condition_from, condition_at, if_word, optional_at, paired, RangeWord, ToWord, ByWord, RepeatWord, range_word, range_first, range_from, range_at, Specified, Unspecified, Conditioned, Iterated, specified, control_from, control_at, PlaceWord, InWord, SetWord, place_word, place_first, placed_by, places_from, allocation_at, PutWord, SkipWord, ListWord, put_word, put_first, put_by, put_from, put_begun, put_at, call_at, OptionWord, OptionsWord, ReturnsWord, RecursiveWord, option_word, option_first, main_at, options_by, options_from, heading_at}
 use Rattle.pli_parse.proofs.StatementReadTools.{expression_reads, parenthesized_reads, list_reads, behind_is}
 
 uncounted_stands : {A : Type 0} (least p : ℕ) (ts : Tokens) (r : Result (expressions.Front A) Fault) → found.Stands least p ts r → Stands least p ts (uncounted r)
@@ -39,12 +41,6 @@ expression_sound levels p ts = uncounted_stands 1 p ts (expression_at levels 0 p
 pub reference_sound : (levels : ℕ) → IsSound (reference_in levels)
 unfolding reference_in
 reference_sound levels p ts = uncounted_stands 1 p ts (reference_at levels p ts) (reference_at_stands levels p ts)
-
-pub identifier_sound : IsSound identifier_at
-unfolding identifier_at
-identifier_sound p [] = fault_at_stands NameExpected p []
-identifier_sound p (Word n ∷ us) = passes_one p (Word n ∷ us) us (omega arith)
-identifier_sound p (t ∷ us) = fault_at_stands NameExpected p (t ∷ us)
 
 pub stopped_sound : {A : Type 0} (value : A) → IsSound (stopped value)
 unfolding stopped
@@ -79,13 +75,13 @@ assignment_stands levels p ts =
 
 pub condition_sound : IsSound condition_at
 unfolding condition_at
-condition_sound p [] = fault_at_stands BadCondition p []
+condition_sound p [] = misfit_stands BadCondition p []
 condition_sound p (Word n ∷ us) = by (condition_of n)
   where
     by : (o : Option Condition) → Stands 1 p (Word n ∷ us) (condition_from p us o)
     by (Some c) = passes_one p (Word n ∷ us) us (omega arith)
     by None = fault_first BadCondition p (Word n ∷ us) (omega arith)
-condition_sound p (t ∷ us) = fault_at_stands BadCondition p (t ∷ us)
+condition_sound p (t ∷ us) = misfit_stands BadCondition p (t ∷ us)
 
 optional_stand : {A : Type 0} (w : Name) (one : ℕ → Tokens → Result (Front A) Fault) → IsSound one → (p : ℕ) (ts : Tokens) → Stands 0 p ts (optional_at w one p ts)
 unfolding optional_at
@@ -321,7 +317,7 @@ unfolding put_at
 put_stands levels p ts = by (put_first ts)
   where
     by : (o : Option (PutWord × Tokens)) → Stands 0 p ts (put_begun levels p ts o)
-    by None = fault_at_stands BadOption p ts
+    by None = misfit_stands BadOption p ts
     by (Some x) = put_none levels 0 p ts
 
 pub call_sound : (levels : ℕ) → IsSound (call_at levels)

@@ -14,7 +14,7 @@ use Rattle.pli_base.specs.Statements.{Heading, Range, To, By, Repeat, Control, W
 use Rattle.pli_parse_expression.specs.Expressions.{Deeper, SpellsOutermost, SpellsReferenceAlone}
 use Rattle.pli_parse_expression.specs.Operators.{nesting_limit}
 use Rattle.pli_parse_expression.proofs.TokensRise.{expression_rises, reference_rises, arguments_rise}
-use Rattle.pli_parse_declaration.specs.DeclarationReading.{Commas}
+use Rattle.pli_parse_declaration.specs.declared.list.Separator.TheVariants.{Commas}
 use Rattle.pli_parse_declaration.specs.DeclarationGrammar.{SpellsListed, SpellsDeclaration}
 use Rattle.pli_parse_declaration.proofs.DeclarationTokens.{Rise, listed_rise, declaration_rises}
 use Rattle.pli_parse_statement.specs.StatementWords.{Context, standing, the_unit, a_procedure}

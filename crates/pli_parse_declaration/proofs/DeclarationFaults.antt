@@ -17,8 +17,13 @@ use Rattle.pli_base.specs.declared.declaration.Integer.{Integer}
 use Rattle.pli_base.specs.declared.declaration.Bounds.{Bounds}
 use Rattle.pli_base.specs.declared.declaration.InitialValue.{InitialValue}
 use Rattle.pli_base.specs.declared.declaration.InitialValue.TheVariants as initial
-use Rattle.pli_parse_declaration.specs.DeclarationWords.{attribute_first, behind, name_first, with_attribute, begins_description, is_colon, is_zero}
-use Rattle.pli_parse_declaration.specs.DeclarationReading.{fault_at, expected, read_as, mapped, taken, taken_or, enclosed, if_open, Separator, Commas, Periods, Nothing, separated, behind_separator, listed_after, listed_at, list_at, number_at, signed, integer_at, bounds_from, bounds_at, or_none, dimensions_at, length_at, with_scale, scaled_at, precision_at, name_from, name_at, identifier_at, area_at, locator_at, repeated_at, null_from, value_at, values_at, simple_of, Walk, description_walk, parameters_walk, entry_walk, word_walk, closed_walk, comma_walk, behind_walk, no_word_walk, walk_by, step_at, walked_after, walked, nest_at, described_from, described_at, parameter_at, parameters_from, parameters_at, entry_from, entry_at, returned_at, attribute_from, attribute_at, attributes_from, attributes_at, level_at, names_from, names_at, item_at, items_at, declaration_at}
+use Rattle.pli_parse_declaration.specs.DeclarationWords.{attribute_first, with_attribute, begins_description, is_zero}
+use Rattle.pli_base.specs.Words.{behind, name_first, is_colon}
+use Rattle.pli_parse_declaration.specs.DeclarationReading.{listed_after, listed_at, list_at, number_at, signed, integer_at, bounds_from, bounds_at, dimensions_at, length_at, with_scale, scaled_at, precision_at, name_from, name_at, identifier_at, area_at, locator_at, repeated_at, null_from, value_at, values_at, simple_of, Walk, description_walk, parameters_walk, entry_walk, word_walk, closed_walk, comma_walk, behind_walk, no_word_walk, walk_by, step_at, walked_after, walked, nest_at, described_from, described_at, parameter_at, parameters_from, parameters_at, entry_from, entry_at, returned_at, attribute_from, attribute_at, attributes_from, attributes_at, level_at, names_from, names_at, item_at, items_at, declaration_at}
+use Rattle.pli_base.specs.Reading.{expected, misfit, read_as, mapped, taken, taken_or, enclosed, if_open, or_none}
+use Rattle.pli_parse_declaration.specs.declared.list.Separator.{Separator}
+use Rattle.pli_parse_declaration.specs.declared.list.Separator.TheVariants.{Commas, Periods, Nothing}
+use Rattle.pli_parse_declaration.specs.Separators.{separated, behind_separator}
 use Rattle.pli_parse_declaration.specs.DeclarationGrammar.{between}
 use Rattle.pli_parse_declaration.specs.declared.nest.Open.{Open}
 use Rattle.pli_parse_declaration.specs.declared.nest.Open.TheVariants as opened
@@ -40,10 +45,10 @@ Stands least p ts (Err f) = FaultStands p ts f
 abbrev pub IsSound : {A : Type 0} → (one : ℕ → Tokens → Result (Front A) Fault) → Type 0
 IsSound one = (p : ℕ) (ts : Tokens) → Stands 1 p ts (one p ts)
 
-pub fault_at_stands : (code : Code) (p : ℕ) (ts : Tokens) → FaultStands p ts (fault_at code p ts)
-unfolding fault_at
-fault_at_stands code p [] = fault_ended p
-fault_at_stands code p (t ∷ ts) = fault_first code p (t ∷ ts) (omega arith)
+pub misfit_stands : (code : Code) (p : ℕ) (ts : Tokens) → FaultStands p ts (misfit code p ts)
+unfolding misfit
+misfit_stands code p [] = fault_ended p
+misfit_stands code p (t ∷ ts) = fault_first code p (t ∷ ts) (omega arith)
 
 -- with less passed over
 pub at_least : {A : Type 0} (most least p : ℕ) (ts : Tokens) (r : Result (Front A) Fault) → least ≤ most → Stands most p ts r → Stands least p ts r
@@ -84,7 +89,7 @@ unfolding taken
 taken_then {A = A} fits code b p ts f more = by (behind fits ts) refl
   where
     by : (o : Option Tokens) → behind fits ts ≡ o → Stands {A = A} (1 + b) p ts (taken_or code p ts o >>= f)
-    by None e = fault_at_stands code p ts
+    by None e = misfit_stands code p ts
     by (Some us) e = stands_behind 1 b p (p + 1) ts us (f us) (passes_one p ts us (one_less fits ts us e)) (more us)
 
 pub enclosed_stands : {A : Type 0} (a p : ℕ) (ts : Tokens) (r : Result (Front A) Fault) → Stands a p ts r → Stands (a + 1) p ts (enclosed r)
@@ -129,10 +134,10 @@ module _ {A : Type 0} (s : Separator) (one : ℕ → Tokens → Result (Front A)
 
 number_sound : IsSound number_at
 unfolding number_at
-number_sound p [] = fault_at_stands ConstantExpected p []
+number_sound p [] = misfit_stands ConstantExpected p []
 number_sound p (Decimal v d ∷ ts) = passes_one p (Decimal v d ∷ ts) ts (omega arith)
 number_sound p (Binary v d ∷ ts) = passes_one p (Binary v d ∷ ts) ts (omega arith)
-number_sound p (t ∷ ts) = fault_at_stands ConstantExpected p (t ∷ ts)
+number_sound p (t ∷ ts) = misfit_stands ConstantExpected p (t ∷ ts)
 
 signed_sound : (negative : Bool) → IsSound (λ p ts. signed negative (number_at p ts))
 signed_sound negative = mapped_sound (λ v. record { negative = negative; value = v }) number_at number_sound
@@ -188,9 +193,9 @@ precision_stands p ts = optional_stands scaled_at scaled_sound p ts
 
 name_sound : IsSound name_at
 unfolding name_at name_first
-name_sound p [] = fault_at_stands NameExpected p []
+name_sound p [] = misfit_stands NameExpected p []
 name_sound p (Word n ∷ ts) = passes_one p (Word n ∷ ts) ts (omega arith)
-name_sound p (t ∷ ts) = fault_at_stands NameExpected p (t ∷ ts)
+name_sound p (t ∷ ts) = misfit_stands NameExpected p (t ∷ ts)
 
 pub identifier_sound : IsSound identifier_at
 unfolding identifier_at
@@ -236,7 +241,7 @@ value_sound p (Word n ∷ ts) = by (same_name n (codes "NULL"))
   where
     by : (b : Bool) → Stands 1 p (Word n ∷ ts) (cond b (null_from (p + 1) ts (behind is_open ts)) (expected ConstantExpected p (Word n ∷ ts)))
     by true = stands_behind 1 0 p (p + 1) (Word n ∷ ts) ts (null_from (p + 1) ts (behind is_open ts)) (passes_one p (Word n ∷ ts) ts (omega arith)) (null_stands (p + 1) ts)
-    by false = fault_at_stands ConstantExpected p (Word n ∷ ts)
+    by false = misfit_stands ConstantExpected p (Word n ∷ ts)
 value_sound p (t ∷ ts) = integer_value_sound p (t ∷ ts)
 
 values_stand : (p : ℕ) (ts : Tokens) → Stands 3 p ts (values_at p ts)
@@ -289,7 +294,7 @@ parameters_walk_stands opens p us None e = by (begins_description us)
   where
     by : (b : Bool) → WalkStands 0 p us (cond b (description_walk opens p us) (expected ParenthesisExpected p us))
     by true = description_stands opens p us
-    by false = fault_at_stands ParenthesisExpected p us
+    by false = misfit_stands ParenthesisExpected p us
 
 entry_walk_stands : (opens : List Open) (p : ℕ) (ts : Tokens) (o : Option Tokens) → behind is_open ts ≡ o → WalkStands 0 p ts (entry_walk opens p ts o)
 entry_walk_stands opens p ts None e = passes_none p ts
@@ -306,11 +311,11 @@ word_walk_stands opens attribute.Returns p ts = by (behind is_open ts) refl
     by : (o : Option Tokens) → behind is_open ts ≡ o → WalkStands 0 p ts (taken_or ParenthesisExpected p ts o >>= λ us. Ok (record { opens = opened.Returns ∷ opens; expects = expects.Attribute; next = p + 1; rest = us }))
     by (Some us) e =
         walk_least 1 0 p ts (Ok (record { opens = opened.Returns ∷ opens; expects = expects.Attribute; next = p + 1; rest = us })) (omega arith) (passes_one p ts us (one_less is_open ts us e))
-    by None e = fault_at_stands ParenthesisExpected p ts
+    by None e = misfit_stands ParenthesisExpected p ts
 
 closed_walk_stands : (opens : List Open) (p : ℕ) (ts : Tokens) (o : Option Tokens) → behind is_close ts ≡ o → WalkStands 1 p ts (closed_walk opens p ts o)
 closed_walk_stands opens p ts (Some us) e = passes_one p ts us (one_less is_close ts us e)
-closed_walk_stands opens p ts None e = fault_at_stands ParenthesisExpected p ts
+closed_walk_stands opens p ts None e = misfit_stands ParenthesisExpected p ts
 
 comma_walk_stands : (opens : List Open) (p : ℕ) (ts : Tokens) (o : Option Tokens) → behind is_comma ts ≡ o → WalkStands 1 p ts (comma_walk opens p ts o)
 comma_walk_stands opens p ts (Some us) e = walk_behind 1 0 p (p + 1) ts us (description_walk opens (p + 1) us) (passes_one p ts us (one_less is_comma ts us e)) (description_stands opens (p + 1) us)
@@ -318,7 +323,7 @@ comma_walk_stands opens p ts None e = closed_walk_stands opens p ts (behind is_c
 
 behind_walk_stands : (opens : List Open) (p : ℕ) (ts : Tokens) → WalkStands 1 p ts (behind_walk opens p ts)
 unfolding behind_walk
-behind_walk_stands [] p ts = fault_at_stands ParenthesisExpected p ts
+behind_walk_stands [] p ts = misfit_stands ParenthesisExpected p ts
 behind_walk_stands (opened.Entry ∷ opens) p ts = comma_walk_stands opens p ts (behind is_comma ts) refl
 behind_walk_stands (opened.Returns ∷ opens) p ts = closed_walk_stands opens p ts (behind is_close ts) refl
 
@@ -327,7 +332,7 @@ unfolding step_at
 step_stands opens what p ts = by (attribute_first ts) refl
   where
     no_word : (e : Expects) → WalkStands 1 p ts (no_word_walk opens e p ts)
-    no_word expects.Attribute = fault_at_stands BadAttribute p ts
+    no_word expects.Attribute = misfit_stands BadAttribute p ts
     no_word expects.More = behind_walk_stands opens p ts
 
     by : (o : Option (AttributeWord × Tokens)) → attribute_first ts ≡ o → WalkStands 1 p ts (walk_by opens what p ts o)
@@ -361,7 +366,7 @@ unfolding described_at
 described_sound p ts = by (attribute_first ts) refl
   where
     by : (o : Option (AttributeWord × Tokens)) → attribute_first ts ≡ o → Stands 1 p ts (described_from p ts o)
-    by None e = fault_at_stands BadAttribute p ts
+    by None e = misfit_stands BadAttribute p ts
     by (Some (attribute.Simple w, us)) e =
         stands_behind 1 0 p (p + 1) ts us (mapped tree.Plain (simple_of w (p + 1) us)) (passes_one p ts us (keyword_less ts us (attribute.Simple w) e))
         (mapped_stands 0 (p + 1) us tree.Plain (simple_of w (p + 1) us) (simple_stands w (p + 1) us))
@@ -381,7 +386,7 @@ parameters_sound p us = by (behind is_close us) refl
     descriptions : (b : Bool) → Stands 1 p us (cond b (enclosed (list_at Commas parameter_at p us)) (expected ParenthesisExpected p us))
     descriptions true =
         at_least 2 1 p us (enclosed (list_at Commas parameter_at p us)) (omega arith) (enclosed_stands 1 p us (list_at Commas parameter_at p us) (list_sound Commas parameter_at parameter_sound p us))
-    descriptions false = fault_at_stands ParenthesisExpected p us
+    descriptions false = misfit_stands ParenthesisExpected p us
 
     by : (o : Option Tokens) → behind is_close us ≡ o → Stands 1 p us (parameters_from p us o)
     by (Some vs) e = passes_one p us vs (one_less is_close us vs e)
@@ -409,7 +414,7 @@ unfolding attribute_at
 attribute_sound p ts = by (attribute_first ts) refl
   where
     by : (o : Option (AttributeWord × Tokens)) → attribute_first ts ≡ o → Stands 1 p ts (attribute_from p ts o)
-    by None e = fault_at_stands BadAttribute p ts
+    by None e = misfit_stands BadAttribute p ts
     by (Some (attribute.Simple w, us)) e =
         stands_behind 1 0 p (p + 1) ts us (mapped tree.Simple (simple_of w (p + 1) us)) (passes_one p ts us (keyword_less ts us (attribute.Simple w) e))
         (mapped_stands 0 (p + 1) us tree.Simple (simple_of w (p + 1) us) (simple_stands w (p + 1) us))

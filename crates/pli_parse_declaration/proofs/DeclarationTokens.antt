@@ -8,7 +8,10 @@ use Rattle.pli_base.specs.Declarations as tree
 use Rattle.pli_base.specs.declared.syntax.Identifier.{Identifier}
 use Rattle.pli_base.specs.declared.token.Sign.TheVariants.{OpenParenthesis, CloseParenthesis, Semicolon}
 use Rattle.pli_base.specs.declared.token.TokenText.TheVariants.{Sign}
-use Rattle.pli_parse_declaration.specs.DeclarationReading.{Separator, Commas, Periods, Nothing, behind_separator, items_at, declaration_at}
+use Rattle.pli_parse_declaration.specs.DeclarationReading.{items_at, declaration_at}
+use Rattle.pli_parse_declaration.specs.declared.list.Separator.{Separator}
+use Rattle.pli_parse_declaration.specs.declared.list.Separator.TheVariants.{Commas, Periods, Nothing}
+use Rattle.pli_parse_declaration.specs.Separators.{behind_separator}
 use Rattle.pli_parse_declaration.specs.DeclarationGrammar.{between, SpellsListed, SpellsIdentifier, SpellsNames, SpellsItem, SpellsItems, SpellsDeclaration}
 use Rattle.pli_parse_declaration.proofs.DeclarationSteps.{separator_place}
 use Rattle.pli_parse_declaration.proofs.DeclarationItemsRead.{items_reads, declaration_reads}

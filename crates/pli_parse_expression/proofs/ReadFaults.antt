@@ -14,8 +14,10 @@ use Rattle.pli_base.specs.declared.token.Fault.{Fault}
 use Rattle.pli_base.specs.declared.token.Sign.TheVariants as signs
 use Rattle.pli_base.specs.declared.token.TokenText.{TokenText}
 use Rattle.pli_base.specs.declared.token.TokenText.TheVariants.{Word, Decimal, Binary, Characters, Bits, Sign}
-use Rattle.pli_parse_expression.specs.Operators.{Tokens, operator_limit, level_of, operator_at, joining_at, name_at, comma_at, begins_expression}
-use Rattle.pli_parse_expression.specs.Reading.{◌>>=◌, at_fault, misfit, Front, Reader, limited, opened, behind_close, closed, operand_then, grouped, infix_from, expression_of, listed_behind, further_from, listed_at, list_at, arguments_at, part_behind, parts_behind, joined_from, reference_behind, reference_of, prefix_of, parenthesis_of, constant_at, operand_of, inside, operand_at, expression_at, argument_of, reference_at}
+use Rattle.pli_parse_expression.specs.Operators.{operator_limit, level_of, operator_at, joining_at, begins_expression}
+use Rattle.pli_base.specs.Words.{Tokens, name_first, behind, is_comma, is_close}
+use Rattle.pli_parse_expression.specs.Reading.{Front, Reader, limited, opened, closed, operand_then, grouped, infix_from, expression_of, listed_behind, further_from, listed_at, list_at, arguments_at, part_behind, parts_behind, joined_from, reference_behind, reference_of, prefix_of, parenthesis_of, constant_at, operand_of, inside, operand_at, expression_at, argument_of, reference_at}
+use Rattle.pli_base.specs.Reading.{◌>>=◌, at_fault, misfit, taken}
 use Rattle.pli_parse_expression.proofs.ReadingTools.{operator_ok, joining_ok, name_ok, comma_ok}
 
 -- what was read passes over so many tokens at least, and a fault stands at one of them
@@ -58,7 +60,7 @@ limited_stands {A = A} least count p ts r some h = by (nat_lt count operator_lim
     by false = fault_first NestedTooDeep p ts some
 
 closed_stands : {A : Type 0} (value : A) (count p : ℕ) (ts : Tokens) → Stands 1 p ts (closed value count p ts)
-unfolding behind_close
+unfolding taken behind
 closed_stands value count p [] = misfit_stands ParenthesisExpected p []
 closed_stands value count p (Sign signs.CloseParenthesis ∷ ts) = passes_one p (Sign signs.CloseParenthesis ∷ ts) ts (omega arith)
 closed_stands value count p (t ∷ ts) = misfit_stands ParenthesisExpected p (t ∷ ts)
@@ -104,7 +106,7 @@ module _ (one : Reader) (sound : IsSound one) where
   abbrev FurtherStands : ℕ → Type 0
   FurtherStands bound = (count p : ℕ) (ts : Tokens) → length ts < bound → Stands 0 p ts (further_from one bound count p ts)
 
-  further_step : (bound : ℕ) → FurtherStands bound → (count p : ℕ) (ts : Tokens) → length ts < suc bound → (o : Option Tokens) → comma_at ts ≡ o → Stands 0 p ts (listed_behind one (further_from one bound) count p ts o)
+  further_step : (bound : ℕ) → FurtherStands bound → (count p : ℕ) (ts : Tokens) → length ts < suc bound → (o : Option Tokens) → behind is_comma ts ≡ o → Stands 0 p ts (listed_behind one (further_from one bound) count p ts o)
   further_step bound more count p ts small None found = passes_none p ts
   further_step bound more count p ts small (Some us) found =
       let comma : length ts ≡ suc (length us) = ap length (comma_ok ts us found) in
@@ -118,7 +120,7 @@ module _ (one : Reader) (sound : IsSound one) where
   further_stands : (bound : ℕ) → FurtherStands bound
   unfolding further_from
   further_stands zero count p ts small = absurd (omega arith)
-  further_stands (suc bound) count p ts small = further_step bound (further_stands bound) count p ts small (comma_at ts) refl
+  further_stands (suc bound) count p ts small = further_step bound (further_stands bound) count p ts small (behind is_comma ts) refl
 
   listed_stands : (count p : ℕ) (ts : Tokens) → Stands 1 p ts (listed_at one count p ts)
   unfolding listed_at
@@ -161,7 +163,7 @@ module _ (one : Option Reader) (sound : IsSoundWhere one) where
   PartsStand bound = (count p : ℕ) (ts : Tokens) → length ts < bound → Stands 0 p ts (joined_from one bound count p ts)
 
   -- behind `.` or `->`
-  part_stands : (bound : ℕ) → PartsStand bound → (joining : Joining) (count p : ℕ) (ts : Tokens) → length ts < bound → (o : Option (Name × Tokens)) → name_at ts ≡ o
+  part_stands : (bound : ℕ) → PartsStand bound → (joining : Joining) (count p : ℕ) (ts : Tokens) → length ts < bound → (o : Option (Name × Tokens)) → name_first ts ≡ o
       → Stands 0 p ts (part_behind one (joined_from one bound) joining count p ts o)
   part_stands bound more joining count p ts small None found = misfit_stands NameExpected p ts
   part_stands bound more joining count p ts small (Some n) found =
@@ -180,15 +182,15 @@ module _ (one : Option Reader) (sound : IsSoundWhere one) where
   parts_step bound more count p ts small None found = passes_none p ts
   parts_step bound more count p ts small (Some j) found =
       let sign : length ts ≡ suc (length j.1) = ap length (joining_ok ts j found) in
-      let read : Result (Front JoinedParts) Fault = part_behind one (joined_from one bound) j.0 count (p + 1) j.1 (name_at j.1) in
-      at_least 1 0 p ts read (omega arith) (stands_behind 1 0 p (p + 1) ts j.1 read (passes_one p ts j.1 sign) (part_stands bound more j.0 count (p + 1) j.1 (omega arith) (name_at j.1) refl))
+      let read : Result (Front JoinedParts) Fault = part_behind one (joined_from one bound) j.0 count (p + 1) j.1 (name_first j.1) in
+      at_least 1 0 p ts read (omega arith) (stands_behind 1 0 p (p + 1) ts j.1 read (passes_one p ts j.1 sign) (part_stands bound more j.0 count (p + 1) j.1 (omega arith) (name_first j.1) refl))
 
   parts_stand : (bound : ℕ) → PartsStand bound
   unfolding joined_from
   parts_stand zero count p ts small = absurd (omega arith)
   parts_stand (suc bound) count p ts small = parts_step bound (parts_stand bound) count p ts small (joining_at ts) refl
 
-  reference_step : (count p : ℕ) (ts : Tokens) (o : Option (Name × Tokens)) → name_at ts ≡ o → Stands 1 p ts (reference_behind one count p ts o)
+  reference_step : (count p : ℕ) (ts : Tokens) (o : Option (Name × Tokens)) → name_first ts ≡ o → Stands 1 p ts (reference_behind one count p ts o)
   reference_step count p ts None found = misfit_stands NameExpected p ts
   reference_step count p ts (Some n) found =
       let name : length ts ≡ suc (length n.1) = ap length (name_ok ts n found) in
@@ -204,7 +206,7 @@ module _ (one : Option Reader) (sound : IsSoundWhere one) where
 
   pub reference_stands : (count p : ℕ) (ts : Tokens) → Stands 1 p ts (reference_of one count p ts)
   unfolding reference_of
-  reference_stands count p ts = reference_step count p ts (name_at ts) refl
+  reference_stands count p ts = reference_step count p ts (name_first ts) refl
 
 mapped_sound : (one : Option Reader) → IsSoundWhere one → IsSoundWhere (option_map expression_of one)
 mapped_sound None sound = tt

@@ -5,7 +5,8 @@ use Rattle.pli_base.specs.TreeTokens.{Rises, expression_tokens, reference_tokens
 use Rattle.pli_base.specs.TreeTokenLaws.{rises_within, rises_on}
 use Rattle.pli_base.specs.declared.token.Sign.TheVariants.{CloseParenthesis}
 use Rattle.pli_base.specs.declared.token.TokenText.TheVariants.{Sign}
-use Rattle.pli_parse_expression.specs.Operators.{Tokens, infix_sign}
+use Rattle.pli_parse_expression.specs.Operators.{infix_sign}
+use Rattle.pli_base.specs.Words.{Tokens}
 use Rattle.pli_parse_expression.specs.Expressions.{SpellsExpression, SpellsReference, SpellsJoined, SpellsArguments, SpellsListed, SpellsFurther}
 use Rattle.pli_parse_expression.specs.Reading.{Front, expression_at, reference_at}
 use Rattle.pli_parse_expression.proofs.ReadIsSpelled.{expression_spelled, reference_spelled}
