@@ -1,4 +1,5 @@
 pub mod ReadingTools
+pub mod EndTools
 pub mod ReadIsSpelled
 pub mod SpelledIsRead
 pub mod SpelledIsAccepted
@@ -6,4 +7,5 @@ pub mod AcceptedIsSpelled
 pub mod Frames
 pub mod Loops
 pub mod ReadFaults
+pub mod ReadEnds
 pub mod TokensRise

@@ -17,6 +17,8 @@ use Rattle.pli_base.specs.declared.token.TokenText.TheVariants.{Word, Sign}
 use Rattle.pli_parse_expression.specs.Operators.{operator_limit, operand_level, level, level_of, prefix_sign, infix_sign, joining_sign, infix_of, not_below, operator_at, joining_at, begins_expression, continues_reference}
 use Rattle.pli_parse_expression.specs.Expressions.{SpellsExpression, SpellsReference, SpellsJoined, SpellsArguments, SpellsListed, SpellsFurther, operators, reference_operators, listed_operators, Deeper, NestsWithin, ReferenceNests, JoinedNest, ArgumentsNest, ListNests, OutermostFits, SpellsOutermost, Every, GivenFits, JoinedFits, ReferenceFits, SpellsReferenceAlone, EndsReference, EndsExpression}
 use Rattle.pli_parse_expression.specs.Reading.{Front, Reader, closed, operand_then, grouped, infix_from, expression_of, further_from, listed_at, list_at, arguments_at, parts_behind, joined_from, reference_of, prefix_of, parenthesis_of, constant_at, operand_of, inside, operand_at, expression_at, outermost, argument_of, reference_at}
+use Rattle.pli_parse_expression.specs.Ends.{goes_on_behind, parts_go_on, NoneGoesOn, ReferenceEnds, NoInfix, ExpressionEnds}
+use Rattle.pli_parse_expression.proofs.EndTools.{OperandEnds, operand_any, any_expression, any_reference, NotOpen, ArgumentsEnd, arguments_end, not_joined}
 use Rattle.pli_parse_expression.proofs.ReadingTools.{same_ok, level_small}
 use Rattle.pli_parse_expression.proofs.ReadIsSpelled.{IsOperandOf, total, count_given, count_joined, count_reference, total_is, reference_is, ListFits}
 use Rattle.pli_base.specs.Words.{Tokens, name_first, behind}
@@ -27,8 +29,8 @@ abbrev pub all_read : {A : Type 0} → A → (count next : ℕ) → Tokens → R
 all_read value count next rest = Ok (record { value = value; count = count; next = next; rest = rest })
 
 -- the reader reads what is spelled so, before what stops it
-abbrev pub ReadsAgain : (Fits : Expression → Type 0) → (count_of : Expression → ℕ) → (Stops : Tokens → Type 0) → Reader → Type 0
-ReadsAgain Fits count_of Stops reader = (e : Expression) (count p : ℕ) (ts more : Tokens) → SpellsExpression p ts e → Fits e → count + count_of e ≤ operator_limit → Stops more
+abbrev pub ReadsAgain : (Fits : Expression → Type 0) → (count_of : Expression → ℕ) → (Stops : Expression → Tokens → Type 0) → Reader → Type 0
+ReadsAgain Fits count_of Stops reader = (e : Expression) (count p : ℕ) (ts more : Tokens) → SpellsExpression p ts e → Fits e → count + count_of e ≤ operator_limit → Stops e more
     → reader count p (ts ++ more) ≡ all_read e (count + count_of e) (p + length ts) more
 
 -- where nothing was passed over
@@ -44,14 +46,10 @@ closing_read value count p rest =
     let q : p + 1 ≡ p + 0 + 1 = omega arith in
     ap (λ n. all_read value n (p + 1) rest) e ∙ ap (λ m. all_read value (count + 0) m rest) q
 
-infix_is_none : (min : ℕ) (ts : Tokens) → EndsExpression ts → operator_at min ts ≡ None
+infix_is_none : (min : ℕ) (ts : Tokens) → NoInfix ts → operator_at min ts ≡ None
 unfolding operator_at
 infix_is_none min [] h = refl
-infix_is_none min (t ∷ ts) h = ap (λ o. not_below min o ts) h.1
-
-ends_reference : (ts : Tokens) → EndsExpression ts → EndsReference ts
-ends_reference [] h = tt
-ends_reference (t ∷ ts) h = h.0
+infix_is_none min (t ∷ ts) h = ap (λ o. not_below min o ts) h
 
 infix_of_sign : (o : InfixOperator) → infix_of (Sign (infix_sign o)) ≡ Some o
 infix_of_sign Or = refl
@@ -108,13 +106,13 @@ unfolding infix_from
 infix_ends operand zero min count left p ts small none = absurd (omega arith)
 infix_ends operand (suc bound) min count left p ts small none = ap (grouped operand (infix_from operand bound) min count left p ts) none
 
-module _ (levels : ℕ) (operand : Reader) (operand_again : ReadsAgain (IsOperandOf levels) operators EndsReference operand) where
+module _ (levels : ℕ) (operand : Reader) (operand_again : ReadsAgain (IsOperandOf levels) operators OperandEnds operand) where
   -- behind the expression the loop goes on, with a bound that is still great enough
   abbrev Climbs : (e : Expression) (min bound count p : ℕ) (ts more : Tokens) → Type 0
   Climbs e min bound count p ts more =
       (b : ℕ) × (length more < b) × (operand_then operand (infix_from operand bound) min count p (ts ++ more) ≡ infix_from operand b min (count + operators e) e (p + length ts) more)
 
-  climb_operand : (e : Expression) → level e ≡ operand_level → (min bound count p : ℕ) (ts more : Tokens) → SpellsExpression p ts e → NestsWithin levels e → count + operators e ≤ operator_limit → EndsReference more
+  climb_operand : (e : Expression) → level e ≡ operand_level → (min bound count p : ℕ) (ts more : Tokens) → SpellsExpression p ts e → NestsWithin levels e → count + operators e ≤ operator_limit → OperandEnds e more
       → length (ts ++ more) < bound → Climbs e min bound count p ts more
   climb_operand e is min bound count p ts more spelled nests few stops small = (
     bound,
@@ -140,7 +138,7 @@ module _ (levels : ℕ) (operand : Reader) (operand_again : ReadsAgain (IsOperan
             ∙ ap (λ r. r >>= λ y. infix_from operand bound min y.count (Infix o p l y.value) y.next y.rest) (i.2 ∙ infix_ends operand i.0 (level_of o + 1) (count + 1 + operators r) r (p + 1 + length rs) more i.1 none),
       )
 
-  climb_again : (e : Expression) (min bound count p : ℕ) (ts more : Tokens) → SpellsExpression p ts e → NestsWithin levels e → count + operators e ≤ operator_limit → min ≤ level e → EndsReference more
+  climb_again : (e : Expression) (min bound count p : ℕ) (ts more : Tokens) → SpellsExpression p ts e → NestsWithin levels e → count + operators e ≤ operator_limit → min ≤ level e → OperandEnds e more
       → operator_at (suc (level e)) more ≡ None → length (ts ++ more) < bound → Climbs e min bound count p ts more
   climb_again (Referred r) min bound count p ts more spelled nests few high stops none small = climb_operand (Referred r) refl min bound count p ts more spelled nests few stops small
   climb_again (Constant at v) min bound count p ts more spelled nests few high stops none small = climb_operand (Constant at v) refl min bound count p ts more spelled nests few stops small
@@ -150,7 +148,7 @@ module _ (levels : ℕ) (operand : Reader) (operand_again : ReadsAgain (IsOperan
       let whole : ts ++ more ≡ ls ++ Sign (infix_sign o) ∷ (rs ++ more) = ap (λ us. us ++ more) shape ∙ append_assoc ls (Sign (infix_sign o) ∷ rs) more in
       let is_top : suc (level_of o) ≡ level_of o + 1 = omega arith in
       let none_top : operator_at (level_of o + 1) more ≡ None = ap (λ n. operator_at n more) (sym is_top) ∙ none in
-      let i = climb_again l min bound count p ls (Sign (infix_sign o) ∷ (rs ++ more)) left nests.0 (omega arith) (omega arith) (infix_is_no_part o) (operator_low (suc (level l)) o (rs ++ more) (omega arith)) (omega (arith, ap length whole)) in
+      let i = climb_again l min bound count p ls (Sign (infix_sign o) ∷ (rs ++ more)) left nests.0 (omega arith) (omega arith) (operand_any l (Sign (infix_sign o)) (infix_is_no_part o)) (operator_low (suc (level l)) o (rs ++ more) (omega arith)) (omega (arith, ap length whole)) in
       let j = climb_infix o l r min (count + operators l) (p + length ls) p ls rs more i.0 (operand_then operand (infix_from operand bound) min count p (ls ++ Sign (infix_sign o) ∷ (rs ++ more))) high (omega arith) none_top i.1 i.2
       (λ b less. climb_again r (level_of o + 1) b (count + operators l + 1) (p + length ls + 1) rs more right nests.1 (omega arith) (omega arith) stops
       (operator_higher (suc (level_of o)) (suc (level r)) more none (omega arith)) less) in
@@ -165,11 +163,11 @@ module _ (levels : ℕ) (operand : Reader) (operand_again : ReadsAgain (IsOperan
             ∙ ap (λ q. infix_from operand j.0 min (count + operators (Infix o at l r)) (Infix o at l r) q more) behind,
       )
 
-  pub expression_again : ReadsAgain (NestsWithin levels) operators EndsExpression (expression_of operand)
+  pub expression_again : ReadsAgain (NestsWithin levels) operators ExpressionEnds (expression_of operand)
   unfolding expression_of
   expression_again e count p ts more spelled nests few stops =
-      let i = climb_again e 0 (length (ts ++ more) + 1) count p ts more spelled nests few (omega arith) (ends_reference more stops) (infix_is_none (suc (level e)) more stops) (omega arith) in
-      i.2 ∙ infix_ends operand i.0 0 (count + operators e) e (p + length ts) more i.1 (infix_is_none 0 more stops)
+      let i = climb_again e 0 (length (ts ++ more) + 1) count p ts more spelled nests few (omega arith) stops.0 (infix_is_none (suc (level e)) more stops.1) (omega arith) in
+      i.2 ∙ infix_ends operand i.0 0 (count + operators e) e (p + length ts) more i.1 (infix_is_none 0 more stops.1)
 
 begins : (e : Expression) (p : ℕ) (ts more : Tokens) → SpellsExpression p ts e → begins_expression (ts ++ more) ≡ true
 unfolding begins_expression
@@ -189,7 +187,7 @@ further_stops : (list : Expressions) (p : ℕ) (ts more : Tokens) → SpellsFurt
 further_stops Empty p ts more shape = subst (λ us. EndsExpression (us ++ Sign signs.CloseParenthesis ∷ more)) (sym shape) (refl, refl)
 further_stops (Listed e list) p ts more spelled = subst (λ us. EndsExpression (us ++ Sign signs.CloseParenthesis ∷ more)) (sym spelled.2) (refl, refl)
 
-module _ (Fits : Expression → Type 0) (count_of : Expression → ℕ) (one : Reader) (one_again : ReadsAgain Fits count_of EndsExpression one) where
+module _ (Fits : Expression → Type 0) (count_of : Expression → ℕ) (one : Reader) (one_again : ReadsAgain Fits count_of ExpressionEnds one) where
   further_again : (list : Expressions) (bound count p : ℕ) (ts more : Tokens) → SpellsFurther p ts list → Every Fits list → count + total count_of list ≤ operator_limit → length (ts ++ Sign signs.CloseParenthesis ∷ more) < bound
       → further_from one bound count p (ts ++ Sign signs.CloseParenthesis ∷ more) ≡ all_read list (count + total count_of list) (p + length ts) (Sign signs.CloseParenthesis ∷ more)
   unfolding further_from behind
@@ -204,7 +202,7 @@ module _ (Fits : Expression → Type 0) (count_of : Expression → ℕ) (one : R
       let place : p + 1 + length front + length rest ≡ p + length ts = omega (arith, ap length shape, length-append front rest) in
       ap (further_from one (suc bound) count p) whole
       ∙ ap (λ r. r >>= λ x. further_from one bound x.count x.next x.rest >>= λ y. Ok (record { value = Listed x.value y.value; count = y.count; next = y.next; rest = y.rest }))
-      (one_again e count (p + 1) front (rest ++ Sign signs.CloseParenthesis ∷ more) spelled fits.0 (omega arith) (further_stops list (p + 1 + length front) rest more later))
+      (one_again e count (p + 1) front (rest ++ Sign signs.CloseParenthesis ∷ more) spelled fits.0 (omega arith) (any_expression e (rest ++ Sign signs.CloseParenthesis ∷ more) (further_stops list (p + 1 + length front) rest more later)))
       ∙ ap (λ r. r >>= λ y. all_read (Listed e y.value) y.count y.next y.rest) (further_again list bound (count + count_of e) (p + 1 + length front) rest more later fits.1 (omega arith) less)
       ∙ ap (λ n. all_read (Listed e list) n (p + 1 + length front + length rest) (Sign signs.CloseParenthesis ∷ more)) counted
       ∙ ap (λ q. all_read (Listed e list) (count + (count_of e + total count_of list)) q (Sign signs.CloseParenthesis ∷ more)) place
@@ -222,7 +220,7 @@ module _ (Fits : Expression → Type 0) (count_of : Expression → ℕ) (one : R
       ap (list_at one count p) whole
       ∙ ap (λ b. cond b (listed_at one count p (front ++ tail)) (closed Empty count p (front ++ tail))) (begins e p front tail spelled)
       ∙ ap (λ r. r >>= λ x. further_from one (length x.rest + 1) x.count x.next x.rest >>= λ y. closed (Listed x.value y.value) y.count y.next y.rest)
-      (one_again e count p front tail spelled fits.0 (omega arith) (further_stops list (p + length front) rest more later))
+      (one_again e count p front tail spelled fits.0 (omega arith) (any_expression e tail (further_stops list (p + length front) rest more later)))
       ∙ ap (λ r. r >>= λ y. closed (Listed e y.value) y.count y.next y.rest) (further_again list (length tail + 1) (count + count_of e) (p + length front) rest more later fits.1 (omega arith) (omega arith))
       ∙ ap (λ n. all_read (Listed e list) n (p + length front + length rest + 1) more) counted
       ∙ ap (λ q. all_read (Listed e list) (count + (count_of e + total count_of list)) q more) place
@@ -233,34 +231,18 @@ ListsAgain Fits count_of None = (list : Expressions) → Fits list → ⊥
 ListsAgain Fits count_of (Some one) = (list : Expressions) (count p : ℕ) (ts more : Tokens) → SpellsListed p ts list → Fits list → count + count_of list ≤ operator_limit
     → list_at one count p (ts ++ Sign signs.CloseParenthesis ∷ more) ≡ all_read list (count + count_of list) (p + length ts + 1) more
 
--- the tokens do not begin with `(`
-abbrev NotOpen : Tokens → Type 0
-NotOpen [] = Unit {0}
-NotOpen (Sign signs.OpenParenthesis ∷ ts) = ⊥
-NotOpen (t ∷ ts) = Unit {0}
-
-not_open : (ts : Tokens) → EndsReference ts → NotOpen ts
-not_open [] h = tt
-not_open (Sign signs.OpenParenthesis ∷ ts) h = cc
-not_open (t ∷ ts) h = tt
-
-not_joined : (ts : Tokens) → EndsReference ts → joining_at ts ≡ None
-unfolding joining_at
-not_joined [] h = refl
-not_joined (Sign signs.Period ∷ ts) h = cc
-not_joined (Sign signs.Arrow ∷ ts) h = cc
-not_joined (t ∷ ts) h = refl
-
 no_arguments : (one : Option Reader) (count p : ℕ) (ts : Tokens) → NotOpen ts → arguments_at one count p ts ≡ all_read Absent count p ts
 unfolding arguments_at
 no_arguments one count p [] h = refl
 no_arguments one count p (Sign signs.OpenParenthesis ∷ ts) h = absurd h
 no_arguments one count p (t ∷ ts) h = refl
 
-joined_not_open : (m : JoinedParts) (p : ℕ) (ts more : Tokens) → SpellsJoined p ts m → EndsReference more → NotOpen (ts ++ more)
-joined_not_open Alone p ts more shape stops = subst (λ us. NotOpen (us ++ more)) (sym shape) (not_open more stops)
-joined_not_open (Joined Member name arguments m) p ts more spelled stops = subst (λ us. NotOpen (us ++ more)) (sym spelled.2) tt
-joined_not_open (Joined Located name arguments m) p ts more spelled stops = subst (λ us. NotOpen (us ++ more)) (sym spelled.2) tt
+-- behind arguments, where parts may be joined
+joined_end : (a : Arguments) (m : JoinedParts) (p : ℕ) (ts more : Tokens) → SpellsJoined p ts m → NoneGoesOn (parts_go_on a m) more → ArgumentsEnd a (ts ++ more)
+joined_end a Alone p ts more shape stops = subst (λ us. ArgumentsEnd a (us ++ more)) (sym shape) (arguments_end a more stops)
+joined_end Absent (Joined Member name arguments m) p ts more spelled stops = subst (λ us. NotOpen (us ++ more)) (sym spelled.2) tt
+joined_end Absent (Joined Located name arguments m) p ts more spelled stops = subst (λ us. NotOpen (us ++ more)) (sym spelled.2) tt
+joined_end (Given list) (Joined joining name arguments m) p ts more spelled stops = tt
 
 joining_there : (j : Joining) (ts : Tokens) → joining_at (Sign (joining_sign j) ∷ ts) ≡ Some (j, ts)
 unfolding joining_at
@@ -269,7 +251,7 @@ joining_there Located ts = refl
 
 module _ (Fits : Expressions → Type 0) (count_of : Expressions → ℕ) where
   arguments_again : (one : Option Reader) → ListsAgain Fits count_of one → (arguments : Arguments) (count p : ℕ) (ts more : Tokens) → SpellsArguments p ts arguments → GivenFits Fits arguments
-      → count + count_given count_of arguments ≤ operator_limit → NotOpen more → arguments_at one count p (ts ++ more) ≡ all_read arguments (count + count_given count_of arguments) (p + length ts) more
+      → count + count_given count_of arguments ≤ operator_limit → ArgumentsEnd arguments more → arguments_at one count p (ts ++ more) ≡ all_read arguments (count + count_given count_of arguments) (p + length ts) more
   unfolding arguments_at
   arguments_again one lists Absent count p ts more shape fits few closed =
       let e : count ≡ count + 0 = omega arith in
@@ -285,17 +267,17 @@ module _ (Fits : Expressions → Type 0) (count_of : Expressions → ℕ) where
       ∙ ap (λ q. all_read (Given list) (count + count_of list) q more) place
 
   module _ (one : Option Reader) (lists : ListsAgain Fits count_of one) where
-    parts_again : (m : JoinedParts) (bound count p : ℕ) (ts more : Tokens) → SpellsJoined p ts m → JoinedFits Fits m → count + count_joined count_of m ≤ operator_limit → EndsReference more → length (ts ++ more) < bound
+    parts_again : (before : Arguments) (m : JoinedParts) (bound count p : ℕ) (ts more : Tokens) → SpellsJoined p ts m → JoinedFits Fits m → count + count_joined count_of m ≤ operator_limit → NoneGoesOn (parts_go_on before m) more → length (ts ++ more) < bound
         → joined_from one bound count p (ts ++ more) ≡ all_read m (count + count_joined count_of m) (p + length ts) more
     unfolding joined_from name_first
-    parts_again m zero count p ts more spelled fits few stops small = absurd (omega arith)
-    parts_again Alone (suc bound) count p ts more shape fits few stops small =
+    parts_again before m zero count p ts more spelled fits few stops small = absurd (omega arith)
+    parts_again before Alone (suc bound) count p ts more shape fits few stops small =
         let e : count ≡ count + 0 = omega arith in
         let q : p ≡ p + 0 = omega arith in
         ap (λ us. joined_from one (suc bound) count p (us ++ more)) shape
-        ∙ ap (parts_behind one (joined_from one bound) count p more) (not_joined more stops)
+        ∙ ap (parts_behind one (joined_from one bound) count p more) (not_joined before more stops)
         ∙ ap (λ n. all_read Alone n p more) e ∙ ap (λ m. all_read Alone (count + 0) m more) q ∙ ap (λ (us : Tokens). all_read Alone (count + 0) (p + length us) more) (sym shape)
-    parts_again (Joined joining name arguments m) (suc bound) count p ts more (front, rest, shape, at, spelled, later) fits few stops small =
+    parts_again before (Joined joining name arguments m) (suc bound) count p ts more (front, rest, shape, at, spelled, later) fits few stops small =
         let tail : Tokens = front ++ (rest ++ more) in
         let whole : ts ++ more ≡ Sign (joining_sign joining) ∷ Word name.name ∷ tail = ap (λ us. us ++ more) shape ∙ ap (λ us. Sign (joining_sign joining) ∷ Word name.name ∷ us) (append_assoc front rest more) in
         let there : p + 2 ≡ p + 1 + 1 = omega arith in
@@ -303,17 +285,17 @@ module _ (Fits : Expressions → Type 0) (count_of : Expressions → ℕ) where
         let less : length (rest ++ more) < bound = omega (arith, small, ap length whole, length-append front (rest ++ more)) in
         let counted : count + count_given count_of arguments + count_joined count_of m ≡ count + (count_given count_of arguments + count_joined count_of m) = omega arith in
         let place : p + 1 + 1 + length front + length rest ≡ p + length ts = omega (arith, ap length shape, length-append front rest) in
-        let read = arguments_again one lists arguments count (p + 1 + 1) front (rest ++ more) (subst (λ q. SpellsArguments q front arguments) there spelled) fits.0 (omega arith) (joined_not_open m (p + 2 + length front) rest more later stops) in
+        let read = arguments_again one lists arguments count (p + 1 + 1) front (rest ++ more) (subst (λ q. SpellsArguments q front arguments) there spelled) fits.0 (omega arith) (joined_end arguments m (p + 2 + length front) rest more later stops) in
         ap (joined_from one (suc bound) count p) whole
         ∙ ap (parts_behind one (joined_from one bound) count p (Sign (joining_sign joining) ∷ Word name.name ∷ tail)) (joining_there joining (Word name.name ∷ tail))
         ∙ ap (λ r. r >>= λ x. joined_from one bound x.count x.next x.rest >>= λ y. all_read (Joined joining (record { name = name.name; at = p + 1 }) x.value y.value) y.count y.next y.rest) read
         ∙ ap (λ r. r >>= λ y. all_read (Joined joining (record { name = name.name; at = p + 1 }) arguments y.value) y.count y.next y.rest)
-        (parts_again m bound (count + count_given count_of arguments) (p + 1 + 1 + length front) rest more (subst (λ q. SpellsJoined q rest m) further later) fits.1 (omega arith) stops less)
+        (parts_again arguments m bound (count + count_given count_of arguments) (p + 1 + 1 + length front) rest more (subst (λ q. SpellsJoined q rest m) further later) fits.1 (omega arith) stops less)
         ∙ ap (λ q. all_read (Joined joining (record { name = name.name; at = q }) arguments m) (count + count_given count_of arguments + count_joined count_of m) (p + 1 + 1 + length front + length rest) more) (sym at)
         ∙ ap (λ n. all_read (Joined joining name arguments m) n (p + 1 + 1 + length front + length rest) more) counted
         ∙ ap (λ q. all_read (Joined joining name arguments m) (count + (count_given count_of arguments + count_joined count_of m)) q more) place
 
-    pub reference_again : (r : Reference) (count p : ℕ) (ts more : Tokens) → SpellsReference p ts r → ReferenceFits Fits r → count + count_reference count_of r ≤ operator_limit → EndsReference more
+    pub reference_again : (r : Reference) (count p : ℕ) (ts more : Tokens) → SpellsReference p ts r → ReferenceFits Fits r → count + count_reference count_of r ≤ operator_limit → ReferenceEnds r more
         → reference_of one count p (ts ++ more) ≡ all_read r (count + count_reference count_of r) (p + length ts) more
     unfolding reference_of name_first
     reference_again (Named name arguments m) count p ts more (front, rest, shape, at, spelled, later) fits few stops =
@@ -321,11 +303,11 @@ module _ (Fits : Expressions → Type 0) (count_of : Expressions → ℕ) where
         let whole : ts ++ more ≡ Word name.name ∷ tail = ap (λ us. us ++ more) shape ∙ ap (λ us. Word name.name ∷ us) (append_assoc front rest more) in
         let counted : count + count_given count_of arguments + count_joined count_of m ≡ count + (count_given count_of arguments + count_joined count_of m) = omega arith in
         let place : p + 1 + length front + length rest ≡ p + length ts = omega (arith, ap length shape, length-append front rest) in
-        let read = arguments_again one lists arguments count (p + 1) front (rest ++ more) spelled fits.0 (omega arith) (joined_not_open m (p + 1 + length front) rest more later stops) in
+        let read = arguments_again one lists arguments count (p + 1) front (rest ++ more) spelled fits.0 (omega arith) (joined_end arguments m (p + 1 + length front) rest more later stops) in
         ap (reference_of one count p) whole
         ∙ ap (λ r. r >>= λ x. joined_from one (length x.rest + 1) x.count x.next x.rest >>= λ y. all_read (Named (record { name = name.name; at = p }) x.value y.value) y.count y.next y.rest) read
         ∙ ap (λ r. r >>= λ y. all_read (Named (record { name = name.name; at = p }) arguments y.value) y.count y.next y.rest)
-        (parts_again m (length (rest ++ more) + 1) (count + count_given count_of arguments) (p + 1 + length front) rest more later fits.1 (omega arith) stops (omega arith))
+        (parts_again arguments m (length (rest ++ more) + 1) (count + count_given count_of arguments) (p + 1 + length front) rest more later fits.1 (omega arith) stops (omega arith))
         ∙ ap (λ q. all_read (Named (record { name = name.name; at = q }) arguments m) (count + count_given count_of arguments + count_joined count_of m) (p + 1 + length front + length rest) more) (sym at)
         ∙ ap (λ n. all_read (Named name arguments m) n (p + 1 + length front + length rest) more) counted
         ∙ ap (λ q. all_read (Named name arguments m) (count + (count_given count_of arguments + count_joined count_of m)) q more) place
@@ -335,7 +317,7 @@ abbrev pub OperandsAgain : ℕ → Option Reader → Type 0
 OperandsAgain zero None = Unit {0}
 OperandsAgain zero (Some operand) = ⊥
 OperandsAgain (suc n) None = ⊥
-OperandsAgain (suc n) (Some operand) = ReadsAgain (IsOperandOf n) operators EndsReference operand
+OperandsAgain (suc n) (Some operand) = ReadsAgain (IsOperandOf n) operators OperandEnds operand
 
 every_nests : (n : ℕ) (list : Expressions) → ListNests n list → Every (NestsWithin n) list
 every_nests n Empty h = tt
@@ -361,7 +343,7 @@ lists_again (suc n) (Some operand) again = λ list count p ts more spelled fits 
     list_again (NestsWithin n) operators (expression_of operand) (expression_again n operand again) list count p ts more spelled (every_nests n list fits) (omega (arith, e))
     ∙ ap (λ k. all_read list (count + k) (p + length ts + 1) more) e
 
-referred_again : (n : ℕ) (one : Option Reader) → OperandsAgain n one → (r : Reference) (count p : ℕ) (ts more : Tokens) → SpellsReference p ts r → ReferenceNests n r → count + reference_operators r ≤ operator_limit → EndsReference more
+referred_again : (n : ℕ) (one : Option Reader) → OperandsAgain n one → (r : Reference) (count p : ℕ) (ts more : Tokens) → SpellsReference p ts r → ReferenceNests n r → count + reference_operators r ≤ operator_limit → ReferenceEnds r more
     → operand_of one count p (ts ++ more) ≡ all_read (Referred r) (count + reference_operators r) (p + length ts) more
 unfolding operand_of
 referred_again n one again (Named name arguments m) count p ts more spelled nests few stops =
@@ -402,7 +384,7 @@ parenthesis_again (suc n) (Some operand) again at e count p ts more (us, shape, 
     let whole : ts ++ more ≡ Sign signs.OpenParenthesis ∷ (us ++ Sign signs.CloseParenthesis ∷ more) = ap (λ vs. vs ++ more) shape ∙ ap (λ vs. Sign signs.OpenParenthesis ∷ vs) (append_assoc us (Sign signs.CloseParenthesis ∷ []) more) in
     let behind : p + 1 + length us + 1 ≡ p + length ts = omega (arith, ap length shape, length-append us (Sign signs.CloseParenthesis ∷ [])) in
     ap (operand_of (Some operand) count p) whole
-    ∙ ap (λ r. r >>= λ x. closed (Parenthesized p x.value) x.count x.next x.rest) (expression_again n operand again e count (p + 1) us (Sign signs.CloseParenthesis ∷ more) spelled nests few (refl, refl))
+    ∙ ap (λ r. r >>= λ x. closed (Parenthesized p x.value) x.count x.next x.rest) (expression_again n operand again e count (p + 1) us (Sign signs.CloseParenthesis ∷ more) spelled nests few (any_expression e (Sign signs.CloseParenthesis ∷ more) (refl, refl)))
     ∙ ap (λ q. all_read (Parenthesized q e) (count + operators e) (p + 1 + length us + 1) more) (sym place)
     ∙ ap (λ q. all_read (Parenthesized at e) (count + operators e) q more) behind
 
@@ -413,7 +395,7 @@ prefix_there one prefixes.Minus count p ts = refl
 prefix_there one prefixes.Not count p ts = refl
 
 prefix_again : (n : ℕ) (one : Option Reader) → OperandsAgain n one → (o : PrefixOperator) (at : ℕ) (e : Expression) (count p : ℕ) (ts more : Tokens) → SpellsExpression p ts (Prefix o at e) → NestsWithin n (Prefix o at e)
-    → count + (1 + operators e) ≤ operator_limit → EndsReference more → operand_of one count p (ts ++ more) ≡ all_read (Prefix o at e) (count + (1 + operators e)) (p + length ts) more
+    → count + (1 + operators e) ≤ operator_limit → OperandEnds e more → operand_of one count p (ts ++ more) ≡ all_read (Prefix o at e) (count + (1 + operators e)) (p + length ts) more
 unfolding prefix_of
 prefix_again zero one again o at e count p ts more spelled nests few stops = absurd nests
 prefix_again (suc n) None again o at e count p ts more spelled nests few stops = absurd again
@@ -429,7 +411,7 @@ prefix_again (suc n) (Some operand) again o at e count p ts more (us, shape, pla
     ∙ ap (λ k. all_read (Prefix o at e) k (p + 1 + length us) more) counted
     ∙ ap (λ q. all_read (Prefix o at e) (count + (1 + operators e)) q more) behind
 
-operand_again : (n : ℕ) (one : Option Reader) → OperandsAgain n one → ReadsAgain (IsOperandOf n) operators EndsReference (operand_of one)
+operand_again : (n : ℕ) (one : Option Reader) → OperandsAgain n one → ReadsAgain (IsOperandOf n) operators OperandEnds (operand_of one)
 operand_again n one again (Referred r) count p ts more spelled fits few stops = referred_again n one again r count p ts more spelled fits.0 few stops
 operand_again n one again (Constant at v) count p ts more spelled fits few stops = constant_again one at v count p ts more spelled
 operand_again n one again (Parenthesized at e) count p ts more spelled fits few stops = parenthesis_again n one again at e count p ts more spelled fits.0 few
@@ -441,11 +423,11 @@ unfolding inside
 inside_again zero = tt
 inside_again (suc n) = operand_again n (inside n) (inside_again n)
 
-pub expression_at_again : (levels : ℕ) → ReadsAgain (NestsWithin levels) operators EndsExpression (expression_at levels)
+pub expression_at_again : (levels : ℕ) → ReadsAgain (NestsWithin levels) operators ExpressionEnds (expression_at levels)
 unfolding expression_at
 expression_at_again levels = expression_again levels (operand_at levels) (operand_again levels (inside levels) (inside_again levels))
 
-outermost_again : (n : ℕ) (operand : Reader) → ReadsAgain (IsOperandOf n) operators EndsReference operand → ReadsAgain (OutermostFits n) (λ e. 0) EndsExpression (outermost (expression_of operand))
+outermost_again : (n : ℕ) (operand : Reader) → ReadsAgain (IsOperandOf n) operators OperandEnds operand → ReadsAgain (OutermostFits n) (λ e. 0) ExpressionEnds (outermost (expression_of operand))
 outermost_again n operand again e count p ts more spelled fits few stops =
     let none : count ≡ count + 0 = omega arith in
     ap (λ r. r >>= λ x. all_read x.value count x.next x.rest) (expression_again n operand again e 0 p ts more spelled fits.0 (omega (arith, fits.1)) stops)
@@ -472,20 +454,29 @@ no_joined (Joined joining name arguments m) = omega (arith, no_given arguments, 
 no_reference : (r : Reference) → count_reference (total (λ e. 0)) r ≡ 0
 no_reference (Named name arguments m) = omega (arith, no_given arguments, no_joined m)
 
-pub expression_is_read : (levels p : ℕ) (ts more : Tokens) (e : Expression) → SpellsOutermost levels p ts e → EndsExpression more
+pub expression_ends_read : (levels p : ℕ) (ts more : Tokens) (e : Expression) → SpellsOutermost levels p ts e → ExpressionEnds e more
     → expression_at levels 0 p (ts ++ more) ≡ Ok (record { value = e; count = operators e; next = p + length ts; rest = more })
-expression_is_read levels p ts more e spelled stops =
+expression_ends_read levels p ts more e spelled stops =
     let none : 0 + operators e ≡ operators e = omega arith in
     expression_at_again levels e 0 p ts more spelled.0 spelled.1.0 (omega (arith, spelled.1.1)) stops ∙ ap (λ k. all_read e k (p + length ts) more) none
 
-pub reference_is_read : (levels p : ℕ) (ts more : Tokens) (r : Reference) → SpellsReferenceAlone levels p ts r → EndsReference more
+pub reference_ends_read : (levels p : ℕ) (ts more : Tokens) (r : Reference) → SpellsReferenceAlone levels p ts r → ReferenceEnds r more
     → reference_at levels p (ts ++ more) ≡ Ok (record { value = r; count = 0; next = p + length ts; rest = more })
 unfolding reference_at
-reference_is_read levels p ts more r spelled stops =
+reference_ends_read levels p ts more r spelled stops =
     let none : 0 + count_reference (total (λ e. 0)) r ≡ 0 = omega (arith, no_reference r) in
     reference_again (λ list. Deeper (λ m. Every (OutermostFits m) list) levels) (total (λ e. 0)) (option_map (argument_of true) (inside levels)) (outermost_lists levels (inside levels) (inside_again levels))
     r 0 p ts more spelled.0 spelled.1 (omega (arith, none)) stops
     ∙ ap (λ k. all_read r k (p + length ts) more) none
+
+-- before tokens that continue none
+pub expression_is_read : (levels p : ℕ) (ts more : Tokens) (e : Expression) → SpellsOutermost levels p ts e → EndsExpression more
+    → expression_at levels 0 p (ts ++ more) ≡ Ok (record { value = e; count = operators e; next = p + length ts; rest = more })
+expression_is_read levels p ts more e spelled stops = expression_ends_read levels p ts more e spelled (any_expression e more stops)
+
+pub reference_is_read : (levels p : ℕ) (ts more : Tokens) (r : Reference) → SpellsReferenceAlone levels p ts r → EndsReference more
+    → reference_at levels p (ts ++ more) ≡ Ok (record { value = r; count = 0; next = p + length ts; rest = more })
+reference_is_read levels p ts more r spelled stops = reference_ends_read levels p ts more r spelled (any_reference r more stops)
 
 same_value : {A : Type 0} (e f : A) (m n p q : ℕ) (ts us : Tokens) → all_read e m p ts ≡ all_read f n q us → e ≡ f
 same_value e f m n p q ts us h = ap (λ (x : Front _). x.value) (same_ok h)

@@ -2,6 +2,7 @@ pub mod Examples
 pub mod Operators
 pub mod Expressions
 pub mod Reading
+pub mod Ends
 pub mod Laws
 pub mod Assignments
 pub mod Answers

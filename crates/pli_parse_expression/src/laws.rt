@@ -1,10 +1,11 @@
 //! Laws of the grammar.
-ghost use Rattle.std.specs.Prelude.{◌≡◌, ℕ, ◌+◌, ◌++◌, Ok, Err, length, true};
+ghost use Rattle.std.specs.Prelude.{◌≡◌, ℕ, ◌+◌, ◌≤◌, ◌++◌, Ok, Err, length, true};
 ghost use Rattle.pli_base.specs.FaultPlaces.{FaultStands};
 ghost use Rattle.pli_base.specs.Syntax.{Expression, Reference};
 ghost use Rattle.pli_base.specs.TreeTokens.{Rises, expression_tokens, reference_tokens};
 ghost use Rattle.pli_base.specs.declared.token.Fault.{Fault};
 ghost use Rattle.pli_parse_expression.specs.Expressions.{operators, SpellsOutermost, SpellsReferenceAlone, EndsExpression, EndsReference};
+ghost use Rattle.pli_parse_expression.specs.Ends.{ExpressionEnds, ReferenceEnds};
 ghost use Rattle.pli_parse_expression.specs.Reading.{Front, expression_at, reference_at};
 ghost use Rattle.pli_parse_expression.specs.Laws.{FrontSpells};
 ghost use Rattle.pli_parse_expression.specs.Assignments.{IsAssignment, is_assignment};
@@ -101,4 +102,27 @@ pub fn tokens_of_trees_rise()
         expression_at levels 0 p ts ≡ Ok x → Rises p (expression_tokens x.value) x.next }
     ensures references { (levels p : ℕ) (ts : Tokens) (x : Front Reference) →
         reference_at levels p ts ≡ Ok x → Rises p (reference_tokens x.value) x.next }
+{}
+
+/// A law: an expression that is spelled within the limits is read exactly before tokens that do not continue it, which its last
+/// operand tells; and no longer front of the tokens spells one.
+#[tactic(auto, using(crate::proofs::SpelledIsRead::expression_ends_read, crate::proofs::ReadEnds::expression_at_ends, crate::proofs::ReadEnds::expression_longest))]
+pub fn longest_expressions()
+    ensures ended { (levels p : ℕ) (ts more : Tokens) (e : Expression) → SpellsOutermost levels p ts e → ExpressionEnds e more →
+        expression_at levels 0 p (ts ++ more) ≡ Ok (record { value = e; count = operators e; next = p + length ts; rest = more }) }
+    ensures left { (levels p : ℕ) (ts : Tokens) (x : Front Expression) →
+        expression_at levels 0 p ts ≡ Ok x → ExpressionEnds x.value x.rest }
+    ensures longest { (levels p : ℕ) (ts : Tokens) (x : Front Expression) → expression_at levels 0 p ts ≡ Ok x →
+        (longer more : Tokens) (e : Expression) → ts ≡ longer ++ more → SpellsOutermost levels p longer e → p + length longer ≤ x.next }
+{}
+
+/// A law: the same of a reference.
+#[tactic(auto, using(crate::proofs::SpelledIsRead::reference_ends_read, crate::proofs::ReadEnds::reference_at_ends, crate::proofs::ReadEnds::reference_longest))]
+pub fn longest_references()
+    ensures ended { (levels p : ℕ) (ts more : Tokens) (r : Reference) → SpellsReferenceAlone levels p ts r → ReferenceEnds r more →
+        reference_at levels p (ts ++ more) ≡ Ok (record { value = r; count = 0; next = p + length ts; rest = more }) }
+    ensures left { (levels p : ℕ) (ts : Tokens) (x : Front Reference) →
+        reference_at levels p ts ≡ Ok x → ReferenceEnds x.value x.rest }
+    ensures longest { (levels p : ℕ) (ts : Tokens) (x : Front Reference) → reference_at levels p ts ≡ Ok x →
+        (longer more : Tokens) (r : Reference) → ts ≡ longer ++ more → SpellsReferenceAlone levels p longer r → p + length longer ≤ x.next }
 {}

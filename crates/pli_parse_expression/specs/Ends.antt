@@ -1,0 +1,51 @@
+-- What continues an expression or a reference that may end before it: told by how it ends.
+use Rattle.std.specs.Prelude.{◌≡◌, Bool, true, false, None, [], ◌∷◌}
+use Rattle.pli_base.specs.Syntax.{Expression, Referred, Constant, Parenthesized, Prefix, Infix, Reference, Named, JoinedParts, Alone, Joined, Arguments, Absent, Given}
+use Rattle.pli_base.specs.declared.token.Sign.TheVariants.{Period, Arrow}
+use Rattle.pli_base.specs.declared.token.TokenText.{TokenText}
+use Rattle.pli_base.specs.declared.token.TokenText.TheVariants.{Sign}
+use Rattle.pli_parse_expression.specs.Operators.{Tokens, infix_of, continues_reference}
+
+abbrev pub joins : TokenText → Bool
+joins (Sign Period) = true
+joins (Sign Arrow) = true
+joins t = false
+
+-- `(`, `.` and `->` go on behind a name, `.` and `->` behind a list of arguments
+abbrev pub goes_on_behind : Arguments → TokenText → Bool
+goes_on_behind Absent t = continues_reference t
+goes_on_behind (Given list) t = joins t
+
+-- behind the last part
+abbrev pub parts_go_on : Arguments → JoinedParts → TokenText → Bool
+parts_go_on arguments Alone t = goes_on_behind arguments t
+parts_go_on arguments (Joined joining name later more) t = parts_go_on later more t
+
+abbrev pub reference_goes_on : Reference → TokenText → Bool
+reference_goes_on (Named name arguments more) t = parts_go_on arguments more t
+
+-- behind the last operand: nothing goes on with a constant or behind a `)`
+abbrev pub operand_goes_on : Expression → TokenText → Bool
+operand_goes_on (Referred reference) t = reference_goes_on reference t
+operand_goes_on (Constant at value) t = false
+operand_goes_on (Parenthesized at inner) t = false
+operand_goes_on (Prefix operator at operand) t = operand_goes_on operand t
+operand_goes_on (Infix operator at left right) t = operand_goes_on right t
+
+-- the first of the tokens does not go on
+abbrev pub NoneGoesOn : (TokenText → Bool) → Tokens → Type 0
+NoneGoesOn goes_on [] = Unit {0}
+NoneGoesOn goes_on (t ∷ ts) = goes_on t ≡ false
+
+-- the tokens do not continue the reference
+abbrev pub ReferenceEnds : Reference → Tokens → Type 0
+ReferenceEnds reference ts = NoneGoesOn (reference_goes_on reference) ts
+
+-- nor begin with an infix operator
+abbrev pub NoInfix : Tokens → Type 0
+NoInfix [] = Unit {0}
+NoInfix (t ∷ ts) = infix_of t ≡ None
+
+-- the tokens do not continue the expression
+abbrev pub ExpressionEnds : Expression → Tokens → Type 0
+ExpressionEnds e ts = NoneGoesOn (operand_goes_on e) ts × NoInfix ts
