@@ -4,7 +4,8 @@ use Rattle.pli_base.specs.Syntax.{Expression, Referred, Constant, Parenthesized,
 use Rattle.pli_base.specs.declared.token.Sign.TheVariants as signs
 use Rattle.pli_base.specs.declared.token.TokenText.{TokenText}
 use Rattle.pli_base.specs.declared.token.TokenText.TheVariants.{Sign}
-use Rattle.pli_parse_expression.specs.Operators.{Tokens, joining_at, continues_reference}
+use Rattle.pli_parse_expression.specs.Operators.{joining_at, continues_reference}
+use Rattle.pli_base.specs.Words.{Tokens}
 use Rattle.pli_parse_expression.specs.Expressions.{EndsReference, EndsExpression}
 use Rattle.pli_parse_expression.specs.Ends.{joins, goes_on_behind, parts_go_on, reference_goes_on, operand_goes_on, NoneGoesOn, ReferenceEnds, NoInfix, ExpressionEnds}
 

@@ -15,10 +15,12 @@ use Rattle.pli_base.specs.declared.token.Fault.{Fault}
 use Rattle.pli_base.specs.declared.token.Sign.TheVariants as signs
 use Rattle.pli_base.specs.declared.token.TokenText.{TokenText}
 use Rattle.pli_base.specs.declared.token.TokenText.TheVariants.{Word, Decimal, Binary, Characters, Bits, Sign}
-use Rattle.pli_parse_expression.specs.Operators.{Tokens, infix_of, not_below, level_of, operator_at, joining_at, name_at}
+use Rattle.pli_parse_expression.specs.Operators.{infix_of, not_below, level_of, operator_at, joining_at}
+use Rattle.pli_base.specs.Words.{Tokens, name_first}
 use Rattle.pli_parse_expression.specs.Expressions.{operators, SpellsOutermost, SpellsReferenceAlone}
 use Rattle.pli_parse_expression.specs.Ends.{goes_on_behind, parts_go_on, NoneGoesOn, ReferenceEnds, NoInfix, ExpressionEnds}
-use Rattle.pli_parse_expression.specs.Reading.{◌>>=◌, Front, Reader, opened, closed, limited, operand_then, grouped, infix_from, expression_of, list_at, arguments_at, part_behind, parts_behind, joined_from, reference_behind, reference_of, prefix_of, parenthesis_of, constant_at, operand_of, inside, operand_at, expression_at, argument_of, reference_at}
+use Rattle.pli_parse_expression.specs.Reading.{Front, Reader, opened, closed, limited, operand_then, grouped, infix_from, expression_of, list_at, arguments_at, part_behind, parts_behind, joined_from, reference_behind, reference_of, prefix_of, parenthesis_of, constant_at, operand_of, inside, operand_at, expression_at, argument_of, reference_at}
+use Rattle.pli_base.specs.Reading.{◌>>=◌}
 use Rattle.pli_parse_expression.proofs.ReadingTools.{same_ok, bind_ok, limited_ok, wanted_none, closed_ok}
 use Rattle.pli_parse_expression.proofs.ReadIsSpelled.{expression_spelled, reference_spelled}
 use Rattle.pli_parse_expression.proofs.SpelledIsRead.{expression_ends_read, reference_ends_read}
@@ -106,7 +108,7 @@ module _ (one : Option Reader) where
   parts_step : (bound : ℕ) → PartsStop bound → (a : Arguments) (count p : ℕ) (ts : Tokens) (x : Front JoinedParts) → ArgumentsEnd a ts → (o : Option (Joining × Tokens)) → joining_at ts ≡ o
       → parts_behind one (joined_from one bound) count p ts o ≡ Ok x → NoneGoesOn (parts_go_on a x.value) x.rest
   parts_step bound more a count p ts x closed None found h = subst (λ (y : Front JoinedParts). NoneGoesOn (parts_go_on a y.value) y.rest) (same_ok h) (none_goes_on a ts closed found)
-  parts_step bound more a count p ts x closed (Some j) found h = part_stops bound more a j.0 count (p + 1) j.1 x (name_at j.1) h
+  parts_step bound more a count p ts x closed (Some j) found h = part_stops bound more a j.0 count (p + 1) j.1 x (name_first j.1) h
 
   parts_stop : (bound : ℕ) → PartsStop bound
   unfolding joined_from
@@ -123,7 +125,7 @@ module _ (one : Option Reader) where
 
   pub reference_stops : (count p : ℕ) (ts : Tokens) (x : Front Reference) → reference_of one count p ts ≡ Ok x → ReferenceEnds x.value x.rest
   unfolding reference_of
-  reference_stops count p ts x h = reference_step count p ts x (name_at ts) h
+  reference_stops count p ts x h = reference_step count p ts x (name_first ts) h
 
 -- what reads operands one level deeper
 abbrev StopsWhere : Option Reader → Type 0

@@ -4,7 +4,8 @@ use Rattle.pli_base.specs.Syntax.{Expression, Referred, Constant, Parenthesized,
 use Rattle.pli_base.specs.declared.token.Sign.TheVariants.{Period, Arrow}
 use Rattle.pli_base.specs.declared.token.TokenText.{TokenText}
 use Rattle.pli_base.specs.declared.token.TokenText.TheVariants.{Sign}
-use Rattle.pli_parse_expression.specs.Operators.{Tokens, infix_of, continues_reference}
+use Rattle.pli_parse_expression.specs.Operators.{infix_of, continues_reference}
+use Rattle.pli_base.specs.Words.{Tokens}
 
 abbrev pub joins : TokenText → Bool
 joins (Sign Period) = true
