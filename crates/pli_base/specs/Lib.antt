@@ -6,8 +6,6 @@ pub mod NameFields
 pub mod NameLaws
 pub mod Reading
 pub mod ReadingAnswers
-pub mod Tree
-pub mod TreeView
 pub mod Words
 pub mod Syntax
 pub mod SyntaxView

@@ -1,6 +1,7 @@
 -- The words and signs of the language, and tests of tokens.
 use Rattle.std.specs.Prelude.{ℕ, Bool, true, false, ◌||◌, nat_eq, List, [], ◌∷◌, Option, Some, None, codes, if◌then◌else◌}
 use Rattle.std.specs.Cmp.Lexicographic.{pointwise}
+use Rattle.std.specs.List.{list_any}
 use Rattle.pli_base.specs.Name.{Name}
 use Rattle.pli_base.specs.declared.token.Sign.TheVariants.{Colon, Semicolon, Comma, Period, OpenParenthesis, CloseParenthesis}
 use Rattle.pli_base.specs.declared.token.TokenText.{TokenText}
@@ -11,6 +12,10 @@ Tokens = List TokenText
 
 abbrev pub same_name : Name → Name → Bool
 same_name = pointwise nat_eq
+
+-- a name is one of these
+abbrev pub is_among : Name → List Name → Bool
+is_among n names = list_any (same_name n) names
 
 -- no word is reserved: these are names, and keywords only where the grammar reads them so
 abbrev pub is_procedure : Name → Bool

@@ -11,7 +11,6 @@ pub mod statement;
 mod string;
 pub mod syntax;
 mod token;
-mod tree;
 
 pub use code::{Code, code_order, one_code};
 pub use device::{Device, Failed, Sink, Source, put_all, take_all};
@@ -21,6 +20,7 @@ pub use reading::{
     Front, ParseError, behind_close, behind_colon, behind_comma, behind_open, behind_period,
     close_taken, fault, misfit, name_first, open_taken, semicolon_taken,
 };
+/// The whole tree of a unit, which is its external procedure.
+pub use statement::Procedure as Unit;
 pub use string::{BitString, CharacterString};
 pub use token::{Fault, Origin, Sign, Token, TokenText};
-pub use tree::{Body, Expression, Reference, Statement, Unit};

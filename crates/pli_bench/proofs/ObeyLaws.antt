@@ -15,7 +15,7 @@ use Rattle.pli_bench.specs.Standing.{IsStanding}
 use Rattle.pli_code.specs.declared.ending.Ending.{Ending}
 use Rattle.pli_code.specs.declared.ending.Ran.{Ran}
 use Rattle.pli_meaning.specs.Scratch.{Built, Made, scratch}
-use Rattle.pli_meaning.proofs.WholeRun.{members_simulate}
+use Rattle.pli_meaning.proofs.MembersDoAsMeant.{members_simulate}
 use Rattle.pli_meaning.specs.Members.{HasMeaning}
 use Rattle.pli_bench.specs.Answering.{Writes}
 use Rattle.pli_machine.specs.Runs.{RanTo, StoppedWithin}

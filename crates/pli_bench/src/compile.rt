@@ -1,30 +1,139 @@
 //! A unit compiled from its expansion, or its diagnostics as they are answered.
-ghost use Rattle.std.specs.Prelude.{◌≡◌, ◌≤◌, ◌++◌, [], Ok, length, map, option_map, slice_get, IfOk, OnOk};
+ghost use Rattle.std.specs.Prelude.{◌≡◌, ◌≤◌, ◌++◌, length, map, option_map, slice_get, IfOk, OnOk};
 ghost use Rattle.std.specs.List.{flat_map};
-ghost use Rattle.pli_base.specs.TreeView.{unit_view};
-ghost use Rattle.pli_code.specs.Declarations.{declaration_faults};
-ghost use Rattle.pli_meaning.specs.Scratch.{diagnostic_line, located, origin_of, program_of, parsed_as, parsed_of, compiled_from, compiled_of};
-ghost use Rattle.pli_bench.specs.Compiling.{Tells, parsed_view, tree_view};
+ghost use Rattle.pli_meaning.specs.Scratch.{diagnostic_line, located, origin_of, compiled_of};
+ghost use Rattle.pli_bench.specs.Compiling.{Compiles, Tells, all_located, compiled_texts, of_generating, of_lowering, of_parsing};
+ghost use Rattle.pli_bench.specs.declared.compile.CompileError.TheVariants as errors;
 ghost use Rattle.pli_link.specs.Answers.{compiled_view};
 
 use crate::answer::append_parts;
 use itoa::Buffer;
-use pli_base::{Code, Fault, Name, Origin, TokenText, Unit};
+use pli_base::{Code, Fault, Name, Origin, TokenText};
 use pli_declare::faults;
 use pli_gen::{GenerateError, generate};
 use pli_include::{Expander, Expansion};
 use pli_link::Compiled;
 use pli_lower::{LowerError, lower};
-use pli_lower_names::{DeclareError, resolve};
 use pli_members::Members;
 use pli_parse::{ParseError, parse};
 use std::alloc::{AllocError, Global};
 
-/// A unit's expansion and its tree.
+/// Why the tokens of a unit are not compiled.
 #[derive(Drop)]
-struct Parsed {
-    expansion: Expansion,
-    tree: Unit,
+pub enum CompileError {
+    /// The one fault of a pass.
+    Fault(Fault),
+    /// All faults of the declarations and uses of names, in the order of their tokens.
+    Faults(Vec<Fault>),
+    OutOfMemory,
+}
+
+impl From<ParseError> for CompileError {
+    ghost from_gives = { λ error e. e ≡ of_parsing error };
+
+    fn from(error: ParseError) -> CompileError {
+        match error {
+            ParseError::Fault(fault) => CompileError::Fault(fault),
+            ParseError::OutOfMemory => CompileError::OutOfMemory,
+        }
+    }
+}
+
+impl From<LowerError> for CompileError {
+    ghost from_gives = { λ error e. e ≡ of_lowering error };
+
+    fn from(error: LowerError) -> CompileError {
+        match error {
+            LowerError::NotYetBuilt(fault) => CompileError::Fault(fault),
+            LowerError::OutOfMemory => CompileError::OutOfMemory,
+        }
+    }
+}
+
+impl From<GenerateError> for CompileError {
+    ghost from_gives = { λ error e. e ≡ of_generating error };
+
+    fn from(error: GenerateError) -> CompileError {
+        match error {
+            GenerateError::TooLong => CompileError::Fault(Fault {
+                code: Code::CodeTooLong,
+                at: 0,
+            }),
+            GenerateError::OutOfMemory => CompileError::OutOfMemory,
+        }
+    }
+}
+
+impl From<AllocError> for CompileError {
+    ghost from_gives = { λ _ e. e ≡ errors.OutOfMemory };
+
+    fn from(_error: AllocError) -> CompileError {
+        CompileError::OutOfMemory
+    }
+}
+
+/// Compiles a unit, or appends its diagnostics to `text`, in the order of their tokens. A pass with faults is the last.
+#[tactic(auto, unfolding(pli_meaning::specs::Scratch::compiled_of, pli_meaning::specs::Scratch::parsed_of, pli_include::specs::Expanded::expansion_of), using(crate::proofs::CompileLaws::located_compiled))]
+pub fn compile(
+    alloc: Global,
+    expander: &mut Expander,
+    members: &Members,
+    unit: Name,
+    text: &mut Vec<u8>,
+) -> Result<Option<Compiled>, AllocError>
+    ensures { IfOk result (λ compiled. Tells unit (compiled_of members.now.entries unit) (option_map compiled_view compiled) text.old.items text.new.items) }
+{
+    let expansion = expander.expand(members, unit)?;
+    match expansion.fault() {
+        Some(fault) => {
+            write_diagnostic(text, unit, fault.origin, fault.code)?;
+            Ok(None)
+        }
+        None => compile_expansion(alloc, unit, &expansion, text),
+    }
+}
+
+/// The tokens of a unit, compiled, or the faults of the first pass that has any.
+fn compile_texts(alloc: Global, unit: Name, texts: &[TokenText]) -> Result<Compiled, CompileError>
+    requires { length texts.now ≤ 200000 }
+    ensures { Compiles result (compiled_texts unit texts.now) }
+{
+    let tree = parse(alloc, texts)?;
+    let found = faults(alloc, &tree)?;
+    if !found.is_empty() {
+        return Err(CompileError::Faults(found));
+    }
+    let lowered = lower(alloc, &tree)?;
+    let code = generate(alloc, &lowered)?;
+    Ok(Compiled {
+        unit,
+        procedure: lowered.name,
+        is_main: lowered.is_main,
+        code,
+    })
+}
+
+/// An expansion without a fault, compiled, or its diagnostics.
+fn compile_expansion(
+    alloc: Global,
+    unit: Name,
+    expansion: &Expansion,
+    text: &mut Vec<u8>,
+) -> Result<Option<Compiled>, AllocError>
+    ensures { IfOk result (λ compiled. Tells unit (all_located unit expansion.now.origins (compiled_texts unit expansion.now.texts)) (option_map compiled_view compiled) text.old.items text.new.items) }
+{
+    match compile_texts(alloc, unit, expansion.texts()) {
+        Ok(compiled) => Ok(Some(compiled)),
+        Err(CompileError::Fault(fault)) => {
+            write_faults(text, unit, expansion.origins(), &[fault])?;
+            Ok(None)
+        }
+        Err(CompileError::Faults(faults)) => {
+            write_faults(text, unit, expansion.origins(), &faults)?;
+            Ok(None)
+        }
+        Err(CompileError::OutOfMemory) => Err(AllocError),
+    }
 }
 
 /// Appends `unit member:line code text`.
@@ -81,113 +190,4 @@ fn write_faults(
         write_diagnostic(text, unit, origin, fault.code)?;
     }
     Ok(())
-}
-
-/// The tree of a unit's tokens, or the faults of the first pass that has any: the one of reading, all of the declarations and uses
-/// of names, or the one of the first form that cannot be compiled yet.
-fn tree_of(alloc: Global, texts: &[TokenText]) -> Result<Result<Unit, Vec<Fault>>, AllocError>
-    requires { length texts.now ≤ 200000 }
-    ensures { IfOk result (λ read. tree_view read ≡ program_of texts.now) }
-{
-    let procedure = match parse(alloc, texts) {
-        Ok(procedure) => procedure,
-        Err(ParseError::Fault(fault)) => return Ok(Err(vec![in alloc; fault]?)),
-        Err(ParseError::OutOfMemory) => return Err(AllocError),
-    };
-    let found = faults(alloc, &procedure)?;
-    if !found.is_empty() {
-        return Ok(Err(found));
-    }
-    match lower(alloc, &procedure) {
-        Ok(tree) => Ok(Ok(tree)),
-        Err(LowerError::NotYetBuilt(fault)) => Ok(Err(vec![in alloc; fault]?)),
-        Err(LowerError::OutOfMemory) => Err(AllocError),
-    }
-}
-
-/// The tree of an expansion without a fault, or its diagnostics.
-fn parse_expansion(
-    alloc: Global,
-    unit: Name,
-    expansion: Expansion,
-    text: &mut Vec<u8>,
-) -> Result<Option<Parsed>, AllocError>
-    ensures { IfOk result (λ parsed. Tells unit (parsed_as unit expansion.origins (program_of expansion.texts)) (option_map parsed_view parsed) text.old.items text.new.items) }
-{
-    match tree_of(alloc, expansion.texts())? {
-        Ok(tree) => Ok(Some(Parsed { expansion, tree })),
-        Err(faults) => {
-            write_faults(text, unit, expansion.origins(), &faults)?;
-            Ok(None)
-        }
-    }
-}
-
-/// The tree of a unit's expansion, or its diagnostics.
-#[tactic(auto, unfolding(pli_meaning::specs::Scratch::parsed_of, pli_include::specs::Expanded::expansion_of))]
-fn parse_unit(
-    alloc: Global,
-    expander: &mut Expander,
-    members: &Members,
-    unit: Name,
-    text: &mut Vec<u8>,
-) -> Result<Option<Parsed>, AllocError>
-    ensures { IfOk result (λ parsed. Tells unit (parsed_of members.now.entries unit) (option_map parsed_view parsed) text.old.items text.new.items) }
-{
-    let expansion = expander.expand(members, unit)?;
-    match expansion.fault() {
-        Some(fault) => {
-            write_diagnostic(text, unit, fault.origin, fault.code)?;
-            Ok(None)
-        }
-        None => parse_expansion(alloc, unit, expansion, text),
-    }
-}
-
-/// The code of a tree without faults of its declarations, or its diagnostic.
-fn code_tree(
-    alloc: Global,
-    unit: Name,
-    parsed: &Parsed,
-    text: &mut Vec<u8>,
-) -> Result<Option<Compiled>, AllocError>
-    requires { declaration_faults (unit_view parsed.now.tree) ≡ [] }
-    ensures { IfOk result (λ compiled. Tells unit (compiled_from unit (Ok (parsed_view parsed.now))) (option_map compiled_view compiled) text.old.items text.new.items) }
-{
-    let resolved = match resolve(alloc, &parsed.tree) {
-        Ok(resolved) => resolved,
-        Err(DeclareError::Faults(_)) => unreachable!(),
-        Err(DeclareError::OutOfMemory) => return Err(AllocError),
-    };
-    match generate(alloc, &parsed.tree, &resolved.names) {
-        Ok(code) => Ok(Some(Compiled {
-            unit,
-            procedure: parsed.tree.name,
-            is_main: parsed.tree.is_main,
-            code,
-        })),
-        Err(GenerateError::TooLong) => {
-            let origin = origin_at(unit, parsed.expansion.origins(), 0);
-            write_diagnostic(text, unit, origin, Code::CodeTooLong)?;
-            Ok(None)
-        }
-        Err(GenerateError::OutOfMemory) => Err(AllocError),
-    }
-}
-
-/// Compiles a unit, or appends its diagnostics to `text`, in the order of their tokens. A pass with faults is the last.
-#[tactic(auto, unfolding(pli_meaning::specs::Scratch::compiled_of))]
-pub fn compile(
-    alloc: Global,
-    expander: &mut Expander,
-    members: &Members,
-    unit: Name,
-    text: &mut Vec<u8>,
-) -> Result<Option<Compiled>, AllocError>
-    ensures { IfOk result (λ compiled. Tells unit (compiled_of members.now.entries unit) (option_map compiled_view compiled) text.old.items text.new.items) }
-{
-    match parse_unit(alloc, expander, members, unit, text)? {
-        Some(parsed) => code_tree(alloc, unit, &parsed, text),
-        None => Ok(None),
-    }
 }

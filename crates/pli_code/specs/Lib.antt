@@ -1,10 +1,7 @@
-pub mod Declarations
 pub mod Errors
 pub mod Examples
 pub mod Link
 pub mod Machine
 pub mod ModuleView
 pub mod Print
-pub mod Translation
-pub mod Types
 pub mod World

@@ -1,10 +1,10 @@
 -- Linking: a module of the units, or the faults.
-use Rattle.std.specs.Prelude.{ℕ, ◌+◌, Bool, true, false, Result, Ok, Err, List, [], ◌∷◌, ◌++◌, map, if◌then◌else◌}
+use Rattle.std.specs.Prelude.{Bool, Result, Ok, Err, List, [], ◌∷◌, ◌++◌, map, if◌then◌else◌}
 use Rattle.std.specs.Cmp.Lexicographic.{slice_cmp}
 use Rattle.std.specs.List.{filter}
 use Rattle.std.specs.Ordering.{nat_cmp, is_gt}
 use Rattle.pli_base.specs.Name.{Name}
-use Rattle.pli_code.specs.Declarations.{is_among}
+use Rattle.pli_base.specs.Words.{is_among}
 use Rattle.pli_code.specs.ModuleView.{Code, Module}
 
 -- a unit that has been compiled: the member's name, the procedure's name, whether that is a main procedure, and its code

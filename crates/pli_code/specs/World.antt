@@ -1,6 +1,6 @@
 -- What the meaning of a program and the machine share: storage, activations, output and column, and the operations on them.
 -- A generation is the storage of one variable in one activation; generations are numbered from 0 in the order in which they are made.
-use Rattle.std.specs.Prelude.{ℕ, zero, suc, ◌+◌, ◌-◌, ◌^◌, nat_lt, Bool, ◌&&◌, ℤ, pos, ◌+ℤ◌, nat_abs, Option, Some, None, List, [], ◌∷◌, ◌++◌, length, replicate, slice_get, slice_set, if◌then◌else◌}
+use Rattle.std.specs.Prelude.{ℕ, zero, suc, ◌-◌, ◌^◌, nat_lt, Bool, ◌&&◌, ℤ, pos, ◌+ℤ◌, nat_abs, Option, Some, None, List, [], ◌∷◌, ◌++◌, length, replicate, slice_get, slice_set, if◌then◌else◌}
 use Rattle.std.specs.Fmt.{signed_decimal}
 use Rattle.pli_base.specs.Name.{Name}
 use Rattle.pli_code.specs.declared.ending.RunError.{RunError}

@@ -1,10 +1,8 @@
 //! Worked examples of the definitions.
-ghost use Rattle.pli_code.specs.Examples.{FirstCode, DoubtfulFaults, EndsBefore, EndsFull, DoesNotFit, AtTabStop, TwoUnits, OneOfThree, NoneOfTwo};
+ghost use Rattle.pli_code.specs.Examples.{EndsBefore, EndsFull, DoesNotFit, AtTabStop, TwoUnits, OneOfThree, NoneOfTwo};
 
-/// Worked examples: the code of a first program, faults of declarations, printing at the end of a line, and linking.
+/// Worked examples: printing at the end of a line, and linking.
 pub fn worked_examples()
-    ensures first_code { FirstCode }
-    ensures faults { DoubtfulFaults }
     ensures ends_before { EndsBefore }
     ensures ends_full { EndsFull }
     ensures does_not_fit { DoesNotFit }

@@ -1,1 +1,1 @@
-pub mod Lemmas
+pub mod TableLemmas

@@ -2,9 +2,9 @@
 use Rattle.std.specs.Prelude.{◌≡◌, true, false, Result, Ok, Err, List, [], ℕ, ℤ}
 use Rattle.std.specs.Global.{Vec}
 use Rattle.std.specs.List.{flat_map, list_any}
-use Rattle.pli_base.specs.Tree.{Statement}
+use Rattle.pli_lower.specs.LoweredTree.{LoweredStatement}
 use Rattle.pli_code.specs.ModuleView.{Code, code_view}
-use Rattle.pli_code.specs.Translation.{is_too_long, is_wide, numbered, body_constants}
+use Rattle.pli_gen.specs.Translation.{is_too_long, is_wide, numbered, body_constants}
 use Rattle.pli_code.specs.declared.instruction.Code as declared_code
 use Rattle.pli_gen.specs.declared.translation.GenerateError.{GenerateError}
 use Rattle.pli_gen.specs.declared.translation.GenerateError.TheVariants.{TooLong, OutOfMemory}
@@ -16,7 +16,7 @@ Generates (Err TooLong) code = is_too_long code ≡ true
 Generates (Err OutOfMemory) code = Unit {0}
 
 -- the values of statements, numbered by first use
-abbrev pub statement_values : List Statement → List ℕ
+abbrev pub statement_values : List LoweredStatement → List ℕ
 statement_values ss = numbered [] (flat_map (λ s. body_constants s.body) ss)
 
 -- a table of values, or G1 where one of them is wide

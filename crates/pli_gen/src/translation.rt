@@ -1,16 +1,17 @@
 //! Code from trees.
 ghost use Rattle.std.specs.Prelude.{◌≡◌, ◌≤◌, ◌++◌, ◌∷◌, [], length, map, pos, OnOk, IfOk};
 ghost use Rattle.std.specs.List.{flat_map};
-ghost use Rattle.pli_base.specs.TreeView.{reference_view, expression_view, body_view, statement_view, unit_view};
-ghost use Rattle.pli_code.specs.Declarations.{declared_names, slot_of};
-ghost use Rattle.pli_code.specs.Types.{precision, decimal_digits, width};
-ghost use Rattle.pli_code.specs.Translation.{constants_in, body_constants, numbered, values_of, number_in, place_code, expression_code, item_code, body_code, statements_code, descriptions_of, code_of};
+ghost use Rattle.pli_lower.specs.LoweredView.{reference_view, expression_view, body_view, statement_view, unit_view};
+ghost use Rattle.pli_lower.specs.LoweredNames.{declared_names, slot_of};
+ghost use Rattle.pli_lower.specs.LoweredTypes.{precision, decimal_digits, width};
+ghost use Rattle.pli_gen.specs.Translation.{constants_in, body_constants, numbered, values_of, number_in, place_code, expression_code, item_code, body_code, statements_code, descriptions_of, code_of};
 ghost use Rattle.pli_gen.specs.Answers.{Generates, Holds, statement_values};
 ghost use Rattle.pli_gen.specs.declared.translation.GenerateError.TheVariants.{OutOfMemory};
 
 use indexmap::IndexSet;
-use pli_base::{Body, Expression, Name, Reference, Statement, Unit};
+use pli_base::Name;
 use pli_code::{Code, Description, Instruction};
+use pli_lower::{LoweredBody, LoweredExpression, LoweredReference, LoweredStatement, LoweredUnit};
 use std::alloc::{AllocError, AllocFailed, Global};
 use thiserror::Error;
 
@@ -45,40 +46,44 @@ impl<T: Drop> From<AllocFailed<T>> for GenerateError {
 }
 
 /// The binary digits of an expression's value.
-fn precision(expression: &Expression) -> u32
+fn precision(expression: &LoweredExpression) -> u32
     ensures value { result ≡ precision (expression_view expression.now) }
     ensures small { result ≤ 31 }
 {
     match expression {
-        Expression::Variable(_) => 31,
-        Expression::Constant { digits, .. } => (1 + (332 * u32::from(*digits) + 99) / 100).min(31),
-        Expression::Sum(left, right) => (precision(left).max(precision(right)) + 1).min(31),
+        LoweredExpression::Variable(_) => 31,
+        LoweredExpression::Constant { digits, .. } => (1
+            + (332 * u32::from(*digits) + 99) / 100).min(31),
+        LoweredExpression::Sum(left, right) => (precision(left).max(precision(right)) + 1).min(31),
     }
 }
 
 /// The decimal digits of an item that is printed.
-fn decimal_digits(expression: &Expression) -> u16
+fn decimal_digits(expression: &LoweredExpression) -> u16
     ensures value { result ≡ decimal_digits (expression_view expression.now) }
     ensures small { result ≤ 255 }
 {
     match expression {
-        Expression::Constant { digits, .. } => u16::from(*digits),
+        LoweredExpression::Constant { digits, .. } => u16::from(*digits),
         _ => (1 + (100 * precision(expression) + 331) / 332) as u16,
     }
 }
 
 /// Puts the constants of an expression that a table lacks at its end.
-#[tactic(auto, using(crate::proofs::Lemmas::numbered_after))]
-fn add_constants(values: &mut IndexSet<u32>, expression: &Expression) -> Result<(), AllocError>
+#[tactic(auto, using(crate::proofs::TableLemmas::numbered_after))]
+fn add_constants(
+    values: &mut IndexSet<u32>,
+    expression: &LoweredExpression,
+) -> Result<(), AllocError>
     ensures { OnOk result
         (values.new.keys ≡ numbered values.old.keys (constants_in (expression_view expression.now))) }
 {
     match expression {
-        Expression::Variable(_) => {}
-        Expression::Constant { value, .. } => {
+        LoweredExpression::Variable(_) => {}
+        LoweredExpression::Constant { value, .. } => {
             values.insert(*value)?;
         }
-        Expression::Sum(left, right) => {
+        LoweredExpression::Sum(left, right) => {
             add_constants(values, left)?;
             add_constants(values, right)?;
         }
@@ -87,8 +92,11 @@ fn add_constants(values: &mut IndexSet<u32>, expression: &Expression) -> Result<
 }
 
 /// Puts the constants of expressions that a table lacks at its end.
-#[tactic(auto, using(crate::proofs::Lemmas::numbered_after))]
-fn add_all_constants(values: &mut IndexSet<u32>, items: &[Expression]) -> Result<(), AllocError>
+#[tactic(auto, using(crate::proofs::TableLemmas::numbered_after))]
+fn add_all_constants(
+    values: &mut IndexSet<u32>,
+    items: &[LoweredExpression],
+) -> Result<(), AllocError>
     ensures { OnOk result
         (values.new.keys ≡ numbered values.old.keys (flat_map constants_in (map expression_view items.now))) }
 {
@@ -99,19 +107,19 @@ fn add_all_constants(values: &mut IndexSet<u32>, items: &[Expression]) -> Result
 }
 
 /// Puts the constants of a statement that a table lacks at its end.
-fn add_body_constants(values: &mut IndexSet<u32>, body: &Body) -> Result<(), AllocError>
+fn add_body_constants(values: &mut IndexSet<u32>, body: &LoweredBody) -> Result<(), AllocError>
     ensures { OnOk result (values.new.keys ≡ numbered values.old.keys (body_constants (body_view body.now))) }
 {
     match body {
-        Body::Declare(_) | Body::Null => Ok(()),
-        Body::Assign { value, .. } => add_constants(values, value),
-        Body::Put(items) => add_all_constants(values, items.as_slice()),
+        LoweredBody::Declare(_) | LoweredBody::Null => Ok(()),
+        LoweredBody::Assign { value, .. } => add_constants(values, value),
+        LoweredBody::Put(items) => add_all_constants(values, items.as_slice()),
     }
 }
 
 /// The values of a procedure, numbered by first use.
-#[tactic(auto, using(crate::proofs::Lemmas::numbered_after))]
-fn values_of(alloc: Global, statements: &[Statement]) -> Result<IndexSet<u32>, AllocError>
+#[tactic(auto, using(crate::proofs::TableLemmas::numbered_after))]
+fn values_of(alloc: Global, statements: &[LoweredStatement]) -> Result<IndexSet<u32>, AllocError>
     ensures { IfOk result (λ values. values.keys ≡ statement_values (map statement_view statements.now)) }
 {
     let mut values = IndexSet::new(alloc);
@@ -148,7 +156,11 @@ impl Tables<'_> {
     }
 
     /// Appends the code of a place.
-    fn place(&self, reference: &Reference, code: &mut Vec<Instruction>) -> Result<(), AllocError>
+    fn place(
+        &self,
+        reference: &LoweredReference,
+        code: &mut Vec<Instruction>,
+    ) -> Result<(), AllocError>
         ensures { OnOk result
             (code.new.items
             ≡ code.old.items ++ place_code self.now.names.now.keys self.now.values.now.keys (reference_view reference.now)) }
@@ -161,7 +173,7 @@ impl Tables<'_> {
     /// Appends the code of an expression.
     fn expression(
         &self,
-        expression: &Expression,
+        expression: &LoweredExpression,
         code: &mut Vec<Instruction>,
     ) -> Result<(), AllocError>
         ensures { OnOk result
@@ -169,17 +181,17 @@ impl Tables<'_> {
             ≡ code.old.items ++ expression_code self.now.names.now.keys self.now.values.now.keys (expression_view expression.now)) }
     {
         match expression {
-            Expression::Variable(reference) => {
+            LoweredExpression::Variable(reference) => {
                 self.place(reference, code)?;
                 code.push(Instruction::Load)?;
                 Ok(())
             }
-            Expression::Constant { value, .. } => {
+            LoweredExpression::Constant { value, .. } => {
                 let value = self.number(*value);
                 code.push(Instruction::Constant { value })?;
                 Ok(())
             }
-            Expression::Sum(left, right) => {
+            LoweredExpression::Sum(left, right) => {
                 self.expression(left, code)?;
                 self.expression(right, code)?;
                 code.push(Instruction::Add)?;
@@ -189,7 +201,7 @@ impl Tables<'_> {
     }
 
     /// Appends the code of an item that is printed.
-    fn item(&self, item: &Expression, code: &mut Vec<Instruction>) -> Result<(), AllocError>
+    fn item(&self, item: &LoweredExpression, code: &mut Vec<Instruction>) -> Result<(), AllocError>
         ensures { OnOk result
             (code.new.items
             ≡ code.old.items ++ item_code self.now.names.now.keys self.now.values.now.keys (expression_view item.now)) }
@@ -202,7 +214,11 @@ impl Tables<'_> {
     }
 
     /// Appends the code of items that are printed.
-    fn items(&self, items: &[Expression], code: &mut Vec<Instruction>) -> Result<(), AllocError>
+    fn items(
+        &self,
+        items: &[LoweredExpression],
+        code: &mut Vec<Instruction>,
+    ) -> Result<(), AllocError>
         ensures { OnOk result
             (code.new.items
             ≡ code.old.items ++ flat_map (item_code self.now.names.now.keys self.now.values.now.keys) (map expression_view items.now)) }
@@ -216,7 +232,7 @@ impl Tables<'_> {
     /// Appends the code of a statement.
     fn statement(
         &self,
-        statement: &Statement,
+        statement: &LoweredStatement,
         code: &mut Vec<Instruction>,
     ) -> Result<(), AllocError>
         ensures { OnOk result
@@ -228,12 +244,12 @@ impl Tables<'_> {
             statement: statement.number,
         };
         match &statement.body {
-            Body::Null => {
+            LoweredBody::Null => {
                 code.push(step)?;
                 Ok(())
             }
-            Body::Declare(_) => Ok(()),
-            Body::Assign { target, value } => {
+            LoweredBody::Declare(_) => Ok(()),
+            LoweredBody::Assign { target, value } => {
                 code.push(step)?;
                 self.place(target, code)?;
                 self.expression(value, code)?;
@@ -241,7 +257,7 @@ impl Tables<'_> {
                 code.push(Instruction::Store)?;
                 Ok(())
             }
-            Body::Put(items) => {
+            LoweredBody::Put(items) => {
                 code.push(step)?;
                 self.items(items.as_slice(), code)?;
                 Ok(())
@@ -253,7 +269,7 @@ impl Tables<'_> {
     fn instructions(
         &self,
         alloc: Global,
-        statements: &[Statement],
+        statements: &[LoweredStatement],
     ) -> Result<Vec<Instruction>, AllocError>
         ensures { IfOk result
             (λ code. code.items
@@ -293,18 +309,17 @@ fn descriptions(alloc: Global, names: &[Name]) -> Result<Vec<Description>, Alloc
     Ok(table)
 }
 
-/// The code of a procedure whose declarations have no fault, where `names` are the names that it declares: a name's index is
-/// its slot.
-pub fn generate(alloc: Global, unit: &Unit, names: &IndexSet<Name>) -> Result<Code, GenerateError>
-    requires { names.now.keys ≡ declared_names (unit_view unit.now) }
+/// The code of a lowered unit.
+pub fn generate(alloc: Global, unit: &LoweredUnit) -> Result<Code, GenerateError>
+    requires { unit.now.names.keys ≡ declared_names (unit_view unit.now) }
     ensures { Generates result (code_of (unit_view unit.now)) }
 {
     let values = values_of(alloc, unit.statements.as_slice())?;
-    if names.len() > TABLE_LIMIT || values.len() > TABLE_LIMIT {
+    if unit.names.len() > TABLE_LIMIT || values.len() > TABLE_LIMIT {
         return Err(GenerateError::TooLong);
     }
     let tables = Tables {
-        names,
+        names: &unit.names,
         values: &values,
     };
     let instructions = tables.instructions(alloc, unit.statements.as_slice())?;
@@ -312,8 +327,8 @@ pub fn generate(alloc: Global, unit: &Unit, names: &IndexSet<Name>) -> Result<Co
         return Err(GenerateError::TooLong);
     }
     Ok(Code {
-        slots: names.len() as u16,
-        descriptions: descriptions(alloc, names.as_slice())?,
+        slots: unit.names.len() as u16,
+        descriptions: descriptions(alloc, unit.names.as_slice())?,
         values: value_table(alloc, values.as_slice())?,
         instructions,
     })

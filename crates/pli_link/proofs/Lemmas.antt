@@ -8,8 +8,7 @@ use Rattle.std.specs.List.{position_or_len, list_any}
 use Rattle.std.specs.Cmp.Lexicographic.{nat_list_eq_equiv}
 use Rattle.std.proofs.lemmas.List.{at_drop_more}
 use Rattle.pli_base.specs.Name.{Name}
-use Rattle.pli_base.specs.Words.{same_name}
-use Rattle.pli_code.specs.Declarations.{is_among}
+use Rattle.pli_base.specs.Words.{same_name, is_among}
 use Rattle.pli_code.specs.Link as link
 use Rattle.pli_code.specs.ModuleView.{Module, code_view}
 use Rattle.pli_link.specs.Answers.{compiled_view, place_view, is_past, first_module}

@@ -5,12 +5,12 @@ use Rattle.std.proofs.lemmas.Bool.{ltb-true}
 use Rattle.pli_base.specs.Name.{Name}
 use Rattle.pli_base.specs.Reading.{◌>>=◌}
 use Rattle.pli_base.specs.Syntax.{Expression, Referred, Constant, Infix}
-use Rattle.pli_base.specs.Tree as small
+use Rattle.pli_lower.specs.LoweredTree as tree
 use Rattle.pli_base.specs.declared.syntax.ConstantValue.{ConstantValue}
 use Rattle.pli_base.specs.declared.syntax.ConstantValue.TheVariants.{Decimal}
 use Rattle.pli_base.specs.declared.syntax.InfixOperator.TheVariants.{Add}
 use Rattle.pli_base.specs.declared.token.Fault.{Fault}
-use Rattle.pli_code.specs.Declarations.{names_in, body_faults}
+use Rattle.pli_lower.specs.LoweredNames.{names_in, body_faults}
 use Rattle.pli_base.specs.Statements.{Statement, Numbered, Body, Null, Declare, Assign, Put, Statements, Ended, Before}
 use Rattle.pli_lower.specs.Lowering.{both, is_of_language, lowered_constant, lowered_reference, lowered_expression, lowered_expressions, lowered_items, lowered_body, is_faultless, of_variables, variables_of, not_yet_built, numbered, lowered_statement, lowered_statements, is_plain, procedure_of, lowered}
 use Rattle.pli_lower.specs.LoweringLaws.{IsConstantOfLanguage, IsExpressionOfLanguage, AreExpressionsOfLanguage, IsBodyOfLanguage, AreStatementsOfLanguage, IsOfLanguage, LowersToLanguage}
@@ -44,61 +44,61 @@ constant_of_language v d h = by (nat_lt v (2 ^ 31)) (nat_lt v (10 ^ d)) refl ref
     by true false e f g = cc
     by false b e f g = cc
 
-constant_lowered : (value : ConstantValue) (s : small.Expression) → lowered_constant value ≡ Some s → IsExpressionOfLanguage s
+constant_lowered : (value : ConstantValue) (s : tree.LoweredExpression) → lowered_constant value ≡ Some s → IsExpressionOfLanguage s
 unfolding lowered_constant
 constant_lowered (Decimal v d) s h = by (is_of_language v d) refl h
   where
-    by : (b : Bool) → is_of_language v d ≡ b → cond b (Some (small.Constant v d)) None ≡ Some s → IsExpressionOfLanguage s
+    by : (b : Bool) → is_of_language v d ≡ b → cond b (Some (tree.Constant v d)) None ≡ Some s → IsExpressionOfLanguage s
     by true e g = subst IsExpressionOfLanguage (some_ok g) (constant_of_language v d e)
     by false e g = cc
 constant_lowered value s h = cc
 
-expression_lowered : (e : Expression) (s : small.Expression) → lowered_expression e ≡ Some s → IsExpressionOfLanguage s
+expression_lowered : (e : Expression) (s : tree.LoweredExpression) → lowered_expression e ≡ Some s → IsExpressionOfLanguage s
 unfolding lowered_expression
-expression_lowered (Referred r) s h = let m = mapped_ok small.Variable (lowered_reference r) s h in subst IsExpressionOfLanguage m.2 tt
+expression_lowered (Referred r) s h = let m = mapped_ok tree.Variable (lowered_reference r) s h in subst IsExpressionOfLanguage m.2 tt
 expression_lowered (Constant at value) s h = constant_lowered value s h
 expression_lowered (Infix Add at l r) s h =
-    let b = both_ok small.Sum (lowered_expression l) (lowered_expression r) s h in
+    let b = both_ok tree.Sum (lowered_expression l) (lowered_expression r) s h in
     subst IsExpressionOfLanguage b.4 (expression_lowered l b.0 b.2, expression_lowered r b.1 b.3)
 expression_lowered e s h = cc
 
-expressions_lowered : (es : List Expression) (ss : List small.Expression) → lowered_expressions es ≡ Some ss → AreExpressionsOfLanguage ss
+expressions_lowered : (es : List Expression) (ss : List tree.LoweredExpression) → lowered_expressions es ≡ Some ss → AreExpressionsOfLanguage ss
 unfolding lowered_expressions
 expressions_lowered [] ss h = subst AreExpressionsOfLanguage (some_ok h) tt
 expressions_lowered (e ∷ es) ss h =
     let b = both_ok (λ x xs. x ∷ xs) (lowered_expression e) (lowered_expressions es) ss h in
     subst AreExpressionsOfLanguage b.4 (expression_lowered e b.0 b.2, expressions_lowered es b.1 b.3)
 
-body_lowered : (b : Body) (s : small.Body) → lowered_body b ≡ Some s → IsBodyOfLanguage s
+body_lowered : (b : Body) (s : tree.LoweredBody) → lowered_body b ≡ Some s → IsBodyOfLanguage s
 unfolding lowered_body
 body_lowered Null s h = subst IsBodyOfLanguage (some_ok h) tt
-body_lowered (Declare items) s h = let m = mapped_ok small.Declare (lowered_items items) s h in subst IsBodyOfLanguage m.2 tt
+body_lowered (Declare items) s h = let m = mapped_ok tree.Declare (lowered_items items) s h in subst IsBodyOfLanguage m.2 tt
 body_lowered (Assign target equals value) s h =
-    let b = both_ok small.Assign (lowered_reference target) (lowered_expression value) s h in
+    let b = both_ok tree.Assign (lowered_reference target) (lowered_expression value) s h in
     subst IsBodyOfLanguage b.4 (expression_lowered value b.1 b.3)
-body_lowered (Put false (e ∷ es)) s h = let m = mapped_ok small.Put (lowered_expressions (e ∷ es)) s h in subst IsBodyOfLanguage m.2 (expressions_lowered (e ∷ es) m.0 m.1)
+body_lowered (Put false (e ∷ es)) s h = let m = mapped_ok tree.Put (lowered_expressions (e ∷ es)) s h in subst IsBodyOfLanguage m.2 (expressions_lowered (e ∷ es) m.0 m.1)
 body_lowered b s h = cc
 
 -- a body of variables: it was lowered, and has no fault
-pub of_variables_ok : (names before : List Name) (x : Option small.Body) (b : small.Body) → of_variables names before x ≡ Some b → (x ≡ Some b) × (is_faultless (body_faults names before b) ≡ true)
+pub of_variables_ok : (names before : List Name) (x : Option tree.LoweredBody) (b : tree.LoweredBody) → of_variables names before x ≡ Some b → (x ≡ Some b) × (is_faultless (body_faults names before b) ≡ true)
 of_variables_ok names before None b h = cc
 of_variables_ok names before (Some a) b h = by (is_faultless (body_faults names before a)) refl h
   where
-    by : (c : Bool) → is_faultless (body_faults names before a) ≡ c → cond c (Some a) None ≡ Some b → (◌≡◌ {A = Option small.Body} (Some a) (Some b)) × (is_faultless (body_faults names before b) ≡ true)
+    by : (c : Bool) → is_faultless (body_faults names before a) ≡ c → cond c (Some a) None ≡ Some b → (◌≡◌ {A = Option tree.LoweredBody} (Some a) (Some b)) × (is_faultless (body_faults names before b) ≡ true)
     by true e g = (g, subst (λ b. is_faultless (body_faults names before b) ≡ true) (some_ok g) e)
     by false e g = cc
 
-pub numbered_ok : (number at : ℕ) (body : Option small.Body) (s : small.Statement) → numbered number at body ≡ Ok s → body ≡ Some s.body
+pub numbered_ok : (number at : ℕ) (body : Option tree.LoweredBody) (s : tree.LoweredStatement) → numbered number at body ≡ Ok s → body ≡ Some s.body
 numbered_ok number at None s h = cc
-numbered_ok number at (Some b) s h = ap (λ (s : small.Statement). Some s.body) (same_ok h)
+numbered_ok number at (Some b) s h = ap (λ (s : tree.LoweredStatement). Some s.body) (same_ok h)
 
-statement_lowered : (names before : List Name) (t : Statement) (s : small.Statement) → lowered_statement names before t ≡ Ok s → IsBodyOfLanguage s.body
+statement_lowered : (names before : List Name) (t : Statement) (s : tree.LoweredStatement) → lowered_statement names before t ≡ Ok s → IsBodyOfLanguage s.body
 unfolding lowered_statement
 statement_lowered names before (Numbered number None at body) s h =
     body_lowered body s.body (of_variables_ok names before (lowered_body body) s.body (numbered_ok number at (of_variables names before (lowered_body body)) s h)).0
 statement_lowered names before (Numbered number (Some label) at body) s h = cc
 
-statements_lowered : (names before : List Name) (ts : Statements) (ss : List small.Statement) → lowered_statements names before ts ≡ Ok ss → AreStatementsOfLanguage ss
+statements_lowered : (names before : List Name) (ts : Statements) (ss : List tree.LoweredStatement) → lowered_statements names before ts ≡ Ok ss → AreStatementsOfLanguage ss
 unfolding lowered_statements
 statements_lowered names before Ended ss h = subst AreStatementsOfLanguage (same_ok h) tt
 statements_lowered names before (Before first more) ss h =

@@ -2,10 +2,10 @@
 use Rattle.std.proofs.Common.{◌≡◌, ℕ, Bool, true, false, cond, ◌∷◌, Option, Some, None, Result, Ok, Err, List, [], ◌++◌, ap, sym}
 use Rattle.pli_base.specs.Reading.{◌>>=◌}
 use Rattle.pli_base.specs.Name.{Name}
-use Rattle.pli_base.specs.Tree as small
+use Rattle.pli_lower.specs.LoweredTree as tree
 use Rattle.pli_base.specs.declared.code.Code.TheVariants.{NotYetBuilt}
 use Rattle.pli_base.specs.declared.token.Fault.{Fault}
-use Rattle.pli_code.specs.Declarations.{names_in}
+use Rattle.pli_lower.specs.LoweredNames.{names_in}
 use Rattle.pli_base.specs.Statements.{Statement, Numbered, Statements, Ended, Before}
 use Rattle.pli_lower.specs.Lowering.{not_yet_built, numbered, of_variables, variables_of, lowered_body, lowered_statement, lowered_statements, is_plain, procedure_of, lowered}
 use Rattle.pli_lower.specs.LoweringLaws.{FailsAsNotYetBuilt}
@@ -24,14 +24,14 @@ bind_fault (Err e) g f first second h = first (ap Err (same_err h))
 no_fault : {A : Type 0} (x : A) (f : Fault) → ◌≡◌ {A = Result A Fault} (Ok x) (Err f) → f.code ≡ NotYetBuilt
 no_fault x f h = cc
 
-numbered_fault : (number at : ℕ) (body : Option small.Body) (f : Fault) → numbered number at body ≡ Err f → f.code ≡ NotYetBuilt
-numbered_fault number at None f h = made_fault {A = small.Statement} at f h
+numbered_fault : (number at : ℕ) (body : Option tree.LoweredBody) (f : Fault) → numbered number at body ≡ Err f → f.code ≡ NotYetBuilt
+numbered_fault number at None f h = made_fault {A = tree.LoweredStatement} at f h
 numbered_fault number at (Some body) f h = cc
 
 statement_fault : (names before : List Name) (t : Statement) (f : Fault) → lowered_statement names before t ≡ Err f → f.code ≡ NotYetBuilt
 unfolding lowered_statement
 statement_fault names before (Numbered number None at body) f h = numbered_fault number at (of_variables names before (lowered_body body)) f h
-statement_fault names before (Numbered number (Some label) at body) f h = made_fault {A = small.Statement} label.at f h
+statement_fault names before (Numbered number (Some label) at body) f h = made_fault {A = tree.LoweredStatement} label.at f h
 
 statements_fault : (names before : List Name) (ts : Statements) (f : Fault) → lowered_statements names before ts ≡ Err f → f.code ≡ NotYetBuilt
 unfolding lowered_statements
@@ -44,6 +44,6 @@ pub fails_as_not_yet_built : FailsAsNotYetBuilt
 unfolding lowered
 fails_as_not_yet_built unit f h = by (is_plain unit.heading) (lowered_statements (variables_of unit.statements) [] unit.statements) (statements_fault (variables_of unit.statements) [] unit.statements f) h
   where
-    by : (b : Bool) (r : Result (List small.Statement) Fault) → (r ≡ Err f → f.code ≡ NotYetBuilt) → cond b (r >>= λ ss. Ok (procedure_of unit.heading ss)) (not_yet_built unit.heading.name.at) ≡ Err f → f.code ≡ NotYetBuilt
+    by : (b : Bool) (r : Result (List tree.LoweredStatement) Fault) → (r ≡ Err f → f.code ≡ NotYetBuilt) → cond b (r >>= λ ss. Ok (procedure_of unit.heading ss)) (not_yet_built unit.heading.name.at) ≡ Err f → f.code ≡ NotYetBuilt
     by true r known e = bind_fault r (λ ss. Ok (procedure_of unit.heading ss)) f known (λ ss. no_fault (procedure_of unit.heading ss) f) e
-    by false r known e = made_fault {A = small.Procedure} unit.heading.name.at f e
+    by false r known e = made_fault {A = tree.LoweredUnit} unit.heading.name.at f e

@@ -6,11 +6,11 @@ use Rattle.std.proofs.lemmas.List.{at_drop_more}
 use Rattle.indexmap.specs.IndexSet.{insert_key, insert_all}
 use Rattle.pli_base.specs.Name.{Name}
 use Rattle.pli_base.specs.Reading.{◌>>=◌}
-use Rattle.pli_base.specs.Tree as small
-use Rattle.pli_base.specs.Words.{same_name}
+use Rattle.pli_lower.specs.LoweredTree as tree
+use Rattle.pli_base.specs.Words.{same_name, is_among}
 use Rattle.pli_base.specs.declared.code.Code.TheVariants.{NotDeclared}
 use Rattle.pli_base.specs.declared.token.Fault.{Fault}
-use Rattle.pli_code.specs.Declarations.{is_among, names_in, undeclared, expression_faults, body_faults, faults_from, declaration_faults}
+use Rattle.pli_lower.specs.LoweredNames.{names_in, undeclared, expression_faults, body_faults, faults_from, declaration_faults}
 use Rattle.pli_base.specs.StatementView.{statement_view, statements_view}
 use Rattle.pli_base.specs.Statements.{Statement, Numbered, Body, Null, Declare, Assign, Put, Statements, Ended, Before}
 use Rattle.pli_base.specs.declared.statement.Statement.{Statement as Written}
@@ -76,25 +76,25 @@ all_inserted known (n ∷ ns) m =
 -- lowering with other lists of the same names
 
 module _ (names others : List Name) (p : HaveSame names others) where
-  undeclared_same : (r : small.Reference) → undeclared names r ≡ undeclared others r
+  undeclared_same : (r : tree.LoweredReference) → undeclared names r ≡ undeclared others r
   undeclared_same r = ap (λ c. if c then [] else record { code = NotDeclared; at = r.at } ∷ []) (p.at r.name)
 
-  expression_same : (e : small.Expression) → expression_faults names e ≡ expression_faults others e
-  expression_same (small.Variable r) = undeclared_same r
-  expression_same (small.Constant v d) = refl
-  expression_same (small.Sum l r) = ap (λ fs. fs ++ expression_faults names r) (expression_same l) ∙ ap (λ fs. expression_faults others l ++ fs) (expression_same r)
+  expression_same : (e : tree.LoweredExpression) → expression_faults names e ≡ expression_faults others e
+  expression_same (tree.Variable r) = undeclared_same r
+  expression_same (tree.Constant v d) = refl
+  expression_same (tree.Sum l r) = ap (λ fs. fs ++ expression_faults names r) (expression_same l) ∙ ap (λ fs. expression_faults others l ++ fs) (expression_same r)
 
-  items_same : (es : List small.Expression) → flat_map (expression_faults names) es ≡ flat_map (expression_faults others) es
+  items_same : (es : List tree.LoweredExpression) → flat_map (expression_faults names) es ≡ flat_map (expression_faults others) es
   items_same [] = refl
   items_same (e ∷ es) = ap (λ fs. fs ++ flat_map (expression_faults names) es) (expression_same e) ∙ ap (λ fs. expression_faults others e ++ fs) (items_same es)
 
-  body_same : (before : List Name) (body : small.Body) → body_faults names before body ≡ body_faults others before body
-  body_same before small.Null = refl
-  body_same before (small.Declare items) = refl
-  body_same before (small.Assign target value) = ap (λ fs. fs ++ expression_faults names value) (undeclared_same target) ∙ ap (λ fs. undeclared others target ++ fs) (expression_same value)
-  body_same before (small.Put items) = items_same items
+  body_same : (before : List Name) (body : tree.LoweredBody) → body_faults names before body ≡ body_faults others before body
+  body_same before tree.Null = refl
+  body_same before (tree.Declare items) = refl
+  body_same before (tree.Assign target value) = ap (λ fs. fs ++ expression_faults names value) (undeclared_same target) ∙ ap (λ fs. undeclared others target ++ fs) (expression_same value)
+  body_same before (tree.Put items) = items_same items
 
-  of_variables_same : (before : List Name) (body : Option small.Body) → of_variables names before body ≡ of_variables others before body
+  of_variables_same : (before : List Name) (body : Option tree.LoweredBody) → of_variables names before body ≡ of_variables others before body
   of_variables_same before None = refl
   of_variables_same before (Some body) = ap (λ fs. if is_faultless fs then Some body else None) (body_same before body)
 
@@ -108,10 +108,10 @@ module _ (names others : List Name) (p : HaveSame names others) where
   statements_same before Ended = refl
   statements_same before (Before first more) = by (lowered_statement names before first) (λ s. statements_same (before ++ names_in s.body) more) ∙ ap (λ r. r >>= go others) (statement_same before first)
     where
-      go : List Name → small.Statement → Result (List small.Statement) Fault
+      go : List Name → tree.LoweredStatement → Result (List tree.LoweredStatement) Fault
       go ns s = lowered_statements ns (before ++ names_in s.body) more >>= λ ss. Ok (s ∷ ss)
 
-      by : (r : Result small.Statement Fault) → ((s : small.Statement) → lowered_statements names (before ++ names_in s.body) more ≡ lowered_statements others (before ++ names_in s.body) more) → (r >>= go names) ≡ (r >>= go others)
+      by : (r : Result tree.LoweredStatement Fault) → ((s : tree.LoweredStatement) → lowered_statements names (before ++ names_in s.body) more ≡ lowered_statements others (before ++ names_in s.body) more) → (r >>= go names) ≡ (r >>= go others)
       by (Ok s) rest = ap (λ q. q >>= λ ss. Ok (s ∷ ss)) (rest s)
       by (Err f) rest = refl
 
@@ -121,32 +121,32 @@ each_once ts keys e = statements_same keys (variables_of ts) (record { at = λ m
 
 -- the variables of what is lowered are those of the unit
 
-body_declares : (number at : ℕ) (body : Body) (b : small.Body) → lowered_body body ≡ Some b → variables_in (Numbered number None at body) ≡ names_in b
+body_declares : (number at : ℕ) (body : Body) (b : tree.LoweredBody) → lowered_body body ≡ Some b → variables_in (Numbered number None at body) ≡ names_in b
 unfolding lowered_body variables_in
 body_declares number at Null b h = ap names_in (some_ok h)
-body_declares number at (Declare items) b h = let m = mapped_ok small.Declare (lowered_items items) b h in ap names_of_items m.1 ∙ ap names_in m.2
+body_declares number at (Declare items) b h = let m = mapped_ok tree.Declare (lowered_items items) b h in ap names_of_items m.1 ∙ ap names_in m.2
 body_declares number at (Assign target equals value) b h =
-    let m = both_ok small.Assign (lowered_reference target) (lowered_expression value) b h in
+    let m = both_ok tree.Assign (lowered_reference target) (lowered_expression value) b h in
     ap names_in m.4
-body_declares number at (Put false (e ∷ es)) b h = let m = mapped_ok small.Put (lowered_expressions (e ∷ es)) b h in ap names_in m.2
+body_declares number at (Put false (e ∷ es)) b h = let m = mapped_ok tree.Put (lowered_expressions (e ∷ es)) b h in ap names_in m.2
 body_declares number at body b h = cc
 
-record IsOfVariables (names before : List Name) (t : Statement) (s : small.Statement) : Type 0 where
+record IsOfVariables (names before : List Name) (t : Statement) (s : tree.LoweredStatement) : Type 0 where
   declares : variables_in t ≡ names_in s.body
   faultless : body_faults names before s.body ≡ []
 
-statement_of_variables : (names before : List Name) (t : Statement) (s : small.Statement) → lowered_statement names before t ≡ Ok s → IsOfVariables names before t s
+statement_of_variables : (names before : List Name) (t : Statement) (s : tree.LoweredStatement) → lowered_statement names before t ≡ Ok s → IsOfVariables names before t s
 unfolding lowered_statement
 statement_of_variables names before (Numbered number None at body) s h =
     let known = of_variables_ok names before (lowered_body body) s.body (numbered_ok number at (of_variables names before (lowered_body body)) s h) in
     record { declares = body_declares number at body s.body known.0; faultless = no_faults (body_faults names before s.body) known.1 }
 statement_of_variables names before (Numbered number (Some label) at body) s h = cc
 
-record AreOfVariables (names before : List Name) (ts : Statements) (ss : List small.Statement) : Type 0 where
+record AreOfVariables (names before : List Name) (ts : Statements) (ss : List tree.LoweredStatement) : Type 0 where
   declare : variables_of ts ≡ flat_map (λ s. names_in s.body) ss
   faultless : faults_from names before ss ≡ []
 
-statements_of_variables : (names before : List Name) (ts : Statements) (ss : List small.Statement) → lowered_statements names before ts ≡ Ok ss → AreOfVariables names before ts ss
+statements_of_variables : (names before : List Name) (ts : Statements) (ss : List tree.LoweredStatement) → lowered_statements names before ts ≡ Ok ss → AreOfVariables names before ts ss
 unfolding lowered_statements variables_of
 statements_of_variables names before Ended ss h = subst (AreOfVariables names before Ended) (same_ok h) (record { declare = refl; faultless = refl })
 statements_of_variables names before (Before first more) ss h =

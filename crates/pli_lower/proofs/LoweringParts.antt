@@ -4,7 +4,7 @@ use Rattle.std.specs.Prelude.{is_none}
 use Rattle.std.specs.List.{list_any}
 use Rattle.std.proofs.lemmas.Bool.{lt-ltb, ne_eqb}
 use Rattle.std.proofs.Math.Nat.{pow-le-pow_right}
-use Rattle.pli_base.specs.Tree as small
+use Rattle.pli_lower.specs.LoweredTree as tree
 use Rattle.pli_base.specs.Reading.{◌>>=◌}
 use Rattle.pli_base.specs.Syntax.{Named}
 use Rattle.pli_base.specs.declared.token.Fault.{Fault}
@@ -64,7 +64,7 @@ pub unit_parts : (p : Procedure)
 unfolding lowered
 unit_parts p =
     let x = out-Procedure p in
-    let wanted : Bool → Bool → Result small.Procedure Fault =
+    let wanted : Bool → Bool → Result tree.LoweredUnit Fault =
     λ returns main. if (length x.parameters.items == 0) && not returns then (lowered_statements (variables_of (statements_view x.statements.items)) [] (statements_view x.statements.items) >>= λ ss. Ok (record { name = x.name.name; is_main = main; statements = ss })) else not_yet_built x.name.at in
     ap lowered (unit_out p)
     ∙ ap (λ returns. wanted returns (list_any is_main (map option_view x.options.items))) (any_seen option_view is_returns x.options.items)

@@ -3,7 +3,7 @@ use Rattle.std.specs.Prelude.{ℕ, ◌^◌, ◌==◌, nat_lt, Bool, true, false,
 use Rattle.std.specs.List.{list_any}
 use Rattle.pli_base.specs.Name.{Name}
 use Rattle.pli_base.specs.Words.{declared_precision}
-use Rattle.pli_base.specs.Tree as small
+use Rattle.pli_lower.specs.LoweredTree as tree
 use Rattle.pli_base.specs.Reading.{◌>>=◌, at_fault}
 use Rattle.pli_base.specs.Syntax.{Expression, Referred, Constant, Infix, Reference, Named, Alone, Absent}
 use Rattle.pli_base.specs.declared.syntax.ConstantValue.{ConstantValue}
@@ -12,7 +12,7 @@ use Rattle.pli_base.specs.declared.syntax.InfixOperator.TheVariants.{Add}
 use Rattle.pli_base.specs.declared.syntax.Identifier.{Identifier}
 use Rattle.pli_base.specs.declared.code.Code.TheVariants.{NotYetBuilt}
 use Rattle.pli_base.specs.declared.token.Fault.{Fault}
-use Rattle.pli_code.specs.Declarations.{names_in, body_faults}
+use Rattle.pli_lower.specs.LoweredNames.{names_in, body_faults}
 use Rattle.pli_base.specs.Declarations.{Attribute, Simple, Fixed, Binary, Item}
 use Rattle.pli_base.specs.Statements.{ProcedureOption, Main, Returns, Heading, Statement, Numbered, Body, Null, Declare, Assign, Put, Statements, Ended, Before, ExternalProcedure}
 
@@ -27,28 +27,28 @@ abbrev pub is_of_language : (value digits : ℕ) → Bool
 is_of_language value digits = nat_lt value (2 ^ 31) && nat_lt value (10 ^ digits)
 
 -- a decimal constant
-unfoldable pub lowered_constant : ConstantValue → Option small.Expression
-lowered_constant (Decimal value digits) = if is_of_language value digits then Some (small.Constant value digits) else None
+unfoldable pub lowered_constant : ConstantValue → Option tree.LoweredExpression
+lowered_constant (Decimal value digits) = if is_of_language value digits then Some (tree.Constant value digits) else None
 lowered_constant value = None
 
 -- a variable by its name, at the name's token
-abbrev pub variable_named : Identifier → small.Reference
+abbrev pub variable_named : Identifier → tree.LoweredReference
 variable_named name = record { name = name.name; at = name.at }
 
 -- a name alone, without arguments and without further parts
-unfoldable pub lowered_reference : Reference → Option small.Reference
+unfoldable pub lowered_reference : Reference → Option tree.LoweredReference
 lowered_reference (Named name Absent Alone) = Some (variable_named name)
 lowered_reference reference = None
 
 -- names, decimal constants and their sums
-unfoldable pub lowered_expression : Expression → Option small.Expression
-lowered_expression (Referred reference) = option_map small.Variable (lowered_reference reference)
+unfoldable pub lowered_expression : Expression → Option tree.LoweredExpression
+lowered_expression (Referred reference) = option_map tree.Variable (lowered_reference reference)
 lowered_expression (Constant at value) = lowered_constant value
-lowered_expression (Infix Add at left right) = both small.Sum (lowered_expression left) (lowered_expression right)
+lowered_expression (Infix Add at left right) = both tree.Sum (lowered_expression left) (lowered_expression right)
 lowered_expression expression = None
 
 -- the items of a list, in order
-unfoldable pub lowered_expressions : List Expression → Option (List small.Expression)
+unfoldable pub lowered_expressions : List Expression → Option (List tree.LoweredExpression)
 lowered_expressions [] = Some []
 lowered_expressions (e ∷ es) = both (λ x xs. x ∷ xs) (lowered_expression e) (lowered_expressions es)
 
@@ -69,24 +69,24 @@ abbrev pub is_variables : Item → Bool
 is_variables item = is_none item.level && (length item.dimensions == 0) && is_fixed_binary item.attributes
 
 -- an item of DECLARE: each name is a variable
-abbrev pub lowered_item : Item → Option (List small.Reference)
+abbrev pub lowered_item : Item → Option (List tree.LoweredReference)
 lowered_item item = if is_variables item then Some (map variable_named item.names) else None
 
 -- the variables of all items, in order
-unfoldable pub lowered_items : List Item → Option (List small.Reference)
+unfoldable pub lowered_items : List Item → Option (List tree.LoweredReference)
 lowered_items [] = Some []
 lowered_items (item ∷ items) = both (λ xs ys. xs ++ ys) (lowered_item item) (lowered_items items)
 
 -- a null statement, DECLARE, an assignment, or PUT LIST without SKIP
-unfoldable pub lowered_body : Body → Option small.Body
-lowered_body Null = Some small.Null
-lowered_body (Declare items) = option_map small.Declare (lowered_items items)
-lowered_body (Assign target equals value) = both small.Assign (lowered_reference target) (lowered_expression value)
-lowered_body (Put false (first ∷ more)) = option_map small.Put (lowered_expressions (first ∷ more))
+unfoldable pub lowered_body : Body → Option tree.LoweredBody
+lowered_body Null = Some tree.Null
+lowered_body (Declare items) = option_map tree.Declare (lowered_items items)
+lowered_body (Assign target equals value) = both tree.Assign (lowered_reference target) (lowered_expression value)
+lowered_body (Put false (first ∷ more)) = option_map tree.Put (lowered_expressions (first ∷ more))
 lowered_body body = None
 
 -- the variables of a DECLARE, if it can be compiled
-abbrev pub names_of_items : Option (List small.Reference) → List Name
+abbrev pub names_of_items : Option (List tree.LoweredReference) → List Name
 names_of_items None = []
 names_of_items (Some items) = map (λ r. r.name) items
 
@@ -107,7 +107,7 @@ is_faultless (fault ∷ faults) = false
 -- a body that uses variables alone and declares none again, where names are all variables of the unit and before those that are declared before. Any other name
 -- that a unit without faults of its declarations uses is a label's, a procedure's, a built-in function's or that of another variable; and no such unit declares
 -- a name again
-abbrev pub of_variables : (names before : List Name) → Option small.Body → Option small.Body
+abbrev pub of_variables : (names before : List Name) → Option tree.LoweredBody → Option tree.LoweredBody
 of_variables names before None = None
 of_variables names before (Some body) = if is_faultless (body_faults names before body) then Some body else None
 
@@ -116,17 +116,17 @@ abbrev pub not_yet_built : {A : Type 0} → ℕ → Result A Fault
 not_yet_built at = at_fault NotYetBuilt at
 
 -- a statement of this number whose first token is at
-abbrev pub numbered : (number at : ℕ) → Option small.Body → Result small.Statement Fault
+abbrev pub numbered : (number at : ℕ) → Option tree.LoweredBody → Result tree.LoweredStatement Fault
 numbered number at None = not_yet_built at
 numbered number at (Some body) = Ok (record { number = number; body = body })
 
 -- a statement without a label; a labelled one begins with its label
-unfoldable pub lowered_statement : (names before : List Name) → Statement → Result small.Statement Fault
+unfoldable pub lowered_statement : (names before : List Name) → Statement → Result tree.LoweredStatement Fault
 lowered_statement names before (Numbered number None at body) = numbered number at (of_variables names before (lowered_body body))
 lowered_statement names before (Numbered number (Some label) at body) = not_yet_built label.at
 
 -- statements in order, or the fault of the first that cannot be compiled
-unfoldable pub lowered_statements : (names before : List Name) → Statements → Result (List small.Statement) Fault
+unfoldable pub lowered_statements : (names before : List Name) → Statements → Result (List tree.LoweredStatement) Fault
 lowered_statements names before Ended = Ok []
 lowered_statements names before (Before first more) = do
   statement ← lowered_statement names before first
@@ -148,11 +148,11 @@ abbrev pub is_plain : Heading → Bool
 is_plain heading = (length heading.parameters == 0) && not (list_any is_returns heading.options)
 
 -- a procedure of this heading and these statements
-abbrev pub procedure_of : Heading → List small.Statement → small.Procedure
+abbrev pub procedure_of : Heading → List tree.LoweredStatement → tree.LoweredUnit
 procedure_of heading statements = record { name = heading.name.name; is_main = list_any is_main heading.options; statements = statements }
 
 -- a unit: first its heading, which begins with its name, and then its statements
-unfoldable pub lowered : ExternalProcedure → Result small.Procedure Fault
+unfoldable pub lowered : ExternalProcedure → Result tree.LoweredUnit Fault
 lowered unit =
     if is_plain unit.heading
     then (lowered_statements (variables_of unit.statements) [] unit.statements >>= λ statements. Ok (procedure_of unit.heading statements))

@@ -1,7 +1,7 @@
 -- Worked examples: units and what they are lowered to, or where they cannot be compiled yet.
 use Rattle.std.specs.Prelude.{◌≡◌, ℕ, true, false, Some, None, Result, Ok, List, [], ◌∷◌, codes}
 use Rattle.pli_base.specs.Name.{Name}
-use Rattle.pli_base.specs.Tree as small
+use Rattle.pli_lower.specs.LoweredTree as tree
 use Rattle.pli_base.specs.Syntax.{Expression, Referred, Constant, Parenthesized, Prefix, Infix, Reference, Named, Alone, Joined, Absent, Given, Empty}
 use Rattle.pli_base.specs.declared.syntax.ConstantValue.TheVariants as constants
 use Rattle.pli_base.specs.declared.syntax.Identifier.{Identifier}
@@ -12,7 +12,9 @@ use Rattle.pli_base.specs.declared.token.Fault.{Fault}
 use Rattle.pli_base.specs.Declarations.{SimpleAttribute, Fixed, Binary, Static, Simple, Attribute}
 use Rattle.pli_base.specs.declared.declaration.Bounds.{Bounds}
 use Rattle.pli_base.specs.Statements.{ProcedureOption, Main, Returns, Recursive, Body, Null, Declare, Assign, Put, Stop, Do, Numbered, Statements, Ended, Before, ExternalProcedure}
+use Rattle.pli_base.specs.declared.code.Code.TheVariants.{NotDeclared, DeclaredTwice}
 use Rattle.pli_lower.specs.Lowering.{lowered, not_yet_built}
+use Rattle.pli_lower.specs.LoweredNames.{declaration_faults}
 
 -- a name at a token
 abbrev pub name_at : Name → ℕ → Identifier
@@ -22,7 +24,7 @@ name_at n p = record { name = n; at = p }
 abbrev pub x_at : ℕ → Reference
 x_at p = Named (name_at (codes "X") p) Absent Alone
 
-abbrev pub x : ℕ → small.Reference
+abbrev pub x : ℕ → tree.LoweredReference
 x p = record { name = codes "X"; at = p }
 
 -- a decimal constant at a token
@@ -34,11 +36,11 @@ abbrev pub unit : List Identifier → List ProcedureOption → Statements → Ex
 unit parameters options statements = record { heading = record { name = name_at (codes "M") 0; number = 1; parameters = parameters; options = options }; statements = statements; end = 9 }
 
 -- a main procedure of one statement, whose number is 2 and whose first token is token 8
-abbrev pub one : Body → Result small.Procedure Fault
+abbrev pub one : Body → Result tree.LoweredUnit Fault
 one body = lowered (unit [] (Main ∷ []) (Before (Numbered 2 None 8 body) Ended))
 
 -- it is this procedure
-abbrev pub as_one : small.Body → Result small.Procedure Fault
+abbrev pub as_one : tree.LoweredBody → Result tree.LoweredUnit Fault
 as_one body = Ok (record { name = codes "M"; is_main = true; statements = record { number = 2; body = body } ∷ [] })
 
 -- DECLARE of a name with these attributes
@@ -58,7 +60,7 @@ abbrev pub with_x : Statements → Statements
 with_x statements = Before (Numbered 2 None 8 (declared (Fixed None ∷ Binary (Some 31) ∷ []))) statements
 
 -- a main procedure that declares X and has this statement, whose number is 3 and whose first token is token 16
-abbrev pub behind_x : Body → Result small.Procedure Fault
+abbrev pub behind_x : Body → Result tree.LoweredUnit Fault
 behind_x body = lowered (unit [] (Main ∷ []) (with_x (Before (Numbered 3 None 16 body) Ended)))
 
 -- M: PROC OPTIONS(MAIN); DCL X FIXED BIN(31); X = 2 + X; PUT LIST(X); END;
@@ -71,31 +73,31 @@ WholeUnit =
       name = codes "M";
       is_main = true;
       statements =
-          record { number = 2; body = small.Declare (x 9 ∷ []) }
-          ∷ record { number = 3; body = small.Assign (x 16) (small.Sum (small.Constant 2 1) (small.Variable (x 20))) }
-          ∷ record { number = 4; body = small.Put (small.Variable (x 25) ∷ []) }
+          record { number = 2; body = tree.Declare (x 9 ∷ []) }
+          ∷ record { number = 3; body = tree.Assign (x 16) (tree.Sum (tree.Constant 2 1) (tree.Variable (x 20))) }
+          ∷ record { number = 4; body = tree.Put (tree.Variable (x 25) ∷ []) }
           ∷ [];
     })
 
 -- M: PROC RECURSIVE; ; END;
 abbrev pub NoMainProcedure : Type 0
-NoMainProcedure = lowered (unit [] (Recursive ∷ []) (Before (Numbered 2 None 4 Null) Ended)) ≡ Ok (record { name = codes "M"; is_main = false; statements = record { number = 2; body = small.Null } ∷ [] })
+NoMainProcedure = lowered (unit [] (Recursive ∷ []) (Before (Numbered 2 None 4 Null) Ended)) ≡ Ok (record { name = codes "M"; is_main = false; statements = record { number = 2; body = tree.Null } ∷ [] })
 
 -- M: PROC OPTIONS(MAIN); PUT LIST(X); DCL X FIXED BIN(31); END;
 abbrev pub DeclaredBehind : Type 0
 DeclaredBehind =
     lowered (unit [] (Main ∷ []) (Before (Numbered 2 None 8 (Put false (Referred (x_at 11) ∷ []))) (Before (Numbered 3 None 14 (declared_as (name_at (codes "X") 15) (Fixed None ∷ Binary (Some 31) ∷ []))) Ended)))
-    ≡ Ok (record { name = codes "M"; is_main = true; statements = record { number = 2; body = small.Put (small.Variable (x 11) ∷ []) } ∷ record { number = 3; body = small.Declare (x 15 ∷ []) } ∷ [] })
+    ≡ Ok (record { name = codes "M"; is_main = true; statements = record { number = 2; body = tree.Put (tree.Variable (x 11) ∷ []) } ∷ record { number = 3; body = tree.Declare (x 15 ∷ []) } ∷ [] })
 
 -- DCL (X, Y) BIN FIXED(31);
 abbrev pub TwoNames : Type 0
 TwoNames =
     one (Declare (record { level = None; names = name_at (codes "X") 10 ∷ name_at (codes "Y") 12 ∷ []; dimensions = []; attributes = Simple (Binary None) ∷ Simple (Fixed (Some 31)) ∷ [] } ∷ []))
-    ≡ as_one (small.Declare (x 10 ∷ record { name = codes "Y"; at = 12 } ∷ []))
+    ≡ as_one (tree.Declare (x 10 ∷ record { name = codes "Y"; at = 12 } ∷ []))
 
 -- PUT LIST(2147483647);
 abbrev pub GreatestConstant : Type 0
-GreatestConstant = one (Put false (number_at 11 2147483647 10 ∷ [])) ≡ as_one (small.Put (small.Constant 2147483647 10 ∷ []))
+GreatestConstant = one (Put false (number_at 11 2147483647 10 ∷ [])) ≡ as_one (tree.Put (tree.Constant 2147483647 10 ∷ []))
 
 -- M: PROC(A); STOP; END;
 abbrev pub Parameters : Type 0
@@ -200,3 +202,17 @@ abbrev pub DeclaredWithin : Type 0
 DeclaredWithin =
     lowered (unit [] (Main ∷ []) (Before (Numbered 2 None 8 (Put false (Referred (x_at 11) ∷ []))) (Before (Numbered 3 None 14 (Do None (Before (Numbered 4 None 16 (declared_as (name_at (codes "X") 17) (Fixed None ∷ Binary (Some 31) ∷ []))) Ended) 5)) Ended)))
     ≡ not_yet_built 8
+
+-- X is declared twice, and Y nowhere
+abbrev pub doubtful : tree.LoweredUnit
+doubtful = record {
+  name = codes "M";
+  is_main = true;
+  statements =
+      record { number = 2; body = tree.Declare (x 9 ∷ x 16 ∷ []) }
+      ∷ record { number = 3; body = tree.Assign (record { name = codes "Y"; at = 23 }) (tree.Variable (x 25)) } ∷ [];
+}
+
+abbrev pub DoubtfulFaults : Type 0
+DoubtfulFaults =
+    declaration_faults doubtful ≡ record { code = DeclaredTwice; at = 16 } ∷ record { code = NotDeclared; at = 23 } ∷ []

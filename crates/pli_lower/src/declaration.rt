@@ -1,13 +1,13 @@
 //! Lowering of declarations.
 ghost use Rattle.std.specs.Prelude.{◌≡◌, ◌++◌, map, OnOk, is_none};
-ghost use Rattle.pli_base.specs.TreeView as small;
+ghost use Rattle.pli_lower.specs.LoweredView as lowered;
 ghost use Rattle.pli_base.specs.DeclarationView.{attribute_view, item_view};
 ghost use Rattle.pli_lower.specs.Lowering.{is_declared_once, is_fixed_binary, variable_named, lowered_items, is_variables};
 ghost use Rattle.pli_lower.specs.LoweringAnswers.{Lowers};
 
 use crate::answer::Refusal;
 use crate::expression::variable_named;
-use pli_base::Reference;
+use crate::tree::LoweredReference;
 use pli_base::declaration::{Attribute, Item, SimpleAttribute};
 use pli_base::syntax::Identifier;
 use std::alloc::{AllocError, Global};
@@ -53,10 +53,13 @@ fn is_variables(item: &Item) -> bool
 }
 
 /// Puts the variables of these names at the end of a list.
-fn add_variables(variables: &mut Vec<Reference>, names: &[Identifier]) -> Result<(), AllocError>
+fn add_variables(
+    variables: &mut Vec<LoweredReference>,
+    names: &[Identifier],
+) -> Result<(), AllocError>
     ensures { OnOk result
-        (map small.reference_view variables.new.items
-        ≡ map small.reference_view variables.old.items ++ map variable_named names.now) }
+        (map lowered.reference_view variables.new.items
+        ≡ map lowered.reference_view variables.old.items ++ map variable_named names.now) }
 {
     for name in names {
         variables.push(variable_named(name))?;
@@ -65,8 +68,8 @@ fn add_variables(variables: &mut Vec<Reference>, names: &[Identifier]) -> Result
 }
 
 /// Lowers the items of DECLARE.
-pub fn lower_items(alloc: Global, items: &[Item]) -> Result<Vec<Reference>, Refusal>
-    ensures { Lowers (λ v. map small.reference_view v.items) result (lowered_items (map item_view items.now)) }
+pub fn lower_items(alloc: Global, items: &[Item]) -> Result<Vec<LoweredReference>, Refusal>
+    ensures { Lowers (λ v. map lowered.reference_view v.items) result (lowered_items (map item_view items.now)) }
 {
     let mut variables = Vec::new(alloc);
     for item in items {

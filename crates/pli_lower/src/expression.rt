@@ -1,11 +1,12 @@
 //! Lowering of expressions.
 ghost use Rattle.std.specs.Prelude.{◌≡◌, map};
 ghost use Rattle.pli_base.specs.SyntaxView as syntax;
-ghost use Rattle.pli_base.specs.TreeView as small;
+ghost use Rattle.pli_lower.specs.LoweredView as lowered;
 ghost use Rattle.pli_lower.specs.Lowering.{is_of_language, lowered_constant, variable_named, lowered_reference, lowered_expression, lowered_expressions};
 ghost use Rattle.pli_lower.specs.LoweringAnswers.{Lowers};
 
 use crate::answer::Refusal;
+use crate::tree::{LoweredExpression, LoweredReference};
 use pli_base::syntax::{ConstantValue, Expression, Identifier, InfixOperator, Reference};
 use std::alloc::Global;
 
@@ -19,12 +20,12 @@ fn is_of_language(value: u32, digits: u8) -> bool
 
 /// Lowers a decimal constant.
 #[tactic(auto, unfolding(crate::specs::Lowering::lowered_constant))]
-fn lower_constant(value: &ConstantValue) -> Result<pli_base::Expression, Refusal>
-    ensures { Lowers small.expression_view result (lowered_constant value.now) }
+fn lower_constant(value: &ConstantValue) -> Result<LoweredExpression, Refusal>
+    ensures { Lowers lowered.expression_view result (lowered_constant value.now) }
 {
     match value {
         ConstantValue::Decimal { value, digits } if is_of_language(*value, *digits) => {
-            Ok(pli_base::Expression::Constant {
+            Ok(LoweredExpression::Constant {
                 value: *value,
                 digits: *digits,
             })
@@ -34,10 +35,10 @@ fn lower_constant(value: &ConstantValue) -> Result<pli_base::Expression, Refusal
 }
 
 /// The variable of this name.
-pub fn variable_named(name: &Identifier) -> pli_base::Reference
-    ensures { small.reference_view result ≡ variable_named name.now }
+pub fn variable_named(name: &Identifier) -> LoweredReference
+    ensures { lowered.reference_view result ≡ variable_named name.now }
 {
-    pli_base::Reference {
+    LoweredReference {
         name: name.name,
         at: name.at,
     }
@@ -45,8 +46,8 @@ pub fn variable_named(name: &Identifier) -> pli_base::Reference
 
 /// Lowers a reference, if it is a name alone.
 #[tactic(auto, using(crate::proofs::LoweringParts::alone))]
-pub fn lower_reference(reference: &Reference) -> Result<pli_base::Reference, Refusal>
-    ensures { Lowers small.reference_view result (lowered_reference (syntax.reference_view reference.now)) }
+pub fn lower_reference(reference: &Reference) -> Result<LoweredReference, Refusal>
+    ensures { Lowers lowered.reference_view result (lowered_reference (syntax.reference_view reference.now)) }
 {
     if reference.first.arguments.is_none() && reference.joined.is_empty() {
         Ok(variable_named(&reference.first.name))
@@ -60,13 +61,13 @@ pub fn lower_reference(reference: &Reference) -> Result<pli_base::Reference, Ref
 pub fn lower_expression(
     alloc: Global,
     expression: &Expression,
-) -> Result<pli_base::Expression, Refusal>
-    ensures { Lowers small.expression_view result (lowered_expression (syntax.expression_view expression.now)) }
+) -> Result<LoweredExpression, Refusal>
+    ensures { Lowers lowered.expression_view result (lowered_expression (syntax.expression_view expression.now)) }
 {
     match expression {
         Expression::Reference(reference) => {
             let variable = lower_reference(reference)?;
-            Ok(pli_base::Expression::Variable(variable))
+            Ok(LoweredExpression::Variable(variable))
         }
         Expression::Constant { value, .. } => lower_constant(value),
         Expression::Infix {
@@ -77,7 +78,7 @@ pub fn lower_expression(
         } => {
             let left = lower_expression(alloc, left)?;
             let right = lower_expression(alloc, right)?;
-            Ok(pli_base::Expression::Sum(Box::new(alloc, left)?, Box::new(alloc, right)?))
+            Ok(LoweredExpression::Sum(Box::new(alloc, left)?, Box::new(alloc, right)?))
         }
         Expression::Infix { .. } | Expression::Prefix { .. } | Expression::Parenthesized { .. } => {
             Err(Refusal::NotBuilt)
@@ -89,8 +90,8 @@ pub fn lower_expression(
 pub fn lower_expressions(
     alloc: Global,
     expressions: &[Expression],
-) -> Result<Vec<pli_base::Expression>, Refusal>
-    ensures { Lowers (λ v. map small.expression_view v.items) result (lowered_expressions (map syntax.expression_view expressions.now)) }
+) -> Result<Vec<LoweredExpression>, Refusal>
+    ensures { Lowers (λ v. map lowered.expression_view v.items) result (lowered_expressions (map syntax.expression_view expressions.now)) }
 {
     let mut lowered = Vec::new(alloc);
     for expression in expressions {

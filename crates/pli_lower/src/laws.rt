@@ -1,8 +1,8 @@
 //! Laws of lowering.
 ghost use Rattle.pli_lower.specs.LoweringLaws.{LowersToLanguage, LowersToFaultless, FailsAsNotYetBuilt};
-ghost use Rattle.pli_lower.specs.LoweringExamples.{WholeUnit, NoMainProcedure, DeclaredBehind, TwoNames, GreatestConstant, Parameters, WithResult, LabelledStatement, FirstOfTwo, OtherPrecision, NoPrecision, TwoPrecisions, AnotherAttribute, WithLevel, WithDimension, WithSkip, PrefixOperator, ParenthesizedExpression, QualifiedName, WithArguments, BinaryConstant, WithinGroup, NameOfProcedure, TargetOfProcedure, DeclaredAgain, OtherVariable, DeclaredWithin};
+ghost use Rattle.pli_lower.specs.LoweringExamples.{WholeUnit, NoMainProcedure, DeclaredBehind, TwoNames, GreatestConstant, Parameters, WithResult, LabelledStatement, FirstOfTwo, OtherPrecision, NoPrecision, TwoPrecisions, AnotherAttribute, WithLevel, WithDimension, WithSkip, PrefixOperator, ParenthesizedExpression, QualifiedName, WithArguments, BinaryConstant, WithinGroup, NameOfProcedure, TargetOfProcedure, DeclaredAgain, OtherVariable, DeclaredWithin, DoubtfulFaults};
 
-/// Worked examples of what units are lowered to, and of forms and names that cannot be compiled yet.
+/// Worked examples of what units are lowered to, of forms and names that cannot be compiled yet, and of faults of names.
 #[tactic(auto, unfolding(crate::specs::Lowering::lowered_constant, crate::specs::Lowering::lowered_reference, crate::specs::Lowering::lowered_expression, crate::specs::Lowering::lowered_expressions, crate::specs::Lowering::is_fixed_binary, crate::specs::Lowering::lowered_items, crate::specs::Lowering::lowered_body, crate::specs::Lowering::variables_in, crate::specs::Lowering::variables_of, crate::specs::Lowering::lowered_statement, crate::specs::Lowering::lowered_statements, crate::specs::Lowering::lowered))]
 pub fn worked_examples()
     ensures whole_unit { WholeUnit }
@@ -32,6 +32,7 @@ pub fn worked_examples()
     ensures declared_again { DeclaredAgain }
     ensures other_variable { OtherVariable }
     ensures declared_within { DeclaredWithin }
+    ensures faults { DoubtfulFaults }
 {}
 
 /// The law of constants: each constant of a unit that is lowered is at most 2147483647 and has so many digits as it says.

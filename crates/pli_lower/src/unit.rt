@@ -1,15 +1,17 @@
 //! Lowering of units.
-ghost use Rattle.std.specs.Prelude.{◌≡◌};
+ghost use Rattle.std.specs.Prelude.{◌≡◌, IfOk};
 ghost use Rattle.std.specs.List.{list_any};
-ghost use Rattle.pli_base.specs.TreeView as small;
+ghost use Rattle.pli_lower.specs.LoweredView as lowered_tree;
+ghost use Rattle.pli_lower.specs.LoweredNames.{declared_names};
 ghost use Rattle.pli_base.specs.StatementView.{option_view, unit_view};
 ghost use Rattle.pli_lower.specs.Lowering.{lowered, is_main, is_returns};
 ghost use Rattle.pli_lower.specs.LoweringAnswers.{Gives};
 
 use crate::answer::{LowerError, not_yet_built};
 use crate::statement::lower_statements;
+use crate::tree::LoweredUnit;
 use pli_base::Unit;
-use pli_base::statement::{Procedure, ProcedureOption};
+use pli_base::statement::ProcedureOption;
 use std::alloc::Global;
 
 /// Whether the option is OPTIONS(MAIN).
@@ -46,17 +48,19 @@ fn has_result(options: &[ProcedureOption]) -> bool
 /// statements inside others are not looked at. A name that is none of these variables, as a label's or a procedure's, is such a form
 /// too, and so is a name that is declared again, which no unit without faults of its declarations has.
 #[tactic(auto, using(crate::proofs::LoweringParts::unit_parts))]
-pub fn lower(alloc: Global, procedure: &Procedure) -> Result<Unit, LowerError>
-    ensures { Gives small.unit_view result (lowered (unit_view procedure.now)) }
+pub fn lower(alloc: Global, unit: &Unit) -> Result<LoweredUnit, LowerError>
+    ensures value { Gives lowered_tree.unit_view result (lowered (unit_view unit.now)) }
+    ensures names { IfOk result (λ unit. unit.names.keys ≡ declared_names (lowered_tree.unit_view unit)) }
 {
-    let options = procedure.options.as_slice();
-    if !procedure.parameters.is_empty() || has_result(options) {
-        return Err(not_yet_built(procedure.name.at));
+    let options = unit.options.as_slice();
+    if !unit.parameters.is_empty() || has_result(options) {
+        return Err(not_yet_built(unit.name.at));
     }
-    let statements = lower_statements(alloc, procedure.statements.as_slice())?;
-    Ok(Unit {
-        name: procedure.name.name,
+    let lowered = lower_statements(alloc, unit.statements.as_slice())?;
+    Ok(LoweredUnit {
+        name: unit.name.name,
         is_main: has_main(options),
-        statements,
+        statements: lowered.statements,
+        names: lowered.names,
     })
 }

@@ -3,21 +3,22 @@ ghost use Rattle.std.specs.Prelude.{◌≡◌, ◌++◌, [], map, true, Ok, IfOk
 ghost use Rattle.std.specs.List.{list_all};
 ghost use Rattle.indexmap.specs.IndexSet.{insert_all};
 ghost use Rattle.pli_base.specs.Words.{same_name};
-ghost use Rattle.pli_base.specs.TreeView as small;
-ghost use Rattle.pli_code.specs.Declarations.{names_in, repeats, expression_faults, body_faults};
+ghost use Rattle.pli_lower.specs.LoweredView as lowered;
+ghost use Rattle.pli_lower.specs.LoweredNames.{names_in, repeats, expression_faults, body_faults};
 ghost use Rattle.pli_base.specs.StatementView.{statement_view, statements_view};
 ghost use Rattle.pli_lower.specs.Lowering.{variables_in, variables_of, is_faultless};
 
 use crate::answer::Refusal;
 use crate::declaration::lower_items;
+use crate::tree::{LoweredBody, LoweredExpression, LoweredReference};
 use indexmap::IndexSet;
-use pli_base::statement::Statement;
-use pli_base::{Body, Expression, Name, Reference};
+use pli_base::Name;
+use pli_base::statement::{Body, Statement};
 use std::alloc::{AllocError, Global};
 
 /// Puts the names of variables in a set.
-fn add_names(names: &mut IndexSet<Name>, variables: &[Reference]) -> Result<(), AllocError>
-    ensures { OnOk result (names.new.keys ≡ insert_all same_name names.old.keys (map (λ r. r.name) (map small.reference_view variables.now))) }
+fn add_names(names: &mut IndexSet<Name>, variables: &[LoweredReference]) -> Result<(), AllocError>
+    ensures { OnOk result (names.new.keys ≡ insert_all same_name names.old.keys (map (λ r. r.name) (map lowered.reference_view variables.now))) }
 {
     for variable in variables {
         names.insert(variable.name)?;
@@ -35,7 +36,7 @@ fn add_declared(
     ensures { OnOk result (names.new.keys ≡ insert_all same_name names.old.keys (variables_in (statement_view statement.now))) }
 {
     match &statement.body {
-        pli_base::statement::Body::Declare(items) if statement.label.is_none() => {
+        Body::Declare(items) if statement.label.is_none() => {
             match lower_items(alloc, items.as_slice()) {
                 Ok(variables) => add_names(names, variables.as_slice()),
                 Err(Refusal::NotBuilt) => Ok(()),
@@ -60,27 +61,28 @@ pub fn variables(alloc: Global, statements: &[Statement]) -> Result<IndexSet<Nam
 
 /// Whether an expression uses variables alone. It calls itself as deep as operators nest.
 #[tactic(auto, using(crate::proofs::LoweringNames::faultless_both))]
-fn uses_variables(names: &IndexSet<Name>, expression: &Expression) -> bool
-    ensures { result ≡ is_faultless (expression_faults names.now.keys (small.expression_view expression.now)) }
+fn uses_variables(names: &IndexSet<Name>, expression: &LoweredExpression) -> bool
+    ensures { result ≡ is_faultless (expression_faults names.now.keys (lowered.expression_view expression.now)) }
 {
     match expression {
-        Expression::Variable(reference) => names.contains(&reference.name),
-        Expression::Constant { .. } => true,
-        Expression::Sum(left, right) => uses_variables(names, left) && uses_variables(names, right),
+        LoweredExpression::Variable(reference) => names.contains(&reference.name),
+        LoweredExpression::Constant { .. } => true,
+        LoweredExpression::Sum(left, right) => uses_variables(names, left)
+            && uses_variables(names, right),
     }
 }
 
 /// Whether all expressions use variables alone.
-fn all_use_variables(names: &IndexSet<Name>, items: &[Expression]) -> bool
-    ensures { result ≡ list_all (λ item. is_faultless (expression_faults names.now.keys (small.expression_view item))) items.now }
+fn all_use_variables(names: &IndexSet<Name>, items: &[LoweredExpression]) -> bool
+    ensures { result ≡ list_all (λ item. is_faultless (expression_faults names.now.keys (lowered.expression_view item))) items.now }
 {
     items.iter().all(|item| uses_variables(names, item))
 }
 
 /// Puts the names of variables behind those that are declared before, or tells that one is declared before.
-fn declare(before: &mut IndexSet<Name>, variables: &[Reference]) -> Result<bool, AllocError>
-    ensures known { result ≡ Ok true → before.new.keys ≡ before.old.keys ++ map (λ r. r.name) (map small.reference_view variables.now) }
-    ensures value { IfOk result (λ is_new. is_new ≡ is_faultless (repeats before.old.keys (map small.reference_view variables.now))) }
+fn declare(before: &mut IndexSet<Name>, variables: &[LoweredReference]) -> Result<bool, AllocError>
+    ensures known { result ≡ Ok true → before.new.keys ≡ before.old.keys ++ map (λ r. r.name) (map lowered.reference_view variables.now) }
+    ensures value { IfOk result (λ is_new. is_new ≡ is_faultless (repeats before.old.keys (map lowered.reference_view variables.now))) }
 {
     for variable in variables {
         if !before.insert(variable.name)? {
@@ -95,17 +97,17 @@ fn declare(before: &mut IndexSet<Name>, variables: &[Reference]) -> Result<bool,
 pub fn is_of_variables(
     names: &IndexSet<Name>,
     before: &mut IndexSet<Name>,
-    body: &Body,
+    body: &LoweredBody,
 ) -> Result<bool, AllocError>
-    ensures known { result ≡ Ok true → before.new.keys ≡ before.old.keys ++ names_in (small.body_view body.now) }
-    ensures value { IfOk result (λ is_of. is_of ≡ is_faultless (body_faults names.now.keys before.old.keys (small.body_view body.now))) }
+    ensures known { result ≡ Ok true → before.new.keys ≡ before.old.keys ++ names_in (lowered.body_view body.now) }
+    ensures value { IfOk result (λ is_of. is_of ≡ is_faultless (body_faults names.now.keys before.old.keys (lowered.body_view body.now))) }
 {
     match body {
-        Body::Null => Ok(true),
-        Body::Declare(items) => declare(before, items.as_slice()),
-        Body::Assign { target, value } => {
+        LoweredBody::Null => Ok(true),
+        LoweredBody::Declare(items) => declare(before, items.as_slice()),
+        LoweredBody::Assign { target, value } => {
             Ok(names.contains(&target.name) && uses_variables(names, value))
         }
-        Body::Put(items) => Ok(all_use_variables(names, items.as_slice())),
+        LoweredBody::Put(items) => Ok(all_use_variables(names, items.as_slice())),
     }
 }

@@ -1,7 +1,7 @@
 -- Worked examples of the meaning, in a unit M whose statement 1 is PROCEDURE and whose statement 2 declares X.
 use Rattle.std.specs.Prelude.{◌≡◌, ℕ, true, List, [], ◌∷◌, ◌++◌, replicate, codes}
-use Rattle.pli_base.specs.Tree.{Reference, Expression, Variable, Constant, Sum, Body, Null, Declare, Assign, Put, Statement, Procedure}
-use Rattle.pli_code.specs.Declarations.{declaration_faults}
+use Rattle.pli_lower.specs.LoweredTree.{LoweredReference, LoweredExpression, Variable, Constant, Sum, LoweredBody, Null, Declare, Assign, Put, LoweredStatement, LoweredUnit}
+use Rattle.pli_lower.specs.LoweredNames.{declaration_faults}
 use Rattle.pli_code.specs.declared.ending.Ending.{Ending}
 use Rattle.pli_code.specs.declared.ending.Ending.TheVariants.{Ended, OutOfSteps, Error}
 use Rattle.pli_code.specs.declared.ending.RunError.TheVariants.{FixedOverflow}
@@ -10,34 +10,34 @@ use Rattle.pli_meaning.specs.Meaning.{run_effect, whole_run}
 use Rattle.pli_meaning.specs.Sound.{IsSound}
 
 -- X, at the token p
-abbrev pub x_at : ℕ → Reference
+abbrev pub x_at : ℕ → LoweredReference
 x_at p = record { name = codes "X"; at = p }
 
-abbrev pub numbered : ℕ → Body → Statement
+abbrev pub numbered : ℕ → LoweredBody → LoweredStatement
 numbered n body = record { number = n; body = body }
 
 -- `M: PROC OPTIONS(MAIN); DCL X FIXED BIN(31);`, statements 3 and 4, and `END;`
-abbrev pub procedure : (third fourth : Body) → Procedure
+abbrev pub procedure : (third fourth : LoweredBody) → LoweredUnit
 procedure third fourth = record { name = codes "M"; is_main = true; statements = numbered 2 (Declare (x_at 10 ∷ [])) ∷ numbered 3 third ∷ numbered 4 fourth ∷ [] }
 
 -- `X = 2 + 3;`
-abbrev pub five_into_x : Body
+abbrev pub five_into_x : LoweredBody
 five_into_x = Assign (x_at 17) (Sum (Constant 2 1) (Constant 3 1))
 
 -- `X = 2147483647;`
-abbrev pub greatest_into_x : Body
+abbrev pub greatest_into_x : LoweredBody
 greatest_into_x = Assign (x_at 17) (Constant 2147483647 10)
 
 -- `X + 1`
-abbrev pub next_of_x : Expression
+abbrev pub next_of_x : LoweredExpression
 next_of_x = Sum (Variable (x_at 25)) (Constant 1 1)
 
 -- what so many steps of M give
-abbrev pub Gives : Procedure → (steps : ℕ) → List ℕ → Ending → (column : ℕ) → Type 0
+abbrev pub Gives : LoweredUnit → (steps : ℕ) → List ℕ → Ending → (column : ℕ) → Type 0
 Gives u steps output ending column = whole_run (codes "M") u steps ≡ record { output = output; ending = ending; column = column }
 
 -- the procedure of the first run
-abbrev pub first_procedure : Procedure
+abbrev pub first_procedure : LoweredUnit
 first_procedure = procedure five_into_x (Put (Variable (x_at 25) ∷ []))
 
 -- it is one of which the laws speak

@@ -3,7 +3,7 @@ use Rattle.std.specs.Prelude.{◌≡◌, ℕ, Bool, false, Option, Some, None, R
 use Rattle.std.specs.List.{filter, flat_map}
 use Rattle.pli_base.specs.Name.{Name}
 use Rattle.pli_base.specs.Codes.{code_label, code_text}
-use Rattle.pli_base.specs.Tree.{Procedure}
+use Rattle.pli_lower.specs.LoweredTree.{LoweredUnit}
 use Rattle.pli_base.specs.Words.{Tokens}
 use Rattle.pli_base.specs.declared.code.Code.{Code}
 use Rattle.pli_base.specs.declared.code.Code.TheVariants as code
@@ -21,7 +21,7 @@ use Rattle.pli_declare.specs.Resolution.{resolution_faults}
 use Rattle.pli_code.specs.Link.{Compiled, Place, LinkFault, NoMainProcedure, TwoMainProcedures, DefinedTwice, link_of}
 use Rattle.pli_code.specs.Machine.{Outcome}
 use Rattle.pli_code.specs.ModuleView.{Module}
-use Rattle.pli_code.specs.Translation.{code_of, is_too_long}
+use Rattle.pli_gen.specs.Translation.{code_of, is_too_long}
 use Rattle.pli_meaning.specs.Meaning.{whole_run}
 
 -- a diagnostic, at a line of a member
@@ -48,24 +48,24 @@ read_or_fault (Err fault) = Err (fault ∷ [])
 
 -- all faults of a unit's declarations and uses, if there are any; else the unit in the language that is compiled today, or the fault of its first form that
 -- cannot be compiled yet
-abbrev pub lowered_unless : List Fault → ExternalProcedure → Result Procedure (List Fault)
+abbrev pub lowered_unless : List Fault → ExternalProcedure → Result LoweredUnit (List Fault)
 lowered_unless [] unit = read_or_fault (lowered unit)
 lowered_unless (fault ∷ faults) unit = Err (fault ∷ faults)
 
-abbrev pub program_from : Result ExternalProcedure Fault → Result Procedure (List Fault)
+abbrev pub program_from : Result ExternalProcedure Fault → Result LoweredUnit (List Fault)
 program_from (Ok unit) = lowered_unless (resolution_faults unit) unit
 program_from (Err fault) = Err (fault ∷ [])
 
 -- the tree of a unit's tokens, in the language that is compiled today; or the faults of the first pass that has any: reading, then the declarations, then lowering
-abbrev pub program_of : Tokens → Result Procedure (List Fault)
+abbrev pub program_of : Tokens → Result LoweredUnit (List Fault)
 program_of texts = program_from (unit_of texts)
 
 -- a tree and the places of the tokens that it was read from
 pub record Parsed : Type 0 where
   pub origins : List Origin
-  pub tree : Procedure
+  pub tree : LoweredUnit
 
-abbrev pub parsed_as : Name → List Origin → Result Procedure (List Fault) → Result Parsed (List Diagnostic)
+abbrev pub parsed_as : Name → List Origin → Result LoweredUnit (List Fault) → Result Parsed (List Diagnostic)
 parsed_as unit origins (Ok u) = Ok (record { origins = origins; tree = u })
 parsed_as unit origins (Err faults) = Err (map (located unit origins) faults)
 

@@ -1,7 +1,7 @@
 use Rattle.std.proofs.Common.{◌≡◌, get_or, arith}
-use Rattle.pli_base.specs.TreeView.{expression_view}
-use Rattle.pli_code.specs.Translation.{numbered, constants_in}
-use Rattle.pli_gen.proofs.Lemmas.{numbered_more}
+use Rattle.pli_lower.specs.LoweredView.{expression_view}
+use Rattle.pli_gen.specs.Translation.{numbered, constants_in}
+use Rattle.pli_gen.proofs.TableLemmas.{numbered_more}
 use Rattle.pli_gen.proofs.translation.add_all_constants.Goals as goal
 
 pub loop-item-preserved : goal.loop-item-preserved

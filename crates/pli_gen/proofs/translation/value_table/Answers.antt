@@ -1,7 +1,7 @@
 use Rattle.std.proofs.Common.{◌<◌, ℕ, pos, FitsSigned, w32, inl, inr, arith}
 use Rattle.std.proofs.lemmas.Bool.{cases_lt}
 use Rattle.std.proofs.lemmas.Int.{ints}
-use Rattle.pli_gen.proofs.Lemmas.{wide_is_found}
+use Rattle.pli_gen.proofs.TableLemmas.{wide_is_found}
 use Rattle.pli_gen.proofs.translation.value_table.Goals as goal
 
 -- a number that does not fit is wide

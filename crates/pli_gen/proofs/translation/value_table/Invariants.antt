@@ -1,6 +1,6 @@
 use Rattle.std.proofs.Common.{◌≡◌, map, pos, take, false}
 use Rattle.std.specs.List.{list_any}
-use Rattle.pli_code.specs.Translation.{is_wide}
+use Rattle.pli_gen.specs.Translation.{is_wide}
 use Rattle.pli_gen.proofs.translation.value_table.Given as goal
 
 abbrev pub invariant-loop-value : goal.invariant-loop-value

@@ -1,7 +1,7 @@
 use Rattle.std.proofs.Common.{◌≡◌, map, drop}
 use Rattle.std.specs.List.{flat_map}
-use Rattle.pli_base.specs.TreeView.{statement_view}
-use Rattle.pli_code.specs.Translation.{numbered, body_constants}
+use Rattle.pli_lower.specs.LoweredView.{statement_view}
+use Rattle.pli_gen.specs.Translation.{numbered, body_constants}
 use Rattle.pli_gen.specs.Answers.{statement_values}
 use Rattle.pli_gen.proofs.translation.values_of.Given as goal
 

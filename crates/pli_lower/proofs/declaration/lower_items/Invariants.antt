@@ -1,5 +1,5 @@
 use Rattle.std.proofs.Common.{◌≡◌, map, drop}
-use Rattle.pli_base.specs.TreeView.{reference_view}
+use Rattle.pli_lower.specs.LoweredView.{reference_view}
 use Rattle.pli_base.specs.DeclarationView.{item_view}
 use Rattle.pli_lower.specs.Lowering.{lowered_items}
 use Rattle.pli_lower.proofs.LoweringLists.{in_front}

@@ -1,5 +1,5 @@
-use Rattle.pli_meaning.proofs.Growth.{growth}
-use Rattle.pli_meaning.proofs.WholeRun.{members_grow}
+use Rattle.pli_meaning.proofs.RunsGrow.{growth}
+use Rattle.pli_meaning.proofs.MembersDoAsMeant.{members_grow}
 use Rattle.pli_meaning.proofs.laws.grows.Goals as goal
 
 pub returns-clause-members : goal.returns-clause-members

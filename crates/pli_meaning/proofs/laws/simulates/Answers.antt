@@ -1,5 +1,5 @@
-use Rattle.pli_meaning.proofs.Simulation.{simulation}
-use Rattle.pli_meaning.proofs.WholeRun.{members_simulate}
+use Rattle.pli_meaning.proofs.ProceduresSimulate.{simulation}
+use Rattle.pli_meaning.proofs.MembersDoAsMeant.{members_simulate}
 use Rattle.pli_meaning.proofs.laws.simulates.Goals as goal
 
 pub returns-clause-members : goal.returns-clause-members

@@ -1,4 +1,4 @@
-use Rattle.pli_meaning.proofs.Examples.{first_is_sound, first_run, two_steps, no_step, sum, item_before, null, undeclared}
+use Rattle.pli_meaning.proofs.ExampleLemmas.{first_is_sound, first_run, two_steps, no_step, sum, item_before, null, undeclared}
 use Rattle.pli_meaning.proofs.laws.worked_examples.Goals as goal
 
 pub returns-clause-first_run : goal.returns-clause-first_run

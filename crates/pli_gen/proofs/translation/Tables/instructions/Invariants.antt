@@ -1,6 +1,6 @@
 use Rattle.std.proofs.Common.{◌≡◌, ◌++◌, map, drop}
-use Rattle.pli_base.specs.TreeView.{statement_view}
-use Rattle.pli_code.specs.Translation.{statements_code}
+use Rattle.pli_lower.specs.LoweredView.{statement_view}
+use Rattle.pli_gen.specs.Translation.{statements_code}
 use Rattle.pli_gen.proofs.translation.Tables.instructions.Given as goal
 
 abbrev pub invariant-loop-statement : goal.invariant-loop-statement

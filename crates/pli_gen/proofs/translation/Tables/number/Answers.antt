@@ -1,5 +1,5 @@
 use Rattle.std.proofs.Common.{nat_eq}
-use Rattle.pli_gen.proofs.Lemmas.{index_or_len, number_is_place}
+use Rattle.pli_gen.proofs.TableLemmas.{index_or_len, number_is_place}
 use Rattle.pli_gen.proofs.translation.Tables.number.Goals as goal
 
 pub returns : goal.returns

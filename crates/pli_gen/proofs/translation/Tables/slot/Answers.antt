@@ -1,5 +1,5 @@
 use Rattle.pli_base.specs.Words.{same_name}
-use Rattle.pli_gen.proofs.Lemmas.{index_or_len, slot_is_place}
+use Rattle.pli_gen.proofs.TableLemmas.{index_or_len, slot_is_place}
 use Rattle.pli_gen.proofs.translation.Tables.slot.Goals as goal
 
 pub returns : goal.returns

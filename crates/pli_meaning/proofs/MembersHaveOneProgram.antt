@@ -1,0 +1,247 @@
+-- Members that have a module have one main unit, whose tree has no faults.
+use Rattle.std.specs.Prelude.{◌≡◌, ℕ, Bool, true, false, Some, Result, Ok, Err, List, [], ◌∷◌, ◌++◌, map, refl, if◌then◌else◌}
+use Rattle.std.specs.Cmp.Lexicographic.{slice_cmp}
+use Rattle.std.specs.List.{filter, flat_map}
+use Rattle.std.specs.Result.{result_ok}
+use Rattle.std.specs.Ordering.{nat_cmp, is_gt}
+use Rattle.std.proofs.Common.{sym, ◌∙◌, ap, subst}
+use Rattle.pli_base.specs.Name.{Name}
+use Rattle.pli_lower.specs.LoweredTree.{LoweredUnit}
+use Rattle.pli_base.specs.declared.token.Fault.{Fault}
+use Rattle.pli_base.specs.declared.token.Origin.{Origin}
+use Rattle.pli_include.specs.Expanded.{outcome_of}
+use Rattle.pli_include.specs.Expansion.{Outcome}
+use Rattle.pli_members.specs.Members.{Member}
+use Rattle.pli_members.specs.declared.kind.Kind.{Kind}
+use Rattle.pli_members.specs.declared.kind.Kind.TheVariants.{Source, Include}
+use Rattle.pli_lower.specs.LoweredNames.{declaration_faults}
+use Rattle.pli_code.specs.Link.{Compiled, Place, LinkFault, TwoMainProcedures, inserted, in_order_after, in_order, place_of_unit, mains, later, none_among, link_faults, module_or, link_of}
+use Rattle.pli_code.specs.ModuleView.{Module}
+use Rattle.pli_gen.specs.Translation.{code_of, is_too_long}
+use Rattle.pli_lower.specs.Lowering.{lowered}
+use Rattle.pli_lower.proofs.LoweringNames.{lowers_to_faultless}
+use Rattle.pli_parse_statement.specs.StatementReading.{unit_of}
+use Rattle.pli_base.specs.Statements.{ExternalProcedure}
+use Rattle.pli_declare.specs.Resolution.{resolution_faults}
+use Rattle.pli_meaning.specs.Scratch.{Diagnostic, read_or_fault, lowered_unless, program_from, program_of, Parsed, units_of, parsed_as, parsed_from, parsed_of, compiled_from, compiled_of, diagnostics_in, diagnostic_line, one, Made, built, linked, scratch, all_text, all_units, text_in, units_in, sources, source_in, has_main, main_units}
+
+-- a list with an element is not empty
+filled : {A : Type 0} (xs ys : List A) (y : A) → xs ++ y ∷ ys ≡ [] → ⊥
+filled [] ys y e = cc
+filled (x ∷ xs) ys y e = cc
+
+-- the parts of an empty list are empty
+front_empty : {A : Type 0} (xs ys : List A) → xs ++ ys ≡ [] → xs ≡ []
+front_empty [] ys e = refl
+front_empty (x ∷ xs) ys e = cc
+
+back_empty : {A : Type 0} (xs ys : List A) → xs ++ ys ≡ [] → ys ≡ []
+back_empty [] ys e = e
+back_empty (x ∷ xs) ys e = cc
+
+-- where there are diagnostics there is a text
+text_filled : (name : Name) (d : Diagnostic) (ds : List Diagnostic) → flat_map (diagnostic_line name) (d ∷ ds) ≡ [] → ⊥
+text_filled name d ds e = filled _ [] 10 (front_empty (diagnostic_line name d) _ e)
+
+-- what reading gives: a tree whose declarations have no faults, or a fault at least
+abbrev IsRead : Result LoweredUnit (List Fault) → Type 0
+IsRead (Ok u) = declaration_faults u ≡ []
+IsRead (Err []) = ⊥
+IsRead (Err (fault ∷ faults)) = Unit {0}
+
+lowered_read : (r : Result LoweredUnit Fault) → ((u : LoweredUnit) → r ≡ Ok u → declaration_faults u ≡ []) → IsRead (read_or_fault r)
+lowered_read (Ok u) known = known u refl
+lowered_read (Err fault) known = tt
+
+resolved_read : (faults : List Fault) (unit : ExternalProcedure) → IsRead (lowered_unless faults unit)
+resolved_read [] unit = lowered_read (lowered unit) (lowers_to_faultless unit)
+resolved_read (fault ∷ faults) unit = tt
+
+program_read : (r : Result ExternalProcedure Fault) → IsRead (program_from r)
+program_read (Ok unit) = resolved_read (resolution_faults unit) unit
+program_read (Err fault) = tt
+
+-- the same of a unit, whose faults are diagnostics
+abbrev IsParsed : Result Parsed (List Diagnostic) → Type 0
+IsParsed (Ok p) = declaration_faults p.tree ≡ []
+IsParsed (Err []) = ⊥
+IsParsed (Err (d ∷ ds)) = Unit {0}
+
+parsed_as_has : (unit : Name) (origins : List Origin) (r : Result LoweredUnit (List Fault)) → IsRead r → IsParsed (parsed_as unit origins r)
+parsed_as_has unit origins (Ok u) h = h
+parsed_as_has unit origins (Err []) h = h
+parsed_as_has unit origins (Err (fault ∷ faults)) h = tt
+
+parsed_has : (unit : Name) (o : Outcome) → IsParsed (parsed_from unit o)
+parsed_has unit (Err stop) = tt
+parsed_has unit (Ok p) = parsed_as_has unit p.origins (program_of p.texts) (program_read (unit_of p.texts))
+
+unit_parsed : (entries : List (Name × Member)) (unit : Name) → IsParsed (parsed_of entries unit)
+unfolding parsed_of
+unit_parsed entries unit = parsed_has unit (outcome_of entries unit)
+
+parsed_tree : (r : Result Parsed (List Diagnostic)) (p : Parsed) → IsParsed r → Some p ≡ result_ok r → declaration_faults p.tree ≡ []
+parsed_tree (Ok q) p h e = let same : p ≡ q = cc in subst (λ p. declaration_faults p.tree ≡ []) (sym same) h
+parsed_tree (Err ds) p h e = let bad : ⊥ = cc in absurd bad
+
+-- the declarations of a unit's tree have no faults
+pub tree_faultless : (entries : List (Name × Member)) (unit : Name) (p : Parsed) → Some p ≡ result_ok (parsed_of entries unit) → declaration_faults p.tree ≡ []
+tree_faultless entries unit p e = parsed_tree (parsed_of entries unit) p (unit_parsed entries unit) e
+
+abbrev unit_code : Name → Parsed → Compiled
+unit_code name p = record { unit = name; procedure = p.tree.name; is_main = p.tree.is_main; code = code_of p.tree }
+
+-- a unit without diagnostics: its tree has no faults, and this is its code
+record IsClean (name : Name) (r : Result Parsed (List Diagnostic)) (c : Result Compiled (List Diagnostic)) : Type 0 where
+  parsed : Parsed
+  spelled : r ≡ Ok parsed
+  faultless : declaration_faults parsed.tree ≡ []
+  code : c ≡ Ok (unit_code name parsed)
+
+chosen_clean : (name : Name) (p : Parsed) (b : Bool) (d : Diagnostic) → declaration_faults p.tree ≡ []
+    → diagnostics_in name (if b then Err (d ∷ []) else Ok (unit_code name p)) ≡ []
+    → IsClean name (Ok p) (if b then Err (d ∷ []) else Ok (unit_code name p))
+chosen_clean name p true d e h = absurd (text_filled name d [] h)
+chosen_clean name p false d e h = record { parsed = p; spelled = refl; faultless = e; code = refl }
+
+compiled_clean : (name : Name) (r : Result Parsed (List Diagnostic)) → IsParsed r
+    → diagnostics_in name (compiled_from name r) ≡ [] → IsClean name r (compiled_from name r)
+compiled_clean name (Ok p) h e = chosen_clean name p (is_too_long (code_of p.tree)) _ h e
+compiled_clean name (Err []) h e = absurd h
+compiled_clean name (Err (d ∷ ds)) h e = absurd (text_filled name d ds e)
+
+-- a unit without diagnostics
+unit_clean : (entries : List (Name × Member)) (name : Name) → diagnostics_in name (compiled_of entries name) ≡ []
+    → IsClean name (parsed_of entries name) (compiled_of entries name)
+unfolding compiled_of
+unit_clean entries name e = compiled_clean name (parsed_of entries name) (unit_parsed entries name) e
+
+module _ (entries : List (Name × Member)) where
+  -- a unit's code is that of its tree, which has no faults
+  record IsOfTree (c : Compiled) : Type 0 where
+    parsed : Parsed
+    spelled : parsed_of entries c.unit ≡ Ok parsed
+    faultless : declaration_faults parsed.tree ≡ []
+    code : c ≡ unit_code c.unit parsed
+
+  -- so is each of these
+  abbrev AreOfTrees : List Compiled → Type 0
+  AreOfTrees [] = Unit {0}
+  AreOfTrees (c ∷ cs) = IsOfTree c × AreOfTrees cs
+
+  -- a source member is a main unit
+  abbrev is_main_unit : Name → Bool
+  is_main_unit unit = has_main (parsed_of entries unit)
+
+  trees_in : (name : Name) (kind : Kind) (units : List Compiled) → text_in entries name kind ≡ [] → AreOfTrees units → AreOfTrees (units_in entries name kind ++ units)
+  trees_in name Source units h all =
+      let clean = unit_clean entries name h in
+      subst (λ r. AreOfTrees (units_of r ++ units)) (sym clean.code) (record { parsed = clean.parsed; spelled = clean.spelled; faultless = clean.faultless; code = refl }, all)
+  trees_in name Include units h all = all
+
+  -- where there is no diagnostic, each unit is of a tree
+  all_of_trees : (some : List (Name × Member)) → all_text entries some ≡ [] → AreOfTrees (all_units entries some)
+  all_of_trees [] h = tt
+  all_of_trees (x ∷ xs) h = trees_in x.0 x.1.kind (all_units entries xs) (front_empty _ _ h) (all_of_trees xs (back_empty (text_in entries x.0 x.1.kind) _ h))
+
+  mains_of_trees : (cs : List Compiled) → AreOfTrees cs → AreOfTrees (mains cs)
+  mains_of_trees [] all = tt
+  mains_of_trees (c ∷ cs) all = by c.is_main (mains_of_trees cs all.1)
+    where
+      by : (b : Bool) → AreOfTrees (mains cs) → AreOfTrees (if b then c ∷ mains cs else mains cs)
+      by true rest = (all.0, rest)
+      by false rest = rest
+
+  mains_in : (name : Name) (kind : Kind) (names : List Name) (units : List Compiled) → text_in entries name kind ≡ []
+      → map (λ c. c.unit) (mains units) ≡ filter is_main_unit names
+      → map (λ c. c.unit) (mains (units_in entries name kind ++ units)) ≡ filter is_main_unit (source_in name kind ++ names)
+  mains_in name Source names units h e =
+      let clean = unit_clean entries name h in
+      ap (λ r. map (λ c. c.unit) (mains (units_of r ++ units))) clean.code
+      ∙ by clean.parsed.tree.is_main (unit_code name clean.parsed) (mains units) (filter is_main_unit names) e refl
+      ∙ ap (λ r. if has_main r then name ∷ filter is_main_unit names else filter is_main_unit names) (sym clean.spelled)
+    where
+      by : (b : Bool) (c : Compiled) (cs : List Compiled) (ns : List Name) → map (λ c. c.unit) cs ≡ ns → c.unit ≡ name
+          → map (λ c. c.unit) (if b then c ∷ cs else cs) ≡ (if b then name ∷ ns else ns)
+      by true c cs ns e is = ap (λ n. n ∷ map (λ c. c.unit) cs) is ∙ ap (λ ms. name ∷ ms) e
+      by false c cs ns e is = e
+  mains_in name Include names units h e = e
+
+  -- where there is no diagnostic, the main procedures are those of the main units
+  mains_are : (some : List (Name × Member)) → all_text entries some ≡ [] → map (λ c. c.unit) (mains (all_units entries some)) ≡ filter is_main_unit (sources some)
+  mains_are [] h = refl
+  mains_are (x ∷ xs) h =
+      mains_in x.0 x.1.kind (sources xs) (all_units entries xs) (front_empty _ _ h) (mains_are xs (back_empty (text_in entries x.0 x.1.kind) _ h))
+
+-- places in order are as many as they were
+order_filled : (ps : List Place) (p : Place) (sorted : List Place) → in_order_after (p ∷ sorted) ps ≡ [] → ⊥
+order_filled [] p sorted e = cc
+order_filled (q ∷ ps) p sorted e = by (is_gt (slice_cmp nat_cmp p.procedure q.procedure)) (λ r rs. order_filled ps r rs) e
+  where
+    by : (b : Bool) → ((r : Place) (rs : List Place) → in_order_after (r ∷ rs) ps ≡ [] → ⊥) → in_order_after (if b then q ∷ p ∷ sorted else p ∷ inserted q sorted) ps ≡ [] → ⊥
+    by true rest e = rest q (p ∷ sorted) e
+    by false rest e = rest p (inserted q sorted) e
+
+map_empty : {A B : Type 0} (f : A → B) (xs : List A) → map f xs ≡ [] → xs ≡ []
+map_empty f [] e = refl
+map_empty f (x ∷ xs) e = let bad : ⊥ = cc in absurd bad
+
+-- where no second main procedure is told, there is none
+none_later : (cs : List Compiled) → map TwoMainProcedures (in_order (map place_of_unit cs)) ≡ [] → cs ≡ []
+none_later [] e = refl
+none_later (c ∷ cs) e = absurd (order_filled (map place_of_unit cs) (place_of_unit c) [] (map_empty TwoMainProcedures _ e))
+
+-- a module of units is that of their one main procedure
+record IsOfMain (cs : List Compiled) (m : Module) : Type 0 where
+  compiled : Compiled
+  only : cs ≡ compiled ∷ []
+  module_is : m ≡ record { unit = compiled.unit; code = compiled.code }
+
+made_is : (a b : Module) → Made a ≡ Made b → a ≡ b
+made_is a b e = cc
+
+main_of : (faults : List LinkFault) (cs : List Compiled) (m : Module) → (faults ≡ [] → later cs ≡ []) → linked (module_or faults cs) ≡ Made m → IsOfMain cs m
+main_of [] [] m one e = let bad : ⊥ = cc in absurd bad
+main_of [] (c ∷ cs) m one e = record { compiled = c; only = ap (λ ds. c ∷ ds) (one refl); module_is = sym (made_is _ m e) }
+main_of (fault ∷ faults) cs m one e = let bad : ⊥ = cc in absurd bad
+
+linked_main : (units : List Compiled) (m : Module) → linked (link_of units) ≡ Made m → IsOfMain (mains units) m
+linked_main units m e =
+    main_of (link_faults units) (mains units) m
+    (λ none. none_later (later (mains units)) (back_empty (none_among (mains units)) _ (front_empty (none_among (mains units) ++ map TwoMainProcedures (in_order (map place_of_unit (later (mains units))))) _ none))) e
+
+record IsBuilt (text : List ℕ) (units : List Compiled) (m : Module) : Type 0 where
+  clear : text ≡ []
+  main : IsOfMain (mains units) m
+
+built_main : (text : List ℕ) (units : List Compiled) (m : Module) → built text units ≡ Made m → IsBuilt text units m
+built_main [] units m e = record { clear = refl; main = linked_main units m e }
+built_main (b ∷ text) units m e = let bad : ⊥ = cc in absurd bad
+
+-- members with a module: their one main unit, its tree, without faults, and the module of its code
+pub record HasProgram (entries : List (Name × Member)) (m : Module) : Type 0 where
+  pub unit : Name
+  pub parsed : Parsed
+  pub only : main_units entries ≡ unit ∷ []
+  pub spelled : parsed_of entries unit ≡ Ok parsed
+  pub faultless : declaration_faults parsed.tree ≡ []
+  pub module_is : m ≡ record { unit = unit; code = code_of parsed.tree }
+
+program_of_tree : (entries : List (Name × Member)) (m : Module) (c : Compiled) → main_units entries ≡ c.unit ∷ [] → IsOfTree entries c → m ≡ record { unit = c.unit; code = c.code } → HasProgram entries m
+program_of_tree entries m c only tree e =
+    record {
+      unit = c.unit;
+      parsed = tree.parsed;
+      only = only;
+      spelled = tree.spelled;
+      faultless = tree.faultless;
+      module_is = e ∙ ap (λ x. record { unit = c.unit; code = x.code }) tree.code;
+    }
+
+pub program_made : (entries : List (Name × Member)) (m : Module) → scratch entries ≡ Made m → HasProgram entries m
+unfolding scratch
+program_made entries m e =
+    let whole = built_main (all_text entries entries) (all_units entries entries) m e in
+    let c = whole.main.compiled in
+    let trees : AreOfTrees entries (c ∷ []) = subst (AreOfTrees entries) whole.main.only (mains_of_trees entries _ (all_of_trees entries entries whole.clear)) in
+    program_of_tree entries m c (sym (mains_are entries entries whole.clear) ∙ ap (map (λ c. c.unit)) whole.main.only) trees.0 whole.main.module_is
