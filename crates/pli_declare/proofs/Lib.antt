@@ -12,3 +12,4 @@ pub mod Walked
 pub mod NamedUses
 pub mod Faultless
 pub mod OfBlocks
+pub mod Answered

@@ -104,12 +104,12 @@ codes_told o block number (e ∷ es) within =
 
 -- how many names a block has declared
 
-entries_both : (regions : List Region) (block : ℕ) (es : List Entry) (xs ys : List Placed) → entries_after regions block es (xs ++ ys) ≡ entries_after regions block (entries_after regions block es xs) ys
+pub entries_both : (regions : List Region) (block : ℕ) (es : List Entry) (xs ys : List Placed) → entries_after regions block es (xs ++ ys) ≡ entries_after regions block (entries_after regions block es xs) ys
 entries_both regions block es [] ys = refl
 entries_both regions block es (p ∷ ps) ys =
     entries_both regions block (es ++ (if block_of regions p.region == block then entries_of (length es) p.region p.mark else [])) ps ys
 
-entries_grow : (regions : List Region) (block : ℕ) (es : List Entry) (ps : List Placed) → length es ≤ length (entries_after regions block es ps)
+pub entries_grow : (regions : List Region) (block : ℕ) (es : List Entry) (ps : List Placed) → length es ≤ length (entries_after regions block es ps)
 entries_grow regions block es [] = omega arith
 entries_grow regions block es (p ∷ ps) =
     let new = if block_of regions p.region == block then entries_of (length es) p.region p.mark else [] in

@@ -7,3 +7,4 @@ pub mod ResolvedExamples
 pub mod Resolved
 pub mod ResolvedView
 pub mod Targets
+pub mod FaultLaws

@@ -1,6 +1,13 @@
-//! Worked examples of the faults of declarations, and of resolved units.
+//! A law of the faults of declarations; worked examples of them, and of resolved units.
+ghost use Rattle.pli_declare.specs.FaultLaws.{FaultsAreLeastCodes};
 ghost use Rattle.pli_declare.specs.ResolutionExamples.{OfOneName, OfItems, TwoMembers, UndeclaredNames, Groups, Units, Blocks, Locators, Parameters};
 ghost use Rattle.pli_declare.specs.ResolvedExamples.{OneVariable, Hiding, Jump, Located, Areas, OfMembers};
+
+/// A law: a fault is answered exactly where a declared name, a parameter, a reference or a label at its token has its code as the
+/// least, both ways.
+pub fn faults_are_least_codes()
+    ensures { FaultsAreLeastCodes }
+{}
 
 /// Outlines of units with their faults.
 pub fn worked_examples()

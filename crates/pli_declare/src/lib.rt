@@ -20,7 +20,7 @@ mod told;
 mod unit;
 mod uses;
 
-pub use laws::{resolved_examples, worked_examples};
+pub use laws::{faults_are_least_codes, resolved_examples, worked_examples};
 pub use resolved::{Block, Resolved, Target, Use};
 pub use resolving::{ResolveError, resolve};
 pub use unit::faults;

@@ -1,7 +1,7 @@
 //! The faults of the declarations of units.
 use crate::units::unit_of;
 use pli_base::Fault;
-use pli_declare::{faults, worked_examples};
+use pli_declare::{faults, faults_are_least_codes, worked_examples};
 use std::alloc::{AllocError, Global};
 use std::fmt::Write;
 use std::test::*;
@@ -498,5 +498,6 @@ fn headings_are_answered(rt: HostRuntime) -> Result<(), Fail> {
 
 #[test]
 fn laws() {
+    faults_are_least_codes();
     worked_examples();
 }
