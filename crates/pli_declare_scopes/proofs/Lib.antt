@@ -8,3 +8,4 @@ pub mod Outwards
 pub mod Repeated
 pub mod Judged
 pub mod PathsKept
+pub mod RootsKept

@@ -30,7 +30,7 @@ part_to_step : (x y : Name) (xs ys : List Name) (b : Bool) → same_name x y ≡
 part_to_step x y xs ys true e go h = inl (same_to x y e, go xs h)
 part_to_step x y xs ys false e go h = inr (go (x ∷ xs) h)
 
-part_to : (ys xs : List Name) → is_part xs ys ≡ true → IsPart xs ys
+pub part_to : (ys xs : List Name) → is_part xs ys ≡ true → IsPart xs ys
 part_to ys [] h = tt
 part_to [] (x ∷ xs) h = cc
 part_to (y ∷ ys) (x ∷ xs) h = part_to_step x y xs ys (same_name x y) refl (part_to ys) h

@@ -150,7 +150,7 @@ chains_count (i ∷ is) chains =
     chains_count is (chains ++ c ∷ []) ∙ (let e : length (chains ++ c ∷ []) + length is ≡ length chains + length (i ∷ is) = omega (arith, length-append chains (c ∷ [])) in e)
 
 module _ (items : Block) (i : Declared) where
-  chain_front : (n : ℕ) → n < length items → chain_at (items ++ i ∷ []) n ≡ chain_at items n
+  pub chain_front : (n : ℕ) → n < length items → chain_at (items ++ i ∷ []) n ≡ chain_at items n
   chain_front n lt =
       ap (λ cs. get_or cs n []) (chains_both items (i ∷ []) [])
       ∙ chains_kept (i ∷ []) (chains_after [] items) n (omega (arith, lt, chains_count items []))
@@ -159,7 +159,7 @@ module _ (items : Block) (i : Declared) where
   over_front None h = refl
   over_front (Some n) h = chain_front n h
 
-  chain_last : OwnersBefore (items ++ i ∷ []) → IfSome i.owner (λ o. o < length items) → chain_at (items ++ i ∷ []) (length items) ≡ i.name ∷ chain_over items i.owner
+  pub chain_last : OwnersBefore (items ++ i ∷ []) → IfSome i.owner (λ o. o < length items) → chain_at (items ++ i ∷ []) (length items) ≡ i.name ∷ chain_over items i.owner
   chain_last owners owned =
       chain_is (items ++ i ∷ []) (length items) owners (omega (arith, length-append items (i ∷ [])))
       ∙ ap (λ (j : Declared). j.name ∷ chain_over (items ++ i ∷ []) j.owner) (item_last items i)

@@ -7,3 +7,4 @@ pub mod Examples
 pub mod ScopeLaws
 pub mod Indexes
 pub mod Paths
+pub mod Roots

@@ -6,9 +6,11 @@ ghost use Rattle.pli_base.specs.Words.{same_name};
 ghost use Rattle.pli_declare_scopes.specs.Scopes.{declares, item_at, chain_over, is_part, fits, fits_fully, found_below, found_in};
 ghost use Rattle.pli_declare_scopes.specs.declared.found.Found.TheVariants as variants;
 ghost use Rattle.pli_declare_scopes.specs.Indexes.{OwnersBefore};
+ghost use Rattle.pli_declare_scopes.specs.Roots.{RootIsOf};
 
 use crate::found::Found;
 use crate::path::{Step, note_end, path_above, path_of};
+use crate::root::{note_root, root_of};
 use indexmap::{IndexMap, IndexSet};
 use pli_base::Name;
 use std::alloc::{AllocError, AllocFailed, Global};
@@ -38,6 +40,10 @@ pub struct Block {
     paths: Vec<usize>,
     /// Which items have each path.
     ended: Vec<Found>,
+    /// The root of each item.
+    roots: Vec<usize>,
+    /// The root of all items of a name, if they have one root.
+    shared: IndexMap<Name, Option<usize>>,
 }
 
 impl Model for Block {
@@ -45,12 +51,13 @@ impl Model for Block {
     ghost use Rattle.pli_declare_scopes.specs.declared.block.Declared.{Declared as Item};
     ghost use Rattle.pli_declare_scopes.specs.Indexes.{IsIndexed};
     ghost use Rattle.pli_declare_scopes.specs.Paths.{ArePaths};
+    ghost use Rattle.pli_declare_scopes.specs.Roots.{AreRooted};
 
     ghost Value = { List Item };
 
     ghost view = { λ b. b.items.items };
 
-    ghost invariant = { λ b. IsIndexed b.items.items b.earlier.items b.latest × ArePaths b.items.items b.steps.keys b.paths.items b.ended.items };
+    ghost invariant = { λ b. IsIndexed b.items.items b.earlier.items b.latest × ArePaths b.items.items b.steps.keys b.paths.items b.ended.items × AreRooted b.items.items b.shared b.roots.items };
 }
 
 /// Whether names fit the item of this number, where the last of them is its own name. No more levels are looked at than it takes.
@@ -72,6 +79,40 @@ fn fits(items: &[Declared], names: &[Name], number: usize) -> bool
         above = items[place].owner;
     }
     true
+}
+
+/// The root of the items of the first of several names, if they have one root. One name alone tells nothing.
+fn shared_root(shared: &IndexMap<Name, Option<usize>>, names: &[Name]) -> Option<usize>
+    ensures { RootIsOf shared.now names.now result }
+{
+    match names {
+        [first, _, ..] => match shared.get(first) {
+            Some(root) => *root,
+            None => None,
+        },
+        _ => None,
+    }
+}
+
+/// Whether names fit the item of this number and root, where the items of the first name are known to have one root, or not.
+fn fits_at(
+    items: &[Declared],
+    names: &[Name],
+    number: usize,
+    root: usize,
+    shared: Option<usize>,
+) -> bool
+    requires within { number < length items.now }
+    requires owners { OwnersBefore items.now }
+    requires some { 0 < length names.now }
+    requires rooted { is_part (reverse (take (length names.now - 1) names.now)) (chain_over items.now (item_at items.now number).owner) ≡ true
+        → IfSome shared (λ r. r ≡ root) }
+    ensures { result ≡ is_part (reverse (take (length names.now - 1) names.now)) (chain_over items.now (item_at items.now number).owner) }
+{
+    match shared {
+        Some(other) if other != root => false,
+        _ => fits(items, names, number),
+    }
 }
 
 /// Notes an item that counts as the last of its name. Gives the one before it.
@@ -102,6 +143,8 @@ impl Block {
             steps: IndexSet::new(alloc),
             paths: Vec::new(alloc),
             ended: Vec::new(alloc),
+            roots: Vec::new(alloc),
+            shared: IndexMap::new(alloc),
         }
     }
 
@@ -124,14 +167,18 @@ impl Block {
         self.items.reserve(1)?;
         self.earlier.reserve(1)?;
         self.paths.reserve(1)?;
+        self.roots.reserve(1)?;
         let step = Step {
             name: item.name,
             above: path_above(&self.paths, item.owner),
         };
         let path = path_of(&mut self.steps, &mut self.ended, step)?;
+        let root = root_of(&self.roots, item.owner, number);
+        note_root(&mut self.shared, item.name, root)?;
         let before = note(&mut self.latest, &item, number)?;
         self.earlier.push(before)?;
         self.paths.push(path)?;
+        self.roots.push(root)?;
         note_end(&mut self.ended, path, item.counts, number);
         self.items.push(item)?;
         Ok(number)
@@ -170,10 +217,11 @@ impl Block {
         let Some(last) = names.last() else {
             return Found::Nothing;
         };
+        let shared = shared_root(&self.shared, names);
         let mut found = Found::Nothing;
         let mut next = self.latest.get(last).copied();
         while let Some(number) = next {
-            if fits(items, names, number) {
+            if fits_at(items, names, number, self.roots[number], shared) {
                 found = found.with_number(number);
             }
             if let Found::Several = found {

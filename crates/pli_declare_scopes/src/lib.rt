@@ -7,6 +7,7 @@ mod laws;
 mod level;
 mod path;
 mod repeat;
+mod root;
 mod scope;
 
 pub use block::{Block, Declared};
