@@ -40,7 +40,7 @@ def levels(name, tokens):
 
 def structures(form, tokens):
     """Structures with members."""
-    return [form.format(number) for number in range(tokens // (len(TOKEN.findall(form)) + 1))]
+    return [form.format(number) for number in range(tokens // (len(TOKEN.findall(form.format(0))) + 1))]
 
 
 def deep(tokens):
@@ -91,8 +91,9 @@ def descriptions(tokens):
 
 
 def locators(tokens):
-    names = [f"N{number}" for number in range(tokens // 4)]
-    yield from ["DCL ("] + joined(names) + [") FIXED BIN BASED("] + ["P."] * (tokens // 4) + ["P);"]
+    names = [f"N{number}" for number in range(tokens // 8)]
+    yield from ["DCL "] + joined(levels("P", tokens // 2)) + [";DCL ("] + joined(names) + [") FIXED BIN BASED("]
+    yield from ["P."] * (tokens // 8) + ["P);"]
 
 
 def blocks(tokens):
