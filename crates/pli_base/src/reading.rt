@@ -42,6 +42,15 @@ pub struct Front<'a, T> {
     pub rest: &'a [TokenText],
 }
 
+impl<'a, T> Front<'a, T> {
+    /// A value that was read, with the place and the tokens behind it.
+    pub fn new(value: T, next: u32, rest: &'a [TokenText]) -> Front<'a, T>
+        ensures { result ≡ record { value = value; next = next; rest = rest.entry } }
+    {
+        Front { value, next, rest }
+    }
+}
+
 /// The fault at the token `at`.
 pub fn fault(code: Code, at: u32) -> ParseError
     ensures { result ≡ ParseError.Fault (record { code = code; at = at }) }

@@ -45,27 +45,15 @@ impl ReadsOne for EachDescribed {
         match attribute_first(texts) {
             Some((AttributeWord::Simple(word), rest)) => {
                 let read = simple_of(self.alloc, word, at + 1, rest)?;
-                Ok(Front {
-                    value: DescribedAttribute::Simple(read.value),
-                    next: read.next,
-                    rest: read.rest,
-                })
+                Ok(Front::new(DescribedAttribute::Simple(read.value), read.next, read.rest))
             }
             Some((AttributeWord::Entry, _)) => {
                 let nest = nest_at(self.alloc, at, texts)?;
-                Ok(Front {
-                    value: DescribedAttribute::Entry,
-                    next: nest.next,
-                    rest: nest.rest,
-                })
+                Ok(Front::new(DescribedAttribute::Entry, nest.next, nest.rest))
             }
             Some((AttributeWord::Returns, _)) => {
                 let nest = nest_at(self.alloc, at, texts)?;
-                Ok(Front {
-                    value: DescribedAttribute::Returns,
-                    next: nest.next,
-                    rest: nest.rest,
-                })
+                Ok(Front::new(DescribedAttribute::Returns, nest.next, nest.rest))
             }
             None => Err(misfit(Code::BadAttribute, at, texts)),
         }
@@ -105,14 +93,14 @@ impl ReadsOne for EachParameter {
             dimensions.next,
             dimensions.rest,
         )?;
-        Ok(Front {
-            value: ParameterDescription {
+        Ok(Front::new(
+            ParameterDescription {
                 dimensions: dimensions.value,
                 attributes: attributes.value,
             },
-            next: attributes.next,
-            rest: attributes.rest,
-        })
+            attributes.next,
+            attributes.rest,
+        ))
     }
 }
 
@@ -128,11 +116,7 @@ pub fn parameters_at<'a>(
     ensures place { IfOk result (Advances at texts.now) }
 {
     match behind_close(texts) {
-        Some(rest) => Ok(Front {
-            value: Vec::new(alloc),
-            next: at + 1,
-            rest,
-        }),
+        Some(rest) => Ok(Front::new(Vec::new(alloc), at + 1, rest)),
         None => {
             if !begins_description(texts) {
                 return Err(misfit(Code::ParenthesisExpected, at, texts));
@@ -145,11 +129,7 @@ pub fn parameters_at<'a>(
                 texts,
             )?;
             let rest = close_taken(parameters.next, parameters.rest)?;
-            Ok(Front {
-                value: parameters.value,
-                next: parameters.next + 1,
-                rest,
-            })
+            Ok(Front::new(parameters.value, parameters.next + 1, rest))
         }
     }
 }
@@ -174,9 +154,5 @@ pub fn returned_at<'a>(
         inside,
     )?;
     let rest = close_taken(attributes.next, attributes.rest)?;
-    Ok(Front {
-        value: attributes.value,
-        next: attributes.next + 1,
-        rest,
-    })
+    Ok(Front::new(attributes.value, attributes.next + 1, rest))
 }

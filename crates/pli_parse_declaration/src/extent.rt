@@ -25,36 +25,36 @@ pub fn integer_at(at: u32, texts: &[TokenText]) -> Result<Front<'_, Integer>, Pa
     match texts {
         [TokenText::Sign(Sign::Plus), rest @ ..] => {
             let number = number_at(at + 1, rest)?;
-            Ok(Front {
-                value: Integer {
+            Ok(Front::new(
+                Integer {
                     negative: false,
                     value: number.value,
                 },
-                next: number.next,
-                rest: number.rest,
-            })
+                number.next,
+                number.rest,
+            ))
         }
         [TokenText::Sign(Sign::Minus), rest @ ..] => {
             let number = number_at(at + 1, rest)?;
-            Ok(Front {
-                value: Integer {
+            Ok(Front::new(
+                Integer {
                     negative: true,
                     value: number.value,
                 },
-                next: number.next,
-                rest: number.rest,
-            })
+                number.next,
+                number.rest,
+            ))
         }
         _ => {
             let number = number_at(at, texts)?;
-            Ok(Front {
-                value: Integer {
+            Ok(Front::new(
+                Integer {
                     negative: false,
                     value: number.value,
                 },
-                next: number.next,
-                rest: number.rest,
-            })
+                number.next,
+                number.rest,
+            ))
         }
     }
 }
@@ -82,23 +82,23 @@ impl ReadsOne for EachBounds {
         match behind_colon(first.rest) {
             Some(rest) => {
                 let high = integer_at(first.next + 1, rest)?;
-                Ok(Front {
-                    value: Bounds {
+                Ok(Front::new(
+                    Bounds {
                         low: Some(first.value),
                         high: high.value,
                     },
-                    next: high.next,
-                    rest: high.rest,
-                })
+                    high.next,
+                    high.rest,
+                ))
             }
-            None => Ok(Front {
-                value: Bounds {
+            None => Ok(Front::new(
+                Bounds {
                     low: None,
                     high: first.value,
                 },
-                next: first.next,
-                rest: first.rest,
-            }),
+                first.next,
+                first.rest,
+            )),
         }
     }
 }
@@ -118,17 +118,9 @@ pub fn dimensions_at<'a>(
         Some(inside) => {
             let bounds = list_at(alloc, Separator::Commas, &EachBounds, at + 1, inside)?;
             let rest = close_taken(bounds.next, bounds.rest)?;
-            Ok(Front {
-                value: bounds.value,
-                next: bounds.next + 1,
-                rest,
-            })
+            Ok(Front::new(bounds.value, bounds.next + 1, rest))
         }
-        None => Ok(Front {
-            value: Vec::new(alloc),
-            next: at,
-            rest: texts,
-        }),
+        None => Ok(Front::new(Vec::new(alloc), at, texts)),
     }
 }
 
@@ -143,17 +135,9 @@ pub fn length_at(at: u32, texts: &[TokenText]) -> Result<Front<'_, Option<u32>>,
         Some(inside) => {
             let number = number_at(at + 1, inside)?;
             let rest = close_taken(number.next, number.rest)?;
-            Ok(Front {
-                value: Some(number.value),
-                next: number.next + 1,
-                rest,
-            })
+            Ok(Front::new(Some(number.value), number.next + 1, rest))
         }
-        None => Ok(Front {
-            value: None,
-            next: at,
-            rest: texts,
-        }),
+        None => Ok(Front::new(None, at, texts)),
     }
 }
 
@@ -168,11 +152,7 @@ fn scaled_at(at: u32, texts: &[TokenText]) -> Result<Front<'_, u32>, ParseError>
     match behind_comma(number.rest) {
         Some(scale) => {
             let rest = zero_taken(number.next + 1, scale)?;
-            Ok(Front {
-                value: number.value,
-                next: number.next + 2,
-                rest,
-            })
+            Ok(Front::new(number.value, number.next + 2, rest))
         }
         None => Ok(number),
     }
@@ -189,16 +169,8 @@ pub fn precision_at(at: u32, texts: &[TokenText]) -> Result<Front<'_, Option<u32
         Some(inside) => {
             let number = scaled_at(at + 1, inside)?;
             let rest = close_taken(number.next, number.rest)?;
-            Ok(Front {
-                value: Some(number.value),
-                next: number.next + 1,
-                rest,
-            })
+            Ok(Front::new(Some(number.value), number.next + 1, rest))
         }
-        None => Ok(Front {
-            value: None,
-            next: at,
-            rest: texts,
-        }),
+        None => Ok(Front::new(None, at, texts)),
     }
 }

@@ -75,16 +75,8 @@ pub fn number_at(at: u32, texts: &[TokenText]) -> Result<Front<'_, u32>, ParseEr
     ensures place { IfOk result (Advances at texts.now) }
 {
     match texts {
-        [TokenText::Decimal { value, .. }, rest @ ..] => Ok(Front {
-            value: *value,
-            next: at + 1,
-            rest,
-        }),
-        [TokenText::Binary { value, .. }, rest @ ..] => Ok(Front {
-            value: *value,
-            next: at + 1,
-            rest,
-        }),
+        [TokenText::Decimal { value, .. }, rest @ ..] => Ok(Front::new(*value, at + 1, rest)),
+        [TokenText::Binary { value, .. }, rest @ ..] => Ok(Front::new(*value, at + 1, rest)),
         _ => Err(misfit(Code::ConstantExpected, at, texts)),
     }
 }

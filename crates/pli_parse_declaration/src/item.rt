@@ -18,7 +18,10 @@ use crate::simple::simple_of;
 use crate::word::AttributeWord;
 use pli_base::declaration::{Attribute, Item};
 use pli_base::syntax::Identifier;
-use pli_base::{Code, Front, ParseError, TokenText, behind_open, close_taken, misfit, name_first, semicolon_taken};
+use pli_base::{
+    Code, Front, ParseError, TokenText, behind_open, close_taken, misfit, name_first,
+    semicolon_taken,
+};
 use std::alloc::Global;
 
 /// Descriptions of parameters in parentheses, or none: what stands behind ENTRY.
@@ -35,17 +38,13 @@ fn entry_at<'a>(
     match behind_open(texts) {
         Some(inside) => {
             let parameters = parameters_at(alloc, at + 1, inside)?;
-            Ok(Front {
-                value: Attribute::Entry(Some(parameters.value)),
-                next: parameters.next,
-                rest: parameters.rest,
-            })
+            Ok(Front::new(
+                Attribute::Entry(Some(parameters.value)),
+                parameters.next,
+                parameters.rest,
+            ))
         }
-        None => Ok(Front {
-            value: Attribute::Entry(None),
-            next: at,
-            rest: texts,
-        }),
+        None => Ok(Front::new(Attribute::Entry(None), at, texts)),
     }
 }
 
@@ -77,20 +76,12 @@ impl ReadsOne for EachAttribute {
         match attribute_first(texts) {
             Some((AttributeWord::Simple(word), rest)) => {
                 let read = simple_of(self.alloc, word, at + 1, rest)?;
-                Ok(Front {
-                    value: Attribute::Simple(read.value),
-                    next: read.next,
-                    rest: read.rest,
-                })
+                Ok(Front::new(Attribute::Simple(read.value), read.next, read.rest))
             }
             Some((AttributeWord::Entry, rest)) => entry_at(self.alloc, at + 1, rest),
             Some((AttributeWord::Returns, rest)) => {
                 let read = returned_at(self.alloc, at + 1, rest)?;
-                Ok(Front {
-                    value: Attribute::Returns(read.value),
-                    next: read.next,
-                    rest: read.rest,
-                })
+                Ok(Front::new(Attribute::Returns(read.value), read.next, read.rest))
             }
             None => Err(misfit(Code::BadAttribute, at, texts)),
         }
@@ -116,11 +107,7 @@ fn attributes_at<'a>(
             at,
             texts,
         ),
-        None => Ok(Front {
-            value: Vec::new(alloc),
-            next: at,
-            rest: texts,
-        }),
+        None => Ok(Front::new(Vec::new(alloc), at, texts)),
     }
 }
 
@@ -151,11 +138,7 @@ impl ReadsOne for EachIdentifier {
             return Err(misfit(Code::NameExpected, at, texts));
         };
         let (name, rest) = first;
-        Ok(Front {
-            value: Identifier { name, at },
-            next: at + 1,
-            rest,
-        })
+        Ok(Front::new(Identifier { name, at }, at + 1, rest))
     }
 }
 
@@ -187,11 +170,7 @@ fn names_at<'a>(
         Some(inside) => {
             let names = identifiers_at(alloc, at + 1, inside)?;
             let rest = close_taken(names.next, names.rest)?;
-            Ok(Front {
-                value: names.value,
-                next: names.next + 1,
-                rest,
-            })
+            Ok(Front::new(names.value, names.next + 1, rest))
         }
         None => {
             let Some(first) = name_first(texts) else {
@@ -200,11 +179,7 @@ fn names_at<'a>(
             let (name, rest) = first;
             let mut names = Vec::new(alloc);
             names.push(Identifier { name, at })?;
-            Ok(Front {
-                value: names,
-                next: at + 1,
-                rest,
-            })
+            Ok(Front::new(names, at + 1, rest))
         }
     }
 }
@@ -234,16 +209,16 @@ impl ReadsOne for EachItem {
         let names = names_at(self.alloc, level.next, level.rest)?;
         let dimensions = dimensions_at(self.alloc, names.next, names.rest)?;
         let attributes = attributes_at(self.alloc, dimensions.next, dimensions.rest)?;
-        Ok(Front {
-            value: Item {
+        Ok(Front::new(
+            Item {
                 level: level.value,
                 names: names.value,
                 dimensions: dimensions.value,
                 attributes: attributes.value,
             },
-            next: attributes.next,
-            rest: attributes.rest,
-        })
+            attributes.next,
+            attributes.rest,
+        ))
     }
 }
 
@@ -273,9 +248,5 @@ pub fn declaration_at<'a>(
 {
     let items = items_at(alloc, at, texts)?;
     let rest = semicolon_taken(items.next, items.rest)?;
-    Ok(Front {
-        value: items.value,
-        next: items.next + 1,
-        rest,
-    })
+    Ok(Front::new(items.value, items.next + 1, rest))
 }

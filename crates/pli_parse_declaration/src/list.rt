@@ -91,27 +91,15 @@ fn behind_separator(separator: Separator, at: u32, texts: &[TokenText]) -> Optio
 {
     match separator {
         Separator::Commas => match behind_comma(texts) {
-            Some(rest) => Some(Front {
-                value: (),
-                next: at + 1,
-                rest,
-            }),
+            Some(rest) => Some(Front::new((), at + 1, rest)),
             None => None,
         },
         Separator::Periods => match behind_period(texts) {
-            Some(rest) => Some(Front {
-                value: (),
-                next: at + 1,
-                rest,
-            }),
+            Some(rest) => Some(Front::new((), at + 1, rest)),
             None => None,
         },
         Separator::Nothing => match with_attribute(texts) {
-            Some(rest) => Some(Front {
-                value: (),
-                next: at,
-                rest,
-            }),
+            Some(rest) => Some(Front::new((), at, rest)),
             None => None,
         },
     }

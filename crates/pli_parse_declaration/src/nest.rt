@@ -10,7 +10,9 @@ use crate::extent::dimensions_at;
 use crate::front::{attribute_first, begins_description};
 use crate::simple::simple_of;
 use crate::word::AttributeWord;
-use pli_base::{Code, Front, ParseError, TokenText, behind_close, behind_comma, behind_open, misfit, open_taken};
+use pli_base::{
+    Code, Front, ParseError, TokenText, behind_close, behind_comma, behind_open, misfit, open_taken,
+};
 use std::alloc::{AllocError, Global};
 use std::marker::Model;
 
@@ -94,11 +96,7 @@ fn description_step<'a>(
 {
     let dimensions = dimensions_at(alloc, at, texts)?;
     nest.open(Open::Entry)?;
-    Ok(Front {
-        value: Expects::Attribute,
-        next: dimensions.next,
-        rest: dimensions.rest,
-    })
+    Ok(Front::new(Expects::Attribute, dimensions.next, dimensions.rest))
 }
 
 /// A step behind `ENTRY(`.
@@ -113,11 +111,7 @@ fn parameters_step<'a>(
     ensures place { IfOk result (Continues at texts.now) }
 {
     match behind_close(texts) {
-        Some(rest) => Ok(Front {
-            value: Expects::More,
-            next: at + 1,
-            rest,
-        }),
+        Some(rest) => Ok(Front::new(Expects::More, at + 1, rest)),
         None => {
             if begins_description(texts) {
                 description_step(alloc, nest, at, texts)
@@ -144,28 +138,16 @@ fn word_step<'a>(
     match word {
         AttributeWord::Simple(simple) => {
             let read = simple_of(alloc, simple, at, texts)?;
-            Ok(Front {
-                value: Expects::More,
-                next: read.next,
-                rest: read.rest,
-            })
+            Ok(Front::new(Expects::More, read.next, read.rest))
         }
         AttributeWord::Entry => match behind_open(texts) {
             Some(inside) => parameters_step(alloc, nest, at + 1, inside),
-            None => Ok(Front {
-                value: Expects::More,
-                next: at,
-                rest: texts,
-            }),
+            None => Ok(Front::new(Expects::More, at, texts)),
         },
         AttributeWord::Returns => {
             let inside = open_taken(at, texts)?;
             nest.open(Open::Returns)?;
-            Ok(Front {
-                value: Expects::Attribute,
-                next: at + 1,
-                rest: inside,
-            })
+            Ok(Front::new(Expects::Attribute, at + 1, inside))
         }
     }
 }
@@ -177,11 +159,7 @@ fn closing_step(at: u32, texts: &[TokenText]) -> Result<Front<'_, Expects>, Pars
     ensures place { IfOk result (Advances at texts.now) }
 {
     match behind_close(texts) {
-        Some(rest) => Ok(Front {
-            value: Expects::More,
-            next: at + 1,
-            rest,
-        }),
+        Some(rest) => Ok(Front::new(Expects::More, at + 1, rest)),
         None => Err(misfit(Code::ParenthesisExpected, at, texts)),
     }
 }

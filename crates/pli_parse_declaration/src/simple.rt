@@ -17,7 +17,10 @@ use crate::front::number_at;
 use crate::list::{ReadsOne, Separator, list_at};
 use crate::word::SimpleWord;
 use pli_base::declaration::{InitialValue, SimpleAttribute};
-use pli_base::{Code, Front, Name, ParseError, Sign, TokenText, behind_open, close_taken, misfit, name_first, open_taken};
+use pli_base::{
+    Code, Front, Name, ParseError, Sign, TokenText, behind_open, close_taken, misfit, name_first,
+    open_taken,
+};
 use std::alloc::Global;
 
 /// The name of an area in parentheses, or none: what stands behind OFFSET.
@@ -31,19 +34,11 @@ fn offset_at(at: u32, texts: &[TokenText]) -> Result<Front<'_, SimpleAttribute>,
         Some(inside) => match name_first(inside) {
             Some((name, behind)) => {
                 let rest = close_taken(at + 2, behind)?;
-                Ok(Front {
-                    value: SimpleAttribute::Offset(Some(name)),
-                    next: at + 3,
-                    rest,
-                })
+                Ok(Front::new(SimpleAttribute::Offset(Some(name)), at + 3, rest))
             }
             None => Err(misfit(Code::NameExpected, at + 1, inside)),
         },
-        None => Ok(Front {
-            value: SimpleAttribute::Offset(None),
-            next: at,
-            rest: texts,
-        }),
+        None => Ok(Front::new(SimpleAttribute::Offset(None), at, texts)),
     }
 }
 
@@ -70,11 +65,7 @@ impl ReadsOne for EachName {
             return Err(misfit(Code::NameExpected, at, texts));
         };
         let (name, rest) = first;
-        Ok(Front {
-            value: name,
-            next: at + 1,
-            rest,
-        })
+        Ok(Front::new(name, at + 1, rest))
     }
 }
 
@@ -93,17 +84,13 @@ fn based_at<'a>(
         Some(inside) => {
             let names = list_at(alloc, Separator::Periods, &EachName, at + 1, inside)?;
             let rest = close_taken(names.next, names.rest)?;
-            Ok(Front {
-                value: SimpleAttribute::Based(Some(names.value)),
-                next: names.next + 1,
+            Ok(Front::new(
+                SimpleAttribute::Based(Some(names.value)),
+                names.next + 1,
                 rest,
-            })
+            ))
         }
-        None => Ok(Front {
-            value: SimpleAttribute::Based(None),
-            next: at,
-            rest: texts,
-        }),
+        None => Ok(Front::new(SimpleAttribute::Based(None), at, texts)),
     }
 }
 
@@ -117,14 +104,14 @@ fn repeated_at(at: u32, texts: &[TokenText]) -> Result<Front<'_, InitialValue>, 
     let factor = number_at(at, texts)?;
     let rest = close_taken(factor.next, factor.rest)?;
     let integer = integer_at(factor.next + 1, rest)?;
-    Ok(Front {
-        value: InitialValue::Integer {
+    Ok(Front::new(
+        InitialValue::Integer {
             factor: Some(factor.value),
             value: integer.value,
         },
-        next: integer.next,
-        rest: integer.rest,
-    })
+        integer.next,
+        integer.rest,
+    ))
 }
 
 /// What stands behind NULL: `()` or nothing.
@@ -136,17 +123,9 @@ fn null_at(at: u32, texts: &[TokenText]) -> Result<Front<'_, InitialValue>, Pars
     match behind_open(texts) {
         Some(inside) => {
             let rest = close_taken(at + 1, inside)?;
-            Ok(Front {
-                value: InitialValue::Null,
-                next: at + 2,
-                rest,
-            })
+            Ok(Front::new(InitialValue::Null, at + 2, rest))
         }
-        None => Ok(Front {
-            value: InitialValue::Null,
-            next: at,
-            rest: texts,
-        }),
+        None => Ok(Front::new(InitialValue::Null, at, texts)),
     }
 }
 
@@ -176,16 +155,16 @@ impl ReadsOne for EachValue {
         texts: &'a [TokenText],
     ) -> Result<Front<'a, InitialValue>, ParseError> {
         match texts {
-            [TokenText::Characters(string), rest @ ..] => Ok(Front {
-                value: InitialValue::Characters(string.copy(self.alloc)?),
-                next: at + 1,
+            [TokenText::Characters(string), rest @ ..] => Ok(Front::new(
+                InitialValue::Characters(string.copy(self.alloc)?),
+                at + 1,
                 rest,
-            }),
-            [TokenText::Bits(string), rest @ ..] => Ok(Front {
-                value: InitialValue::Bits(string.copy(self.alloc)?),
-                next: at + 1,
+            )),
+            [TokenText::Bits(string), rest @ ..] => Ok(Front::new(
+                InitialValue::Bits(string.copy(self.alloc)?),
+                at + 1,
                 rest,
-            }),
+            )),
             [TokenText::Sign(Sign::OpenParenthesis), rest @ ..] => repeated_at(at + 1, rest),
             [TokenText::Word(name), rest @ ..] => {
                 if name.is(b"NULL") {
@@ -196,14 +175,14 @@ impl ReadsOne for EachValue {
             }
             _ => {
                 let integer = integer_at(at, texts)?;
-                Ok(Front {
-                    value: InitialValue::Integer {
+                Ok(Front::new(
+                    InitialValue::Integer {
                         factor: None,
                         value: integer.value,
                     },
-                    next: integer.next,
-                    rest: integer.rest,
-                })
+                    integer.next,
+                    integer.rest,
+                ))
             }
         }
     }
@@ -229,22 +208,18 @@ fn initial_at<'a>(
         inside,
     )?;
     let rest = close_taken(values.next, values.rest)?;
-    Ok(Front {
-        value: SimpleAttribute::Initial(values.value),
-        next: values.next + 1,
+    Ok(Front::new(
+        SimpleAttribute::Initial(values.value),
+        values.next + 1,
         rest,
-    })
+    ))
 }
 
 /// An attribute that is a keyword alone.
 fn bare(attribute: SimpleAttribute, at: u32, texts: &[TokenText]) -> Front<'_, SimpleAttribute>
     ensures { front_view (λ a. a) result ≡ record { value = attribute; next = at; rest = texts.now } }
 {
-    Front {
-        value: attribute,
-        next: at,
-        rest: texts,
-    }
+    Front::new(attribute, at, texts)
 }
 
 /// An attribute with what was read behind its keyword.
@@ -254,11 +229,7 @@ fn numbered<'a>(
 ) -> Front<'a, SimpleAttribute>
     ensures { front_view (λ a. a) result ≡ record { value = attribute; next = read.now.next; rest = read.now.rest.now } }
 {
-    Front {
-        value: attribute,
-        next: read.next,
-        rest: read.rest,
-    }
+    Front::new(attribute, read.next, read.rest)
 }
 
 /// What stands behind the keyword of a simple attribute.
