@@ -105,8 +105,7 @@ numbered_with name number text = None
 -- `name k text`, where an empty text may stand without its blank
 abbrev pub numbered_of : List ℕ → Option NumberedText
 numbered_of text =
-    option_and_then
-    (λ rest. numbered_with (name_of (first_word text)) (number_of 9 (first_word rest))
+    option_and_then (λ rest. numbered_with (name_of (first_word text)) (number_of 9 (first_word rest))
     (unwrap_or (behind_blank rest) [])) (behind_blank text)
 
 -- what stands behind INSERT

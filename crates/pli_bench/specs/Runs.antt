@@ -23,8 +23,8 @@ pub data Answers {S : Type 0} (Step : S → List ℕ → List ℕ → S → Type
 
 -- the writer failed in the answer to one of the lines: those before it were answered, its own answer up to
 -- some place, and the state is the one behind it
-pub record Broken {S : Type 0} (Step : S → List ℕ → List ℕ → S → Type 0) (quits : List ℕ
-    → Bool) (s : S) (lines : List (List ℕ)) (t : S) (before after : Option (List ℕ)) : Type 0 where
+pub record Broken {S : Type 0} (Step : S → List ℕ → List ℕ → S → Type 0) (quits : List ℕ → Bool)
+    (s : S) (lines : List (List ℕ)) (t : S) (before after : Option (List ℕ)) : Type 0 where
   pub earlier : List (List ℕ)
   pub line : List ℕ
   pub later : List (List ℕ)
@@ -66,8 +66,8 @@ IsInput left input = IfSome left (λ bytes. bytes ≡ input)
 
 -- some first bytes of the input were taken: the lines that end among them were answered, and nothing else was
 -- written
-pub record Cut {S : Type 0} (Step : S → List ℕ → List ℕ → S → Type 0) (quits : List ℕ
-    → Bool) (s t : S) (left left_after before after : Option (List ℕ)) : Type 0 where
+pub record Cut {S : Type 0} (Step : S → List ℕ → List ℕ → S → Type 0) (quits : List ℕ → Bool)
+    (s t : S) (left left_after before after : Option (List ℕ)) : Type 0 where
   pub taken : List ℕ
   pub consumed : Consumes left left_after taken
   pub answers : List ℕ
@@ -93,8 +93,7 @@ abbrev pub piece_limit : ℕ
 piece_limit = 4096
 
 -- among these bytes, behind lines that go on, a line ends that quits, and fewer bytes than so many stand
--- behind it;
--- the first of the lines has begun before
+-- behind it; the first of the lines has begun before
 pub record QuitsWithin (quits : List ℕ → Bool) (limit : ℕ) (begun bytes : List ℕ) : Type 0 where
   pub front : List ℕ
   pub behind : List ℕ
@@ -108,8 +107,7 @@ pub record QuitsWithin (quits : List ℕ → Bool) (limit : ℕ) (begun bytes : 
   pub quit : quits line ≡ true
 
 -- where reading stopped: at the end nothing is left, and less than a piece was taken behind the line that
--- quits,
--- unless that was the last line and no line feed ended it
+-- quits, unless that was the last line and no line feed ended it
 abbrev pub Stops : (quits : List ℕ → Bool) → (piece : ℕ) → (taken : List ℕ) → (left : Option (List ℕ))
     → Result Next ServeFault → Type 0
 Stops quits piece taken left (Ok Go) = Unit {0}
@@ -119,13 +117,12 @@ Stops quits piece taken left (Err e) = Unit {0}
 
 -- what was taken of the reader: at most a piece for each read, and no more once it was known that the
 -- commands end
-pub record Takes (quits : List ℕ
-    → Bool) (piece reads : ℕ) (left left_after : Option (List ℕ)) (result : Result Next ServeFault) : Type 0
-  where
-    pub taken : List ℕ
-    pub consumed : Consumes left left_after taken
-    pub few : length taken ≤ reads * piece
-    pub stops : Stops quits piece taken left_after result
+pub record Takes (quits : List ℕ → Bool) (piece reads : ℕ) (left left_after : Option (List ℕ))
+    (result : Result Next ServeFault) : Type 0 where
+  pub taken : List ℕ
+  pub consumed : Consumes left left_after taken
+  pub few : length taken ≤ reads * piece
+  pub stops : Stops quits piece taken left_after result
 
 -- behind what was answered the writer's mark is as it was, behind a fault it is set
 abbrev pub Marked : {A E : Type 0} → Bool → Bool → Result A E → Type 0
