@@ -4,3 +4,4 @@ pub mod Numbers
 pub mod Packing
 pub mod StringExamples
 pub mod Strings
+pub mod Value

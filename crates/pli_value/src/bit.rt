@@ -1,10 +1,10 @@
 //! Strings of bits (X3.74), packed eight to a byte.
 ghost use Rattle.std.specs.Prelude.{◌≡◌, ◌≤◌, ◌<◌, ◌+◌, ◌++◌, ◌∷◌, [], length, slice_index_or, take, drop, false, IfOk, OnErr, MatchOption, Some, None};
 ghost use Rattle.std.specs.Ordering.{bool_cmp};
-ghost use Rattle.pli_value.specs.Strings.{order_of, concatenation, substring, substring_from, fitted, conjunction, disjunction, negation};
+ghost use Rattle.pli_value.specs.Strings.{order_of, concatenation, substring, substring_from, fitted, conjunction, disjunction, negation, index_of};
 ghost use Rattle.pli_value.specs.Conversions.{bit_character, bit_characters};
 
-use crate::character::STRING_LIMIT;
+use crate::character::{self, STRING_LIMIT};
 use crate::part::{part_of, rest_of};
 use std::alloc::{AllocError, Global};
 use std::cmp::Ordering;
@@ -232,4 +232,27 @@ fn character_of(bit: bool) -> u8
     ensures { result ≡ bit_character bit }
 {
     if bit { b'1' } else { b'0' }
+}
+
+/// INDEX (X3.74): the first place, from 1 on, at which the sought string stands; 0 where it is nowhere, or where one of the two is
+/// empty.
+pub fn index(bits: &Bits, sought: &Bits) -> usize
+    ensures { result ≡ index_of (bit_characters bits.now) (bit_characters sought.now) }
+{
+    let (length, sought_length) = (bits.length(), sought.length());
+    let mut whole = [0; STRING_LIMIT];
+    let mut part = [0; STRING_LIMIT];
+    spell(bits, &mut whole);
+    spell(sought, &mut part);
+    character::index(&whole[..length], &part[..sought_length])
+}
+
+/// Writes the characters of bits into the first bytes of a buffer.
+fn spell(bits: &Bits, buffer: &mut [u8])
+    requires { length bits.now ≤ length buffer.old }
+    ensures { take (length bits.now) buffer.new ≡ bit_characters bits.now }
+{
+    for place in 0..bits.length() {
+        buffer[place] = character_of(bits.at(place));
+    }
 }

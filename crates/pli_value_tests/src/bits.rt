@@ -1,4 +1,5 @@
-use pli_value::bit::{Bits, and, bits_to_char, compare, concat, fit, not, or, rest, substr};
+use pli_value::Value;
+use pli_value::bit::{Bits, and, bits_to_char, compare, concat, fit, index, not, or, rest, substr};
 use std::alloc::{AllocError, Global};
 use std::cmp::Ordering::{self, Equal, Greater, Less};
 use std::test::*;
@@ -77,6 +78,18 @@ static RESTS: [(&str, i64, Option<&str>); 5] = [
     ("101", 5, None),
     ("101", 0, None),
     ("", 1, Some("")),
+];
+
+/// A string, what is sought in it, and the place.
+static PLACES: [(&str, &str, usize); 8] = [
+    ("0010110", "11", 5),
+    ("00000000001", "1", 11),
+    ("101", "101", 1),
+    ("101", "1010", 0),
+    ("000", "1", 0),
+    ("101", "", 0),
+    ("", "1", 0),
+    ("", "", 0),
 ];
 
 static ASSIGNED: [(&str, usize, &str); 5] = [
@@ -162,5 +175,36 @@ fn bytes_and_lengths(rt: HostRuntime) -> Result<(), Fail> {
     assert_eq!(rt; longest.bytes().len(), 4_096);
     assert!(rt; concat(alloc, &longest, &Bits::new(alloc))?.is_some());
     assert!(rt; concat(alloc, &string, &longest)?.is_none());
+    Ok(())
+}
+
+#[test]
+fn places(rt: HostRuntime) -> Result<(), Fail> {
+    let alloc = rt.alloc();
+    for &(string, sought, wanted) in &PLACES {
+        assert_eq!(rt;
+            index(&bits(alloc, string)?, &bits(alloc, sought)?),
+            wanted,
+            "INDEX({string}, {sought})"
+        );
+    }
+    let longest = fit(alloc, &Bits::new(alloc), 32_767)?;
+    assert_eq!(rt; index(&longest, &longest), 1);
+    Ok(())
+}
+
+#[test]
+fn copies_of_values(rt: HostRuntime) -> Result<(), Fail> {
+    let alloc = rt.alloc();
+    let number = Value::Number(-5).copy(alloc)?;
+    assert!(rt; matches!(&number, Value::Number(-5)));
+    let Value::Characters(characters) = Value::Characters(b"AB".to_vec(alloc)?).copy(alloc)? else {
+        return Err("characters".into());
+    };
+    assert!(rt; characters.as_slice() == b"AB".as_slice());
+    let Value::Bits(string) = Value::Bits(bits(alloc, "101")?).copy(alloc)? else {
+        return Err("bits".into());
+    };
+    assert!(rt; is(alloc, &string, "101")?);
     Ok(())
 }
