@@ -5,10 +5,14 @@ use Rattle.pli_value.specs.Numbers.{within, quotient, remainder}
 
 -- 2147483647 has 31 binary digits, and so has -2147483647; one more on either side has 32
 abbrev pub GreatestNumbers : Type 0
-GreatestNumbers = (within 31 (pos 2147483646 +ℤ pos 1) ≡ Ok (pos 2147483647)) × (within 31 (pos 2147483647 +ℤ pos 1) ≡ Err Overflow)
-    × (within 31 (negsuc 2147483645 -ℤ pos 1) ≡ Ok (negsuc 2147483646)) × (within 31 (negsuc 2147483646 -ℤ pos 1) ≡ Err Overflow)
-    × (within 31 (pos 65536 *ℤ pos 32768) ≡ Err Overflow) × (within 63 (pos 65536 *ℤ pos 32768) ≡ Ok (pos 2147483648))
-    × (within 3 (pos 7) ≡ Ok (pos 7)) × (within 3 (negsuc 6) ≡ Ok (negsuc 6)) × (within 3 (negsuc 7) ≡ Err Overflow)
+GreatestNumbers = (within 31 (pos 2147483646 +ℤ pos 1) ≡ Ok (pos 2147483647))
+    × (within 31 (pos 2147483647 +ℤ pos 1) ≡ Err Overflow)
+    × (within 31 (negsuc 2147483645 -ℤ pos 1) ≡ Ok (negsuc 2147483646))
+    × (within 31 (negsuc 2147483646 -ℤ pos 1) ≡ Err Overflow)
+    × (within 31 (pos 65536 *ℤ pos 32768) ≡ Err Overflow)
+    × (within 63 (pos 65536 *ℤ pos 32768) ≡ Ok (pos 2147483648))
+    × (within 3 (pos 7) ≡ Ok (pos 7)) × (within 3 (negsuc 6) ≡ Ok (negsuc 6))
+    × (within 3 (negsuc 7) ≡ Err Overflow)
 
 -- 7 and -7 divided by 2 and -2, rounded toward zero; a quotient of too many digits; a divisor that is zero
 abbrev pub Quotients : Type 0

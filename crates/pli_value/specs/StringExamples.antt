@@ -13,8 +13,10 @@ bits (suc n ∷ rest) = true ∷ bits rest
 
 -- 'AB' = 'AB ', '' = ' ', 'A' < 'B', 'B' > 'AZ', and 'A' > 'A' followed by a tab, which is less than a blank
 abbrev pub CharacterOrders : Type 0
-CharacterOrders = (order_of 32 nat_cmp (codes "AB") (codes "AB ") ≡ Equal) × (order_of 32 nat_cmp [] (codes " ") ≡ Equal)
-    × (order_of 32 nat_cmp (codes "A") (codes "B") ≡ Less) × (order_of 32 nat_cmp (codes "B") (codes "AZ") ≡ Greater)
+CharacterOrders = (order_of 32 nat_cmp (codes "AB") (codes "AB ") ≡ Equal)
+    × (order_of 32 nat_cmp [] (codes " ") ≡ Equal)
+    × (order_of 32 nat_cmp (codes "A") (codes "B") ≡ Less)
+    × (order_of 32 nat_cmp (codes "B") (codes "AZ") ≡ Greater)
     × (order_of 32 nat_cmp (codes "A") (codes "A\t") ≡ Greater)
 
 -- '11'B = '110'B, ''B = '00'B, '10'B < '11'B, '1'B > '01'B
@@ -31,7 +33,8 @@ Places = (index_of (codes "AABAB") (codes "AB") ≡ 2) × (index_of (codes "AB")
 
 -- SUBSTR('ABC', 2, 2), ('ABC', 4, 0), ('ABC', 3, 2), ('ABC', 0, 1), ('ABC', 2, -1), ('ABC', 4) and ('ABC', 5)
 abbrev pub Parts : Type 0
-Parts = (substring (codes "ABC") (pos 2) (pos 2) ≡ Some (codes "BC")) × (substring (codes "ABC") (pos 4) (pos 0) ≡ Some [])
+Parts = (substring (codes "ABC") (pos 2) (pos 2) ≡ Some (codes "BC"))
+    × (substring (codes "ABC") (pos 4) (pos 0) ≡ Some [])
     × (substring (codes "ABC") (pos 3) (pos 2) ≡ None) × (substring (codes "ABC") (pos 0) (pos 1) ≡ None)
     × (substring (codes "ABC") (pos 2) (negsuc 0) ≡ None)
     × (substring_from (codes "ABC") (pos 4) ≡ Some []) × (substring_from (codes "ABC") (pos 5) ≡ None)

@@ -1,5 +1,5 @@
--- Strings as lists, of characters (each by its code) or of bits, and the operations on them. Places are counted from 0 here, as the places of
--- a list; the language counts them from 1.
+-- Strings as lists, of characters (each by its code) or of bits, and the operations on them. Places are
+-- counted from 0 here, as the places of a list; the language counts them from 1.
 use Rattle.std.specs.Prelude.{◌≡◌, ◌<◌, ℕ, zero, suc, ◌+◌, ◌-◌, max, nat_le, nat_eq, Bool, false, not, ◌&&◌, ◌||◌, ℤ, pos, negsuc, List, [], ◌∷◌, ◌++◌, length, map, take, drop, replicate, slice_index_or, Option, None, Some, if◌then◌else◌}
 use Rattle.std.specs.Option.{option_map}
 use Rattle.std.specs.declared.cmp.Ordering.{Ordering}
@@ -11,7 +11,8 @@ use Rattle.memchr.specs.Find.{OccursAt}
 -- what an operation gives at each place of two strings, of which the shorter is extended on the right
 abbrev pub by_place : {A B : Type 0} → (extension : A) → (A → A → B) → List A → List A → List B
 by_place extension f s t =
-    map (λ k. f (slice_index_or s k extension) (slice_index_or t k extension)) (range_with_len 0 (max (length s) (length t)))
+    map (λ k. f (slice_index_or s k extension) (slice_index_or t k extension))
+    (range_with_len 0 (max (length s) (length t)))
 
 -- the first that is not Equal
 abbrev pub first_unequal : List Ordering → Ordering
@@ -36,17 +37,19 @@ negation s = map not s
 abbrev pub concatenation : {A : Type 0} → List A → List A → Option (List A)
 concatenation s t = if nat_le (length s + length t) 32767 then Some (s ++ t) else None
 
--- which part of a string of so many elements SUBSTR means: how many stand before it, and how many it has. Its first place, counted
--- from 1, is at least 1, its length at least 0, and it lies within the string.
+-- which part of a string of so many elements SUBSTR means: how many stand before it, and how many it has.
+-- Its first place, counted from 1, is at least 1, its length at least 0, and it lies within the string.
 abbrev pub part_of : (elements : ℕ) (first count : ℤ) → Option (ℕ × ℕ)
-part_of elements (pos (suc before)) (pos count) = if nat_le (before + count) elements then Some (before, count) else None
+part_of elements (pos (suc before)) (pos count) =
+    if nat_le (before + count) elements then Some (before, count) else None
 part_of elements (pos (suc before)) (negsuc n) = None
 part_of elements (pos zero) count = None
 part_of elements (negsuc n) count = None
 
 -- the same without a length: all from the first place on
 abbrev pub rest_of : (elements : ℕ) (first : ℤ) → Option (ℕ × ℕ)
-rest_of elements (pos (suc before)) = if nat_le before elements then Some (before, elements - before) else None
+rest_of elements (pos (suc before)) =
+    if nat_le before elements then Some (before, elements - before) else None
 rest_of elements (pos zero) = None
 rest_of elements (negsuc n) = None
 
@@ -73,11 +76,13 @@ one_behind (suc k) = suc (suc k)
 -- the first place, counted from 1, from which on a string reads as another does; 0 where there is none
 abbrev pub first_place : (sought : List ℕ) → List ℕ → ℕ
 first_place sought [] = 0
-first_place sought (x ∷ xs) = if starts_with nat_eq (x ∷ xs) sought then 1 else one_behind (first_place sought xs)
+first_place sought (x ∷ xs) =
+    if starts_with nat_eq (x ∷ xs) sought then 1 else one_behind (first_place sought xs)
 
 -- a string stands in another at a place, and at none before it; it stands at none
 abbrev pub StandsFirstAt : (s sought : List ℕ) → (place : ℕ) → Type 0
-StandsFirstAt s sought place = OccursAt s sought place × ((earlier : ℕ) → earlier < place → ¬ (OccursAt s sought earlier))
+StandsFirstAt s sought place =
+    OccursAt s sought place × ((earlier : ℕ) → earlier < place → ¬ (OccursAt s sought earlier))
 
 abbrev pub StandsNowhere : (s sought : List ℕ) → Type 0
 StandsNowhere s sought = (place : ℕ) → ¬ (OccursAt s sought place)
@@ -90,4 +95,5 @@ index_of s (x ∷ xs) = first_place (x ∷ xs) s
 -- INDEX counts from 1 the first place at which the sought string stands, and is 0 where it stands nowhere
 abbrev pub IndexIsTheFirstPlace : Type 0
 IndexIsTheFirstPlace = (s sought : List ℕ) → 0 < length sought
-    → ((place : ℕ) → StandsFirstAt s sought place → index_of s sought ≡ place + 1) × (StandsNowhere s sought → index_of s sought ≡ 0)
+    → ((place : ℕ) → StandsFirstAt s sought place → index_of s sought ≡ place + 1)
+    × (StandsNowhere s sought → index_of s sought ≡ 0)
