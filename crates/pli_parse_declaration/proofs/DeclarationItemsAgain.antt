@@ -12,8 +12,10 @@ use Rattle.pli_parse_declaration.specs.DeclarationReading.{list_at, dimensions_a
 use Rattle.pli_parse_declaration.specs.DeclarationGrammar.{between, SpellsListed, Anywhere, SpellsList, SpellsOptional, SpellsSimple, word_of, SpellsDescribed, SpellsParameter, SpellsParameters, SpellsReturned, SpellsAttribute, SpellsAttributes, SpellsIdentifier, SpellsNames, SpellsLevel, SpellsItem, SpellsItems, SpellsDeclaration, EndsItems}
 use Rattle.pli_base.specs.declared.syntax.Identifier.{Identifier}
 use Rattle.pli_parse_declaration.specs.declared.word.AttributeWord.TheVariants as attribute
+use Rattle.pli_parse_declaration.specs.ItemEnds.{OptionEnds, AttributeEnds, DimensionsEnd, LastEnds, AttributesEnd, ItemEnds, ItemsEnd}
 use Rattle.pli_parse_declaration.proofs.DeclarationSteps.{same_ok}
-use Rattle.pli_parse_declaration.proofs.DeclarationReadAgain.{ReadAgain, Anyhow, NoOpen, ListEnds, no_open_close, no_open_comma, no_open_word, placed, open_taken, open_behind, enclosed_again, listed_again, list_again, comma_goes, commas_close, identifier_again, dimensions_again, simple_again, word_again}
+use Rattle.pli_parse_declaration.proofs.DeclarationReadAgain.{ReadAgain, ReadBefore, any_option, any_simple, any_dimensions, any_last, listed_before, dimensions_before, simple_before, Anyhow, NoOpen, ListEnds, no_open_close, no_open_comma, no_open_word, placed, open_taken, open_behind, enclosed_again, listed_again, list_again, comma_goes, commas_close, identifier_again, dimensions_again, simple_again, word_again}
+use Rattle.pli_parse_declaration.proofs.DeclarationRead.{any_place}
 use Rattle.pli_parse_declaration.proofs.DeclarationNestsAgain.{entry_word, returns_word, FirstWord, FirstOfDescription, dimensions_describe, first_no_open, nest_again}
 use Rattle.pli_parse_declaration.specs.declared.list.Separator.TheVariants.{Commas, Nothing}
 
@@ -124,7 +126,7 @@ parameters_again p inner more (d ∷ ds) spelled =
     (list_again Commas parameter_at SpellsParameter (ListEnds Nothing NoOpen) parameter_again (λ q us zs x s. (comma_goes (us ++ zs), (no_attribute_comma (us ++ zs), no_open_comma (us ++ zs)))) parameter_some)
     (λ zs. (commas_close zs, (no_attribute_close zs, no_open_close zs))) p inner more (d ∷ ds) spelled
 
-entry_again : ReadAgain entry_at (Anywhere (SpellsOptional SpellsParameters)) NoOpen
+entry_again : ReadBefore entry_at (Anywhere (SpellsOptional SpellsParameters)) OptionEnds
 unfolding entry_at
 entry_again p ts more None e stops =
     ap (λ us. entry_at p (us ++ more)) e ∙ ap (entry_from p more) stops ∙ placed None p (p + length ts) more (omega (arith, ap length e))
@@ -142,36 +144,52 @@ returned_again p ts more attributes (inner, shape, spelled) stops =
     ∙ enclosed_again (list_at Nothing described_at) (Anywhere (SpellsList Nothing SpellsDescribed)) (ListEnds Nothing NoOpen) described_list (λ zs. (no_attribute_close zs, no_open_close zs)) p inner more attributes spelled
     ∙ placed attributes (p + length (Sign OpenParenthesis ∷ inner ++ Sign CloseParenthesis ∷ [])) (p + length ts) more (ap (λ (us : Tokens). p + length us) (sym shape))
 
-attribute_again : ReadAgain attribute_at (Anywhere SpellsAttribute) NoOpen
+attribute_before : ReadBefore attribute_at (Anywhere SpellsAttribute) AttributeEnds
 unfolding attribute_at
-attribute_again p ts more (tree.Simple a) (k, us, e, word, spelled) stops =
+attribute_before p ts more (tree.Simple a) (k, us, e, word, spelled) stops =
     ap (λ vs. attribute_at p (vs ++ more)) e
     ∙ ap (attribute_from p (Word k ∷ (us ++ more))) (word_again k (us ++ more) (attribute.Simple (word_of a)) word)
-    ∙ ap (mapped tree.Simple) (simple_again a (p + 1) us more spelled stops)
+    ∙ ap (mapped tree.Simple) (simple_before a (p + 1) us more spelled stops)
     ∙ placed (tree.Simple a) (p + 1 + length us) (p + length ts) more (omega (arith, ap length e))
-attribute_again p ts more (tree.Entry parameters) (us, e, spelled) stops =
+attribute_before p ts more (tree.Entry parameters) (us, e, spelled) stops =
     ap (λ vs. attribute_at p (vs ++ more)) e
     ∙ ap (attribute_from p (Word (codes "ENTRY") ∷ (us ++ more))) (word_again (codes "ENTRY") (us ++ more) attribute.Entry entry_word)
     ∙ ap (mapped tree.Entry) (entry_again (p + 1) us more parameters spelled stops)
     ∙ placed (tree.Entry parameters) (p + 1 + length us) (p + length ts) more (omega (arith, ap length e))
-attribute_again p ts more (tree.Returns attributes) (us, e, spelled) stops =
+attribute_before p ts more (tree.Returns attributes) (us, e, spelled) stops =
     ap (λ vs. attribute_at p (vs ++ more)) e
     ∙ ap (attribute_from p (Word (codes "RETURNS") ∷ (us ++ more))) (word_again (codes "RETURNS") (us ++ more) attribute.Returns returns_word)
     ∙ ap (mapped tree.Returns) (returned_again (p + 1) us more attributes spelled tt)
     ∙ placed (tree.Returns attributes) (p + 1 + length us) (p + length ts) more (omega (arith, ap length e))
 
-attributes_again : ReadAgain attributes_at (Anywhere SpellsAttributes) (ListEnds Nothing NoOpen)
-unfolding attributes_at
-attributes_again p ts more [] e stops =
-    ap (λ us. attributes_at p (us ++ more)) e ∙ ap (attributes_from p more) stops.0 ∙ placed [] p (p + length ts) more (omega (arith, ap length e))
-attributes_again p ts more (a ∷ rest) spelled stops =
-    ap (attributes_from p (ts ++ more)) (word_goes ts more (list_first SpellsAttribute attribute_begins ts (a ∷ rest) spelled)).0
-    ∙ list_again Nothing attribute_at SpellsAttribute NoOpen attribute_again (λ q us zs x s. word_goes us zs (attribute_begins us x s)) (λ q us x s. first_some us (attribute_begins us x s)) p ts more (a ∷ rest) spelled stops
+-- what opens no parenthesis ends any attribute
+any_attribute : (a : tree.Attribute) (more : Tokens) → NoOpen more → AttributeEnds a more
+any_attribute (tree.Simple a) more stops = any_simple a more stops
+any_attribute (tree.Entry parameters) more stops = any_option parameters more stops
+any_attribute (tree.Returns attributes) more stops = tt
 
--- attributes or what ends them open no parenthesis
-attributes_no_open : (ts more : Tokens) (attributes : List tree.Attribute) → SpellsAttributes ts attributes → NoOpen more → NoOpen (ts ++ more)
-attributes_no_open ts more [] e stops = subst (λ us. NoOpen (us ++ more)) (sym e) stops
-attributes_no_open ts more (a ∷ rest) spelled stops = first_no_open ts more (list_first SpellsAttribute attribute_begins ts (a ∷ rest) spelled)
+any_attributes : (dims : _) (attributes : List tree.Attribute) (more : Tokens) → NoOpen more → AttributesEnd dims attributes more
+any_attributes dims [] more stops = any_dimensions dims more stops
+any_attributes dims (a ∷ rest) more stops = any_last AttributeEnds (a ∷ rest) more (λ b. any_attribute b more stops)
+
+attributes_before : ReadBefore attributes_at (Anywhere SpellsAttributes) (λ attributes more. (with_attribute more ≡ None) × LastEnds AttributeEnds attributes more)
+unfolding attributes_at
+attributes_before p ts more [] e stops =
+    ap (λ us. attributes_at p (us ++ more)) e ∙ ap (attributes_from p more) stops.0 ∙ placed [] p (p + length ts) more (omega (arith, ap length e))
+attributes_before p ts more (a ∷ rest) spelled stops =
+    ap (attributes_from p (ts ++ more)) (word_goes ts more (list_first SpellsAttribute attribute_begins ts (a ∷ rest) spelled)).0
+    ∙ listed_before Nothing attribute_at (Anywhere SpellsAttribute) AttributeEnds attribute_before
+    (λ q us zs x s. let g = word_goes us zs (attribute_begins us x s) in (g.0, λ y. any_attribute y (us ++ zs) g.1)) (λ q us x s. first_some us (attribute_begins us x s)) (a ∷ rest) (length (ts ++ more) + 1) p ts more
+    (any_place Nothing SpellsAttribute (a ∷ rest) 0 p ts spelled) stops (omega arith)
+
+-- attributes open no parenthesis; without them what stands behind the item decides
+attributes_end : (dims : _) (ts more : Tokens) (attributes : List tree.Attribute) → SpellsAttributes ts attributes → AttributesEnd dims attributes more → DimensionsEnd dims (ts ++ more)
+attributes_end dims ts more [] e stops = subst (λ us. DimensionsEnd dims (us ++ more)) (sym e) stops
+attributes_end dims ts more (a ∷ rest) spelled stops = any_dimensions dims (ts ++ more) (first_no_open ts more (list_first SpellsAttribute attribute_begins ts (a ∷ rest) spelled))
+
+last_of : (dims : _) (attributes : List tree.Attribute) (more : Tokens) → AttributesEnd dims attributes more → LastEnds AttributeEnds attributes more
+last_of dims [] more stops = tt
+last_of dims (a ∷ rest) more stops = stops
 
 -- the names of an item begin with a name or a parenthesis
 abbrev FirstOfNames : Tokens → Type 0
@@ -209,9 +227,9 @@ names_again p ts more names spelled stops =
     (λ zs. (commas_close zs, tt)) p s.0 more names s.2
     ∙ placed names (p + length (Sign OpenParenthesis ∷ s.0 ++ Sign CloseParenthesis ∷ [])) (p + length ts) more (ap (λ (us : Tokens). p + length us) (sym s.1))) spelled
 
-item_again : ReadAgain item_at SpellsItem (ListEnds Nothing NoOpen)
+item_before : ReadBefore item_at SpellsItem ItemEnds
 unfolding item_at
-item_again p ts more i (ls, ns, ds, rs, shape, level, names, dims, attributes) stops =
+item_before p ts more i (ls, ns, ds, rs, shape, level, names, dims, attributes) stops =
     let whole : ts ++ more ≡ ls ++ (ns ++ (ds ++ (rs ++ more))) = ap (λ us. us ++ more) shape ∙ simp append_assoc in
     let q : ℕ = p + length ls in
     let first = names_first q ns i.names names in
@@ -225,9 +243,9 @@ item_again p ts more i (ls, ns, ds, rs, shape, level, names, dims, attributes) s
     (names_again q ns (ds ++ (rs ++ more)) i.names names tt)
     ∙ ap (λ r. r >>= λ dimensions. attributes_at dimensions.next dimensions.rest
     >>= λ attributes. read_as (record { level = i.level; names = i.names; dimensions = dimensions.value; attributes = attributes.value }) attributes.next attributes.rest)
-    (dimensions_again (q + length ns) ds (rs ++ more) i.dimensions dims (attributes_no_open rs more i.attributes attributes stops.1))
+    (dimensions_before (q + length ns) ds (rs ++ more) i.dimensions dims (attributes_end i.dimensions rs more i.attributes attributes stops.1))
     ∙ ap (λ r. r >>= λ attributes. read_as (record { level = i.level; names = i.names; dimensions = i.dimensions; attributes = attributes.value }) attributes.next attributes.rest)
-    (attributes_again (q + length ns + length ds) rs more i.attributes attributes stops)
+    (attributes_before (q + length ns + length ds) rs more i.attributes attributes (stops.0, last_of i.dimensions i.attributes more stops.1))
     ∙ placed i (q + length ns + length ds + length rs) (p + length ts) more place
 
 item_some : (p : ℕ) (ts : Tokens) (i : tree.Item) → SpellsItem p ts i → 0 < length ts
@@ -235,13 +253,18 @@ item_some p ts i (ls, ns, ds, rs, shape, level, names, dims, attributes) =
     let some : 0 < length ns = ⊎_elim (λ f. omega (arith, ap length f.2)) (λ f. omega (arith, ap length f.1)) (names_first (p + length ls) ns i.names names) in
     omega (arith, ap length shape, length-append ls (ns ++ (ds ++ rs)), length-append ns (ds ++ rs))
 
-items_before : ReadAgain items_at SpellsItems (ListEnds Commas (ListEnds Nothing NoOpen))
+-- a comma ends any item
+any_item : (i : tree.Item) (more : Tokens) → with_attribute more ≡ None → NoOpen more → ItemEnds i more
+any_item i more word stops = (word, any_attributes i.dimensions i.attributes more stops)
+
+pub items_before : ReadBefore items_at SpellsItems ItemsEnd
 items_before p ts more items spelled stops =
-    listed_again Commas item_at SpellsItem (ListEnds Nothing NoOpen) item_again (λ q us zs x s. (comma_goes (us ++ zs), (no_attribute_comma (us ++ zs), no_open_comma (us ++ zs)))) item_some items (length (ts ++ more) + 1) p ts more spelled stops (omega arith)
+    listed_before Commas item_at SpellsItem ItemEnds item_before (λ q us zs x s. (comma_goes (us ++ zs), λ y. any_item y (Sign Comma ∷ (us ++ zs)) (no_attribute_comma (us ++ zs)) (no_open_comma (us ++ zs)))) item_some items
+    (length (ts ++ more) + 1) p ts more spelled stops (omega arith)
 
 -- before what neither continues an item nor is a comma
 pub items_again : ReadAgain items_at SpellsItems EndsItems
-items_again p ts more items spelled stops = items_before p ts more items spelled (stops.0, (stops.1, stops.2))
+items_again p ts more items spelled stops = items_before p ts more items spelled (stops.0, any_last ItemEnds items more (λ i. any_item i more stops.1 stops.2))
 
 semicolon_ends : (zs : Tokens) → EndsItems (Sign Semicolon ∷ zs)
 unfolding behind attribute_first

@@ -17,6 +17,7 @@ use Rattle.pli_base.specs.declared.declaration.Bounds.{Bounds}
 use Rattle.pli_base.specs.declared.declaration.InitialValue.{InitialValue}
 use Rattle.pli_base.specs.declared.declaration.InitialValue.TheVariants as initial
 use Rattle.pli_parse_declaration.specs.declared.word.AttributeWord.{AttributeWord}
+use Rattle.pli_parse_declaration.specs.ItemEnds.{OptionEnds, SimpleEnds, DimensionsEnd, LastEnds}
 use Rattle.pli_parse_declaration.proofs.DeclarationRead.{any_place}
 use Rattle.pli_parse_declaration.specs.Separators.{separated, behind_separator}
 use Rattle.pli_parse_declaration.specs.declared.list.Separator.{Separator}
@@ -25,6 +26,10 @@ use Rattle.pli_parse_declaration.specs.declared.list.Separator.TheVariants.{Comm
 -- what spells it is read at the front of tokens that end it
 abbrev pub ReadAgain : {A : Type 0} → (one : ℕ → Tokens → Result (Front A) Fault) → (Spells : ℕ → Tokens → A → Type 0) → (Ends : Tokens → Type 0) → Type 0
 ReadAgain {A = A} one Spells Ends = (p : ℕ) (ts more : Tokens) (x : A) → Spells p ts x → Ends more → one p (ts ++ more) ≡ read_as x (p + length ts) more
+
+-- the same where what was read tells what ends it
+abbrev pub ReadBefore : {A : Type 0} → (one : ℕ → Tokens → Result (Front A) Fault) → (Spells : ℕ → Tokens → A → Type 0) → (Ends : A → Tokens → Type 0) → Type 0
+ReadBefore {A = A} one Spells Ends = (p : ℕ) (ts more : Tokens) (x : A) → Spells p ts x → Ends x more → one p (ts ++ more) ≡ read_as x (p + length ts) more
 
 -- any tokens end it
 abbrev pub Anyhow : Tokens → Type 0
@@ -39,6 +44,30 @@ NoColon more = behind is_colon more ≡ None
 
 abbrev pub NoComma : Tokens → Type 0
 NoComma more = behind is_comma more ≡ None
+
+-- tokens that open no parenthesis end all of these
+pub any_option : {A : Type 0} (x : Option A) (more : Tokens) → NoOpen more → OptionEnds x more
+any_option None more stops = stops
+any_option (Some x) more stops = tt
+
+pub any_simple : (a : tree.SimpleAttribute) (more : Tokens) → NoOpen more → SimpleEnds a more
+any_simple (tree.Fixed n) more stops = any_option n more stops
+any_simple (tree.Binary n) more stops = any_option n more stops
+any_simple (tree.Character n) more stops = any_option n more stops
+any_simple (tree.Bit n) more stops = any_option n more stops
+any_simple (tree.Area n) more stops = any_option n more stops
+any_simple (tree.Offset n) more stops = any_option n more stops
+any_simple (tree.Based n) more stops = any_option n more stops
+any_simple a more stops = tt
+
+pub any_dimensions : (bs : List Bounds) (more : Tokens) → NoOpen more → DimensionsEnd bs more
+any_dimensions [] more stops = stops
+any_dimensions (b ∷ bs) more stops = tt
+
+pub any_last : {A : Type 0} (Ends : A → Tokens → Type 0) (xs : List A) (more : Tokens) → ((x : A) → Ends x more) → LastEnds Ends xs more
+any_last Ends [] more stops = tt
+any_last Ends (x ∷ []) more stops = stops x
+any_last Ends (x ∷ y ∷ xs) more stops = any_last Ends (y ∷ xs) more stops
 
 -- a list does not go on there
 abbrev pub ListEnds : Separator → (Tokens → Type 0) → Tokens → Type 0
@@ -83,7 +112,7 @@ enclosed_again one Spells Ends again closes p inner more x spelled =
     ∙ placed x (p + 1 + length inner + 1) (p + length (Sign OpenParenthesis ∷ inner ++ Sign CloseParenthesis ∷ [])) more (omega (arith, length-append inner (Sign CloseParenthesis ∷ [])))
 
 pub optional_again : {A : Type 0} (one : ℕ → Tokens → Result (Front A) Fault) (Spells : Tokens → A → Type 0) (Ends : Tokens → Type 0) → ReadAgain one (Anywhere Spells) Ends → ((zs : Tokens) → Ends (Sign CloseParenthesis ∷ zs))
-    → ReadAgain (λ p ts. if_open one p ts (behind is_open ts)) (Anywhere (SpellsOptional Spells)) NoOpen
+    → ReadBefore (λ p ts. if_open one p ts (behind is_open ts)) (Anywhere (SpellsOptional Spells)) OptionEnds
 optional_again one Spells Ends again closes p ts more None spelled stops =
     ap (λ us. if_open one p (us ++ more) (behind is_open (us ++ more))) spelled
     ∙ ap (λ o. if_open one p more o) stops
@@ -95,43 +124,49 @@ optional_again one Spells Ends again closes p ts more (Some x) (inner, shape, sp
     ∙ placed (Some x) (p + length (Sign OpenParenthesis ∷ inner ++ Sign CloseParenthesis ∷ [])) (p + length ts) more (ap (λ (us : Tokens). p + length us) (sym shape))
 
 -- a list
-module _ {A : Type 0} (s : Separator) (one : ℕ → Tokens → Result (Front A) Fault) (Spells : ℕ → Tokens → A → Type 0) (Ends : Tokens → Type 0) (again : ReadAgain one Spells Ends)
-    (goes : (p : ℕ) (ts zs : Tokens) (x : A) → Spells p ts x → (separated s (between s ++ (ts ++ zs)) ≡ Some (ts ++ zs)) × Ends (between s ++ (ts ++ zs)))
+module _ {A : Type 0} (s : Separator) (one : ℕ → Tokens → Result (Front A) Fault) (Spells : ℕ → Tokens → A → Type 0) (Ends : A → Tokens → Type 0) (again : ReadBefore one Spells Ends)
+    (goes : (p : ℕ) (ts zs : Tokens) (x : A) → Spells p ts x → (separated s (between s ++ (ts ++ zs)) ≡ Some (ts ++ zs)) × ((y : A) → Ends y (between s ++ (ts ++ zs))))
     (some : (p : ℕ) (ts : Tokens) (x : A) → Spells p ts x → 0 < length ts) where
   -- the list begins with its first value
   first_of : (p : ℕ) (ts : Tokens) (x : A) (xs : List A) → SpellsListed s Spells p ts (x ∷ xs) → (front : Tokens) × (rest : Tokens) × (ts ≡ front ++ rest) × Spells p front x
   first_of p ts x [] spelled = (ts, [], sym (append-nil ts), spelled)
   first_of p ts x (y ∷ xs) (front, rest, shape, spelled, later) = (front, between s ++ rest, shape, spelled)
 
-  goes_on : (p : ℕ) (ts zs : Tokens) (x : A) (xs : List A) → SpellsListed s Spells p ts (x ∷ xs) → (separated s (between s ++ (ts ++ zs)) ≡ Some (ts ++ zs)) × Ends (between s ++ (ts ++ zs))
+  goes_on : (p : ℕ) (ts zs : Tokens) (x : A) (xs : List A) → SpellsListed s Spells p ts (x ∷ xs) → (separated s (between s ++ (ts ++ zs)) ≡ Some (ts ++ zs)) × ((y : A) → Ends y (between s ++ (ts ++ zs)))
   goes_on p ts zs x xs spelled =
       let f = first_of p ts x xs spelled in
       let e : f.0 ++ (f.1 ++ zs) ≡ ts ++ zs = sym (append_assoc f.0 f.1 zs) ∙ ap (λ us. us ++ zs) (sym f.2) in
-      subst (λ us. (separated s (between s ++ us) ≡ Some us) × Ends (between s ++ us)) e (goes p f.0 (f.1 ++ zs) x f.3)
+      subst (λ us. (separated s (between s ++ us) ≡ Some us) × ((y : A) → Ends y (between s ++ us))) e (goes p f.0 (f.1 ++ zs) x f.3)
 
   place_of : (t : Separator) (p : ℕ) (front rest : Tokens) → behind_separator t (p + length front) + length rest ≡ p + length (front ++ (between t ++ rest))
   place_of Commas p front rest = omega (arith, length-append front (Sign Comma ∷ rest))
   place_of Periods p front rest = omega (arith, length-append front (between Periods ++ rest))
   place_of Nothing p front rest = omega (arith, length-append front rest)
 
-  pub listed_again : (xs : List A) (bound p : ℕ) (ts more : Tokens) → SpellsListed s Spells p ts xs → ListEnds s Ends more → length (ts ++ more) < bound
+  pub listed_before : (xs : List A) (bound p : ℕ) (ts more : Tokens) → SpellsListed s Spells p ts xs → (separated s more ≡ None) × LastEnds Ends xs more → length (ts ++ more) < bound
       → listed_at s one bound p (ts ++ more) ≡ read_as xs (p + length ts) more
   unfolding listed_at
-  listed_again xs zero p ts more spelled stops small = absurd (omega arith)
-  listed_again [] (suc bound) p ts more spelled stops small = absurd spelled
-  listed_again (x ∷ []) (suc bound) p ts more spelled stops small =
+  listed_before xs zero p ts more spelled stops small = absurd (omega arith)
+  listed_before [] (suc bound) p ts more spelled stops small = absurd spelled
+  listed_before (x ∷ []) (suc bound) p ts more spelled stops small =
       ap (λ r. r >>= λ y. listed_after s (listed_at s one bound) y (separated s y.rest)) (again p ts more x spelled stops.1)
       ∙ ap (λ o. listed_after s (listed_at s one bound) (record { value = x; next = p + length ts; rest = more }) o) stops.0
-  listed_again (x ∷ y ∷ xs) (suc bound) p ts more (front, rest, shape, spelled, later) stops small =
+  listed_before (x ∷ y ∷ xs) (suc bound) p ts more (front, rest, shape, spelled, later) stops small =
       let step = goes_on (behind_separator s (p + length front)) rest more y xs later in
       let whole : ts ++ more ≡ front ++ (between s ++ (rest ++ more)) = ap (λ us. us ++ more) shape ∙ append_assoc front (between s ++ rest) more ∙ ap (λ us. front ++ us) (append_assoc (between s) rest more) in
       let first : 0 < length front = some p front x spelled in
       let less : length (rest ++ more) < bound = omega (arith, small, ap length whole, length-append front (between s ++ (rest ++ more)), length-append (between s) (rest ++ more)) in
       ap (listed_at s one (suc bound) p) whole
-      ∙ ap (λ r. r >>= λ z. listed_after s (listed_at s one bound) z (separated s z.rest)) (again p front (between s ++ (rest ++ more)) x spelled step.1)
+      ∙ ap (λ r. r >>= λ z. listed_after s (listed_at s one bound) z (separated s z.rest)) (again p front (between s ++ (rest ++ more)) x spelled (step.1 x))
       ∙ ap (λ o. listed_after s (listed_at s one bound) (record { value = x; next = p + length front; rest = between s ++ (rest ++ more) }) o) step.0
-      ∙ ap (λ r. r >>= λ z. read_as (x ∷ z.value) z.next z.rest) (listed_again (y ∷ xs) bound (behind_separator s (p + length front)) rest more later stops less)
+      ∙ ap (λ r. r >>= λ z. read_as (x ∷ z.value) z.next z.rest) (listed_before (y ∷ xs) bound (behind_separator s (p + length front)) rest more later stops less)
       ∙ placed (x ∷ y ∷ xs) (behind_separator s (p + length front) + length rest) (p + length ts) more (place_of s p front rest ∙ ap (λ (us : Tokens). p + length us) (sym shape))
+
+pub listed_again : {A : Type 0} (s : Separator) (one : ℕ → Tokens → Result (Front A) Fault) (Spells : ℕ → Tokens → A → Type 0) (Ends : Tokens → Type 0) → ReadAgain one Spells Ends
+    → ((p : ℕ) (ts zs : Tokens) (x : A) → Spells p ts x → (separated s (between s ++ (ts ++ zs)) ≡ Some (ts ++ zs)) × Ends (between s ++ (ts ++ zs))) → ((p : ℕ) (ts : Tokens) (x : A) → Spells p ts x → 0 < length ts)
+    → (xs : List A) (bound p : ℕ) (ts more : Tokens) → SpellsListed s Spells p ts xs → ListEnds s Ends more → length (ts ++ more) < bound → listed_at s one bound p (ts ++ more) ≡ read_as xs (p + length ts) more
+listed_again {A = A} s one Spells Ends again goes some xs bound p ts more spelled stops small =
+    listed_before s one Spells (λ (x : A). Ends) again (λ q us zs x t. ((goes q us zs x t).0, λ y. (goes q us zs x t).1)) some xs bound p ts more spelled (stops.0, any_last (λ (x : A). Ends) xs more (λ x. stops.1)) small
 
 pub list_again : {A : Type 0} (s : Separator) (one : ℕ → Tokens → Result (Front A) Fault) (Spells : Tokens → A → Type 0) (Ends : Tokens → Type 0) → ReadAgain one (Anywhere Spells) Ends
     → ((p : ℕ) (ts zs : Tokens) (x : A) → Spells ts x → (separated s (between s ++ (ts ++ zs)) ≡ Some (ts ++ zs)) × Ends (between s ++ (ts ++ zs))) → ((p : ℕ) (ts : Tokens) (x : A) → Spells ts x → 0 < length ts)
@@ -216,7 +251,7 @@ no_colon_close : (zs : Tokens) → NoColon (Sign CloseParenthesis ∷ zs)
 unfolding behind
 no_colon_close zs = refl
 
-dimensions_so : (p : ℕ) (ts more : Tokens) (bounds : List Bounds) (o : Option (List Bounds)) → or_none o ≡ bounds → SpellsOptional (SpellsList Commas SpellsBounds) ts o → NoOpen more
+dimensions_so : (p : ℕ) (ts more : Tokens) (bounds : List Bounds) (o : Option (List Bounds)) → or_none o ≡ bounds → SpellsOptional (SpellsList Commas SpellsBounds) ts o → OptionEnds o more
     → dimensions_at p (ts ++ more) ≡ read_as bounds (p + length ts) more
 unfolding dimensions_at
 dimensions_so p ts more bounds o e spelled stops =
@@ -226,11 +261,14 @@ dimensions_so p ts more bounds o e spelled stops =
     (λ zs. (commas_close zs, no_colon_close zs)) p ts more o spelled stops)
     ∙ ap (λ (bs : List Bounds). read_as bs (p + length ts) more) e
 
-pub dimensions_again : ReadAgain dimensions_at (Anywhere SpellsDimensions) NoOpen
-dimensions_again p ts more [] spelled stops = dimensions_so p ts more [] None refl spelled stops
-dimensions_again p ts more (b ∷ bs) spelled stops = dimensions_so p ts more (b ∷ bs) (Some (b ∷ bs)) refl spelled stops
+pub dimensions_before : ReadBefore dimensions_at (Anywhere SpellsDimensions) DimensionsEnd
+dimensions_before p ts more [] spelled stops = dimensions_so p ts more [] None refl spelled stops
+dimensions_before p ts more (b ∷ bs) spelled stops = dimensions_so p ts more (b ∷ bs) (Some (b ∷ bs)) refl spelled stops
 
-length_again : ReadAgain length_at (Anywhere (SpellsOptional SpellsNumber)) NoOpen
+pub dimensions_again : ReadAgain dimensions_at (Anywhere SpellsDimensions) NoOpen
+dimensions_again p ts more bounds spelled stops = dimensions_before p ts more bounds spelled (any_dimensions bounds more stops)
+
+length_again : ReadBefore length_at (Anywhere (SpellsOptional SpellsNumber)) OptionEnds
 unfolding length_at
 length_again = optional_again number_at SpellsNumber Anyhow number_again (λ zs. tt)
 
@@ -252,7 +290,7 @@ scaled_again p ts more n spelled stops =
     ∙ zero_scale n (p + length s.0) more
     ∙ placed n (p + length s.0 + 2) (p + length ts) more (omega (arith, ap length s.1, length-append s.0 (Sign Comma ∷ Decimal 0 1 ∷ [])))) spelled
 
-precision_again : ReadAgain precision_at (Anywhere (SpellsOptional SpellsScaled)) NoOpen
+precision_again : ReadBefore precision_at (Anywhere (SpellsOptional SpellsScaled)) OptionEnds
 unfolding precision_at
 precision_again = optional_again scaled_at SpellsScaled NoComma scaled_again no_comma_close
 
@@ -265,11 +303,11 @@ unfolding identifier_at name_at name_first
 identifier_again p ts more i (e, at) stops =
     subst (λ us. identifier_at p (us ++ more) ≡ read_as i (p + length us) more) (sym e) (ap (λ (q : ℕ). read_as (record { name = i.name; at = q }) (p + 1) more) (sym at))
 
-area_again : ReadAgain area_at (Anywhere (SpellsOptional SpellsName)) NoOpen
+area_again : ReadBefore area_at (Anywhere (SpellsOptional SpellsName)) OptionEnds
 unfolding area_at
 area_again = optional_again name_at SpellsName Anyhow name_again (λ zs. tt)
 
-locator_again : ReadAgain locator_at (Anywhere (SpellsOptional (SpellsList Periods SpellsName))) NoOpen
+locator_again : ReadBefore locator_at (Anywhere (SpellsOptional (SpellsList Periods SpellsName))) OptionEnds
 unfolding locator_at
 locator_again =
     optional_again (list_at Periods name_at) (SpellsList Periods SpellsName) (ListEnds Periods Anyhow)
@@ -338,24 +376,27 @@ bare_again : (a : tree.SimpleAttribute) (p : ℕ) (ts more : Tokens) → ts ≡ 
 bare_again a p ts more e = ap (λ us. read_as a p (us ++ more)) e ∙ placed a p (p + length ts) more (omega (arith, ap length e))
 
 -- behind its keyword
-pub simple_again : (a : tree.SimpleAttribute) (p : ℕ) (ts more : Tokens) → SpellsBehind ts a → NoOpen more → simple_of (word_of a) p (ts ++ more) ≡ read_as a (p + length ts) more
+pub simple_before : (a : tree.SimpleAttribute) (p : ℕ) (ts more : Tokens) → SpellsBehind ts a → SimpleEnds a more → simple_of (word_of a) p (ts ++ more) ≡ read_as a (p + length ts) more
 unfolding simple_of
-simple_again (tree.Fixed n) p ts more s stops = ap (mapped tree.Fixed) (precision_again p ts more n s stops)
-simple_again (tree.Binary n) p ts more s stops = ap (mapped tree.Binary) (precision_again p ts more n s stops)
-simple_again (tree.Character n) p ts more s stops = ap (mapped tree.Character) (length_again p ts more n s stops)
-simple_again (tree.Bit n) p ts more s stops = ap (mapped tree.Bit) (length_again p ts more n s stops)
-simple_again (tree.Area n) p ts more s stops = ap (mapped tree.Area) (length_again p ts more n s stops)
-simple_again (tree.Offset n) p ts more s stops = ap (mapped tree.Offset) (area_again p ts more n s stops)
-simple_again (tree.Based n) p ts more s stops = ap (mapped tree.Based) (locator_again p ts more n s stops)
-simple_again (tree.Initial n) p ts more s stops = ap (mapped tree.Initial) (values_again p ts more n s)
-simple_again tree.Varying p ts more s stops = bare_again tree.Varying p ts more s
-simple_again tree.Pointer p ts more s stops = bare_again tree.Pointer p ts more s
-simple_again tree.Controlled p ts more s stops = bare_again tree.Controlled p ts more s
-simple_again tree.Static p ts more s stops = bare_again tree.Static p ts more s
-simple_again tree.Automatic p ts more s stops = bare_again tree.Automatic p ts more s
-simple_again tree.External p ts more s stops = bare_again tree.External p ts more s
-simple_again tree.Internal p ts more s stops = bare_again tree.Internal p ts more s
-simple_again tree.Builtin p ts more s stops = bare_again tree.Builtin p ts more s
+simple_before (tree.Fixed n) p ts more s stops = ap (mapped tree.Fixed) (precision_again p ts more n s stops)
+simple_before (tree.Binary n) p ts more s stops = ap (mapped tree.Binary) (precision_again p ts more n s stops)
+simple_before (tree.Character n) p ts more s stops = ap (mapped tree.Character) (length_again p ts more n s stops)
+simple_before (tree.Bit n) p ts more s stops = ap (mapped tree.Bit) (length_again p ts more n s stops)
+simple_before (tree.Area n) p ts more s stops = ap (mapped tree.Area) (length_again p ts more n s stops)
+simple_before (tree.Offset n) p ts more s stops = ap (mapped tree.Offset) (area_again p ts more n s stops)
+simple_before (tree.Based n) p ts more s stops = ap (mapped tree.Based) (locator_again p ts more n s stops)
+simple_before (tree.Initial n) p ts more s stops = ap (mapped tree.Initial) (values_again p ts more n s)
+simple_before tree.Varying p ts more s stops = bare_again tree.Varying p ts more s
+simple_before tree.Pointer p ts more s stops = bare_again tree.Pointer p ts more s
+simple_before tree.Controlled p ts more s stops = bare_again tree.Controlled p ts more s
+simple_before tree.Static p ts more s stops = bare_again tree.Static p ts more s
+simple_before tree.Automatic p ts more s stops = bare_again tree.Automatic p ts more s
+simple_before tree.External p ts more s stops = bare_again tree.External p ts more s
+simple_before tree.Internal p ts more s stops = bare_again tree.Internal p ts more s
+simple_before tree.Builtin p ts more s stops = bare_again tree.Builtin p ts more s
+
+pub simple_again : (a : tree.SimpleAttribute) (p : ℕ) (ts more : Tokens) → SpellsBehind ts a → NoOpen more → simple_of (word_of a) p (ts ++ more) ≡ read_as a (p + length ts) more
+simple_again a p ts more s stops = simple_before a p ts more s (any_simple a more stops)
 
 -- an attribute's keyword is the first token
 pub word_again : (k : Name) (us : Tokens) (w : AttributeWord) → attribute_word k ≡ Some w → attribute_first (Word k ∷ us) ≡ Some (w, us)

@@ -4,3 +4,4 @@ pub mod DeclarationGrammar
 pub mod DeclarationReading
 pub mod DeclarationWords
 pub mod Separators
+pub mod ItemEnds
