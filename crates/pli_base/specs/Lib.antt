@@ -17,5 +17,6 @@ pub mod StatementView
 pub mod StatementLaws
 pub mod FaultPlaces
 pub mod FaultPlaceLaws
+pub mod FrontLaws
 pub mod TreeTokens
 pub mod TreeTokenLaws

@@ -5,8 +5,7 @@ use Rattle.pli_base.specs.TreeTokenLaws.{rises_within, rises_on}
 use Rattle.pli_base.specs.Words.{Tokens}
 use Rattle.pli_base.specs.Reading.{Front}
 use Rattle.pli_base.specs.Declarations as tree
-use Rattle.pli_base.specs.declared.syntax.Identifier.{Identifier}
-use Rattle.pli_base.specs.declared.token.Sign.TheVariants.{OpenParenthesis, CloseParenthesis, Semicolon}
+use Rattle.pli_base.specs.declared.token.Sign.TheVariants.{CloseParenthesis, Semicolon}
 use Rattle.pli_base.specs.declared.token.TokenText.TheVariants.{Sign}
 use Rattle.pli_parse_declaration.specs.DeclarationReading.{items_at, declaration_at}
 use Rattle.pli_parse_declaration.specs.declared.list.Separator.{Separator}

@@ -1,3 +1,4 @@
+pub mod DeclarationEnds
 pub mod DeclarationExamples
 pub mod DeclarationFaults
 pub mod DeclarationItemsAgain

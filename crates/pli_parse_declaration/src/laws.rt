@@ -1,5 +1,5 @@
 //! Laws of the grammar of declarations: what it spells and what is read are one.
-ghost use Rattle.std.specs.Prelude.{◌≡◌, ◌+◌, ◌++◌, ℕ, List, Ok, Err, length};
+ghost use Rattle.std.specs.Prelude.{◌≡◌, ◌≤◌, ◌+◌, ◌++◌, ℕ, List, Ok, Err, length};
 ghost use Rattle.pli_base.specs.FaultPlaces.{FaultStands};
 ghost use Rattle.pli_base.specs.TreeTokens.{Rises, tokens_of_each, item_tokens};
 ghost use Rattle.pli_base.specs.Words.{Tokens};
@@ -8,6 +8,7 @@ ghost use Rattle.pli_base.specs.Declarations as tree;
 ghost use Rattle.pli_base.specs.declared.token.Fault.{Fault};
 ghost use Rattle.pli_parse_declaration.specs.DeclarationReading.{items_at, declaration_at, returned_at};
 ghost use Rattle.pli_parse_declaration.specs.DeclarationGrammar.{SpellsFront, SpellsItems, SpellsDeclaration, SpellsReturned, Anywhere, EndsItems};
+ghost use Rattle.pli_parse_declaration.specs.ItemEnds.{ItemsEnd};
 ghost use Rattle.pli_parse_declaration.specs.DeclarationExamples.{NameThatIsKeyword, Levels, Nest, Values, WrongWord, NoLevelInParentheses, NoScaleButZero, NoFactorOfString, NoDescription, NoDescriptionBehindComma, NoAttributeInNest, TextEnds};
 
 /// Worked examples of what is read behind DECLARE, and of faults.
@@ -68,4 +69,15 @@ pub fn tokens_of_items_rise()
         items_at p ts ≡ Ok x → Rises p (tokens_of_each item_tokens x.value) x.next }
     ensures declaration { (p : ℕ) (ts : Tokens) (x : Front (List tree.Item)) →
         declaration_at p ts ≡ Ok x → Rises p (tokens_of_each item_tokens x.value) x.next }
+{}
+
+/// A law: items that are spelled are read exactly before tokens that do not continue them, which the last of them tells; and no
+/// longer front of the tokens spells any.
+#[tactic(auto, using(crate::proofs::DeclarationItemsAgain::items_before, crate::proofs::DeclarationEnds::items_end, crate::proofs::DeclarationEnds::items_longest))]
+pub fn longest_items()
+    ensures ended { (p : ℕ) (ts more : Tokens) (items : List tree.Item) →
+        SpellsItems p ts items → ItemsEnd items more → items_at p (ts ++ more) ≡ read_as items (p + length ts) more }
+    ensures left { (p : ℕ) (ts : Tokens) (x : Front (List tree.Item)) → items_at p ts ≡ Ok x → ItemsEnd x.value x.rest }
+    ensures longest { (p : ℕ) (ts : Tokens) (x : Front (List tree.Item)) → items_at p ts ≡ Ok x →
+        (longer more : Tokens) (items : List tree.Item) → ts ≡ longer ++ more → SpellsItems p longer items → p + length longer ≤ x.next }
 {}

@@ -15,6 +15,6 @@ pub use described::returned_at;
 pub use item::{declaration_at, identifiers_at, items_at};
 pub use laws::{
     declarations_read_are_spelled, declarations_spelled_are_read, faults_stand_at_tokens,
-    one_declaration, tokens_of_items_rise, worked_examples,
+    longest_items, one_declaration, tokens_of_items_rise, worked_examples,
 };
 pub use list::{ReadsOne, Separator, list_at};

@@ -1,5 +1,5 @@
 -- What ends an expression or a reference.
-use Rattle.std.proofs.Common.{◌≡◌, Bool, true, false, [], ◌∷◌, Some, None, refl}
+use Rattle.std.proofs.Common.{◌≡◌, false, [], ◌∷◌, None, refl}
 use Rattle.pli_base.specs.Syntax.{Expression, Referred, Constant, Parenthesized, Prefix, Infix, Reference, Named, JoinedParts, Alone, Joined, Arguments, Absent, Given}
 use Rattle.pli_base.specs.declared.token.Sign.TheVariants as signs
 use Rattle.pli_base.specs.declared.token.TokenText.{TokenText}
@@ -7,7 +7,7 @@ use Rattle.pli_base.specs.declared.token.TokenText.TheVariants.{Sign}
 use Rattle.pli_parse_expression.specs.Operators.{joining_at, continues_reference}
 use Rattle.pli_base.specs.Words.{Tokens}
 use Rattle.pli_parse_expression.specs.Expressions.{EndsReference, EndsExpression}
-use Rattle.pli_parse_expression.specs.Ends.{joins, goes_on_behind, parts_go_on, reference_goes_on, operand_goes_on, NoneGoesOn, ReferenceEnds, NoInfix, ExpressionEnds}
+use Rattle.pli_parse_expression.specs.Ends.{goes_on_behind, parts_go_on, operand_goes_on, NoneGoesOn, ReferenceEnds, ExpressionEnds}
 
 -- the operand with which an expression ends
 abbrev pub OperandEnds : Expression → Tokens → Type 0

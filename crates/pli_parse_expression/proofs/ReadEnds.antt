@@ -1,9 +1,10 @@
 -- What is read ends where it is left off: the tokens that are left do not continue it, and no longer front spells one.
-use Rattle.std.proofs.Common.{◌≡◌, ◌<◌, ◌≤◌, ◌+◌, ℕ, suc, zero, nat_lt, Bool, true, false, cond, [], ◌∷◌, ◌++◌, Option, Some, None, Result, Ok, option_map, length, refl, ap, ◌∙◌, sym, subst, arith}
-use Rattle.std.proofs.lemmas.Bool.{ltb-true, ltb-false}
+use Rattle.std.proofs.Common.{◌≡◌, ◌≤◌, ◌+◌, ℕ, suc, zero, nat_lt, Bool, true, false, cond, [], ◌∷◌, ◌++◌, Option, Some, None, Result, Ok, option_map, length, refl, ap, ◌∙◌, sym, subst, arith}
+use Rattle.std.proofs.lemmas.Bool.{ltb-true}
 use Rattle.std.proofs.lemmas.List.{append-nil}
+use Rattle.pli_base.specs.FrontLaws.{no_longer}
 use Rattle.pli_base.specs.Name.{Name}
-use Rattle.pli_base.specs.Syntax.{Expression, Referred, Constant, Parenthesized, Prefix, Infix, Reference, Named, JoinedParts, Alone, Joined, Arguments, Absent, Given, Expressions}
+use Rattle.pli_base.specs.Syntax.{Expression, Referred, Constant, Parenthesized, Prefix, Infix, Reference, JoinedParts, Arguments, Absent, Given}
 use Rattle.pli_base.specs.declared.code.Code.TheVariants.{ExpressionExpected, NameExpected}
 use Rattle.pli_base.specs.declared.syntax.ConstantValue.{ConstantValue}
 use Rattle.pli_base.specs.declared.syntax.ConstantValue.TheVariants as constants
@@ -199,20 +200,6 @@ pub reference_at_ends : (levels p : ℕ) (ts : Tokens) (x : Front Reference) →
 unfolding reference_at
 reference_at_ends levels p ts x h = reference_stops (option_map (argument_of true) (inside levels)) 0 p ts x h
 
--- a longer front has the shorter one and more
-pub longer_front : (front rest longer more : Tokens) → front ++ rest ≡ longer ++ more → length front ≤ length longer → (us : Tokens) × (longer ≡ front ++ us) × (rest ≡ us ++ more)
-longer_front [] rest longer more h small = (longer, refl, h)
-longer_front (t ∷ front) rest [] more h small = absurd (omega arith)
-longer_front (t ∷ front) rest (u ∷ longer) more h small =
-    let r = longer_front front rest longer more (tail_same h) (omega arith) in
-    (r.0, ap (λ v. v ∷ longer) (sym (head_same h)) ∙ ap (λ vs. t ∷ vs) r.1, r.2)
-  where
-    head_same : {a b : TokenText} {vs ws : Tokens} → ◌≡◌ {A = Tokens} (a ∷ vs) (b ∷ ws) → a ≡ b
-    head_same k = cc
-
-    tail_same : {a b : TokenText} {vs ws : Tokens} → ◌≡◌ {A = Tokens} (a ∷ vs) (b ∷ ws) → vs ≡ ws
-    tail_same k = cc
-
 -- the first token alone decides
 ends_of_front : (goes_on : TokenText → Bool) (us more : Tokens) → NoneGoesOn goes_on (us ++ more) → NoneGoesOn goes_on us
 ends_of_front goes_on [] more h = tt
@@ -225,19 +212,6 @@ infix_of_front (t ∷ us) more h = h
 rest_same : {A : Type 0} (v w : A) (m n p q : ℕ) (us vs : Tokens)
     → ◌≡◌ {A = Result (Front A) Fault} (Ok (record { value = v; count = m; next = p; rest = us })) (Ok (record { value = w; count = n; next = q; rest = vs })) → us ≡ vs
 rest_same v w m n p q us vs h = ap (λ (x : Front _). x.rest) (same_ok h)
-
--- not longer, or by tokens that would go on
-no_longer : (next p : ℕ) (ts front rest longer more : Tokens) → ts ≡ front ++ rest → next ≡ p + length front → ts ≡ longer ++ more
-    → ((us : Tokens) → longer ≡ front ++ us → rest ≡ us ++ more → us ≡ []) → p + length longer ≤ next
-no_longer next p ts front rest longer more shape place whole none = by (nat_lt (length front) (length longer)) refl
-  where
-    by : (b : Bool) → nat_lt (length front) (length longer) ≡ b → p + length longer ≤ next
-    by false e = omega (arith, ltb-false (length front) (length longer) e)
-    by true e =
-        let less : length front < length longer = ltb-true (length front) (length longer) e in
-        let f = longer_front front rest longer more (sym shape ∙ whole) (omega arith) in
-        let same : length longer ≡ length front = ap length (f.1 ∙ ap (λ us. front ++ us) (none f.0 f.1 f.2) ∙ append-nil front) in
-        omega arith
 
 pub expression_longest : (levels p : ℕ) (ts : Tokens) (x : Front Expression) → expression_at levels 0 p ts ≡ Ok x
     → (longer more : Tokens) (e : Expression) → ts ≡ longer ++ more → SpellsOutermost levels p longer e → p + length longer ≤ x.next
