@@ -9,8 +9,13 @@ use Rattle.pli_base.specs.declared.token.TokenText.{TokenText}
 use Rattle.pli_base.specs.declared.token.TokenText.TheVariants.{Word}
 use Rattle.pli_base.specs.Declarations as tree
 use Rattle.pli_base.specs.declared.declaration.Bounds.{Bounds}
-use Rattle.pli_parse_declaration.specs.DeclarationWords.{attribute_word, with_rest, attribute_first, behind, if_first, with_attribute}
-use Rattle.pli_parse_declaration.specs.DeclarationReading.{read_as, mapped, enclosed, if_open, Separator, Commas, Periods, Nothing, separated, behind_separator, listed_after, listed_at, list_at, bounds_at, or_none, dimensions_at, number_at, length_at, scaled_at, precision_at, name_at, area_at, locator_at, values_at, simple_of, parameters_at, entry_from, entry_at, returned_at, attribute_from, attribute_at, attributes_from, attributes_at, level_at, names_at, item_at, items_at}
+use Rattle.pli_parse_declaration.specs.DeclarationWords.{attribute_word, with_rest, attribute_first, if_first, with_attribute}
+use Rattle.pli_base.specs.Words.{behind}
+use Rattle.pli_parse_declaration.specs.DeclarationReading.{listed_after, listed_at, list_at, bounds_at, dimensions_at, number_at, length_at, scaled_at, precision_at, name_at, area_at, locator_at, values_at, simple_of, parameters_at, entry_from, entry_at, returned_at, attribute_from, attribute_at, attributes_from, attributes_at, level_at, names_at, item_at, items_at}
+use Rattle.pli_base.specs.Reading.{read_as, mapped, enclosed, if_open, or_none}
+use Rattle.pli_parse_declaration.specs.declared.list.Separator.{Separator}
+use Rattle.pli_parse_declaration.specs.declared.list.Separator.TheVariants.{Commas, Periods, Nothing}
+use Rattle.pli_parse_declaration.specs.Separators.{separated, behind_separator}
 use Rattle.pli_parse_declaration.specs.DeclarationGrammar.{SpellsList, SpellsOptional, SpellsBounds, SpellsItems, EndsItems}
 use Rattle.pli_parse_declaration.specs.ItemEnds.{OptionEnds, SimpleEnds, AttributeEnds, DimensionsEnd, LastEnds, AttributesEnd, ItemEnds, ItemsEnd}
 use Rattle.pli_parse_declaration.specs.declared.word.SimpleWord.{SimpleWord}

@@ -3,7 +3,8 @@ use Rattle.std.specs.Prelude.{◌≡◌, List, [], ◌∷◌, Option, Some, None
 use Rattle.pli_base.specs.Words.{Tokens, is_open, is_comma}
 use Rattle.pli_base.specs.Declarations as tree
 use Rattle.pli_base.specs.declared.declaration.Bounds.{Bounds}
-use Rattle.pli_parse_declaration.specs.DeclarationWords.{behind, with_attribute}
+use Rattle.pli_parse_declaration.specs.DeclarationWords.{with_attribute}
+use Rattle.pli_base.specs.Words.{behind}
 
 -- where something may stand in parentheses and does not, `(` goes on
 abbrev pub OptionEnds : {A : Type 0} → Option A → Tokens → Type 0
