@@ -9,7 +9,7 @@ use std::cell::Cell;
 const PIECE: usize = 1000;
 
 /// Puts the first bytes of `bytes`, at most `most`, at the front of `buffer`, and answers how many.
-fn fill(buffer: &mut [u8], bytes: &[u8], most: usize) -> usize
+pub fn fill(buffer: &mut [u8], bytes: &[u8], most: usize) -> usize
     ensures in_buffer { result ≤ length buffer.new }
     ensures in_bytes { result ≤ length bytes.now }
 {
@@ -83,7 +83,8 @@ impl Sink for Kept {
 /// Bytes that are given at one time, with the answers to the lines that end in them.
 pub type Turn = (&'static [u8], &'static [u8]);
 
-/// Gives the bytes of one turn after another, and fails unless the answers to the lines that it gave have been written, and nothing else.
+/// Gives the bytes of one turn after another, and fails unless the answers to the lines that it gave have been written,
+/// and nothing else.
 #[derive(Drop)]
 pub struct Asking<'a> {
     turns: &'a [Turn],

@@ -2,6 +2,8 @@
 #![tactic(auto)]
 
 #[cfg(test)]
+mod calls;
+#[cfg(test)]
 mod devices;
 #[cfg(test)]
 mod linking;
@@ -9,5 +11,7 @@ mod linking;
 mod lowering;
 #[cfg(test)]
 mod machine;
+#[cfg(test)]
+mod second_lines;
 #[cfg(test)]
 mod sessions;

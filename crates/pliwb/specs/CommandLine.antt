@@ -37,8 +37,8 @@ steps_text words = one_of (codes "steps") (matches_of program words)
 abbrev pub Spells : Option Text → ℕ → Type 0
 Spells None n = n ≡ 1000000
 Spells (Some text) n =
-    IsNumeral 10 (without_leading_plus text) → digits_value 10 (without_leading_plus text) < 2 ^ 64 → n
-    ≡ digits_value 10 (without_leading_plus text)
+    IsNumeral 10 (without_leading_plus text) → digits_value 10 (without_leading_plus text) < 2 ^ 64
+    → n ≡ digits_value 10 (without_leading_plus text)
 
 -- words without fault give the steps of a bare RUN
 abbrev pub Gives : List Text → ℕ → Type 0

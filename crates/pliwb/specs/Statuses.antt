@@ -17,8 +17,7 @@ abbrev pub reads_limit : ℕ
 reads_limit = 1000000000
 
 -- a new workbench, with so many steps for a bare RUN, served a reader to a writer with at most so many reads,
--- and this
--- came of it; the marks are those behind it
+-- and this came of it; the marks are those behind it
 pub record Serves (steps reads : ℕ) (left left_after before after : Option (List ℕ)) (reader writer : Bool)
     (result : Result Next ServeFault) : Type 0 where
   pub last : State
@@ -44,8 +43,7 @@ status_of (Usage text) = 2
 status_of OutOfMemory = 3
 
 -- the text for the user was written, or some first bytes of it where the writer's mark is set behind it;
--- nothing is
--- said of want of memory
+-- nothing is written of want of memory
 abbrev pub Tells : ArgumentsError → (before after : Option (List ℕ)) → (marked : Bool) → Type 0
 Tells (Usage text) before after marked =
     AppendsPrefix before after (string_bytes text)

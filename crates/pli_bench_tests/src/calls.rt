@@ -1,0 +1,181 @@
+//! Calls of the system that are interrupted, give nothing or fail.
+ghost use Rattle.std.specs.Prelude.{None};
+
+use crate::devices::fill;
+use pli_base::{Device, Failed, Sink, Source};
+use pli_bench::{Bench, Next, ServeFault};
+use std::io::{self, ErrorKind, Read, Write};
+
+/// What a call comes to.
+#[derive(Clone, Copy)]
+enum Outcome {
+    /// It moves as many of these bytes as there is room for.
+    Moves(&'static [u8]),
+    Interrupted,
+    Refused,
+}
+
+/// Nothing is moved.
+const NOTHING: Outcome = Outcome::Moves(b"");
+
+/// A reader and a writer whose calls come to these outcomes, one after another, and then to nothing.
+#[derive(Drop)]
+struct Scripted {
+    outcomes: &'static [Outcome],
+    calls: usize,
+}
+
+impl Scripted {
+    fn new(outcomes: &'static [Outcome]) -> Scripted {
+        Scripted { outcomes, calls: 0 }
+    }
+
+    /// The outcome of the next call.
+    fn next(&mut self) -> io::Result<&'static [u8]> {
+        let outcome = self.outcomes.get(self.calls).copied().unwrap_or(NOTHING);
+        self.calls = self.calls.saturating_add(1);
+        match outcome {
+            Outcome::Moves(bytes) => Ok(bytes),
+            Outcome::Interrupted => Err(io::Error::from(ErrorKind::Interrupted)),
+            Outcome::Refused => Err(io::Error::from(ErrorKind::PermissionDenied)),
+        }
+    }
+}
+
+impl Read for Scripted {
+    fn read(&mut self, buffer: &mut [u8]) -> io::Result<usize> {
+        let bytes = self.next()?;
+        Ok(fill(buffer, bytes, bytes.len()))
+    }
+}
+
+impl Write for Scripted {
+    fn write(&mut self, bytes: &[u8]) -> io::Result<usize> {
+        let taken = self.next()?;
+        Ok(taken.len().min(bytes.len()))
+    }
+
+    fn flush(&mut self) -> io::Result<()> {
+        Ok(())
+    }
+}
+
+/// Outcomes of calls, with what one read of a device answers and one write, and how many calls are made.
+static CALLS: [(&[Outcome], Option<usize>, Option<usize>, usize); 7] = [
+    (&[Outcome::Moves(b"AB")], Some(2), Some(2), 1),
+    (
+        &[
+            Outcome::Interrupted,
+            Outcome::Interrupted,
+            Outcome::Moves(b"AB"),
+        ],
+        Some(2),
+        Some(2),
+        3,
+    ),
+    (
+        &[
+            Outcome::Interrupted,
+            Outcome::Interrupted,
+            NOTHING,
+            Outcome::Moves(b"AB"),
+        ],
+        Some(0),
+        None,
+        3,
+    ),
+    (
+        &[
+            Outcome::Interrupted,
+            Outcome::Interrupted,
+            Outcome::Refused,
+            Outcome::Moves(b"AB"),
+        ],
+        None,
+        None,
+        3,
+    ),
+    (&[NOTHING, Outcome::Moves(b"AB")], Some(0), None, 1),
+    (&[Outcome::Refused, Outcome::Moves(b"AB")], None, None, 1),
+    (&[Outcome::Interrupted; 64], None, None, 64),
+];
+
+#[test]
+fn one_read_and_one_write(rt: HostRuntime) {
+    for (row, &(outcomes, read, written, calls)) in CALLS.iter().enumerate() {
+        let mut reader = Device::over(Scripted::new(outcomes));
+        let mut buffer = [0; 9];
+        assert_eq!(rt; reader.take(&mut buffer).ok(), read, "read {row}");
+        if read.is_none() {
+            assert_eq!(rt; reader.take(&mut buffer), Err(Failed), "read {row}");
+        }
+        let mut writer = Device::over(Scripted::new(outcomes));
+        assert_eq!(rt; writer.put(b"12345").ok(), written, "write {row}");
+        if written.is_none() {
+            assert_eq!(rt; writer.put(b"12345"), Err(Failed), "write {row}");
+        }
+        assert_eq!(rt; reader.into_inner().calls, calls, "calls of read {row}");
+        assert_eq!(rt; writer.into_inner().calls, calls, "calls of write {row}");
+    }
+}
+
+/// Outcomes of reads, with what serving them answers, what is written, and how many calls are made.
+static SERVED: [(&[Outcome], Result<Next, ServeFault>, &[u8], usize); 4] = [
+    (
+        &[
+            Outcome::Interrupted,
+            Outcome::Interrupted,
+            Outcome::Moves(b"ADD M SOURCE\nMEM"),
+            Outcome::Interrupted,
+            Outcome::Moves(b"BERS\nRUN"),
+            NOTHING,
+            Outcome::Moves(b"RUN\n"),
+        ],
+        Ok(Next::End),
+        b"OK\nM SOURCE 0\nOK\nB2 NOT BUILT\n",
+        6,
+    ),
+    (
+        &[
+            Outcome::Moves(b"RUN\nQU"),
+            Outcome::Moves(b"IT\nRUN\n"),
+            Outcome::Moves(b"RUN\n"),
+        ],
+        Ok(Next::Quit),
+        b"B2 NOT BUILT\nOK\n",
+        2,
+    ),
+    (
+        &[Outcome::Moves(b"QUIT"), NOTHING, Outcome::Moves(b"\nRUN\n")],
+        Ok(Next::Quit),
+        b"OK\n",
+        2,
+    ),
+    (
+        &[
+            Outcome::Moves(b"RUN\nRUN"),
+            Outcome::Interrupted,
+            Outcome::Refused,
+            Outcome::Moves(b"\n"),
+        ],
+        Err(ServeFault::ReadFailed),
+        b"B2 NOT BUILT\n",
+        3,
+    ),
+];
+
+#[test]
+fn no_read_too_many(rt: HostRuntime) {
+    for (row, &(outcomes, wanted, answers, calls)) in SERVED.iter().enumerate() {
+        let mut bench = Bench::new(rt.alloc(), 1_000_000);
+        let mut reader = Device::over(Scripted::new(outcomes));
+        let mut writer = Device::over(Vec::new(rt.alloc()));
+        assert_eq!(rt;
+            bench.serve(&mut reader, &mut writer, 99),
+            wanted,
+            "row {row}"
+        );
+        assert!(rt; writer.into_inner().as_slice() == answers, "row {row}");
+        assert_eq!(rt; reader.into_inner().calls, calls, "row {row}");
+    }
+}
