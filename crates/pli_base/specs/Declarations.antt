@@ -21,6 +21,7 @@ pub data DescribedAttribute : Type 0 where
   Plain : (attribute : SimpleAttribute) → DescribedAttribute
   AnyEntry AnyReturns : DescribedAttribute
 
+-- what ENTRY says of a parameter
 pub record ParameterDescription : Type 0 where
   pub dimensions : List Bounds
   pub attributes : List DescribedAttribute

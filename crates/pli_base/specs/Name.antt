@@ -6,15 +6,19 @@ use Rattle.std.specs.List.{list_all}
 abbrev pub Name : Type 0
 Name = List ℕ
 
+-- A to Z
 abbrev pub is_upper : ℕ → Bool
 is_upper c = nat_le 65 c && nat_le c 90
 
+-- a to z
 abbrev pub is_lower : ℕ → Bool
 is_lower c = nat_le 97 c && nat_le c 122
 
+-- a letter
 abbrev pub is_letter : ℕ → Bool
 is_letter c = is_upper c || is_lower c
 
+-- 0 to 9
 abbrev pub is_digit : ℕ → Bool
 is_digit c = nat_le 48 c && nat_le c 57
 

@@ -14,6 +14,7 @@ abbrev pub ◌>>=◌ : {A B : Type 0} → Result A Fault → (A → Result B Fau
 (Ok x) >>= f = f x
 (Err e) >>= f = Err e
 
+-- a fault at a token
 abbrev pub at_fault : {A : Type 0} → Code → ℕ → Result A Fault
 at_fault code p = Err (record { code = code; at = p })
 

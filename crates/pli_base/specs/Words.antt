@@ -7,9 +7,11 @@ use Rattle.pli_base.specs.declared.token.Sign.TheVariants.{Colon, Semicolon, Com
 use Rattle.pli_base.specs.declared.token.TokenText.{TokenText}
 use Rattle.pli_base.specs.declared.token.TokenText.TheVariants.{Word, Sign}
 
+-- the tokens of a text
 abbrev pub Tokens : Type 0
 Tokens = List TokenText
 
+-- equal names
 abbrev pub same_name : Name → Name → Bool
 same_name = pointwise nat_eq
 
@@ -26,18 +28,22 @@ abbrev pub is_word : Name → TokenText → Bool
 is_word w (Word n) = same_name n w
 is_word w _ = false
 
+-- the sign `;`
 abbrev pub is_semicolon : TokenText → Bool
 is_semicolon (Sign Semicolon) = true
 is_semicolon _ = false
 
+-- the sign `(`
 abbrev pub is_open : TokenText → Bool
 is_open (Sign OpenParenthesis) = true
 is_open _ = false
 
+-- the sign `)`
 abbrev pub is_close : TokenText → Bool
 is_close (Sign CloseParenthesis) = true
 is_close _ = false
 
+-- the sign `,`
 abbrev pub is_comma : TokenText → Bool
 is_comma (Sign Comma) = true
 is_comma _ = false

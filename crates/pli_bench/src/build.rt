@@ -11,7 +11,7 @@ use pli_base::Code;
 use pli_code::Module;
 use pli_include::Expander;
 use pli_link::{Compiled, LinkError, LinkFault, Place, link};
-use pli_members::{Entry, Kind, Members};
+use pli_members::{NamedMember, Kind, Members};
 use std::alloc::{AllocError, Global};
 
 /// What a build gives: the text of its diagnostics, or a module.
@@ -26,7 +26,7 @@ fn compile_entry(
     alloc: Global,
     expander: &mut Expander,
     members: &Members,
-    entry: &Entry,
+    entry: &NamedMember,
     units: &mut Vec<Compiled>,
     text: &mut Vec<u8>,
 ) -> Result<(), AllocError>

@@ -8,7 +8,7 @@ ghost use Rattle.pli_bench.specs.Session.{numbered_lines, kind_word, member_line
 use crate::batch::Batch;
 use itoa::Buffer;
 use pli_base::{Failed, Line, Sink};
-use pli_members::{Entry, Kind};
+use pli_members::{NamedMember, Kind};
 
 /// Puts lines behind their numbers, from 1 on.
 pub fn put_lines<W: Sink>(writer: &mut W, lines: &[Line]) -> Result<(), Failed>
@@ -42,7 +42,7 @@ fn kind_word(kind: Kind) -> &'static str
 }
 
 /// Puts a line for each member: its name, its kind and how many lines it has.
-pub fn put_members<W: Sink>(writer: &mut W, entries: &[Entry]) -> Result<(), Failed>
+pub fn put_members<W: Sink>(writer: &mut W, entries: &[NamedMember]) -> Result<(), Failed>
     ensures written { Writes (W.contents writer.old) (W.contents writer.new) (flat_map member_line entries.now) result }
     ensures mark { Marked (W.failed writer.old) (W.failed writer.new) result }
 {

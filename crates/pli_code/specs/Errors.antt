@@ -3,6 +3,7 @@ use Rattle.std.specs.Prelude.{ℕ, List, codes}
 use Rattle.pli_code.specs.declared.ending.RunError.{RunError}
 use Rattle.pli_code.specs.declared.ending.RunError.TheVariants.{SubscriptRange, StringRange, NullLocator, DeadLocator, DescriptionMismatch, NoGeneration, OutsideArea, NoReturnedValue, FixedOverflow, ZeroDivide, Area, StorageLimit, TooManyActivations}
 
+-- the label of an error
 abbrev pub error_label : RunError → List ℕ
 error_label SubscriptRange = codes "E1"
 error_label StringRange = codes "E2"
@@ -18,6 +19,7 @@ error_label Area = codes "E11"
 error_label StorageLimit = codes "E12"
 error_label TooManyActivations = codes "E13"
 
+-- the text of an error
 abbrev pub error_text : RunError → List ℕ
 error_text SubscriptRange = codes "SUBSCRIPT RANGE"
 error_text StringRange = codes "STRING RANGE"

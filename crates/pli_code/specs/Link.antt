@@ -35,9 +35,11 @@ abbrev pub in_order_after : (sorted : List Place) → List Place → List Place
 in_order_after sorted [] = sorted
 in_order_after sorted (p ∷ ps) = in_order_after (inserted p sorted) ps
 
+-- sorted by the name of the procedure
 abbrev pub in_order : List Place → List Place
 in_order = in_order_after []
 
+-- where a unit's procedure stands
 abbrev pub place_of_unit : Compiled → Place
 place_of_unit c = record { procedure = c.procedure; unit = c.unit }
 

@@ -18,8 +18,10 @@ pub record Module : Type 0 where
   pub unit : Name
   pub code : Code
 
+-- code as definitions see it
 abbrev pub code_view : declared_code.Code → Code
 code_view c = record { slots = c.slots; descriptions = c.descriptions.items; values = c.values.items; instructions = c.instructions.items }
 
+-- a module as definitions see it
 abbrev pub module_view : declared_module.Module → Module
 module_view m = record { unit = m.unit; code = code_view m.code }

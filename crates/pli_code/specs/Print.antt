@@ -2,13 +2,16 @@
 -- at column 121 the line is full.
 use Rattle.std.specs.Prelude.{ℕ, ◌+◌, ◌-◌, nat_le, nat_eq, Bool, ◌||◌, Option, Some, None, List, [], ◌∷◌, ◌++◌, length, replicate, if◌then◌else◌}
 
+-- what printing gives
 pub record Printed : Type 0 where
   pub bytes : List ℕ
   pub column : ℕ
 
+-- a line feed
 abbrev pub line_end : ℕ
 line_end = 10
 
+-- a blank
 abbrev pub blank : ℕ
 blank = 32
 

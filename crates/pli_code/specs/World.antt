@@ -37,6 +37,7 @@ entered unit count w = record w {
   activations = record { unit = unit; statement = 1; slots = numbers_from (length w.storage) count } ∷ w.activations;
 }
 
+-- all but the newest
 abbrev pub without_newest : List Activation → List Activation
 without_newest [] = []
 without_newest (a ∷ older) = older
@@ -45,6 +46,7 @@ without_newest (a ∷ older) = older
 unfoldable pub left_by : World → World
 left_by w = record w { activations = without_newest w.activations }
 
+-- the newest is at this statement
 abbrev pub at_statement : ℕ → List Activation → List Activation
 at_statement s [] = []
 at_statement s (a ∷ older) = record a { statement = s } ∷ older
@@ -53,6 +55,7 @@ at_statement s (a ∷ older) = record a { statement = s } ∷ older
 unfoldable pub begun : (statement : ℕ) → World → World
 begun s w = record w { activations = at_statement s w.activations }
 
+-- the place in a slot of the newest
 abbrev pub slot_in : (slot : ℕ) → List Activation → Option ℕ
 slot_in slot [] = None
 slot_in slot (a ∷ older) = slice_get a.slots slot
@@ -79,6 +82,7 @@ stored w generation x =
 unfoldable pub printed : List ℕ → World → World
 printed item w = let p = print w.column item in record w { output = w.output ++ p.bytes; column = p.column }
 
+-- the end by an error, at the newest's statement
 abbrev pub error_in : RunError → List Activation → Ending
 error_in e [] = MachineFault
 error_in e (a ∷ older) = Error e a.unit a.statement
@@ -95,6 +99,7 @@ fitted precision x = if has_digits precision x then Some x else None
 unfoldable pub sum_of : ℤ → ℤ → Option ℤ
 sum_of x y = fitted 31 (x +ℤ y)
 
+-- a text in so many columns, to the right
 abbrev pub right_in : (width : ℕ) → List ℕ → Option (List ℕ)
 right_in width text = if nat_lt width (length text) then None else Some (replicate (width - length text) 32 ++ text)
 

@@ -25,12 +25,14 @@ use Rattle.pli_declare_variables.specs.Places.{stands_alone, is_built_in, own_co
 use Rattle.pli_declare_variables.specs.Descriptions.{is_too_large_variable}
 use Rattle.pli_declare_variables.specs.Declarations.{returned_by}
 
+-- a code at a token, if there is one
 abbrev pub at_token : ℕ → Option Code → List Fault
 at_token at None = []
 at_token at (Some code) = record { code = code; at = at } ∷ []
 
 -- references
 
+-- the names without their tokens
 abbrev pub names_of : List Identifier → List Name
 names_of identifiers = map (λ i. i.name) identifiers
 
@@ -39,11 +41,13 @@ abbrev pub is_function : List Identifier → Bool
 is_function (i ∷ []) = is_built_in i.name
 is_function others = false
 
+-- the code of a reference: A1 where it means nothing, save a built-in function; A10 where it is ambiguous
 abbrev pub reference_code : List Identifier → Meant → Option Code
 reference_code names (Means number block) = None
 reference_code names Several = Some Ambiguous
 reference_code names Nothing = if is_function names then None else Some NotDeclared
 
+-- a code at the first of these names
 abbrev pub at_first : List Identifier → Option Code → List Fault
 at_first [] code = []
 at_first (i ∷ is) code = at_token i.at code
@@ -54,6 +58,7 @@ target_code o here (AsLabel region) = if reaches o.regions here region then None
 target_code o here (AsItem item is_bad) = Some BadGoto
 target_code o here (AsProcedure heading region) = Some BadGoto
 
+-- the code of a GOTO's label
 abbrev pub jump_code : Outline → (here : ℕ) → Meant → Option Code
 jump_code o here (Means number block) = target_code o here (entry_at o here block number).entity
 jump_code o here Several = Some Ambiguous
@@ -61,27 +66,33 @@ jump_code o here Nothing = Some NotDeclared
 
 -- names of locators and areas in declarations, looked up from a block
 
+-- what names mean is an item that fits
 abbrev pub names_fit : Outline → (block : ℕ) → (List tables.Entry → ℕ → Bool) → List Name → Meant → Bool
 names_fit o block fits names (Means number out) = fits (get_or (tables_of o block) out []) number
 names_fit o block fits names Several = false
 names_fit o block fits names Nothing = false
 
+-- names mean, from a block, an item that fits
 abbrev pub is_good : Outline → (block : ℕ) → (List tables.Entry → ℕ → Bool) → List Name → Bool
 is_good o block fits names = names_fit o block fits names (meant (scope_of o block) names)
 
+-- OFFSET names an area, BASED a locator
 abbrev pub simple_is_good : Outline → (block : ℕ) → SimpleAttribute → Bool
 simple_is_good o block (Offset (Some name)) = is_good o block is_area (name ∷ [])
 simple_is_good o block (Based (Some names)) = is_good o block is_locator names
 simple_is_good o block attribute = true
 
+-- so does an attribute of a description
 abbrev pub described_is_good : Outline → (block : ℕ) → DescribedAttribute → Bool
 described_is_good o block (Plain attribute) = simple_is_good o block attribute
 described_is_good o block attribute = true
 
+-- so do all attributes of ENTRY's parameter descriptions
 abbrev pub descriptions_are_good : Outline → (block : ℕ) → Option (List ParameterDescription) → Bool
 descriptions_are_good o block None = true
 descriptions_are_good o block (Some ds) = list_all (λ d. list_all (described_is_good o block) d.attributes) ds
 
+-- so does an attribute of an item, with all in it
 abbrev pub attribute_is_good : Outline → (block : ℕ) → Attribute → Bool
 attribute_is_good o block (Simple attribute) = simple_is_good o block attribute
 attribute_is_good o block (Entry parameters) = descriptions_are_good o block parameters
@@ -89,6 +100,7 @@ attribute_is_good o block (Returns attributes) = list_all (described_is_good o b
 
 -- declared names
 
+-- A2 for a name that is declared twice
 abbrev pub twice_code : Verdict → Option Code
 twice_code Counts = None
 twice_code Twice = Some DeclaredTwice
@@ -98,10 +110,12 @@ twice_code Beneath = None
 abbrev pub returned_are : (List DescribedAttribute → Bool) → Heading → Bool
 returned_are good h = list_all good (returned_by h.options)
 
+-- OPTIONS(MAIN)
 abbrev pub is_main : ProcedureOption → Bool
 is_main options.Main = true
 is_main option = false
 
+-- the least of codes
 abbrev pub least : List (Option Code) → Option Code
 least [] = None
 least (c ∷ cs) = lesser c (least cs)
@@ -123,6 +137,7 @@ abbrev pub headed : ℕ → Mark → List Name
 headed block (Entered heading region) = if region == block then map (λ i. i.name) heading.parameters else []
 headed block mark = []
 
+-- the names of the parameters of a block
 abbrev pub parameters_of : Outline → ℕ → List Name
 parameters_of o block = flat_map (λ p. headed block p.mark) o.marks
 
@@ -157,13 +172,16 @@ is_item (AsItem item is_bad) = true
 is_item (AsLabel region) = false
 is_item (AsProcedure heading region) = false
 
+-- an item of this name that belongs to no other
 abbrev pub is_item_named : Name → tables.Entry → Bool
 is_item_named name e = same_name e.identifier.name name && stands_alone e && is_item e.entity
 
+-- the code of a parameter in its list: A2 where one before has its name, A4 where no item declares it
 abbrev pub parameter_code : Outline → (block : ℕ) → (before : List Name) → Name → Option Code
 parameter_code o block before name =
     first_of ((list_any (same_name name) before, DeclaredTwice) ∷ (not (list_any (is_item_named name) (entries_in o block)), AttributesMissing) ∷ [])
 
+-- the codes of parameters, one after another
 abbrev pub parameter_codes : Outline → (block : ℕ) → (before : List Name) → List Identifier → List Fault
 parameter_codes o block before [] = []
 parameter_codes o block before (p ∷ ps) = at_token p.at (parameter_code o block before p.name) ++ parameter_codes o block (before ++ p.name ∷ []) ps
@@ -175,6 +193,7 @@ parameter_faults o mark = []
 
 -- marks, in the order of the text
 
+-- the fault of a reference or a GOTO
 abbrev pub used_faults : Outline → (here : ℕ) → Mark → List Fault
 used_faults o here (Used names) = at_first names (reference_code names (meant (scope_of o here) (names_of names)))
 used_faults o here (Jumped label) = at_token label.at (jump_code o here (meant (scope_of o here) (label.name ∷ [])))
@@ -189,6 +208,7 @@ mark_faults o number p =
 abbrev pub declared_by : Outline → (block : ℕ) → List Placed → ℕ
 declared_by o block marks = length (tables.entries_after o.regions block [] marks)
 
+-- the faults of marks, one after another, behind others
 abbrev pub faults_after : Outline → (before : List Placed) → List Placed → List Fault
 faults_after o before [] = []
 faults_after o before (p ∷ ps) = mark_faults o (declared_by o (block_of o.regions p.region) before) p ++ faults_after o (before ++ p ∷ []) ps
@@ -198,13 +218,16 @@ abbrev pub names_nothing : DescribedAttribute → Bool
 names_nothing (Plain (Offset (Some name))) = false
 names_nothing attribute = true
 
+-- the fault of the unit's own name, from its heading
 abbrev pub heading_faults : Mark → List Fault
 heading_faults (Entered heading region) = at_token heading.name.at (heading_code (returned_are (list_all names_nothing) heading) heading)
 heading_faults mark = []
 
+-- the faults of the unit's name and of its parameters
 abbrev pub unit_faults : Outline → Placed → List Fault
 unit_faults o p = heading_faults p.mark ++ parameter_faults o p.mark
 
+-- the faults of all marks, the unit's own first
 abbrev pub outline_faults : Outline → List Placed → List Fault
 outline_faults o [] = []
 outline_faults o (p ∷ ps) = unit_faults o p ++ faults_after o [] ps

@@ -31,11 +31,13 @@ pub record Resolved : Type 0 where
   pub areas : List Use
   pub locators : List Use
 
+-- what a block declares
 abbrev pub block_at : Outline → ℕ → Block
 block_at o block = record { parameters = parameters_of o block; declarations = declared_in (entries_in o block) (parameters_of o block) }
 
 -- uses
 
+-- the name at a token means one of a block
 abbrev pub use_of : (at : ℕ) → (block : Option ℕ) → (number : ℕ) → Use
 use_of at block number = record { at = at; target = AName block number }
 
@@ -45,6 +47,7 @@ used_as o here at otherwise (Means number out) = use_of at (slice_get (blocks_ro
 used_as o here at otherwise Several = []
 used_as o here at otherwise Nothing = otherwise
 
+-- the name at a token means a built-in function
 abbrev pub function_use : (at : ℕ) → List Identifier → List Use
 function_use at names = if is_function names then record { at = at; target = AFunction } ∷ [] else []
 
@@ -56,6 +59,7 @@ uses_at o here mark = []
 
 -- names in declarations, at the declared names
 
+-- what names in a declaration mean
 abbrev pub named_at : Outline → (here : ℕ) → List Name → Identifier → List Use
 named_at o here names i = used_as o here i.at [] (meant (scope_of o here) names)
 
@@ -64,6 +68,7 @@ abbrev pub plain_of : DescribedAttribute → List SimpleAttribute
 plain_of (Plain attribute) = attribute ∷ []
 plain_of other = []
 
+-- the simple attributes of an attribute, those of RETURNS among them
 abbrev pub simple_of : Attribute → List SimpleAttribute
 simple_of (Simple attribute) = attribute ∷ []
 simple_of (Entry parameters) = []
@@ -75,19 +80,23 @@ area_in [] = []
 area_in (Offset (Some name) ∷ more) = name ∷ []
 area_in (attribute ∷ more) = area_in more
 
+-- the names in BASED
 abbrev pub locator_in : List SimpleAttribute → List Name
 locator_in [] = []
 locator_in (Based (Some names) ∷ more) = names
 locator_in (attribute ∷ more) = locator_in more
 
+-- what the names in an item's attributes mean, for each of its names
 abbrev pub item_names : Outline → (here : ℕ) → (List SimpleAttribute → List Name) → Item → List Use
 item_names o here names_in item = flat_map (named_at o here (names_in (flat_map simple_of item.attributes))) item.names
 
+-- the areas that a mark's declarations name
 abbrev pub areas_at : Outline → (here : ℕ) → Mark → List Use
 areas_at o here (Declared items) = flat_map (item_names o here area_in) items
 areas_at o here (Entered heading region) = named_at o here (area_in (flat_map plain_of (flat_map (λ attributes. attributes) (returned_by heading.options)))) heading.name
 areas_at o here mark = []
 
+-- the locators that a mark's declarations name
 abbrev pub locators_at : Outline → (here : ℕ) → Mark → List Use
 locators_at o here (Declared items) = flat_map (item_names o here locator_in) items
 locators_at o here mark = []
@@ -96,6 +105,7 @@ locators_at o here mark = []
 abbrev pub of_marks : (ℕ → Mark → List Use) → List Placed → List Use
 of_marks uses ps = flat_map (λ p. uses p.region p.mark) ps
 
+-- the resolved unit of an outline
 abbrev pub resolution_of : Outline → Resolved
 resolution_of o = record {
   regions = o.regions;

@@ -7,12 +7,14 @@ use Rattle.pli_declare_attributes.specs.declared.place.Place.{Place}
 use Rattle.pli_declare_attributes.specs.declared.place.Position.{Position}
 use Rattle.pli_declare_attributes.specs.declared.place.Position.TheVariants.{AtLevelOne, Member, Parameter, Result}
 
+-- a variable of its own
 abbrev pub is_at_level_one : Position → Bool
 is_at_level_one AtLevelOne = true
 is_at_level_one Member = false
 is_at_level_one Parameter = false
 is_at_level_one Result = false
 
+-- a member
 abbrev pub is_member : Position → Bool
 is_member AtLevelOne = false
 is_member Member = true

@@ -25,6 +25,7 @@ pub record Variable : Type 0 where
   pub scope : Scope
   pub initial : List InitialValue
 
+-- what a name is, when its attributes are completed
 pub data Completed : Type 0 where
   OfVariable : (variable : Variable) → Completed
   OfEntry : (parameters : List Description) (result : Option Description) → Completed
@@ -45,6 +46,7 @@ storage_at Result s = None
 abbrev pub scope_of : ℕ → Scope
 scope_of s = if has s external then External else Internal
 
+-- an item as a variable
 unfoldable pub variable_of : Place → tree.Item → Variable
 variable_of p i =
     let attributes = map outermost i.attributes in

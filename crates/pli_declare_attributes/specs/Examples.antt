@@ -29,6 +29,7 @@ member = record { position = position.Member; has_members = false; in_array = fa
 abbrev pub parameter : Place
 parameter = record { position = position.Parameter; has_members = false; in_array = false; elements_above = Some 1; built_in_name = false }
 
+-- BUILTIN
 abbrev pub built_in : Place
 built_in = record { position = position.AtLevelOne; has_members = false; in_array = false; elements_above = Some 1; built_in_name = true }
 

@@ -5,6 +5,7 @@ use Rattle.pli_base.specs.declared.declaration.Bounds.{Bounds}
 use Rattle.pli_base.specs.declared.declaration.Integer.{Integer}
 use Rattle.pli_map.specs.declared.description.Bounds as described
 
+-- the number that an integer spells
 abbrev pub integer_of : Integer → ℤ
 integer_of i = if i.negative then pos 0 -ℤ pos i.value else pos i.value
 
@@ -13,6 +14,7 @@ abbrev pub low_of : Option Integer → ℤ
 low_of None = pos 1
 low_of (Some i) = integer_of i
 
+-- the bounds of a dimension, the lower one 1 where it is left out
 abbrev pub bounds_of : Bounds → described.Bounds
 bounds_of b = record { low = low_of b.low; high = integer_of b.high }
 
@@ -24,8 +26,10 @@ are_good b = int_le (negsuc 32766) (low_of b.low) && int_le (low_of b.low) (inte
 unfoldable pub are_bad_bounds : List Bounds → Bool
 are_bad_bounds dimensions = nat_lt 8 (length dimensions) || not (list_all are_good dimensions)
 
+-- the bounds of all dimensions
 abbrev pub all_bounds : List Bounds → List described.Bounds
 all_bounds dimensions = map bounds_of dimensions
 
+-- whether there are dimensions
 abbrev pub is_array : List Bounds → Bool
 is_array dimensions = nat_lt 0 (length dimensions)

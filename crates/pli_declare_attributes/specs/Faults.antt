@@ -32,6 +32,7 @@ first_in_order Less c d = c
 first_in_order Equal c d = c
 first_in_order Greater c d = d
 
+-- the lesser of two codes, if any
 abbrev pub lesser : Option Code → Option Code → Option Code
 lesser None fault = fault
 lesser (Some c) None = Some c
@@ -72,6 +73,7 @@ own_fault p i =
 abbrev pub parameter_place : Place
 parameter_place = record { position = Parameter; has_members = false; in_array = false; elements_above = Some 1; built_in_name = false }
 
+-- where what RETURNS describes stands
 abbrev pub result_place : Place
 result_place = record { position = Result; has_members = false; in_array = false; elements_above = Some 1; built_in_name = false }
 
@@ -79,6 +81,7 @@ result_place = record { position = Result; has_members = false; in_array = false
 abbrev pub result_fault : List tree.DescribedAttribute → Option Code
 result_fault attributes = description_fault result_place [] attributes
 
+-- the least fault of a parameter description
 abbrev pub parameter_fault : tree.ParameterDescription → Option Code
 parameter_fault d = description_fault parameter_place d.dimensions d.attributes
 
@@ -99,6 +102,7 @@ returned_in [] = None
 returned_in (tree.Returns result ∷ attributes) = Some result
 returned_in (a ∷ attributes) = returned_in attributes
 
+-- the least fault of what RETURNS describes
 abbrev pub returned_fault : Option (List tree.DescribedAttribute) → Option Code
 returned_fault None = None
 returned_fault (Some attributes) = result_fault attributes
@@ -112,6 +116,7 @@ with_bounds (b ∷ bs) element = described.Array (b ∷ bs) element
 abbrev pub described_scalar : List tree.DescribedAttribute → described.Description
 described_scalar attributes = scalar_of (set_of attributes) (number_of attributes)
 
+-- the description of a parameter
 unfoldable pub parameter_of : tree.ParameterDescription → described.Description
 parameter_of d = with_bounds (all_bounds d.dimensions) (described_scalar d.attributes)
 

@@ -34,12 +34,14 @@ abbrev pub factor_or_one : Option ℕ → ℕ
 factor_or_one None = 1
 factor_or_one (Some n) = n
 
+-- how many elements a value of INITIAL is for
 abbrev pub elements_given : InitialValue → ℕ
 elements_given (initial.Integer factor value) = factor_or_one factor
 elements_given (initial.Characters string) = 1
 elements_given (initial.Bits string) = 1
 elements_given initial.Null = 1
 
+-- how many all of them are for
 abbrev pub all_given : List InitialValue → ℕ
 all_given [] = 0
 all_given (value ∷ values) = elements_given value + all_given values

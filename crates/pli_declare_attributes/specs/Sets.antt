@@ -8,24 +8,31 @@ use Rattle.pli_base.specs.Declarations as tree
 abbrev pub fixed : ℕ
 fixed = 1
 
+-- BINARY
 abbrev pub binary : ℕ
 binary = 2
 
+-- CHARACTER
 abbrev pub character : ℕ
 character = 4
 
+-- VARYING
 abbrev pub varying : ℕ
 varying = 8
 
+-- BIT
 abbrev pub bit : ℕ
 bit = 16
 
+-- POINTER
 abbrev pub pointer : ℕ
 pointer = 32
 
+-- OFFSET
 abbrev pub offset : ℕ
 offset = 64
 
+-- AREA
 abbrev pub area : ℕ
 area = 128
 
@@ -33,12 +40,15 @@ area = 128
 abbrev pub automatic : ℕ
 automatic = 256
 
+-- STATIC
 abbrev pub static : ℕ
 static = 512
 
+-- BASED
 abbrev pub based : ℕ
 based = 1024
 
+-- CONTROLLED
 abbrev pub controlled : ℕ
 controlled = 2048
 
@@ -46,6 +56,7 @@ controlled = 2048
 abbrev pub internal : ℕ
 internal = 4096
 
+-- EXTERNAL
 abbrev pub external : ℕ
 external = 8192
 
@@ -53,12 +64,15 @@ external = 8192
 abbrev pub initial : ℕ
 initial = 16384
 
+-- BUILTIN
 abbrev pub built_in : ℕ
 built_in = 32768
 
+-- ENTRY
 abbrev pub entry : ℕ
 entry = 65536
 
+-- RETURNS
 abbrev pub returns : ℕ
 returns = 131072
 
@@ -66,12 +80,15 @@ returns = 131072
 abbrev pub precision : ℕ
 precision = 262144
 
+-- those that say a type
 abbrev pub data_attributes : ℕ
 data_attributes = fixed + binary + character + varying + bit + pointer + offset + area
 
+-- those that say a storage class
 abbrev pub storage_attributes : ℕ
 storage_attributes = automatic + static + based + controlled
 
+-- those that say a scope
 abbrev pub scope_attributes : ℕ
 scope_attributes = internal + external
 
@@ -96,6 +113,7 @@ abbrev pub number_with : ℕ → Option ℕ → ℕ
 number_with attribute None = attribute
 number_with attribute (Some n) = attribute + precision
 
+-- the sets of simple attributes
 abbrev pub simple_kind : tree.SimpleAttribute → ℕ
 simple_kind (tree.Fixed n) = number_with fixed n
 simple_kind (tree.Binary n) = number_with binary n
@@ -114,6 +132,7 @@ simple_kind tree.Internal = internal
 simple_kind tree.Builtin = built_in
 simple_kind (tree.Initial values) = initial
 
+-- the sets of attributes in a description
 abbrev pub kind_of : tree.DescribedAttribute → ℕ
 kind_of (tree.Plain a) = simple_kind a
 kind_of tree.AnyEntry = entry

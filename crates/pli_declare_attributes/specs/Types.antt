@@ -14,6 +14,7 @@ simple_number (tree.Bit n) = n
 simple_number (tree.Area n) = n
 simple_number a = None
 
+-- the number in an attribute of a description
 abbrev pub described_number : tree.DescribedAttribute → Option ℕ
 described_number (tree.Plain a) = simple_number a
 described_number tree.AnyEntry = None

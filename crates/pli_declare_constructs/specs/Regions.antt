@@ -17,16 +17,20 @@ abbrev pub round : List (List ℕ) → Option ℕ → List ℕ
 round rounds None = []
 round rounds (Some outer) = get_or rounds outer []
 
+-- the regions round each of these, behind those of earlier ones
 abbrev pub rounds_after : List (List ℕ) → List Region → List (List ℕ)
 rounds_after rounds [] = rounds
 rounds_after rounds (r ∷ rs) = rounds_after (rounds ++ (length rounds ∷ round rounds r.outer) ∷ []) rs
 
+-- the regions round a region, itself the first
 abbrev pub round_of : List Region → ℕ → List ℕ
 round_of regions n = get_or (rounds_after [] regions) n []
 
+-- what stands where there is no region
 abbrev pub outside : Region
 outside = record { kind = kinds.Procedure; outer = None }
 
+-- the kind of a region
 abbrev pub kind_at : List Region → ℕ → RegionKind
 kind_at regions n = (get_or regions n outside).kind
 
@@ -34,6 +38,7 @@ kind_at regions n = (get_or regions n outside).kind
 abbrev pub blocks_round : List Region → ℕ → List ℕ
 blocks_round regions n = filter (λ r. is_block (kind_at regions r)) (round_of regions n)
 
+-- the first, if there is one
 abbrev pub first_of : List ℕ → Option ℕ
 first_of [] = None
 first_of (n ∷ ns) = Some n
@@ -42,6 +47,7 @@ first_of (n ∷ ns) = Some n
 abbrev pub innermost : List Region → ℕ → Option ℕ
 innermost regions n = first_of (blocks_round regions n)
 
+-- that block, or the external procedure
 abbrev pub first_or_unit : Option ℕ → ℕ
 first_or_unit None = 0
 first_or_unit (Some b) = b

@@ -30,6 +30,7 @@ pub record Placed : Type 0 where
   pub region : ℕ
   pub mark : Mark
 
+-- the outline of a unit
 pub record Outline : Type 0 where
   pub regions : List Region
   pub marks : List Placed
@@ -67,15 +68,18 @@ abbrev mutual
   expression_marks (Prefix operator at e) = expression_marks e
   expression_marks (Infix operator at l r) = expression_marks l ++ expression_marks r
 
+-- the marks of a part that may be left out
 abbrev pub optional_marks : {A : Type 0} → (A → List Mark) → Option A → List Mark
 optional_marks marks None = []
 optional_marks marks (Some x) = marks x
 
+-- the marks of a range
 abbrev pub range_marks : Range → List Mark
 range_marks (To to by) = expression_marks to ++ optional_marks expression_marks by
 range_marks (By by to) = expression_marks by ++ optional_marks expression_marks to
 range_marks (Repeat next) = expression_marks next
 
+-- the marks of a group's control, in the order of the text
 abbrev pub control_marks : Control → List Mark
 control_marks (While condition) = expression_marks condition
 control_marks (Iterate variable equals first range condition) =
@@ -91,6 +95,7 @@ both_marks (Some area) (Some target) =
     if nat_lt (first_token target) (first_token area) then reference_marks target ++ reference_marks area else reference_marks area ++ reference_marks target
 both_marks area target = optional_marks reference_marks area ++ optional_marks reference_marks target
 
+-- the marks of an item of ALLOCATE
 abbrev pub allocation_marks : Allocation → List Mark
 allocation_marks a = Used (a.name ∷ []) ∷ both_marks a.area a.target
 
@@ -112,6 +117,7 @@ label_marks label (body.Procedure heading statements end) = []
 label_marks None other = []
 label_marks (Some l) other = Labelled l ∷ []
 
+-- marks in a region
 abbrev pub placed : (here : ℕ) → List Mark → List Placed
 placed here marks = map (λ m. record { region = here; mark = m }) marks
 
@@ -136,6 +142,7 @@ abbrev mutual
   regions_else NoElse = 0
   regions_else (Else statement) = regions_in statement
 
+-- a region inside another
 abbrev pub region_in : RegionKind → (here : ℕ) → Region
 region_in kind here = record { kind = kind; outer = Some here }
 

@@ -13,6 +13,7 @@ abbrev pub nearest_after : Option ℕ → ℕ → List Numbered → Option ℕ
 nearest_after found level [] = found
 nearest_after found level (i ∷ is) = nearest_after (if nat_lt i.level level then Some i.number else found) level is
 
+-- the nearest item before with a lesser level
 abbrev pub nearest : ℕ → List Numbered → Option ℕ
 nearest level items = nearest_after None level items
 
@@ -24,6 +25,7 @@ owner_of level nearest = if nat_lt 1 level then nearest else None
 abbrev pub is_bad : (level : ℕ) → (nearest : Option ℕ) → Bool
 is_bad level nearest = nat_eq level 0 || nat_lt 255 level || nat_lt 1 level && is_none nearest
 
+-- where an item of this level stands, by its owner
 abbrev pub standing : (level : ℕ) → (nearest : Option ℕ) → Standing
 standing level nearest = record { owner = owner_of level nearest; is_bad = is_bad level nearest }
 

@@ -11,6 +11,7 @@ use Rattle.pli_declare_scopes.specs.declared.repeat.Verdict.TheVariants.{Counts,
 abbrev pub repeats : Written → Written → Bool
 repeats i j = same_name i.name j.name && option_eq nat_eq i.owner j.owner
 
+-- whether an item counts
 abbrev pub is_counting : Verdict → Bool
 is_counting Counts = true
 is_counting Twice = false

@@ -17,9 +17,11 @@ Block = List Declared
 abbrev pub Scope : Type 0
 Scope = List Block
 
+-- an item that says nothing
 abbrev pub no_item : Declared
 no_item = record { name = []; owner = None; counts = false }
 
+-- an item of a block
 abbrev pub item_at : Block → ℕ → Declared
 item_at block n = get_or block n no_item
 
@@ -32,6 +34,7 @@ abbrev pub any_below : (ℕ → Bool) → ℕ → Bool
 any_below test zero = false
 any_below test (suc k) = test k || any_below test k
 
+-- whether a block declares a name
 abbrev pub declares : Block → Name → Bool
 declares block name = any_below (is_named block name) (length block)
 
@@ -49,6 +52,7 @@ chains_after chains (i ∷ is) = chains_after (chains ++ (i.name ∷ chain_above
 abbrev pub chain_over : Block → Option ℕ → List Name
 chain_over block owner = chain_above (chains_after [] block) owner
 
+-- the names of an item and of those that it belongs to
 abbrev pub chain_at : Block → ℕ → List Name
 chain_at block n = get_or (chains_after [] block) n []
 
@@ -64,6 +68,7 @@ fits_chain [] chain = false
 fits_chain (n ∷ ns) [] = false
 fits_chain (n ∷ ns) (own ∷ above) = same_name n own && is_part ns above
 
+-- whether names are all of a chain
 abbrev pub is_chain : List Name → List Name → Bool
 is_chain names chain = pointwise same_name names chain
 
@@ -92,6 +97,7 @@ preferred Nothing partly = partly
 preferred (One n) partly = One n
 preferred Several partly = Several
 
+-- what names mean in a block: a full qualification first
 abbrev pub found_in : Block → List Name → Found
 found_in block names = preferred (found_below (fits_fully block names) (length block) Nothing) (found_below (fits block names) (length block) Nothing)
 
@@ -101,6 +107,7 @@ meant_there block Nothing = NotDeclared
 meant_there block (One n) = Item n block
 meant_there block Several = Ambiguous
 
+-- whether a block declares the first of names
 abbrev pub declares_first : Block → List Name → Bool
 declares_first block [] = false
 declares_first block (n ∷ ns) = declares block n

@@ -9,7 +9,7 @@ use Rattle.pli_declare_tables.specs.Tables as plain
 use Rattle.pli_declare_tables.specs.declared.entry.Entity.{Entity}
 use Rattle.pli_declare_tables.specs.declared.entry.Entity.TheVariants as entities
 use Rattle.pli_declare_tables.specs.declared.entry.Entry.{Entry}
-use Rattle.pli_declare_tables.specs.declared.entries.Named.{Named}
+use Rattle.pli_declare_tables.specs.declared.entries.NamedItem.{NamedItem}
 use Rattle.pli_declare_tables.specs.declared.table.Table.{Table}
 
 abbrev pub entity_view : Entity → plain.Entity
@@ -20,7 +20,7 @@ entity_view (entities.Procedure procedure region) = plain.AsProcedure (unit_view
 abbrev pub entry_view : Entry → plain.Entry
 entry_view e = record { identifier = e.identifier; owner = e.owner; entity = entity_view e.entity }
 
-abbrev pub named_view : Named → Identifier × tree.Item
+abbrev pub named_view : NamedItem → Identifier × tree.Item
 named_view n = (n.identifier, item_view n.item.now)
 
 abbrev pub entries_view : List Entry → List plain.Entry

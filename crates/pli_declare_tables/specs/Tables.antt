@@ -25,6 +25,7 @@ pub record Entry : Type 0 where
   pub owner : Option ℕ
   pub entity : Entity
 
+-- an entry that says nothing
 abbrev pub no_entry : Entry
 no_entry = record { identifier = record { name = []; at = 0 }; owner = None; entity = AsLabel 0 }
 
@@ -32,9 +33,11 @@ no_entry = record { identifier = record { name = []; at = 0 }; owner = None; ent
 abbrev pub named : Item → List (Identifier × Item)
 named item = map (λ i. (i, item)) item.names
 
+-- the entry of a name of an item
 abbrev pub item_entry : (base : ℕ) → Identifier × Item → Standing → Entry
 item_entry base x s = record { identifier = x.0; owner = option_map (λ o. base + o) s.owner; entity = AsItem x.1 s.is_bad }
 
+-- the entries of names of items
 abbrev pub item_entries : (base : ℕ) → List (Identifier × Item) → List Standing → List Entry
 item_entries base [] ss = []
 item_entries base (x ∷ xs) [] = []
@@ -67,6 +70,7 @@ inner_marks (p ∷ ps) = ps
 abbrev pub entries_in : Outline → ℕ → List Entry
 entries_in o block = entries_after o.regions block [] (inner_marks o.marks)
 
+-- an entry as the rule on names that are declared twice sees it
 abbrev pub written : Entry → Written
 written e = record { name = e.identifier.name; owner = e.owner }
 
@@ -74,6 +78,7 @@ written e = record { name = e.identifier.name; owner = e.owner }
 abbrev pub verdicts_in : Outline → ℕ → List Verdict
 verdicts_in o block = verdicts_of (map written (entries_in o block))
 
+-- entries as look-up sees them
 abbrev pub with_verdicts : List Entry → List Verdict → Block
 with_verdicts [] vs = []
 with_verdicts (e ∷ es) [] = []
@@ -88,10 +93,12 @@ abbrev pub heading_entries : Mark → List Entry
 heading_entries (Entered heading region) = record { identifier = heading.name; owner = None; entity = AsProcedure heading region } ∷ []
 heading_entries mark = []
 
+-- the entry of the unit's own name
 abbrev pub unit_entries : List Placed → List Entry
 unit_entries [] = []
 unit_entries (p ∷ ps) = heading_entries p.mark
 
+-- the outermost block, which declares it
 abbrev pub unit_block : Outline → Block
 unit_block o = map (λ e. record { name = e.identifier.name; owner = None; counts = true }) (unit_entries o.marks)
 
@@ -110,6 +117,7 @@ pub record Table : Type 0 where
 abbrev pub table_with : List Entry → Table
 table_with entries = record { entries = entries; verdicts = verdicts_of (map written entries); block = with_verdicts entries (verdicts_of (map written entries)) }
 
+-- what a block declares
 abbrev pub table_in : Outline → ℕ → Table
 table_in o block = record { entries = entries_in o block; verdicts = verdicts_in o block; block = block_in o block }
 

@@ -16,17 +16,17 @@ use std::alloc::{AllocError, AllocFailed, Global};
 
 /// A name of an item.
 #[derive(Clone, Copy)]
-struct Named<'a> {
+struct NamedItem<'a> {
     identifier: Identifier,
     item: &'a Item,
 }
 
 /// The names of an item, behind those of others.
-fn add_names<'a>(names: &mut Vec<Named<'a>>, item: &'a Item) -> Result<(), AllocError>
+fn add_names<'a>(names: &mut Vec<NamedItem<'a>>, item: &'a Item) -> Result<(), AllocError>
     ensures { OnOk result (map named_view names.new.items ≡ map named_view names.old.items ++ named (item_view item.now)) }
 {
     for identifier in item.names.iter() {
-        let named = Named {
+        let named = NamedItem {
             identifier: *identifier,
             item,
         };
@@ -38,7 +38,7 @@ fn add_names<'a>(names: &mut Vec<Named<'a>>, item: &'a Item) -> Result<(), Alloc
 }
 
 /// The names of items.
-fn names_of<'a>(alloc: Global, items: &'a [Item]) -> Result<Vec<Named<'a>>, AllocError>
+fn names_of<'a>(alloc: Global, items: &'a [Item]) -> Result<Vec<NamedItem<'a>>, AllocError>
     ensures { IfOk result (λ names. map named_view names.items ≡ flat_map named (map item_view items.now)) }
 {
     let mut names = Vec::new(alloc);
@@ -49,7 +49,7 @@ fn names_of<'a>(alloc: Global, items: &'a [Item]) -> Result<Vec<Named<'a>>, Allo
 }
 
 /// The level of each name, if one is written.
-fn levels_of(alloc: Global, names: &[Named<'_>]) -> Result<Vec<Option<u32>>, AllocError>
+fn levels_of(alloc: Global, names: &[NamedItem<'_>]) -> Result<Vec<Option<u32>>, AllocError>
     ensures { IfOk result (λ levels. levels.items ≡ map (λ x. x.1.level) (map named_view names.now)) }
 {
     let mut levels = Vec::new(alloc);
@@ -83,7 +83,7 @@ pub fn add_entry<'a>(
 /// The names of a DECLARE, from how they stand in it.
 fn add_items<'a>(
     entries: &mut Vec<Entry<'a>>,
-    names: &[Named<'a>],
+    names: &[NamedItem<'a>],
     standings: &[Standing],
 ) -> Result<(), AllocError>
     requires { StandBehindOwners standings.now }

@@ -41,6 +41,7 @@ abbrev pub whole_description : List Entry → (parameters : List Name) → ℕ �
 whole_description entries parameters n =
     if is_none (get_or entries n no_entry).owner && is_variable (get_or entries n no_entry).entity then description_of entries parameters n else None
 
+-- what an entry is declared as
 abbrev pub kind_of : List Entry → (parameters : List Name) → ℕ → Entity → Kind
 kind_of entries parameters n (AsItem item is_bad) = OfItem (completed_of (place_in entries parameters n) item) (whole_description entries parameters n)
 kind_of entries parameters n (AsLabel region) = OfLabel region

@@ -27,6 +27,7 @@ abbrev pub member_then : Option Description → Option Members → Option Member
 member_then None ms = None
 member_then (Some d) ms = option_map (MemberThen d) ms
 
+-- the members of a structure, where each has a description
 abbrev pub members_made : (ℕ → Option Description) → List ℕ → Option Members
 members_made describe [] = Some NoMembers
 members_made describe (k ∷ ks) = member_then (describe k) (members_made describe ks)
@@ -51,6 +52,7 @@ own_codes entries parameters = map (own_code entries parameters) (numbers_from 0
 abbrev pub description_of : List Entry → (parameters : List Name) → ℕ → Option Description
 description_of entries parameters n = described (length entries) entries (own_codes entries parameters) n
 
+-- whether a description is too large
 abbrev pub is_large : Option Description → Bool
 is_large None = false
 is_large (Some d) = is_too_large d

@@ -6,6 +6,7 @@ use Rattle.pli_declare_variables.specs.Places.{own_code, is_locator, is_area}
 use Rattle.pli_declare_variables.specs.Descriptions.{is_too_large_variable}
 use Rattle.pli_declare_variables.specs.declared.judged.Judged.{Judged}
 
+-- what is judged of one entry
 abbrev pub judged_at : List Entry → (parameters : List Name) → ℕ → Judged
 judged_at entries parameters n =
     record {
@@ -15,5 +16,6 @@ judged_at entries parameters n =
       is_area = is_area entries n;
     }
 
+-- what is judged of all of them
 abbrev pub all_judged : List Entry → (parameters : List Name) → List Judged
 all_judged entries parameters = map (judged_at entries parameters) (numbers_from 0 (length entries))

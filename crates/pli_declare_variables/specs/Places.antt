@@ -21,9 +21,11 @@ above zero entries owner = []
 above (suc bound) entries None = []
 above (suc bound) entries (Some n) = n ∷ above bound entries (get_or entries n no_entry).owner
 
+-- the items that an item belongs to, the nearest first
 abbrev pub owners_of : List Entry → ℕ → List ℕ
 owners_of entries n = above (length entries) entries (get_or entries n no_entry).owner
 
+-- whether an entry belongs to the item of this number
 abbrev pub owner_is : ℕ → Entry → Bool
 owner_is n e = unwrap_or (option_map (λ o. o == n) e.owner) false
 
@@ -31,14 +33,17 @@ owner_is n e = unwrap_or (option_map (λ o. o == n) e.owner) false
 abbrev pub members_of : List Entry → ℕ → List ℕ
 members_of entries n = filter (λ k. owner_is n (get_or entries k no_entry)) (numbers_from 0 (length entries))
 
+-- an item that says nothing
 abbrev pub no_item : Item
 no_item = record { level = None; names = []; dimensions = []; attributes = [] }
 
+-- the item of an entity
 abbrev pub item_in : Entity → Item
 item_in (AsItem item is_bad) = item
 item_in (AsLabel region) = no_item
 item_in (AsProcedure heading region) = no_item
 
+-- the item of an entry
 abbrev pub item_of : List Entry → ℕ → Item
 item_of entries n = item_in (get_or entries n no_entry).entity
 
@@ -48,6 +53,7 @@ built_in_names =
     codes "ABS" ∷ codes "MAX" ∷ codes "MIN" ∷ codes "MOD" ∷ codes "DIVIDE" ∷ codes "SIGN" ∷ codes "LENGTH" ∷ codes "INDEX" ∷ codes "ALLOCATION" ∷ codes "LBOUND" ∷ codes "HBOUND"
     ∷ codes "SUBSTR" ∷ codes "ADDR" ∷ codes "NULL" ∷ codes "EMPTY" ∷ codes "POINTER" ∷ codes "OFFSET" ∷ []
 
+-- the name of a built-in function
 unfoldable pub is_built_in : Name → Bool
 is_built_in name = list_any (same_name name) built_in_names
 
@@ -89,6 +95,7 @@ place_in entries parameters n =
       built_in_name = is_built_in name;
     }
 
+-- the least fault of an entry's own attributes
 abbrev pub own_code : List Entry → (parameters : List Name) → ℕ → Option Code
 own_code entries parameters n = item_fault (place_in entries parameters n) (item_of entries n)
 

@@ -13,7 +13,7 @@ use Rattle.pli_lex.specs.declared.answer.LexFault.{LexFault}
 use Rattle.pli_include.specs.declared.expansion.ExpansionFault.{ExpansionFault}
 use Rattle.pli_include.specs.declared.reading.Request.{Request}
 use Rattle.pli_include.specs.declared.reading.Pause.TheVariants as at
-use Rattle.pli_include.specs.declared.walk.Frame.{Frame}
+use Rattle.pli_include.specs.declared.walk.OpenMember.{OpenMember}
 use Rattle.pli_include.specs.declared.walk.Walk.{Walk}
 use Rattle.pli_members.specs.Members.{Store}
 use Rattle.pli_include.specs.Expanded.{look_in, outcome_of}
@@ -36,15 +36,15 @@ then_same : (o : Outcome) (f g : Progress → Outcome) → ((s : Progress) → f
 then_same (Ok s) f g h = h s
 then_same (Err stop) f g h = refl
 
-abbrev pub names_of : List Frame → List Name
+abbrev pub names_of : List OpenMember → List Name
 names_of frames = map (λ f. f.name) frames
 
 -- what an open member does, with these members open
-abbrev pub read_rest : ℕ → Look → List Name → Frame → Progress → Outcome
+abbrev pub read_rest : ℕ → Look → List Name → OpenMember → Progress → Outcome
 read_rest limit look path f s = read_pieces limit (include_from limit look path) f.name (pieces_of (rest_of look f)) s
 
 -- the innermost member goes on, and then the others
-going_from : (limit : ℕ) (look : Look) (path : List Name) (fs : List Frame) (f : Frame) (s : Progress)
+going_from : (limit : ℕ) (look : Look) (path : List Name) (fs : List OpenMember) (f : OpenMember) (s : Progress)
     → going limit look path (fs ++ f ∷ []) s ≡ (read_rest limit look ((path ++ names_of fs) ++ f.name ∷ []) f s then going limit look path fs)
 unfolding going
 going_from limit look path [] f s =
@@ -56,7 +56,7 @@ going_from limit look path (g ∷ fs) f s =
     ∙ then_assoc (read_rest limit look ((inner ++ names_of fs) ++ f.name ∷ []) f s) (going limit look inner fs) (read_rest limit look inner g)
     ∙ ap (λ p. read_rest limit look (p ++ f.name ∷ []) f s then (λ s. going limit look inner fs s then read_rest limit look inner g)) (append_assoc path (g.name ∷ []) (names_of fs))
 
-pub going_push : (limit : ℕ) (look : Look) (fs : List Frame) (f : Frame) (s : Progress)
+pub going_push : (limit : ℕ) (look : Look) (fs : List OpenMember) (f : OpenMember) (s : Progress)
     → going limit look [] (fs ++ f ∷ []) s ≡ (read_rest limit look (names_of fs ++ f.name ∷ []) f s then going limit look [] fs)
 going_push limit look fs f s = going_from limit look [] fs f s
 
@@ -99,7 +99,7 @@ enters_faulty limit look path at name s t next fault le e is faulty =
     ap (λ t. ended (Some (record { code = fault.code; origin = record { member = name; line = fault.line } })) t) is
     ∙ sym (ap (λ o. o then next) (fresh limit look path at name s le e ∙ ap (λ r. found limit (include_from limit look (path ++ name ∷ [])) at name r (looking name s)) faulty))
 
-pub enters : (limit : ℕ) (look : Look) (path : List Name) (fs : List Frame) (slot : ℕ) (at : Origin) (name : Name) (s t : Progress) (tokens : List Token) → s.read ≤ limit
+pub enters : (limit : ℕ) (look : Look) (path : List Name) (fs : List OpenMember) (slot : ℕ) (at : Origin) (name : Name) (s t : Progress) (tokens : List Token) → s.read ≤ limit
     → path ≡ names_of fs → is_among name path ≡ false → t ≡ looking name s → look name ≡ Some (Ok tokens)
     → going limit look [] (fs ++ record { name = name; slot = slot; next = 0 } ∷ []) t ≡ (include_from limit look path at name s then going limit look [] fs)
 enters limit look path fs slot at name s t tokens le names e is reads =
@@ -113,7 +113,7 @@ enters limit look path fs slot at name s t tokens le names e is reads =
     (fresh limit look path at name s le e ∙ ap (λ r. found limit (include_from limit look (path ++ name ∷ [])) at name r (looking name s)) reads))
 
 -- an open member has come to its end, to a fault, or to a directive
-module _ (limit : ℕ) (look : Look) (fs : List Frame) (f : Frame) (tokens : List Token) (s t : Progress) (is : look f.name ≡ Some (Ok tokens)) where
+module _ (limit : ℕ) (look : Look) (fs : List OpenMember) (f : OpenMember) (tokens : List Token) (s t : Progress) (is : look f.name ≡ Some (Ok tokens)) where
   abbrev here : Include
   here = include_from limit look (names_of fs ++ f.name ∷ [])
 
@@ -126,7 +126,7 @@ module _ (limit : ℕ) (look : Look) (fs : List Frame) (f : Frame) (tokens : Lis
   pub steps_fault : (fault : ExpansionFault) → Reads limit f.name tokens f.next s (at.Fault fault) t → ended (Some fault) t ≡ going limit look [] (fs ++ f ∷ []) s
   steps_fault fault h = sym (from_tokens ∙ ap (λ o. o then going limit look [] fs) (h.same here))
 
-  pub steps_into : (r : Request) (g : Frame) → g.name ≡ f.name → g.next ≡ r.next → Reads limit f.name tokens f.next s (at.Include r) t
+  pub steps_into : (r : Request) (g : OpenMember) → g.name ≡ f.name → g.next ≡ r.next → Reads limit f.name tokens f.next s (at.Include r) t
       → (include_from limit look (names_of fs ++ f.name ∷ []) r.at r.name t then going limit look [] (fs ++ g ∷ [])) ≡ going limit look [] (fs ++ f ∷ []) s
   steps_into r g named next h =
       let after : Progress → Outcome = read_pieces limit here f.name (pieces_of (drop r.next tokens)) in
@@ -141,21 +141,21 @@ module _ (limit : ℕ) (look : Look) (fs : List Frame) (f : Frame) (tokens : Lis
       ∙ ap (λ o. read_pieces limit here f.name (pieces_of (drop r.next (tokens_in o))) s then going limit look [] fs) is)))
 
 -- the names of open members, the last of them apart
-pub names_push : (fs : List Frame) (f : Frame) → names_of (fs ++ f ∷ []) ≡ names_of fs ++ f.name ∷ []
+pub names_push : (fs : List OpenMember) (f : OpenMember) → names_of (fs ++ f ∷ []) ≡ names_of fs ++ f.name ∷ []
 names_push fs f = map-append (λ f. f.name) fs (f ∷ [])
 
 -- the path without its last name
-pub pops : (path left : List Name) (r : Option Name) (fs : List Frame) (f : Frame) → path ≡ left ++ option_to_list r → (is_some r ≡ true) → path ≡ names_of (fs ++ f ∷ []) → left ≡ names_of fs
+pub pops : (path left : List Name) (r : Option Name) (fs : List OpenMember) (f : OpenMember) → path ≡ left ++ option_to_list r → (is_some r ≡ true) → path ≡ names_of (fs ++ f ∷ []) → left ≡ names_of fs
 pops path left (Some n) fs f e some names = (same_from_push left (names_of fs) n f.name (sym e ∙ names ∙ names_push fs f)).0
 pops path left None fs f e some names = let bad : ⊥ = cc in absurd bad
 
 -- the slot of the innermost member
-pub slot_of : (look : Look) (looked : List Name) (texts : List (List Token)) (path : List Name) (fs : List Frame) (f : Frame) → IsUnderWay look looked texts path (fs ++ f ∷ [])
+pub slot_of : (look : Look) (looked : List Name) (texts : List (List Token)) (path : List Name) (fs : List OpenMember) (f : OpenMember) → IsUnderWay look looked texts path (fs ++ f ∷ [])
     → slice_get looked f.slot ≡ Some f.name
 slot_of look looked texts path fs f way = (All-pop (λ f. slice_get looked f.slot ≡ Some f.name) (fs ++ f ∷ []) fs (Some f) refl way.slots).1
 
 -- the others are under way without it
-pub under_way_pop : (look : Look) (looked : List Name) (texts : List (List Token)) (path left : List Name) (fs : List Frame) (f : Frame) → IsUnderWay look looked texts path (fs ++ f ∷ [])
+pub under_way_pop : (look : Look) (looked : List Name) (texts : List (List Token)) (path left : List Name) (fs : List OpenMember) (f : OpenMember) → IsUnderWay look looked texts path (fs ++ f ∷ [])
     → left ≡ names_of fs → IsUnderWay look looked texts left fs
 under_way_pop look looked texts path left fs f way is = record {
   texts_held = way.texts_held;
@@ -164,7 +164,7 @@ under_way_pop look looked texts path left fs f way is = record {
 }
 
 -- and with it where it has read on
-pub under_way_on : (look : Look) (looked : List Name) (texts : List (List Token)) (path : List Name) (fs : List Frame) (f g : Frame) → IsUnderWay look looked texts path (fs ++ f ∷ [])
+pub under_way_on : (look : Look) (looked : List Name) (texts : List (List Token)) (path : List Name) (fs : List OpenMember) (f g : OpenMember) → IsUnderWay look looked texts path (fs ++ f ∷ [])
     → g.name ≡ f.name → g.slot ≡ f.slot → IsUnderWay look looked texts path (fs ++ g ∷ [])
 under_way_on look looked texts path fs f g way named slot = record {
   texts_held = way.texts_held;
@@ -175,7 +175,7 @@ under_way_on look looked texts path fs f g way named slot = record {
 }
 
 -- a member more is open
-pub under_way_push : (look : Look) (s t : Progress) (texts : List (List Token)) (path more : List Name) (fs : List Frame) (f : Frame) → t ≡ looking f.name s
+pub under_way_push : (look : Look) (s t : Progress) (texts : List (List Token)) (path more : List Name) (fs : List OpenMember) (f : OpenMember) → t ≡ looking f.name s
     → All (λ f. slice_get s.looked f.slot ≡ Some f.name) fs → path ≡ names_of fs → more ≡ path ++ f.name ∷ [] → HoldsTexts look t.looked texts → slice_get t.looked f.slot ≡ Some f.name
     → IsUnderWay look t.looked texts more (fs ++ f ∷ [])
 under_way_push look s t texts path more fs f is slots names longer holds at = record {

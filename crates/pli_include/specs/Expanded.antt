@@ -8,13 +8,13 @@ use Rattle.pli_base.specs.declared.token.TokenText.{TokenText}
 use Rattle.pli_lex.specs.Reading.{lexed}
 use Rattle.pli_members.specs.Members.{Store, Member, is_named, version_of}
 use Rattle.pli_include.specs.declared.expansion.ExpansionFault.{ExpansionFault}
-use Rattle.pli_include.specs.declared.expansion.Looked.{Looked}
+use Rattle.pli_include.specs.declared.expansion.TraceEntry.{TraceEntry}
 use Rattle.pli_include.specs.Expansion.{Look, Outcome, expanded_within, token_limit}
 
 -- the names that were looked up, each with its version or its absence, and either texts, each with its
 -- origin, or a fault
 pub record Expanded : Type 0 where
-  pub trace : List Looked
+  pub trace : List TraceEntry
   pub texts : List TokenText
   pub origins : List Origin
   pub fault : Option ExpansionFault
@@ -28,7 +28,7 @@ abbrev pub outcome_of : List (Name × Member) → Name → Outcome
 outcome_of entries u = expanded_within token_limit (look_in entries) u
 
 -- the version of a name, or its absence
-abbrev pub answered : Store → Name → Looked
+abbrev pub answered : Store → Name → TraceEntry
 answered s name = record { name = name; version = version_of s name }
 
 -- an outcome as it is told of a store: each name that was looked up with its version or its absence

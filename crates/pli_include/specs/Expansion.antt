@@ -39,6 +39,7 @@ Outcome = Result Progress Stop
 
 -- one thing after another, unless the first stops
 infixl 10 ◌then◌
+-- one after another, up to a stop
 abbrev pub ◌then◌ : Outcome → (Progress → Outcome) → Outcome
 (Ok s) then next = next s
 (Err stop) then next = Err stop

@@ -6,9 +6,9 @@ use Rattle.pli_base.specs.Name.{Name}
 use Rattle.pli_base.specs.declared.token.Token.{Token}
 use Rattle.pli_lex.specs.declared.answer.LexFault.{LexFault}
 use Rattle.pli_include.specs.declared.expansion.ExpansionFault.{ExpansionFault}
-use Rattle.pli_include.specs.declared.library.Found.{Found}
-use Rattle.pli_include.specs.declared.library.Found.TheVariants.{Absent, Faulty, At}
-use Rattle.pli_include.specs.declared.walk.Frame.{Frame}
+use Rattle.pli_include.specs.declared.library.Membership.{Membership}
+use Rattle.pli_include.specs.declared.library.Membership.TheVariants.{Absent, Faulty, At}
+use Rattle.pli_include.specs.declared.walk.OpenMember.{OpenMember}
 use Rattle.pli_include.specs.declared.walk.Walk.{Walk}
 use Rattle.pli_include.specs.Pieces.{pieces_of}
 use Rattle.pli_include.specs.Expansion.{Look, Progress, Outcome, Include, included, read_pieces, started}
@@ -21,7 +21,7 @@ pub record HoldsTexts (look : Look) (looked : List Name) (texts : List (List Tok
       → slice_get looked i ≡ Some name → slice_get texts i ≡ Some tokens → look name ≡ Some (Ok tokens)
 
 -- what a look-up has found
-abbrev pub Finds : Look → Name → Found → List Name → List (List Token) → Type 0
+abbrev pub Finds : Look → Name → Membership → List Name → List (List Token) → Type 0
 Finds look name Absent looked texts = look name ≡ None
 Finds look name (Faulty fault) looked texts = look name ≡ Some (Err fault)
 Finds look name (At slot) looked texts = HoldsTexts look looked texts × (slice_get looked slot ≡ Some name)
@@ -37,11 +37,11 @@ abbrev pub include_from : ℕ → Look → List Name → Include
 include_from limit look path = included (suc limit) limit look path
 
 -- the tokens that an open member has left
-abbrev pub rest_of : Look → Frame → List Token
+abbrev pub rest_of : Look → OpenMember → List Token
 rest_of look f = drop f.next (tokens_in (look f.name))
 
 -- the open members, from the unit on, each go on from where they paused, the innermost first
-unfoldable pub going : ℕ → Look → (path : List Name) → List Frame → Progress → Outcome
+unfoldable pub going : ℕ → Look → (path : List Name) → List OpenMember → Progress → Outcome
 going limit look path [] s = Ok s
 going limit look path (f ∷ fs) s =
     going limit look (path ++ f.name ∷ []) fs s then
@@ -53,13 +53,13 @@ ended None s = Ok s
 ended (Some fault) s = Err (record { looked = s.looked; fault = fault })
 
 -- the expansion goes on, unless it has a fault
-abbrev pub goes_on : ℕ → Look → Option ExpansionFault → Progress → List Frame → Outcome
+abbrev pub goes_on : ℕ → Look → Option ExpansionFault → Progress → List OpenMember → Outcome
 goes_on limit look None s frames = going limit look [] frames s
 goes_on limit look (Some fault) s frames = ended (Some fault) s
 
 -- the texts of members are held, and the path is that of the open ones
 pub record IsUnderWay (look : Look) (looked : List Name) (texts : List (List Token))
-    (path : List Name) (frames : List Frame) : Type 0 where
+    (path : List Name) (frames : List OpenMember) : Type 0 where
   pub texts_held : HoldsTexts look looked texts
   pub path_is : path ≡ map (λ f. f.name) frames
   pub slots : All (λ f. slice_get looked f.slot ≡ Some f.name) frames
@@ -77,5 +77,5 @@ pub record IsEven (s : Progress) : Type 0 where
   pub few : length s.texts ≤ 200000
 
 -- what becomes less with each piece of a walk
-abbrev pub work_left : Progress → List Frame → ℕ
+abbrev pub work_left : Progress → List OpenMember → ℕ
 work_left s frames = 2 * (200000 - s.read) + length frames

@@ -3,7 +3,7 @@ ghost use Rattle.std.specs.Prelude.{◌≡◌, ◌+◌, ◌-◌, ◌^◌, None, 
 ghost use Rattle.pli_include.specs.Expanded.{answered, told, expansion_of};
 ghost use Rattle.pli_include.specs.Walking.{ended, IsEven};
 
-use crate::expansion::{Expansion, ExpansionFault, Looked};
+use crate::expansion::{Expansion, ExpansionFault, TraceEntry};
 use crate::progress::Progress;
 use crate::walk::Walk;
 use pli_base::Name;
@@ -27,12 +27,12 @@ impl Model for Expander {
 }
 
 /// The names, each with its version or its absence.
-fn trace_of(alloc: Global, members: &Members, names: &[Name]) -> Result<Vec<Looked>, AllocError>
+fn trace_of(alloc: Global, members: &Members, names: &[Name]) -> Result<Vec<TraceEntry>, AllocError>
     ensures { IfOk result (λ trace. trace.items ≡ map (answered members.now) names.now) }
 {
     let mut trace = Vec::with_capacity(alloc, names.len())?;
     for name in names {
-        trace.push(Looked {
+        trace.push(TraceEntry {
             name: *name,
             version: members.version(*name),
         })?;

@@ -8,7 +8,7 @@ use std::marker::Model;
 
 /// A name that an expansion looked up, and the version that its member had, or `None` where there was none.
 #[derive(Clone, Copy)]
-pub struct Looked {
+pub struct TraceEntry {
     pub name: Name,
     pub version: Option<u64>,
 }
@@ -24,7 +24,7 @@ pub struct ExpansionFault {
 /// The expansion of a member: its texts with their origins, or a fault, and in each case the names that it rests on.
 #[derive(Drop)]
 pub struct Expansion {
-    trace: Vec<Looked>,
+    trace: Vec<TraceEntry>,
     texts: Vec<TokenText>,
     origins: Vec<Origin>,
     fault: Option<ExpansionFault>,
@@ -43,7 +43,7 @@ impl Model for Expansion {
 
 impl Expansion {
     /// An expansion without a fault.
-    pub(crate) fn whole(trace: Vec<Looked>, texts: Texts) -> Expansion
+    pub(crate) fn whole(trace: Vec<TraceEntry>, texts: Texts) -> Expansion
         requires origins { length texts.origins.items ≡ length texts.texts.items }
         requires few { length texts.texts.items ≤ 200000 }
         ensures { result ≡ record { trace = trace.items; texts = texts.texts.items; origins = texts.origins.items; fault = None } }
@@ -57,7 +57,7 @@ impl Expansion {
     }
 
     /// An expansion with a fault.
-    pub(crate) fn faulty(alloc: Global, trace: Vec<Looked>, fault: ExpansionFault) -> Expansion
+    pub(crate) fn faulty(alloc: Global, trace: Vec<TraceEntry>, fault: ExpansionFault) -> Expansion
         ensures { result ≡ record { trace = trace.items; texts = []; origins = []; fault = Some fault } }
     {
         Expansion {
@@ -69,7 +69,7 @@ impl Expansion {
     }
 
     /// Each name that was looked up, once, in the order in which they were: the unit first.
-    pub fn trace(&self) -> &[Looked]
+    pub fn trace(&self) -> &[TraceEntry]
         ensures { result.now ≡ self.now.trace }
     {
         self.trace.as_slice()

@@ -11,5 +11,5 @@ mod reading;
 mod walk;
 
 pub use expander::Expander;
-pub use expansion::{Expansion, ExpansionFault, Looked};
+pub use expansion::{Expansion, ExpansionFault, TraceEntry};
 pub use laws::{level_is_never_met, texts_have_origins, trace_decides, worked_examples};

@@ -45,7 +45,7 @@ impl Text {
 
 /// What stands under a name.
 #[derive(Clone, Copy)]
-pub enum Found {
+pub enum Membership {
     /// No member.
     Absent,
     /// A member with a fault.
@@ -62,7 +62,7 @@ pub fn look(
     progress: &mut Progress,
     texts: &mut Vec<Text>,
     name: Name,
-) -> Result<Found, AllocError>
+) -> Result<Membership, AllocError>
     requires kept { IsKept members.now }
     requires held { HoldsTexts (look_in members.now.entries) progress.old.looked texts.old.items }
     ensures looked { OnOk result (progress.new ≡ looking name progress.old) }
@@ -71,17 +71,17 @@ pub fn look(
 {
     let (slot, is_first) = progress.look(name)?;
     if !is_first {
-        return Ok(Found::At(slot));
+        return Ok(Membership::At(slot));
     }
     let Some(lines) = members.lines(name) else {
-        return Ok(Found::Absent);
+        return Ok(Membership::Absent);
     };
     match lex(alloc, lines) {
         Ok(tokens) => {
             texts.push(Text::new(tokens))?;
-            Ok(Found::At(slot))
+            Ok(Membership::At(slot))
         }
-        Err(LexError::Fault(fault)) => Ok(Found::Faulty(fault)),
+        Err(LexError::Fault(fault)) => Ok(Membership::Faulty(fault)),
         Err(LexError::OutOfMemory) => Err(AllocError),
     }
 }

@@ -7,7 +7,7 @@ ghost use Rattle.pli_include.specs.Expansion.{◌then◌};
 ghost use Rattle.pli_include.specs.Walking.{IsUnderWay, IsFresh, going, goes_on, ended, include_from, work_left};
 
 use crate::expansion::ExpansionFault;
-use crate::library::{Found, Text, look};
+use crate::library::{Membership, Text, look};
 use crate::progress::Progress;
 use crate::reading::{Pause, read_tokens};
 use indexmap::IndexSet;
@@ -17,7 +17,7 @@ use std::alloc::{AllocError, Global};
 
 /// An open member: the place of its tokens among the texts, and of the token that it reads next.
 #[derive(Clone, Copy)]
-pub struct Frame {
+pub struct OpenMember {
     pub name: Name,
     pub slot: usize,
     pub next: usize,
@@ -29,7 +29,7 @@ pub struct Walk {
     pub progress: Progress,
     pub texts: Vec<Text>,
     pub path: IndexSet<Name>,
-    pub frames: Vec<Frame>,
+    pub frames: Vec<OpenMember>,
 }
 
 impl Walk {
@@ -70,20 +70,20 @@ impl Walk {
             }));
         }
         match look(alloc, members, &mut self.progress, &mut self.texts, name)? {
-            Found::Absent => Ok(Some(ExpansionFault {
+            Membership::Absent => Ok(Some(ExpansionFault {
                 code: Code::NoSuchMember,
                 origin: at,
             })),
-            Found::Faulty(fault) => Ok(Some(ExpansionFault {
+            Membership::Faulty(fault) => Ok(Some(ExpansionFault {
                 code: fault.code,
                 origin: Origin {
                     member: name,
                     line: fault.line,
                 },
             })),
-            Found::At(slot) => {
+            Membership::At(slot) => {
                 self.path.insert(name)?;
-                self.frames.push(Frame {
+                self.frames.push(OpenMember {
                     name,
                     slot,
                     next: 0,
@@ -98,7 +98,7 @@ impl Walk {
         &mut self,
         alloc: Global,
         members: &Members,
-        frame: Frame,
+        frame: OpenMember,
     ) -> Result<Option<ExpansionFault>, AllocError>
         requires kept { IsKept members.now }
         requires under_way { IsUnderWay (look_in members.now.entries) self.old.progress.looked self.old.texts.items self.old.path.keys (self.old.frames.items ++ frame ∷ []) }
@@ -117,7 +117,7 @@ impl Walk {
             }
             Pause::Fault(fault) => Ok(Some(fault)),
             Pause::Include(request) => {
-                self.frames.push(Frame {
+                self.frames.push(OpenMember {
                     name: frame.name,
                     slot: frame.slot,
                     next: request.next,

@@ -100,6 +100,7 @@ unfoldable pub variables_of : Statements → List Name
 variables_of Ended = []
 variables_of (Before first more) = variables_in first ++ variables_of more
 
+-- whether there is no fault
 abbrev pub is_faultless : List Fault → Bool
 is_faultless [] = true
 is_faultless (fault ∷ faults) = false

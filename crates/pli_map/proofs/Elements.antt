@@ -3,7 +3,7 @@ use Rattle.std.proofs.Common.{◌≡◌, ℕ, zero, suc, ◌*◌, ◌≤◌, min
 use Rattle.std.proofs.lemmas.Option.{same_Some, none-some}
 use Rattle.std.proofs.Math.Nat.{le-mul_of_pos_right}
 use Rattle.pli_map.specs.Description as tree
-use Rattle.pli_map.specs.Parts.{Part, index_of, element_at}
+use Rattle.pli_map.specs.Parts.{PlacedPart, index_of, element_at}
 use Rattle.pli_map.specs.Sizes.{count_of, size_of, stride_of}
 use Rattle.pli_map.specs.declared.description.Bounds.{Bounds}
 use Rattle.pli_map.proofs.Places.{index_below, element_inside, fits_stride}
@@ -40,5 +40,5 @@ found bs e xs cut limit cut_is = found_at bs e xs cut (index_of bs xs) limit ref
 pub found_part : (bs : List Bounds) (e : tree.Description) (xs : List ℤ) (cut offset : ℕ) → Found bs e xs cut → offset ≡ cut * stride_of e
     → Some (record { offset = offset; description = e }) ≡ element_at bs e xs
 found_part bs e xs cut offset f offset_is =
-    let part : ℕ → Part = λ n. record { offset = n; description = e } in
+    let part : ℕ → PlacedPart = λ n. record { offset = n; description = e } in
     ap (λ n. Some (part n)) (offset_is ∙ f.offset) ∙ sym (rw f.index_is)

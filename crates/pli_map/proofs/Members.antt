@@ -4,7 +4,7 @@ use Rattle.std.specs.Int.{next_multiple_of}
 use Rattle.std.proofs.lemmas.List.{at_drop_more}
 use Rattle.pli_map.specs.Description as tree
 use Rattle.pli_map.specs.DescriptionView.{description_view, members_view}
-use Rattle.pli_map.specs.Parts.{Part, member_behind}
+use Rattle.pli_map.specs.Parts.{PlacedPart, member_behind}
 use Rattle.pli_map.specs.Sizes.{alignment_of, size_of, end_behind}
 use Rattle.pli_map.specs.declared.description.Description.{Description}
 
@@ -20,7 +20,7 @@ end_of_first at [] (suc i) = omega arith
 end_of_first at (x ∷ xs) zero = later at (members_view (x ∷ xs))
 end_of_first at (x ∷ xs) (suc i) = end_of_first (next_multiple_of at (alignment_of (description_view x)) + size_of (description_view x)) xs i
 
-abbrev pub standing : ℕ → tree.Description → Part
+abbrev pub standing : ℕ → tree.Description → PlacedPart
 standing at d = record { offset = next_multiple_of at (alignment_of d); description = d }
 
 -- a member stands behind those before it

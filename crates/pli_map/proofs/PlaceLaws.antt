@@ -8,7 +8,7 @@ use Rattle.std.proofs.Math.Nat.{mul-le-mul_right}
 use Rattle.pli_map.specs.declared.description.Bounds.{Bounds}
 use Rattle.pli_map.specs.Description.{Description, FixedBinary, Character, Varying, Bit, Pointer, Offset, Area, Array, Structure, Members, NoMembers, MemberThen}
 use Rattle.pli_map.specs.Laws.{Apart, PartsDoNotMeet, PartsLieWithin, PartsStandAligned, AreasAreRounded, WithinBounds, ElementsAreWithinBounds, ElementsAreInRowMajorOrder}
-use Rattle.pli_map.specs.Parts.{Step, Member, Element, Part, index_of, member_behind, part_at, moved, place_of}
+use Rattle.pli_map.specs.Parts.{PathStep, Member, Element, PlacedPart, index_of, member_behind, part_at, moved, place_of}
 use Rattle.pli_map.specs.Sizes.{count_of, alignment_of, greatest_alignment, size_of, stride_of}
 use Rattle.pli_map.proofs.Multiples.{IsAlignment, sum_aligned, next_aligned, times_aligned, divides, greater}
 use Rattle.pli_map.proofs.Places.{met, turns, MemberStep, ElementStep, element_part, step_is, step_inside, index_below, index_apart, members_apart, element_inside, fits_stride}
@@ -38,17 +38,17 @@ mutual
 -- ---- the parts of one step
 
 -- a member is aligned no more than the greatest, and stands at a multiple of its alignment
-member_aligned : (at : ℕ) (ds : Members) (i : ℕ) (p : Part) → member_behind at ds i ≡ Some p → (alignment_of p.description ≤ greatest_alignment ds) × (p.offset % alignment_of p.description ≡ 0)
+member_aligned : (at : ℕ) (ds : Members) (i : ℕ) (p : PlacedPart) → member_behind at ds i ≡ Some p → (alignment_of p.description ≤ greatest_alignment ds) × (p.offset % alignment_of p.description ≡ 0)
 member_aligned at NoMembers i p e = absurd (none-some p e)
 member_aligned at (MemberThen d ds) zero p e =
     let is = same_Some _ p e in
-    let Claim : Part → Type 0 = λ q. (alignment_of q.description ≤ greatest_alignment (MemberThen d ds)) × (q.offset % alignment_of q.description ≡ 0) in
+    let Claim : PlacedPart → Type 0 = λ q. (alignment_of q.description ≤ greatest_alignment (MemberThen d ds)) × (q.offset % alignment_of q.description ≡ 0) in
     subst Claim is (omega arith, next_aligned (alignment_of d) at (four_alignments d))
 member_aligned at (MemberThen d ds) (suc i) p e =
     let inner = member_aligned (next_multiple_of at (alignment_of d) + size_of d) ds i p e in
     (omega (arith, inner.0), inner.1)
 
-step_aligned : (d : Description) (s : Step) (p : Part) (at : ℕ) → at % alignment_of d ≡ 0 → part_at d s ≡ Some p → (at + p.offset) % alignment_of p.description ≡ 0
+step_aligned : (d : Description) (s : PathStep) (p : PlacedPart) (at : ℕ) → at % alignment_of d ≡ 0 → part_at d s ≡ Some p → (at + p.offset) % alignment_of p.description ≡ 0
 step_aligned d s p at whole e = elim (step_is d s p e) [
   | inl m ↦ let aligned = member_aligned 0 m.members m.number p m.part_is in
       let whole' : at % greatest_alignment m.members ≡ 0 = sym (ap (λ w. at % alignment_of w) m.whole_is) ∙ whole in
@@ -56,11 +56,11 @@ step_aligned d s p at whole e = elim (step_is d s p e) [
       (divides _ _ at (four_alignments p.description) (of_members m.members) aligned.0 whole') aligned.1
   | inr m ↦ let whole' : at % alignment_of m.element ≡ 0 = sym (ap (λ w. at % alignment_of w) m.whole_is) ∙ whole in
       let is = four_alignments m.element in
-      subst (λ (q : Part). (at + q.offset) % alignment_of q.description ≡ 0) m.part_is
+      subst (λ (q : PlacedPart). (at + q.offset) % alignment_of q.description ≡ 0) m.part_is
       (sum_aligned (alignment_of m.element) at (m.index * stride_of m.element) is whole' (times_aligned _ m.index _ is (next_aligned _ (size_of m.element) is)))
 ]
 
-members_are_apart : (ds : Members) (i j : ℕ) (p q : Part) → i ≢ j → member_behind 0 ds i ≡ Some p → member_behind 0 ds j ≡ Some q → Apart p q
+members_are_apart : (ds : Members) (i j : ℕ) (p q : PlacedPart) → i ≢ j → member_behind 0 ds i ≡ Some p → member_behind 0 ds j ≡ Some q → Apart p q
 members_are_apart ds i j p q other e f = elim (cases_order i j) [
   | inl same ↦ absurd (other same)
   | inr (inl before) ↦ inl (members_apart 0 ds i j p q before e f)
@@ -74,12 +74,12 @@ elements_are_apart e k l other = elim (cases_order k l) [
   | inr (inr behind) ↦ inr (element_inside l k (stride_of e) (size_of e) behind (fits_stride e))
 ]
 
-both_members : (d : Description) (s t : Step) (p q : Part) → s ≢ t → MemberStep d s p → MemberStep d t q → Apart p q
+both_members : (d : Description) (s t : PathStep) (p q : PlacedPart) → s ≢ t → MemberStep d s p → MemberStep d t q → Apart p q
 both_members d s t p q other m n =
     let same : m.members ≡ n.members = cc in
     members_are_apart m.members m.number n.number p q (λ e. other (m.step_is ∙ ap Member e ∙ sym n.step_is)) m.part_is (ap (λ ds. member_behind 0 ds n.number) same ∙ n.part_is)
 
-both_elements : (d : Description) (s t : Step) (p q : Part) → s ≢ t → ElementStep d s p → ElementStep d t q → Apart p q
+both_elements : (d : Description) (s t : PathStep) (p q : PlacedPart) → s ≢ t → ElementStep d s p → ElementStep d t q → Apart p q
 both_elements d s t p q other m n =
     let bounds : m.bounds ≡ n.bounds = cc in
     let element : m.element ≡ n.element = cc in
@@ -88,7 +88,7 @@ both_elements d s t p q other m n =
     let q_is : element_part n.index m.element ≡ q = ap (element_part n.index) element ∙ n.part_is in
     subst (λ r. Apart p r) q_is (subst (λ r. Apart r (element_part n.index m.element)) m.part_is (elements_are_apart m.element m.index n.index apart))
 
-steps_are_apart : (d : Description) (s t : Step) (p q : Part) → s ≢ t → part_at d s ≡ Some p → part_at d t ≡ Some q → Apart p q
+steps_are_apart : (d : Description) (s t : PathStep) (p q : PlacedPart) → s ≢ t → part_at d s ≡ Some p → part_at d t ≡ Some q → Apart p q
 steps_are_apart d s t p q other e f = elim (step_is d s p e) [
   | inl m ↦ elim (step_is d t q f) [ inl n ↦ both_members d s t p q other m n | inr n ↦ absurd (cc (m.whole_is, n.whole_is)) ]
   | inr m ↦ elim (step_is d t q f) [ inl n ↦ absurd (cc (m.whole_is, n.whole_is)) | inr n ↦ both_elements d s t p q other m n ]
@@ -97,47 +97,47 @@ steps_are_apart d s t p q other e f = elim (step_is d s p e) [
 -- ---- the parts of a path
 
 -- how a path that is not empty leads to its part
-record Leads (d : Description) (s : Step) (path : List Step) (p : Part) : Type 0 where
-  pub first : Part
-  pub rest : Part
+record Leads (d : Description) (s : PathStep) (path : List PathStep) (p : PlacedPart) : Type 0 where
+  pub first : PlacedPart
+  pub rest : PlacedPart
   pub first_is : part_at d s ≡ Some first
   pub rest_is : place_of first.description path ≡ Some rest
   pub whole : moved first.offset rest ≡ p
 
-leads_on : (d : Description) (s : Step) (path : List Step) (p a : Part) (o : Option Part) → part_at d s ≡ Some a → place_of a.description path ≡ o → option_map (moved a.offset) o ≡ Some p → Leads d s path p
+leads_on : (d : Description) (s : PathStep) (path : List PathStep) (p a : PlacedPart) (o : Option PlacedPart) → part_at d s ≡ Some a → place_of a.description path ≡ o → option_map (moved a.offset) o ≡ Some p → Leads d s path p
 leads_on d s path p a None first o_is e = absurd (none-some p e)
 leads_on d s path p a (Some b) first o_is e = record { first = a; rest = b; first_is = first; rest_is = o_is; whole = same_Some _ p e }
 
-leads_of : (d : Description) (s : Step) (path : List Step) (p : Part) (o : Option Part) → part_at d s ≡ o
+leads_of : (d : Description) (s : PathStep) (path : List PathStep) (p : PlacedPart) (o : Option PlacedPart) → part_at d s ≡ o
     → option_and_then (λ a. option_map (moved a.offset) (place_of a.description path)) o ≡ Some p → Leads d s path p
 leads_of d s path p None o_is e = absurd (none-some p e)
 leads_of d s path p (Some a) o_is e = leads_on d s path p a (place_of a.description path) o_is refl e
 
-leads : (d : Description) (s : Step) (path : List Step) (p : Part) → place_of d (s ∷ path) ≡ Some p → Leads d s path p
+leads : (d : Description) (s : PathStep) (path : List PathStep) (p : PlacedPart) → place_of d (s ∷ path) ≡ Some p → Leads d s path p
 leads d s path p e = leads_of d s path p (part_at d s) refl e
 
 pub lie_within : PartsLieWithin
-lie_within d [] p e = subst (λ (q : Part). q.offset + size_of q.description ≤ size_of d) (same_Some _ p e) (omega arith)
+lie_within d [] p e = subst (λ (q : PlacedPart). q.offset + size_of q.description ≤ size_of d) (same_Some _ p e) (omega arith)
 lie_within d (s ∷ path) p e =
     let l = leads d s path p e in
     let outer = step_inside d s l.first l.first_is in
     let inner = lie_within l.first.description path l.rest l.rest_is in
-    subst (λ (q : Part). q.offset + size_of q.description ≤ size_of d) l.whole (omega (arith, outer, inner))
+    subst (λ (q : PlacedPart). q.offset + size_of q.description ≤ size_of d) l.whole (omega (arith, outer, inner))
 
 pub stand_aligned : PartsStandAligned
-stand_aligned d [] p at whole e = subst (λ (q : Part). (at + q.offset) % alignment_of q.description ≡ 0) (same_Some _ p e) (rw add-zero whole)
+stand_aligned d [] p at whole e = subst (λ (q : PlacedPart). (at + q.offset) % alignment_of q.description ≡ 0) (same_Some _ p e) (rw add-zero whole)
 stand_aligned d (s ∷ path) p at whole e =
     let l = leads d s path p e in
     let outer = step_aligned d s l.first at whole l.first_is in
     let inner = stand_aligned l.first.description path l.rest (at + l.first.offset) outer l.rest_is in
-    subst (λ (q : Part). (at + q.offset) % alignment_of q.description ≡ 0) l.whole (rw add_assoc at inner)
+    subst (λ (q : PlacedPart). (at + q.offset) % alignment_of q.description ≡ 0) l.whole (rw add_assoc at inner)
 
 -- parts of parts that are apart are apart
-inner_apart : (a b p q : Part) (m n : ℕ) → Apart a b → p.offset ≡ a.offset + m → m + size_of p.description ≤ size_of a.description → q.offset ≡ b.offset + n → n + size_of q.description ≤ size_of b.description → Apart p q
+inner_apart : (a b p q : PlacedPart) (m n : ℕ) → Apart a b → p.offset ≡ a.offset + m → m + size_of p.description ≤ size_of a.description → q.offset ≡ b.offset + n → n + size_of q.description ≤ size_of b.description → Apart p q
 inner_apart a b p q m n (inl before) p_at p_in q_at q_in = inl (omega arith)
 inner_apart a b p q m n (inr behind) p_at p_in q_at q_in = inr (omega arith)
 
-moved_apart : (n : ℕ) (a b : Part) → Apart a b → Apart (moved n a) (moved n b)
+moved_apart : (n : ℕ) (a b : PlacedPart) → Apart a b → Apart (moved n a) (moved n b)
 moved_apart n a b (inl before) = inl (omega arith)
 moved_apart n a b (inr behind) = inr (omega arith)
 
@@ -153,9 +153,9 @@ do_not_meet d (c ∷ shared) path others s t p q other e f =
     let l = leads d c (shared ++ s ∷ path) p e in
     let m = leads d c (shared ++ t ∷ others) q f in
     let same : m.first ≡ l.first = same_Some _ _ (sym m.first_is ∙ l.first_is) in
-    let there : place_of l.first.description (shared ++ t ∷ others) ≡ Some m.rest = ap (λ (a : Part). place_of a.description (shared ++ t ∷ others)) (sym same) ∙ m.rest_is in
+    let there : place_of l.first.description (shared ++ t ∷ others) ≡ Some m.rest = ap (λ (a : PlacedPart). place_of a.description (shared ++ t ∷ others)) (sym same) ∙ m.rest_is in
     let inner = do_not_meet l.first.description shared path others s t l.rest m.rest other l.rest_is there in
-    let q_is : moved l.first.offset m.rest ≡ q = ap (λ (a : Part). moved a.offset m.rest) (sym same) ∙ m.whole in
+    let q_is : moved l.first.offset m.rest ≡ q = ap (λ (a : PlacedPart). moved a.offset m.rest) (sym same) ∙ m.whole in
     subst (λ r. Apart p r) q_is (subst (λ r. Apart r (moved l.first.offset m.rest)) l.whole (moved_apart l.first.offset l.rest m.rest inner))
 
 -- ---- areas and bounds

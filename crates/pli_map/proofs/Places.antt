@@ -8,7 +8,7 @@ use Rattle.std.proofs.Math.Nat.{mul-le-mul_right}
 use Rattle.pli_map.specs.declared.description.Bounds.{Bounds}
 use Rattle.pli_map.specs.Description.{Description, Array, Structure, Members, NoMembers, MemberThen}
 use Rattle.pli_map.specs.Sizes.{extent_of, count_of, alignment_of, size_of, end_behind, stride_of}
-use Rattle.pli_map.specs.Parts.{Step, Member, Element, Part, distance_of, index_of, member_behind, part_at}
+use Rattle.pli_map.specs.Parts.{PathStep, Member, Element, PlacedPart, distance_of, index_of, member_behind, part_at}
 use Rattle.pli_map.proofs.Members.{later}
 
 -- ---- subscripts
@@ -93,7 +93,7 @@ index_apart (b ∷ bs) (x ∷ xs) (y ∷ ys) k e f =
 -- ---- members
 
 -- a member stands between the beginning and the end
-pub member_inside : (at : ℕ) (ds : Members) (i : ℕ) (p : Part) → member_behind at ds i ≡ Some p → (at ≤ p.offset) × (p.offset + size_of p.description ≤ end_behind at ds)
+pub member_inside : (at : ℕ) (ds : Members) (i : ℕ) (p : PlacedPart) → member_behind at ds i ≡ Some p → (at ≤ p.offset) × (p.offset + size_of p.description ≤ end_behind at ds)
 member_inside at NoMembers i p e = absurd (none-some p e)
 member_inside at (MemberThen d ds) zero p e =
     let is = same_Some _ p e in
@@ -106,7 +106,7 @@ member_inside at (MemberThen d ds) (suc i) p e =
     (omega (arith, inner.0), inner.1)
 
 -- of two members the first ends before the other begins
-pub members_apart : (at : ℕ) (ds : Members) (i j : ℕ) (p q : Part) → i < j → member_behind at ds i ≡ Some p → member_behind at ds j ≡ Some q → p.offset + size_of p.description ≤ q.offset
+pub members_apart : (at : ℕ) (ds : Members) (i j : ℕ) (p q : PlacedPart) → i < j → member_behind at ds i ≡ Some p → member_behind at ds j ≡ Some q → p.offset + size_of p.description ≤ q.offset
 members_apart at NoMembers i j p q before e f = absurd (none-some p e)
 members_apart at (MemberThen d ds) i zero p q before e f = absurd (omega arith)
 members_apart at (MemberThen d ds) zero (suc j) p q before e f =
@@ -120,17 +120,17 @@ members_apart at (MemberThen d ds) (suc i) (suc j) p q before e f =
 
 -- ---- one step
 
-pub record MemberStep (d : Description) (s : Step) (p : Part) : Type 0 where
+pub record MemberStep (d : Description) (s : PathStep) (p : PlacedPart) : Type 0 where
   pub members : Members
   pub number : ℕ
   pub whole_is : d ≡ Structure members
   pub step_is : s ≡ Member number
   pub part_is : member_behind 0 members number ≡ Some p
 
-abbrev pub element_part : ℕ → Description → Part
+abbrev pub element_part : ℕ → Description → PlacedPart
 element_part k e = record { offset = k * stride_of e; description = e }
 
-pub record ElementStep (d : Description) (s : Step) (p : Part) : Type 0 where
+pub record ElementStep (d : Description) (s : PathStep) (p : PlacedPart) : Type 0 where
   pub bounds : List Bounds
   pub element : Description
   pub subscripts : List ℤ
@@ -140,13 +140,13 @@ pub record ElementStep (d : Description) (s : Step) (p : Part) : Type 0 where
   pub index_is : index_of bounds subscripts ≡ Some index
   pub part_is : element_part index element ≡ p
 
-element_step : (bs : List Bounds) (e : Description) (xs : List ℤ) (p : Part) (k : Option ℕ) → index_of bs xs ≡ k → option_map (λ n. element_part n e) k ≡ Some p → ElementStep (Array bs e) (Element xs) p
+element_step : (bs : List Bounds) (e : Description) (xs : List ℤ) (p : PlacedPart) (k : Option ℕ) → index_of bs xs ≡ k → option_map (λ n. element_part n e) k ≡ Some p → ElementStep (Array bs e) (Element xs) p
 element_step bs e xs p None k_is h = absurd (none-some p h)
 element_step bs e xs p (Some k) k_is h =
     record { bounds = bs; element = e; subscripts = xs; index = k; whole_is = refl; step_is = refl; index_is = k_is; part_is = same_Some _ p h }
 
 -- a step leads to a member of a structure or to an element of an array
-pub step_is : (d : Description) (s : Step) (p : Part) → part_at d s ≡ Some p → MemberStep d s p ⊎ ElementStep d s p
+pub step_is : (d : Description) (s : PathStep) (p : PlacedPart) → part_at d s ≡ Some p → MemberStep d s p ⊎ ElementStep d s p
 step_is (Structure members) (Member i) p e = inl (record { members = members; number = i; whole_is = refl; step_is = refl; part_is = e })
 step_is (Array bounds element) (Element xs) p e = inr (element_step bounds element xs p (index_of bounds xs) refl e)
 step_is d s p e = absurd (none-some p e)
@@ -161,7 +161,7 @@ pub fits_stride : (d : Description) → size_of d ≤ stride_of d
 fits_stride d = omega arith
 
 -- a part lies within the whole
-pub step_inside : (d : Description) (s : Step) (p : Part) → part_at d s ≡ Some p → p.offset + size_of p.description ≤ size_of d
+pub step_inside : (d : Description) (s : PathStep) (p : PlacedPart) → part_at d s ≡ Some p → p.offset + size_of p.description ≤ size_of d
 step_inside d s p e = elim (step_is d s p e) [
   | inl m ↦ rw m.whole_is (member_inside 0 m.members m.number p m.part_is).1
   | inr m ↦ rw (m.whole_is, ← m.part_is) (element_inside m.index (count_of m.bounds) (stride_of m.element) (size_of m.element) (index_below m.bounds m.subscripts m.index m.index_is) (fits_stride m.element))

@@ -5,24 +5,24 @@ use Rattle.pli_map.specs.declared.description.Bounds.{Bounds}
 use Rattle.pli_map.specs.Description.{Description, area}
 use Rattle.pli_map.specs.Same.{same}
 use Rattle.pli_map.specs.Sizes.{alignment_of, count_of, size_of}
-use Rattle.pli_map.specs.Parts.{Step, Part, index_of, place_of}
+use Rattle.pli_map.specs.Parts.{PathStep, PlacedPart, index_of, place_of}
 
 -- the bytes of one part end before those of the other begin
-abbrev pub Apart : Part → Part → Type 0
+abbrev pub Apart : PlacedPart → PlacedPart → Type 0
 Apart p q = (p.offset + size_of p.description ≤ q.offset) ⊎ (q.offset + size_of q.description ≤ p.offset)
 
 -- two parts do not meet, where their paths part: after a beginning that they share, one goes to another member or element than the other
 abbrev pub PartsDoNotMeet : Type 0
-PartsDoNotMeet = (d : Description) (shared path others : List Step) (s t : Step) (p q : Part) → s ≢ t
+PartsDoNotMeet = (d : Description) (shared path others : List PathStep) (s t : PathStep) (p q : PlacedPart) → s ≢ t
     → place_of d (shared ++ s ∷ path) ≡ Some p → place_of d (shared ++ t ∷ others) ≡ Some q → Apart p q
 
 -- a part lies within the whole
 abbrev pub PartsLieWithin : Type 0
-PartsLieWithin = (d : Description) (path : List Step) (p : Part) → place_of d path ≡ Some p → p.offset + size_of p.description ≤ size_of d
+PartsLieWithin = (d : Description) (path : List PathStep) (p : PlacedPart) → place_of d path ≡ Some p → p.offset + size_of p.description ≤ size_of d
 
 -- where the whole stands at a multiple of its alignment, so does each part of its own
 abbrev pub PartsStandAligned : Type 0
-PartsStandAligned = (d : Description) (path : List Step) (p : Part) (at : ℕ) → at % alignment_of d ≡ 0 → place_of d path ≡ Some p
+PartsStandAligned = (d : Description) (path : List PathStep) (p : PlacedPart) (at : ℕ) → at % alignment_of d ≡ 0 → place_of d path ≡ Some p
     → (at + p.offset) % alignment_of p.description ≡ 0
 
 -- an alignment is 1, 2, 4 or 8

@@ -6,12 +6,12 @@ use Rattle.pli_map.specs.Description.{Description, Array, Structure, Members, No
 use Rattle.pli_map.specs.Sizes.{count_of, alignment_of, size_of, stride_of}
 
 -- a step from a description to a part of it: to a member of a structure, counted from 0, or to the element of an array at its subscripts
-pub data Step : Type 0 where
-  Member : (number : ℕ) → Step
-  Element : (subscripts : List ℤ) → Step
+pub data PathStep : Type 0 where
+  Member : (number : ℕ) → PathStep
+  Element : (subscripts : List ℤ) → PathStep
 
 -- a part of a description: how many bytes behind its beginning it stands, and what it is
-pub record Part : Type 0 where
+pub record PlacedPart : Type 0 where
   pub offset : ℕ
   pub description : Description
 
@@ -27,26 +27,26 @@ index_of [] (x ∷ xs) = None
 index_of (b ∷ bs) [] = None
 
 -- the member of this number, if each stands at its next aligned place behind the one before, and the first behind this byte
-abbrev pub member_behind : ℕ → Members → ℕ → Option Part
+abbrev pub member_behind : ℕ → Members → ℕ → Option PlacedPart
 member_behind at NoMembers i = None
 member_behind at (MemberThen d ds) zero = Some (record { offset = next_multiple_of at (alignment_of d); description = d })
 member_behind at (MemberThen d ds) (suc i) = member_behind (next_multiple_of at (alignment_of d) + size_of d) ds i
 
 -- the element at these subscripts
-abbrev pub element_at : List Bounds → Description → List ℤ → Option Part
+abbrev pub element_at : List Bounds → Description → List ℤ → Option PlacedPart
 element_at bounds element xs = option_map (λ k. record { offset = k * stride_of element; description = element }) (index_of bounds xs)
 
 -- the part that one step leads to
-abbrev pub part_at : Description → Step → Option Part
+abbrev pub part_at : Description → PathStep → Option PlacedPart
 part_at (Structure members) (Member i) = member_behind 0 members i
 part_at (Array bounds element) (Element xs) = element_at bounds element xs
 part_at d s = None
 
 -- the same part of what stands this many bytes further
-abbrev pub moved : ℕ → Part → Part
+abbrev pub moved : ℕ → PlacedPart → PlacedPart
 moved n p = record { offset = n + p.offset; description = p.description }
 
 -- the part that a path of steps leads to
-abbrev pub place_of : Description → List Step → Option Part
+abbrev pub place_of : Description → List PathStep → Option PlacedPart
 place_of d [] = Some (record { offset = 0; description = d })
 place_of d (s ∷ path) = option_and_then (λ p. option_map (moved p.offset) (place_of p.description path)) (part_at d s)

@@ -11,7 +11,7 @@ use crate::sizes::{alignment, measure, measure_members};
 
 /// A step from a description to a part of it.
 #[derive(Drop)]
-pub enum Step {
+pub enum PathStep {
     /// To the member of a structure of this number, counted from 0.
     Member(usize),
     /// To the element of an array at these subscripts, one for each dimension, in order.
@@ -20,24 +20,24 @@ pub enum Step {
 
 /// A part of a description: what it is, and how many bytes behind the beginning of the whole it stands.
 #[derive(Clone, Copy)]
-pub struct Part<'a> {
+pub struct PlacedPart<'a> {
     pub offset: u32,
     pub description: &'a Description,
 }
 
 /// The part that a path of steps leads to, in a description whose size is in SIZE_LIMIT. A path that does not fit is answered
 /// by `None`: a step is of the wrong kind, a member is not there, or the subscripts are not one for each dimension, within its bounds.
-pub fn place<'a>(description: &'a Description, path: &[Step]) -> Option<Part<'a>>
+pub fn place<'a>(description: &'a Description, path: &[PathStep]) -> Option<PlacedPart<'a>>
     requires { size_of (description_view description.now) ≤ 1000000 }
     ensures { option_map part_view result ≡ place_of (description_view description.now) (map step_view path.now) }
 {
-    let mut part = Part {
+    let mut part = PlacedPart {
         offset: 0,
         description,
     };
     for step in path {
         let inner = part_of(part.description, step)?;
-        part = Part {
+        part = PlacedPart {
             offset: part.offset + inner.offset,
             description: inner.description,
         };
@@ -45,24 +45,24 @@ pub fn place<'a>(description: &'a Description, path: &[Step]) -> Option<Part<'a>
     Some(part)
 }
 
-fn part_of<'a>(description: &'a Description, step: &Step) -> Option<Part<'a>>
+fn part_of<'a>(description: &'a Description, step: &PathStep) -> Option<PlacedPart<'a>>
     requires { size_of (description_view description.now) ≤ 1000000 }
     ensures { option_map part_view result ≡ part_at (description_view description.now) (step_view step.now) }
 {
     match (description, step) {
-        (Description::Structure(members), Step::Member(number)) => member(members, *number),
+        (Description::Structure(members), PathStep::Member(number)) => member(members, *number),
         (
             Description::Array {
                 bounds,
                 element: of,
             },
-            Step::Element(subscripts),
+            PathStep::Element(subscripts),
         ) => element(bounds, of, subscripts),
         _ => None,
     }
 }
 
-fn member(members: &[Description], number: usize) -> Option<Part<'_>>
+fn member(members: &[Description], number: usize) -> Option<PlacedPart<'_>>
     requires { end_behind 0 (members_view members.now) ≤ 1000000 }
     ensures { option_map part_view result ≡ member_behind 0 (members_view members.now) number }
 {
@@ -71,7 +71,7 @@ fn member(members: &[Description], number: usize) -> Option<Part<'_>>
     }
     let description = &members[number];
     let before = measure_members(&members[..number])?;
-    Some(Part {
+    Some(PlacedPart {
         offset: before.bytes.next_multiple_of(alignment(description)),
         description,
     })
@@ -81,14 +81,14 @@ fn element<'a>(
     bounds: &[Bounds],
     description: &'a Description,
     subscripts: &[i32],
-) -> Option<Part<'a>>
+) -> Option<PlacedPart<'a>>
     requires { count_of bounds.now * stride_of (description_view description.now) ≤ 1000000 }
     ensures { option_map part_view result
         ≡ element_at bounds.now (description_view description.now) subscripts.now }
 {
     let index = element_index(bounds, subscripts)?;
     let stride = measure(description)?.stride();
-    Some(Part {
+    Some(PlacedPart {
         offset: (index * u64::from(stride)) as u32,
         description,
     })

@@ -15,6 +15,7 @@ pub record HasMeaning (entries : List (Name × Member)) (m : Module) (steps : �
   pub runs : RunsTo m steps outcome
   pub no_fault : outcome.ending ≢ MachineFault
 
+-- the module that members give does, with n steps, what the members mean
 abbrev pub MembersSimulate : Type 0
 MembersSimulate = (entries : List (Name × Member)) (m : Module) → scratch entries ≡ Made m → (n : ℕ) → HasMeaning entries m n
 

@@ -38,6 +38,7 @@ origin_of unit None = record { member = unit; line = 1 }
 abbrev pub located : Name → List Origin → Fault → Diagnostic
 located unit origins fault = record { origin = origin_of unit (slice_get origins fault.at); code = fault.code }
 
+-- one diagnostic
 abbrev pub one : Code → Origin → List Diagnostic
 one code origin = record { origin = origin; code = code } ∷ []
 
@@ -52,6 +53,7 @@ abbrev pub lowered_unless : List Fault → ExternalProcedure → Result LoweredU
 lowered_unless [] unit = read_or_fault (lowered unit)
 lowered_unless (fault ∷ faults) unit = Err (fault ∷ faults)
 
+-- a unit that was read: its declarations are judged, then it is lowered
 abbrev pub program_from : Result ExternalProcedure Fault → Result LoweredUnit (List Fault)
 program_from (Ok unit) = lowered_unless (resolution_faults unit) unit
 program_from (Err fault) = Err (fault ∷ [])
@@ -65,10 +67,12 @@ pub record Parsed : Type 0 where
   pub origins : List Origin
   pub tree : LoweredUnit
 
+-- a lowered unit with the origins of its tokens, or its faults where they stand
 abbrev pub parsed_as : Name → List Origin → Result LoweredUnit (List Fault) → Result Parsed (List Diagnostic)
 parsed_as unit origins (Ok u) = Ok (record { origins = origins; tree = u })
 parsed_as unit origins (Err faults) = Err (map (located unit origins) faults)
 
+-- the unit of an expansion, or the fault of the expansion
 abbrev pub parsed_from : Name → Expansion → Result Parsed (List Diagnostic)
 parsed_from unit (Err stop) = Err (one stop.fault.code stop.fault.origin)
 parsed_from unit (Ok p) = parsed_as unit p.origins (program_of p.texts)
@@ -83,6 +87,7 @@ coded unit p =
     if is_too_long (code_of p.tree) then Err (one code.CodeTooLong (origin_of unit (slice_get p.origins 0)))
     else Ok (record { unit = unit; procedure = p.tree.name; is_main = p.tree.is_main; code = code_of p.tree })
 
+-- the code of a unit, or its diagnostics
 abbrev pub compiled_from : Name → Result Parsed (List Diagnostic) → Result Compiled (List Diagnostic)
 compiled_from unit (Err diagnostics) = Err diagnostics
 compiled_from unit (Ok p) = coded unit p
@@ -91,6 +96,7 @@ compiled_from unit (Ok p) = coded unit p
 unfoldable pub compiled_of : List (Name × Member) → Name → Result Compiled (List Diagnostic)
 compiled_of entries unit = compiled_from unit (parsed_of entries unit)
 
+-- a name, where its member is a SOURCE
 abbrev pub source_in : Name → Kind → List Name
 source_in name Source = name ∷ []
 source_in name Include = []
@@ -100,6 +106,7 @@ abbrev pub sources : List (Name × Member) → List Name
 sources [] = []
 sources (e ∷ es) = source_in e.0 e.1.kind ++ sources es
 
+-- the unit that was compiled, if it was
 abbrev pub units_of : Result Compiled (List Diagnostic) → List Compiled
 units_of (Ok c) = c ∷ []
 units_of (Err diagnostics) = []
@@ -109,10 +116,12 @@ abbrev pub diagnostic_line : Name → Diagnostic → List ℕ
 diagnostic_line unit d =
     unit ++ 32 ∷ d.origin.member ++ 58 ∷ decimal d.origin.line ++ 32 ∷ code_label d.code ++ 32 ∷ code_text d.code ++ 10 ∷ []
 
+-- the lines of a unit's diagnostics
 abbrev pub diagnostics_in : Name → Result Compiled (List Diagnostic) → List ℕ
 diagnostics_in unit (Ok c) = []
 diagnostics_in unit (Err diagnostics) = flat_map (diagnostic_line unit) diagnostics
 
+-- the line of a fault of linking
 abbrev pub place_line : Code → Place → List ℕ
 place_line c p = code_label c ++ 32 ∷ code_text c ++ 32 ∷ p.procedure ++ 32 ∷ p.unit ++ 10 ∷ []
 
@@ -127,6 +136,7 @@ pub data Built : Type 0 where
   Diagnosed : (text : List ℕ) → Built
   Made : (made : Module) → Built
 
+-- the module, or the lines of the faults of linking
 abbrev pub linked : Result Module (List LinkFault) → Built
 linked (Ok m) = Made m
 linked (Err faults) = Diagnosed (flat_map link_line faults)
@@ -146,10 +156,12 @@ abbrev pub units_in : List (Name × Member) → Name → Kind → List Compiled
 units_in entries name Source = units_of (compiled_of entries name)
 units_in entries name Include = []
 
+-- the lines of the diagnostics of all members
 abbrev pub all_text : (entries some : List (Name × Member)) → List ℕ
 all_text entries [] = []
 all_text entries (e ∷ es) = text_in entries e.0 e.1.kind ++ all_text entries es
 
+-- the units that were compiled, of all members
 abbrev pub all_units : (entries some : List (Name × Member)) → List Compiled
 all_units entries [] = []
 all_units entries (e ∷ es) = units_in entries e.0 e.1.kind ++ all_units entries es

@@ -5,7 +5,7 @@ use Rattle.std.specs.Map.{remove_entry}
 use Rattle.std.specs.BTreeMap.{insert_entry}
 use Rattle.pli_base.specs.Name.{Name}
 use Rattle.pli_members.specs.Fields.{next_version}
-use Rattle.pli_members.specs.declared.members.Step.{Step}
+use Rattle.pli_members.specs.declared.members.NextVersion.{NextVersion}
 use Rattle.pli_members.specs.Refusals.{refusal_of_lines}
 use Rattle.pli_members.specs.Members.{Member, Store, Change, is_named, name_order, member_of}
 
@@ -24,13 +24,13 @@ pub record IsGap (s : Store) (name : Name) (at : ℕ) : Type 0 where
   pub puts : (m : Member) → insert s.entries at (name, m) ≡ insert_entry name_order s.entries name m
 
 -- the version that an edit of the store gives, and the one that comes after it
-pub record IsStep (s : Store) (step : Step) : Type 0 where
+pub record IsStep (s : Store) (step : NextVersion) : Type 0 where
   pub current : s.next ≡ step.version
   pub fits : step.version < 2 ^ 64
   pub after : next_version step.next ≡ step.version + 1
 
 -- the lines of the member at the place may be changed so, under the version
-pub record CanChange (s : Store) (name : Name) (change : Change) (at : ℕ) (step : Step) : Type 0 where
+pub record CanChange (s : Store) (name : Name) (change : Change) (at : ℕ) (step : NextVersion) : Type 0 where
   pub place : IsPlace s name at
   pub clear : refusal_of_lines change place.member.lines ≡ None
   pub left : IsStep s step

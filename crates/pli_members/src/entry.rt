@@ -8,14 +8,14 @@ use std::marker::Model;
 
 /// A name and its member. Contracts see the pair of the two.
 #[derive(Drop)]
-pub struct Entry {
+pub struct NamedMember {
     name: Name,
     kind: Kind,
     lines: Vec<Line>,
     version: u64,
 }
 
-impl Model for Entry {
+impl Model for NamedMember {
     ghost use Rattle.pli_members.specs.Members.{Member};
     ghost use Rattle.pli_base.specs.Name.{Name as Characters};
 
@@ -24,12 +24,12 @@ impl Model for Entry {
     ghost view = { λ e. (e.name, record { kind = e.kind; lines = e.lines.items; version = e.version }) };
 }
 
-impl Entry {
+impl NamedMember {
     // An entry of these parts.
-    pub(crate) fn new(name: Name, kind: Kind, lines: Vec<Line>, version: u64) -> Entry
+    pub(crate) fn new(name: Name, kind: Kind, lines: Vec<Line>, version: u64) -> NamedMember
         ensures { result ≡ (name, record { kind = kind; lines = lines.items; version = version }) }
     {
-        Entry {
+        NamedMember {
             name,
             kind,
             lines,

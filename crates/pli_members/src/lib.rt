@@ -9,7 +9,7 @@ mod members;
 mod names;
 mod refusal;
 
-pub use entry::Entry;
+pub use entry::NamedMember;
 pub use kind::Kind;
 pub use laws::{
     deletion_keeps_others, deletion_takes, edit_gives_next, edit_keeps_others, next_is_new,

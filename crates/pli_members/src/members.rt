@@ -10,7 +10,7 @@ ghost use Rattle.pli_members.specs.ChangeView.{change_view};
 ghost use Rattle.pli_members.specs.Search.{IsPlace, IsGap, IsStep, CanChange};
 ghost use Rattle.pli_members.specs.declared.refusal.Refusal.TheVariants.{VersionsExhausted};
 
-use crate::entry::Entry;
+use crate::entry::NamedMember;
 use crate::kind::Kind;
 use crate::lines::{Change, change_refusal};
 use crate::names::Names;
@@ -27,7 +27,7 @@ const MEMBER_LIMIT: usize = 999;
 #[derive(Drop)]
 pub struct Members {
     alloc: Global,
-    entries: Vec<Entry>,
+    entries: Vec<NamedMember>,
     next: Option<u64>,
 }
 
@@ -45,7 +45,7 @@ impl Model for Members {
 
 // A version to give, and the one that comes after it.
 #[derive(Clone, Copy)]
-struct Step {
+struct NextVersion {
     version: u64,
     next: Option<u64>,
 }
@@ -63,7 +63,7 @@ impl Members {
     }
 
     /// The members in the order of their names.
-    pub fn entries(&self) -> &[Entry]
+    pub fn entries(&self) -> &[NamedMember]
         ensures entries { result.now ≡ self.now.entries }
         ensures kept { IsKept self.now }
     {
@@ -118,7 +118,7 @@ impl Members {
             return Err(EditError::Refused(Refusal::TooManyMembers));
         }
         let step = self.step()?;
-        let entry = Entry::new(name, kind, Vec::new(self.alloc), step.version);
+        let entry = NamedMember::new(name, kind, Vec::new(self.alloc), step.version);
         self.entries.insert(at, entry)?;
         self.next = step.next;
         Ok(())
@@ -180,7 +180,7 @@ impl Members {
     }
 
     // The place of a member whose lines may be changed so, and the version that it then gets.
-    fn change_place(&self, name: &Name, change: Change<'_>) -> Result<(usize, Step), Refusal>
+    fn change_place(&self, name: &Name, change: Change<'_>) -> Result<(usize, NextVersion), Refusal>
         ensures refusal { result_err result ≡ refusal_of_change self.now name.now (change_view change.entry) }
         ensures found { IfOk result (λ found. CanChange self.now name.now (change_view change.entry) found.0 found.1) }
     {
@@ -194,12 +194,12 @@ impl Members {
     }
 
     // The version that an edit gives.
-    fn step(&self) -> Result<Step, Refusal>
+    fn step(&self) -> Result<NextVersion, Refusal>
         ensures left { IfOk result (λ step. IsStep self.now step) }
         ensures none { IfErr result (λ refusal. (refusal ≡ VersionsExhausted) × (2 ^ 64 ≤ self.now.next)) }
     {
         match self.next {
-            Some(version) => Ok(Step {
+            Some(version) => Ok(NextVersion {
                 version,
                 next: version_after(version),
             }),
@@ -208,7 +208,7 @@ impl Members {
     }
 
     // The entry of a name.
-    fn find(&self, name: Name) -> Option<&Entry>
+    fn find(&self, name: Name) -> Option<&NamedMember>
         ensures { option_map (λ e. e.1) (option_copied result) ≡ member_of self.now name }
     {
         match self.place(&name) {

@@ -3,14 +3,14 @@ ghost use Rattle.std.specs.Prelude.{◌≡◌};
 ghost use Rattle.std.specs.Iterator.{YieldsFirst, item_count};
 ghost use Rattle.std.specs.Map.{keys_of};
 
-use crate::entry::Entry;
+use crate::entry::NamedMember;
 use pli_base::Name;
 use std::marker::Model;
 
 /// The names that are left, in order.
 #[derive(Drop)]
 pub struct Names<'a> {
-    entries: &'a [Entry],
+    entries: &'a [NamedMember],
 }
 
 impl<'a> Model for Names<'a> {
@@ -25,7 +25,7 @@ impl<'a> Model for Names<'a> {
 
 impl<'a> Names<'a> {
     // The names of these entries.
-    pub(crate) fn of(entries: &'a [Entry]) -> Names<'a>
+    pub(crate) fn of(entries: &'a [NamedMember]) -> Names<'a>
         ensures { result ≡ keys_of entries.now }
     {
         Names { entries }

@@ -37,6 +37,7 @@ SpellsListed separator Spells p ts (x ∷ y ∷ more) =
 abbrev pub Anywhere : {A : Type 0} → (Tokens → A → Type 0) → ℕ → Tokens → A → Type 0
 Anywhere Spells p ts x = Spells ts x
 
+-- a list with its separators
 abbrev pub SpellsList : {A : Type 0} → Separator → (Tokens → A → Type 0) → Tokens → List A → Type 0
 SpellsList separator Spells ts xs = SpellsListed separator (Anywhere Spells) 0 ts xs
 
@@ -58,6 +59,7 @@ abbrev pub SpellsSigned : Tokens → Bool → ℕ → Type 0
 SpellsSigned ts true n = (us : Tokens) × (ts ≡ Sign Minus ∷ us) × SpellsNumber us n
 SpellsSigned ts false n = SpellsNumber ts n ⊎ ((us : Tokens) × (ts ≡ Sign Plus ∷ us) × SpellsNumber us n)
 
+-- a number, perhaps with a sign
 abbrev pub SpellsInteger : Tokens → Integer → Type 0
 SpellsInteger ts i = SpellsSigned ts i.negative i.value
 
@@ -66,6 +68,7 @@ abbrev pub SpellsRange : Tokens → Option Integer → Integer → Type 0
 SpellsRange ts None high = SpellsInteger ts high
 SpellsRange ts (Some low) high = (ls : Tokens) × (hs : Tokens) × (ts ≡ ls ++ Sign Colon ∷ hs) × SpellsInteger ls low × SpellsInteger hs high
 
+-- the bounds of a dimension
 abbrev pub SpellsBounds : Tokens → Bounds → Type 0
 SpellsBounds ts b = SpellsRange ts b.low b.high
 
@@ -78,6 +81,7 @@ SpellsDimensions ts (b ∷ bs) = SpellsEnclosed (SpellsList Commas SpellsBounds)
 abbrev pub SpellsScaled : Tokens → ℕ → Type 0
 SpellsScaled ts n = SpellsNumber ts n ⊎ ((us : Tokens) × (ts ≡ us ++ Sign Comma ∷ Decimal 0 1 ∷ []) × SpellsNumber us n)
 
+-- a name
 abbrev pub SpellsName : Tokens → Name → Type 0
 SpellsName ts n = ts ≡ Word n ∷ []
 
@@ -177,6 +181,7 @@ abbrev pub SpellsAttributes : Tokens → List tree.Attribute → Type 0
 SpellsAttributes ts [] = ts ≡ []
 SpellsAttributes ts (a ∷ more) = SpellsList Nothing SpellsAttribute ts (a ∷ more)
 
+-- a name with its token
 abbrev pub SpellsIdentifier : ℕ → Tokens → Identifier → Type 0
 SpellsIdentifier p ts i = (ts ≡ Word i.name ∷ []) × (i.at ≡ p)
 

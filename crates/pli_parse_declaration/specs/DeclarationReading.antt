@@ -39,6 +39,7 @@ unfoldable pub listed_at : {A : Type 0} → Separator → (one : ℕ → Tokens 
 listed_at separator one zero p ts = at_fault EndMissing p
 listed_at separator one (suc bound) p ts = one p ts >>= λ x. listed_after separator (listed_at separator one bound) x (separated separator x.rest)
 
+-- a list with its separators
 abbrev pub list_at : {A : Type 0} → Separator → (one : ℕ → Tokens → Result (Front A) Fault) → ℕ → Tokens → Result (Front (List A)) Fault
 list_at separator one p ts = listed_at separator one (length ts + 1) p ts
 
@@ -63,6 +64,7 @@ abbrev pub bounds_from : Front Integer → Option Tokens → Result (Front Bound
 bounds_from x None = read_as (record { low = None; high = x.value }) x.next x.rest
 bounds_from x (Some us) = mapped (λ high. record { low = Some x.value; high = high }) (integer_at (x.next + 1) us)
 
+-- the bounds of a dimension: one number, or two with a colon between them
 unfoldable pub bounds_at : ℕ → Tokens → Result (Front Bounds) Fault
 bounds_at p ts = integer_at p ts >>= λ x. bounds_from x (behind is_colon x.rest)
 
@@ -79,6 +81,7 @@ abbrev pub with_scale : Front ℕ → Option Tokens → Result (Front ℕ) Fault
 with_scale x None = Ok x
 with_scale x (Some us) = taken is_zero ConstantExpected (x.next + 1) us >>= λ rest. read_as x.value (x.next + 2) rest
 
+-- a precision, perhaps with the scale 0
 unfoldable pub scaled_at : ℕ → Tokens → Result (Front ℕ) Fault
 scaled_at p ts = number_at p ts >>= λ x. with_scale x (behind is_comma x.rest)
 
@@ -91,9 +94,11 @@ abbrev pub name_from : ℕ → Tokens → Option (Name × Tokens) → Result (Fr
 name_from p ts None = expected NameExpected p ts
 name_from p ts (Some x) = read_as x.0 (p + 1) x.1
 
+-- a name
 unfoldable pub name_at : ℕ → Tokens → Result (Front Name) Fault
 name_at p ts = name_from p ts (name_first ts)
 
+-- a name with its token
 unfoldable pub identifier_at : ℕ → Tokens → Result (Front Identifier) Fault
 identifier_at p ts = mapped (λ n. record { name = n; at = p }) (name_at p ts)
 
@@ -122,6 +127,7 @@ value_at p (Sign OpenParenthesis ∷ ts) = repeated_at (p + 1) ts
 value_at p (Word n ∷ ts) = if same_name n (codes "NULL") then null_from (p + 1) ts (behind is_open ts) else expected ConstantExpected p (Word n ∷ ts)
 value_at p ts = mapped (initial.Integer None) (integer_at p ts)
 
+-- the values of INITIAL in their parentheses
 unfoldable pub values_at : ℕ → Tokens → Result (Front (List InitialValue)) Fault
 values_at p ts = taken is_open ParenthesisExpected p ts >>= λ us. enclosed (list_at Commas value_at (p + 1) us)
 
@@ -177,10 +183,12 @@ abbrev pub closed_walk : List Open → ℕ → Tokens → Option Tokens → Resu
 closed_walk opens p ts (Some us) = Ok (record { opens = opens; expects = expects.More; next = p + 1; rest = us })
 closed_walk opens p ts None = expected ParenthesisExpected p ts
 
+-- behind a comma another parameter description begins; else the parenthesis closes
 abbrev pub comma_walk : List Open → ℕ → Tokens → Option Tokens → Result Walk Fault
 comma_walk opens p ts (Some us) = description_walk opens (p + 1) us
 comma_walk opens p ts None = closed_walk opens p ts (behind is_close ts)
 
+-- what follows an attribute inside the parentheses that are open
 unfoldable pub behind_walk : List Open → ℕ → Tokens → Result Walk Fault
 behind_walk [] p ts = expected ParenthesisExpected p ts
 behind_walk (opened.Entry ∷ opens) p ts = comma_walk opens p ts (behind is_comma ts)
@@ -191,6 +199,7 @@ abbrev pub no_word_walk : List Open → Expects → ℕ → Tokens → Result Wa
 no_word_walk opens expects.Attribute p ts = expected BadAttribute p ts
 no_word_walk opens expects.More p ts = behind_walk opens p ts
 
+-- the next attribute, if a word for one stands here
 abbrev pub walk_by : List Open → Expects → ℕ → Tokens → Option (AttributeWord × Tokens) → Result Walk Fault
 walk_by opens what p ts (Some x) = word_walk opens x.0 (p + 1) x.1
 walk_by opens what p ts None = no_word_walk opens what p ts
@@ -199,6 +208,7 @@ walk_by opens what p ts None = no_word_walk opens what p ts
 unfoldable pub step_at : List Open → Expects → ℕ → Tokens → Result Walk Fault
 step_at opens what p ts = walk_by opens what p ts (attribute_first ts)
 
+-- whether the walk may end here: all parentheses are closed
 abbrev pub is_over : List Open → Expects → Bool
 is_over opens expects.Attribute = false
 is_over opens expects.More = nat_eq (length opens) 0
@@ -224,6 +234,7 @@ described_from p ts (Some (attribute.Simple w, us)) = mapped tree.Plain (simple_
 described_from p ts (Some (attribute.Entry, us)) = mapped (λ nothing. tree.AnyEntry) (nest_at p ts)
 described_from p ts (Some (attribute.Returns, us)) = mapped (λ nothing. tree.AnyReturns) (nest_at p ts)
 
+-- one attribute of a description
 unfoldable pub described_at : ℕ → Tokens → Result (Front tree.DescribedAttribute) Fault
 described_at p ts = described_from p ts (attribute_first ts)
 
@@ -239,6 +250,7 @@ abbrev pub parameters_from : ℕ → Tokens → Option Tokens → Result (Front 
 parameters_from p us (Some vs) = read_as [] (p + 1) vs
 parameters_from p us None = if begins_description us then enclosed (list_at Commas parameter_at p us) else expected ParenthesisExpected p us
 
+-- the parameter descriptions of ENTRY up to its parenthesis
 unfoldable pub parameters_at : ℕ → Tokens → Result (Front (List tree.ParameterDescription)) Fault
 parameters_at p us = parameters_from p us (behind is_close us)
 
@@ -247,6 +259,7 @@ abbrev pub entry_from : ℕ → Tokens → Option Tokens → Result (Front (Opti
 entry_from p ts None = read_as None p ts
 entry_from p ts (Some us) = mapped Some (parameters_at (p + 1) us)
 
+-- the parameter descriptions of ENTRY, if there are any
 unfoldable pub entry_at : ℕ → Tokens → Result (Front (Option (List tree.ParameterDescription))) Fault
 entry_at p ts = entry_from p ts (behind is_open ts)
 
@@ -261,6 +274,7 @@ attribute_from p ts (Some (attribute.Simple w, us)) = mapped tree.Simple (simple
 attribute_from p ts (Some (attribute.Entry, us)) = mapped tree.Entry (entry_at (p + 1) us)
 attribute_from p ts (Some (attribute.Returns, us)) = mapped tree.Returns (returned_at (p + 1) us)
 
+-- one attribute of an item
 unfoldable pub attribute_at : ℕ → Tokens → Result (Front tree.Attribute) Fault
 attribute_at p ts = attribute_from p ts (attribute_first ts)
 
@@ -269,6 +283,7 @@ abbrev pub attributes_from : ℕ → Tokens → Option Tokens → Result (Front 
 attributes_from p ts None = read_as [] p ts
 attributes_from p ts (Some us) = list_at Nothing attribute_at p ts
 
+-- the attributes of an item
 unfoldable pub attributes_at : ℕ → Tokens → Result (Front (List tree.Attribute)) Fault
 attributes_at p ts = attributes_from p ts (with_attribute ts)
 
@@ -283,9 +298,11 @@ abbrev pub names_from : ℕ → Tokens → Option Tokens → Result (Front (List
 names_from p ts None = mapped (λ x. x ∷ []) (identifier_at p ts)
 names_from p ts (Some us) = enclosed (list_at Commas identifier_at (p + 1) us)
 
+-- the name of an item, or its names in parentheses
 unfoldable pub names_at : ℕ → Tokens → Result (Front (List Identifier)) Fault
 names_at p ts = names_from p ts (behind is_open ts)
 
+-- one item of DECLARE: level, names, dimensions, attributes
 unfoldable pub item_at : ℕ → Tokens → Result (Front tree.Item) Fault
 item_at p ts = do
   names ← names_at (level_at p ts).next (level_at p ts).rest

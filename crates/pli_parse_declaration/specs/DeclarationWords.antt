@@ -14,6 +14,7 @@ use Rattle.pli_parse_declaration.specs.declared.word.AttributeWord.TheVariants a
 abbrev pub is_either : Name → Name → Name → Bool
 is_either long short n = same_name n long || same_name n short
 
+-- the word of a data attribute
 unfoldable pub data_word : Name → Option SimpleWord
 data_word n =
     if same_name n (codes "FIXED") then Some Fixed
@@ -26,6 +27,7 @@ data_word n =
     else if same_name n (codes "AREA") then Some Area
     else None
 
+-- the word of a storage class, a scope or BUILTIN
 unfoldable pub storage_word : Name → Option SimpleWord
 storage_word n =
     if same_name n (codes "BASED") then Some Based
@@ -42,6 +44,7 @@ storage_word n =
 unfoldable pub nesting_word : Name → Option AttributeWord
 nesting_word n = if same_name n (codes "ENTRY") then Some words.Entry else if same_name n (codes "RETURNS") then Some words.Returns else None
 
+-- the first of two words that is there
 abbrev pub word_or : Option SimpleWord → Option AttributeWord → Option AttributeWord
 word_or (Some w) other = Some (words.Simple w)
 word_or None other = other
@@ -55,6 +58,7 @@ abbrev pub with_rest : Tokens → Option AttributeWord → Option (AttributeWord
 with_rest us (Some w) = Some (w, us)
 with_rest us None = None
 
+-- the word of an attribute in front
 unfoldable pub attribute_first : Tokens → Option (AttributeWord × Tokens)
 attribute_first (Word n ∷ us) = with_rest us (attribute_word n)
 attribute_first _ = None
@@ -69,6 +73,7 @@ abbrev pub if_first : {A : Type 0} → Tokens → Option A → Option Tokens
 if_first ts (Some x) = Some ts
 if_first ts None = None
 
+-- the tokens, where the word of an attribute stands in front
 abbrev pub with_attribute : Tokens → Option Tokens
 with_attribute ts = if_first ts (attribute_first ts)
 

@@ -97,6 +97,7 @@ behind_move f Sign = Goes OperandWanted
 behind_move f Operates = Goes OperandWanted
 behind_move f k = Stops
 
+-- what the next token does, by what is wanted and what is open
 abbrev pub move : State → Frame → Kind → Move
 move NameWanted f Name = Goes BehindName
 move NameWanted f k = Stops
@@ -136,5 +137,6 @@ unfoldable pub accepts : State → Frame → List Frame → Tokens → Bool
 accepts s f fs [] = may_end s f
 accepts s f fs (t ∷ ts) = moved (move s f (kind_of t)) (λ s f fs. accepts s f fs ts) f fs
 
+-- whether tokens are a reference, `=` and one expression
 unfoldable pub is_assignment : Tokens → Bool
 is_assignment ts = accepts NameWanted Target [] ts

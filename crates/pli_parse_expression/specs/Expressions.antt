@@ -109,6 +109,7 @@ abbrev mutual
 abbrev pub OutermostFits : (levels : ℕ) → Expression → Type 0
 OutermostFits levels e = NestsWithin levels e × (operators e ≤ operator_limit)
 
+-- an outermost expression: it is spelled so, and within the limits
 abbrev pub SpellsOutermost : (levels p : ℕ) → Tokens → Expression → Type 0
 SpellsOutermost levels p ts e = SpellsExpression p ts e × OutermostFits levels e
 
@@ -122,10 +123,12 @@ abbrev pub GivenFits : (Expressions → Type 0) → Arguments → Type 0
 GivenFits Fits Absent = Unit {0}
 GivenFits Fits (Given list) = Fits list
 
+-- the further names of a reference have arguments that fit
 abbrev pub JoinedFits : (Expressions → Type 0) → JoinedParts → Type 0
 JoinedFits Fits Alone = Unit {0}
 JoinedFits Fits (Joined joining name arguments more) = GivenFits Fits arguments × JoinedFits Fits more
 
+-- a reference has arguments that fit
 abbrev pub ReferenceFits : (Expressions → Type 0) → Reference → Type 0
 ReferenceFits Fits (Named name arguments more) = GivenFits Fits arguments × JoinedFits Fits more
 

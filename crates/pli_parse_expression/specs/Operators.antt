@@ -20,14 +20,17 @@ use Rattle.pli_base.specs.Words.{Tokens}
 abbrev pub operator_limit : ℕ
 operator_limit = 1000
 
+-- the greatest depth of nesting (own)
 abbrev pub nesting_limit : ℕ
 nesting_limit = 64
 
+-- the sign of a prefix operator
 abbrev pub prefix_sign : PrefixOperator → Sign
 prefix_sign prefixes.Plus = signs.Plus
 prefix_sign prefixes.Minus = signs.Minus
 prefix_sign prefixes.Not = signs.Not
 
+-- the sign of an infix operator
 abbrev pub infix_sign : InfixOperator → Sign
 infix_sign Or = signs.Or
 infix_sign And = signs.And
@@ -66,10 +69,12 @@ abbrev pub level : Expression → ℕ
 level (Infix operator at left right) = level_of operator
 level e = operand_level
 
+-- the sign that joins two names of a reference
 abbrev pub joining_sign : Joining → Sign
 joining_sign Member = signs.Period
 joining_sign Located = signs.Arrow
 
+-- the token of a constant
 abbrev pub constant_token : ConstantValue → TokenText
 constant_token (constants.Decimal value digits) = tokens.Decimal value digits
 constant_token (constants.Binary value digits) = tokens.Binary value digits

@@ -92,6 +92,7 @@ part_behind one more joining count p ts (Some n) =
     arguments_at one count (p + 1) n.1 >>= λ x. more x.count x.next x.rest
     >>= λ y. Ok (record { value = Joined joining (record { name = n.0; at = p }) x.value y.value; count = y.count; next = y.next; rest = y.rest })
 
+-- the further names of a reference, if a sign joins one
 abbrev pub parts_behind : Option Reader → (more : (count p : ℕ) → Tokens → Result (Front JoinedParts) Fault) → (count p : ℕ) → Tokens → Option (Joining × Tokens) → Result (Front JoinedParts) Fault
 parts_behind one more count p ts None = Ok (record { value = Alone; count = count; next = p; rest = ts })
 parts_behind one more count p ts (Some x) = part_behind one more x.0 count (p + 1) x.1 (name_first x.1)

@@ -41,11 +41,13 @@ abbrev pub place_view : PlaceWord → reading.PlaceWord
 place_view places.In = reading.InWord
 place_view places.Set = reading.SetWord
 
+-- the word that the code has for it
 abbrev pub range_view : RangeWord → reading.RangeWord
 range_view ranges.To = reading.ToWord
 range_view ranges.By = reading.ByWord
 range_view ranges.Repeat = reading.RepeatWord
 
+-- the word that the code has for it
 abbrev pub option_view : OptionWord → reading.OptionWord
 option_view options.Options = reading.OptionsWord
 option_view options.Returns = reading.ReturnsWord

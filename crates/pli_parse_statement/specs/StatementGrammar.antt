@@ -31,9 +31,11 @@ IsOfItsKind p ts body = BeginsAssignment p ts → ⊥
 
 -- parts of statements; so many levels may still be opened in their expressions
 
+-- a name with its token
 abbrev pub SpellsIdentifier : ℕ → Tokens → Identifier → Type 0
 SpellsIdentifier p ts i = (ts ≡ Word i.name ∷ []) × (i.at ≡ p)
 
+-- the name of a condition
 abbrev pub SpellsCondition : Tokens → Condition → Type 0
 SpellsCondition ts c = (n : Name) × (ts ≡ Word n ∷ []) × (condition_of n ≡ Some c)
 
@@ -65,6 +67,7 @@ SpellsOption ts Main = ts ≡ Word (codes "OPTIONS") ∷ Sign OpenParenthesis �
 SpellsOption ts (Returns attributes) = (us : Tokens) × (ts ≡ Word (codes "RETURNS") ∷ us) × SpellsReturned us attributes
 SpellsOption ts Recursive = ts ≡ Word (codes "RECURSIVE") ∷ []
 
+-- options, one behind the other
 abbrev pub SpellsOptions : Tokens → List ProcedureOption → Type 0
 SpellsOptions ts [] = ts ≡ []
 SpellsOptions ts (o ∷ os) = (front : Tokens) × (rest : Tokens) × (ts ≡ front ++ rest) × SpellsOption front o × SpellsOptions rest os
@@ -113,6 +116,7 @@ abbrev pub SpellsAllocation : (levels p : ℕ) → Tokens → Allocation → Typ
 SpellsAllocation levels p ts a =
     (us : Tokens) × (ts ≡ Word a.name.name ∷ us) × (a.name.at ≡ p) × SpellsPlaced levels (p + 1) us a.area a.target
 
+-- SKIP, or nothing
 abbrev pub SpellsSkip : Tokens → Bool → Type 0
 SpellsSkip ts false = ts ≡ []
 SpellsSkip ts true = ts ≡ Word (codes "SKIP") ∷ []
@@ -147,6 +151,7 @@ SpellsGoto p ts label =
 
 -- statements
 
+-- a label and its colon, or nothing
 abbrev pub SpellsLabel : ℕ → Tokens → Option Identifier → Type 0
 SpellsLabel p ts None = ts ≡ []
 SpellsLabel p ts (Some l) = (ts ≡ Word l.name ∷ Sign Colon ∷ []) × (l.at ≡ p)

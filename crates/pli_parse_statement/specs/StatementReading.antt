@@ -28,6 +28,7 @@ use Rattle.pli_parse_declaration.specs.declared.list.Separator.TheVariants.{Comm
 
 -- parts of statements; so many levels may still be opened in their expressions
 
+-- what a reader of expressions gives, without its count of operators
 abbrev pub uncounted : {A : Type 0} → Result (expressions.Front A) Fault → Result (Front A) Fault
 uncounted (Ok x) = read_as x.value x.next x.rest
 uncounted (Err e) = Err e
@@ -36,6 +37,7 @@ uncounted (Err e) = Err e
 unfoldable pub expression_in : (levels p : ℕ) → Tokens → Result (Front Expression) Fault
 expression_in levels p ts = uncounted (expression_at levels 0 p ts)
 
+-- a reference, inside so many levels of nesting
 unfoldable pub reference_in : (levels p : ℕ) → Tokens → Result (Front Reference) Fault
 reference_in levels p ts = uncounted (reference_at levels p ts)
 
@@ -43,6 +45,7 @@ reference_in levels p ts = uncounted (reference_at levels p ts)
 unfoldable pub stopped : {A : Type 0} → A → ℕ → Tokens → Result (Front A) Fault
 stopped value p ts = taken is_semicolon SemicolonExpected p ts >>= λ us. read_as value (p + 1) us
 
+-- what was read, with the `;` behind it
 abbrev pub closing : {A B : Type 0} → (A → B) → Result (Front A) Fault → Result (Front B) Fault
 closing f read = read >>= λ x. stopped (f x.value) x.next x.rest
 
@@ -50,6 +53,7 @@ closing f read = read >>= λ x. stopped (f x.value) x.next x.rest
 unfoldable pub parenthesized : {A : Type 0} → (ℕ → Tokens → Result (Front A) Fault) → ℕ → Tokens → Result (Front A) Fault
 parenthesized read p ts = taken is_open ParenthesisExpected p ts >>= λ us. enclosed (read (p + 1) us)
 
+-- the sign `=`
 abbrev pub is_equals : TokenText → Bool
 is_equals (Sign Equals) = true
 is_equals t = false
@@ -62,10 +66,12 @@ assignment_at levels p ts = do
   value ← expression_in levels (target.next + 1) us
   stopped (body.Assign target.value target.next value.value) value.next value.rest
 
+-- a condition that its name spells, or P15
 abbrev pub condition_from : ℕ → Tokens → Option Condition → Result (Front Condition) Fault
 condition_from p us (Some c) = read_as c (p + 1) us
 condition_from p us None = at_fault BadCondition p
 
+-- the condition behind ON, SIGNAL or REVERT
 unfoldable pub condition_at : ℕ → Tokens → Result (Front Condition) Fault
 condition_at p (Word n ∷ us) = condition_from p us (condition_of n)
 condition_at p ts = expected BadCondition p ts
@@ -75,6 +81,7 @@ abbrev pub if_word : {A : Type 0} → (ℕ → Tokens → Result (Front A) Fault
 if_word read p ts None = read_as None p ts
 if_word read p ts (Some us) = mapped Some (read (p + 1) us)
 
+-- a part that a word begins, or none
 unfoldable pub optional_at : {A : Type 0} → Name → (ℕ → Tokens → Result (Front A) Fault) → ℕ → Tokens → Result (Front (Option A)) Fault
 optional_at word read p ts = if_word read p ts (behind_word word ts)
 
@@ -83,9 +90,11 @@ abbrev pub paired : {A : Type 0} → Tokens → Option A → Option (A × Tokens
 paired us (Some x) = Some (x, us)
 paired us None = None
 
+-- the words that begin a range of DO
 pub data RangeWord : Type 0 where
   ToWord ByWord RepeatWord : RangeWord
 
+-- the word that a name is
 unfoldable pub range_word : Name → Option RangeWord
 range_word n =
     if same_name n (codes "TO") then Some ToWord
@@ -93,6 +102,7 @@ range_word n =
     else if same_name n (codes "REPEAT") then Some RepeatWord
     else None
 
+-- such a word in front
 unfoldable pub range_first : Tokens → Option (RangeWord × Tokens)
 range_first (Word n ∷ us) = paired us (range_word n)
 range_first ts = None
@@ -110,6 +120,7 @@ range_from levels p ts (Some (ByWord, us)) = do
   read_as (Some (By by.value to.value)) to.next to.rest
 range_from levels p ts (Some (RepeatWord, us)) = mapped (λ next. Some (Repeat next)) (expression_in levels (p + 1) us)
 
+-- the range of an iterated DO, or none
 unfoldable pub range_at : (levels p : ℕ) → Tokens → Result (Front (Option Range)) Fault
 range_at levels p ts = range_from levels p ts (range_first ts)
 
@@ -119,11 +130,13 @@ pub data Specified : Type 0 where
   Conditioned : (behind : Tokens) → Specified
   Iterated : Specified
 
+-- what stands behind DO: WHILE and a parenthesis, a name, or nothing of either
 unfoldable pub specified : Tokens → Specified
 specified (Word n ∷ Sign OpenParenthesis ∷ us) = if same_name n (codes "WHILE") then Conditioned (Sign OpenParenthesis ∷ us) else Iterated
 specified (Word n ∷ us) = Iterated
 specified ts = Unspecified
 
+-- the control of a group: none, WHILE, or an iteration
 abbrev pub control_from : (levels p : ℕ) → Tokens → Specified → Result (Front (Option Control)) Fault
 control_from levels p ts Unspecified = read_as None p ts
 control_from levels p ts (Conditioned us) = mapped (λ c. Some (While c)) (parenthesized (expression_in levels) (p + 1) us)
@@ -139,12 +152,15 @@ control_from levels p ts Iterated = do
 unfoldable pub control_at : (levels p : ℕ) → Tokens → Result (Front (Option Control)) Fault
 control_at levels p ts = control_from levels p ts (specified ts)
 
+-- the words that begin a part of ALLOCATE
 pub data PlaceWord : Type 0 where
   InWord SetWord : PlaceWord
 
+-- the word that a name is
 unfoldable pub place_word : Name → Option PlaceWord
 place_word n = if same_name n (codes "IN") then Some InWord else if same_name n (codes "SET") then Some SetWord else None
 
+-- such a word in front
 unfoldable pub place_first : Tokens → Option (PlaceWord × Tokens)
 place_first (Word n ∷ us) = paired us (place_word n)
 place_first ts = None
@@ -163,15 +179,19 @@ unfoldable pub places_from : (levels bound : ℕ) → Allocation → ℕ → Tok
 places_from levels zero x p ts = at_fault BadOption p
 places_from levels (suc bound) x p ts = placed_by levels (places_from levels bound) x p ts (place_first ts) x.area x.target
 
+-- one item of ALLOCATE: a name, then IN and SET, each at most once
 unfoldable pub allocation_at : (levels p : ℕ) → Tokens → Result (Front Allocation) Fault
 allocation_at levels p ts = identifier_at p ts >>= λ n. places_from levels 3 (record { name = n.value; area = None; target = None }) n.next n.rest
 
+-- the words that begin a part of PUT
 pub data PutWord : Type 0 where
   SkipWord ListWord : PutWord
 
+-- the word that a name is
 unfoldable pub put_word : Name → Option PutWord
 put_word n = if same_name n (codes "SKIP") then Some SkipWord else if same_name n (codes "LIST") then Some ListWord else None
 
+-- such a word in front
 unfoldable pub put_first : Tokens → Option (PutWord × Tokens)
 put_first (Word n ∷ us) = paired us (put_word n)
 put_first ts = None
@@ -184,6 +204,7 @@ put_by levels more skip [] p ts (Some (ListWord, us)) =
     parenthesized (list_at Commas (expression_in levels)) (p + 1) us >>= λ x. more skip x.value x.next x.rest
 put_by levels more skip items p ts (Some second) = at_fault BadOption p
 
+-- the parts of PUT that are left, SKIP and LIST each at most once; each part takes one of the bound
 unfoldable pub put_from : (levels bound : ℕ) → Bool → List Expression → ℕ → Tokens → Result (Front Body) Fault
 put_from levels zero skip items p ts = at_fault BadOption p
 put_from levels (suc bound) skip items p ts = put_by levels (put_from levels bound) skip items p ts (put_first ts)
@@ -193,6 +214,7 @@ abbrev pub put_begun : (levels p : ℕ) → Tokens → Option (PutWord × Tokens
 put_begun levels p ts None = expected BadOption p ts
 put_begun levels p ts (Some x) = put_from levels 3 false [] p ts
 
+-- what stands behind PUT
 unfoldable pub put_at : (levels p : ℕ) → Tokens → Result (Front Body) Fault
 put_at levels p ts = put_begun levels p ts (put_first ts)
 
@@ -203,9 +225,11 @@ call_at levels p ts = do
   arguments ← uncounted (arguments_at (option_map (argument_of true) (expressions.inside levels)) 0 name.next name.rest)
   read_as (body.Call name.value arguments.value) arguments.next arguments.rest
 
+-- the words that begin an option of PROCEDURE
 pub data OptionWord : Type 0 where
   OptionsWord ReturnsWord RecursiveWord : OptionWord
 
+-- the word that a name is
 unfoldable pub option_word : Name → Option OptionWord
 option_word n =
     if same_name n (codes "OPTIONS") then Some OptionsWord
@@ -213,6 +237,7 @@ option_word n =
     else if same_name n (codes "RECURSIVE") then Some RecursiveWord
     else None
 
+-- such a word in front
 unfoldable pub option_first : Tokens → Option (OptionWord × Tokens)
 option_first (Word n ∷ us) = paired us (option_word n)
 option_first ts = None
@@ -228,6 +253,7 @@ options_by more p ts (Some (OptionsWord, us)) = main_at (p + 1) us >>= λ x. map
 options_by more p ts (Some (ReturnsWord, us)) = returned_at (p + 1) us >>= λ x. mapped (λ xs. Returns x.value ∷ xs) (more x.next x.rest)
 options_by more p ts (Some (RecursiveWord, us)) = mapped (λ xs. Recursive ∷ xs) (more (p + 1) us)
 
+-- the options up to the `;`; each takes one of the bound
 unfoldable pub options_from : (bound p : ℕ) → Tokens → Result (Front (List ProcedureOption)) Fault
 options_from zero p ts = at_fault SemicolonExpected p
 options_from (suc bound) p ts = options_by (options_from bound) p ts (option_first ts)
@@ -241,6 +267,7 @@ heading_at name number p ts = do
 
 -- statements
 
+-- what reads a statement: where it stands, the place of its first token, its number, and the tokens
 abbrev pub StatementReader : Type 0
 StatementReader = Context → (p k : ℕ) → Tokens → Result (Front Statement) Fault
 
@@ -249,10 +276,12 @@ pub record Inside : Type 0 where
   pub levels : ℕ
   pub statement : StatementReader
 
+-- what is read one level deeper, or the fault where there is none
 abbrev pub deeper : {A : Type 0} → Option Inside → (p : ℕ) → (Inside → Result A Fault) → Result A Fault
 deeper None p read = at_fault NestedTooDeep p
 deeper (Some i) p read = read i
 
+-- whether a `;` is ahead
 unfoldable pub has_semicolon : Tokens → Bool
 has_semicolon [] = false
 has_semicolon (t ∷ ts) = is_semicolon t || has_semicolon ts
@@ -262,6 +291,7 @@ unfoldable pub label_at : ℕ → Tokens → Front (Option Identifier)
 label_at p (Word n ∷ Sign Colon ∷ us) = record { value = Some (record { name = n; at = p }); next = p + 2; rest = us }
 label_at p ts = record { value = None; next = p; rest = ts }
 
+-- whether there is a label
 abbrev pub is_labelled : Option Identifier → Bool
 is_labelled None = false
 is_labelled (Some l) = true
@@ -271,6 +301,7 @@ abbrev pub second_label : ℕ → Option Identifier → Option ℕ
 second_label p None = None
 second_label p (Some l) = Some p
 
+-- the token of a label that may not stand there: any label of a clause or ON-unit, and a second one
 abbrev pub bad_label : Standing → Front (Option Identifier) → Option Identifier → Option ℕ
 bad_label s x None = None
 bad_label AsClause x (Some l) = Some l.at
@@ -295,6 +326,7 @@ unit_misplaced Signal = None
 unit_misplaced Stop = None
 unit_misplaced keyword = Some (AtStatement MisplacedStatement)
 
+-- what is wrong with a keyword by where the statement stands
 abbrev pub standing_misplaced : Standing → Keyword → (is_labelled : Bool) → Option Misplacement
 standing_misplaced AsUnit keyword l = unit_misplaced keyword
 standing_misplaced AsClause Procedure l = Some (AtStatement MisplacedStatement)
@@ -307,10 +339,12 @@ standing_misplaced s Declare true = Some (AtLabel BadLabel)
 standing_misplaced s End true = Some (AtLabel BadLabel)
 standing_misplaced s keyword l = None
 
+-- what is wrong with a keyword where it stands; RETURN may not stand inside an ON-unit
 abbrev pub misplacement : Context → Keyword → (is_labelled : Bool) → (in_unit : Bool) → Option Misplacement
 misplacement c Return l true = Some (AtStatement MisplacedStatement)
 misplacement c keyword l in_unit = standing_misplaced c.standing keyword l
 
+-- a fault at the label, if there is one, else at the statement
 abbrev pub at_label : {A : Type 0} → Code → ℕ → Option Identifier → Result A Fault
 at_label code p None = at_fault code p
 at_label code p (Some l) = at_fault code l.at
@@ -320,10 +354,12 @@ pub record Listing : Type 0 where
   pub statements : Statements
   pub end : ℕ
 
+-- whether a name is the label's
 abbrev pub is_label : Option Identifier → Name → Bool
 is_label None n = false
 is_label (Some l) n = same_name n l.name
 
+-- the name behind END, which is the label's or P8
 abbrev pub named_end : Bool → ℕ → Tokens → Result (Front (Unit {0})) Fault
 named_end true p us = stopped tt (p + 1) us
 named_end false p us = at_fault WrongEndName p
@@ -338,16 +374,20 @@ pub data Next : Type 0 where
   EndsHere : (behind : Tokens) → Next
   Another : Next
 
+-- END that closes the list, or one more statement
 abbrev pub next_by : (has_semicolon : Bool) → Option Identifier → Kind → Next
 next_by true None (Keyed End us) = EndsHere us
 next_by s label kind = Another
 
+-- what comes next in a list
 unfoldable pub next_of : Tokens → Next
 next_of ts = next_by (has_semicolon ts) (label_at 0 ts).value (kind_of ts)
 
+-- a statement before those that follow
 abbrev pub before : Statement → Front Listing → Result (Front Listing) Fault
 before s y = read_as (record { statements = Before s y.value.statements; end = y.value.end }) y.next y.rest
 
+-- a list: END closes it, or a statement and the rest of the list
 abbrev pub list_by : StatementReader → Context → (label : Option Identifier) → (more : (p k : ℕ) → Tokens → Result (Front Listing) Fault) → (p k : ℕ) → Tokens → Next → Result (Front Listing) Fault
 list_by one c label more p k ts (EndsHere us) = mapped (λ nothing. record { statements = Ended; end = k }) (ending_at label (p + 1) us)
 list_by one c label more p k ts Another = one c p k ts >>= λ x. more x.next (k + count x.value) x.rest >>= before x.value
@@ -357,6 +397,7 @@ unfoldable pub list_from : StatementReader → Context → (label : Option Ident
 list_from one c label zero p k ts = at_fault EndMissing p
 list_from one c label (suc bound) p k ts = list_by one c label (list_from one c label bound) p k ts (next_of ts)
 
+-- the statements up to END, inside a construct
 abbrev pub list_in : Inside → Context → (label : Option Identifier) → (p k : ℕ) → Tokens → Result (Front Listing) Fault
 list_in i c label p k ts = list_from i.statement c label (length ts + 1) p k ts
 
@@ -365,6 +406,7 @@ abbrev pub else_by : (is_label is_assignment : Bool) → Option Tokens → Optio
 else_by false false behind = behind
 else_by l a behind = None
 
+-- what is behind ELSE, if an ELSE part begins here
 unfoldable pub else_first : Tokens → Option Tokens
 else_first ts = else_by (is_labelled (label_at 0 ts).value) (begins_assignment ts) (behind_word (codes "ELSE") ts)
 
@@ -373,6 +415,7 @@ abbrev pub alternative_from : Inside → Context → (p k : ℕ) → Tokens → 
 alternative_from i c p k ts None = read_as NoElse p ts
 alternative_from i c p k ts (Some us) = mapped Else (i.statement (standing AsClause c) (p + 1) k us)
 
+-- what stands behind IF: a condition, THEN, a statement, and perhaps ELSE and another
 unfoldable pub if_at : Inside → Context → (p k : ℕ) → Tokens → Result (Front Body) Fault
 if_at i c p k ts = do
   condition ← expression_in i.levels p ts
@@ -381,12 +424,14 @@ if_at i c p k ts = do
   alternative ← alternative_from i c consequence.next (k + count consequence.value) consequence.rest (else_first consequence.rest)
   read_as (body.If condition.value consequence.value alternative.value) alternative.next alternative.rest
 
+-- what stands behind ON: a condition and an ON-unit
 unfoldable pub on_at : Inside → (p k : ℕ) → Tokens → Result (Front Body) Fault
 on_at i p k ts = do
   condition ← condition_at p ts
   unit ← i.statement the_unit condition.next k condition.rest
   read_as (body.On condition.value unit.value) unit.next unit.rest
 
+-- what stands behind DO: the control, `;`, the statements and END
 unfoldable pub do_at : Inside → Context → (label : Option Identifier) → (p k : ℕ) → Tokens → Result (Front Body) Fault
 do_at i c label p k ts = do
   control ← control_at i.levels p ts
@@ -394,6 +439,7 @@ do_at i c label p k ts = do
   list ← list_in i (standing InGroup c) label (control.next + 1) k us
   read_as (body.Do control.value list.value.statements list.value.end) list.next list.rest
 
+-- what stands behind BEGIN: `;`, the statements and END
 unfoldable pub begin_at : Inside → Context → (label : Option Identifier) → (p k : ℕ) → Tokens → Result (Front Body) Fault
 begin_at i c label p k ts = do
   us ← taken is_semicolon SemicolonExpected p ts
@@ -404,6 +450,7 @@ begin_at i c label p k ts = do
 abbrev pub inner_list : Inside → Identifier → (p k : ℕ) → Tokens → Result (Front Listing) Fault
 inner_list i name p k ts = list_in i a_procedure (Some name) p k ts
 
+-- what stands behind PROCEDURE, which has a label
 unfoldable pub procedure_at : Inside → (label : Option Identifier) → (number p : ℕ) → Tokens → Result (Front Body) Fault
 procedure_at i None number p ts = at_fault BadLabel p
 procedure_at i (Some name) number p ts = do
@@ -431,6 +478,7 @@ keyed_at levels inside c label p k us GoTo = closing body.Goto (identifier_at (p
 keyed_at levels inside c label p k us Return = closing body.Return (if_open (expression_in levels) (p + 1) us (behind is_open us))
 keyed_at levels inside c label p k us Put = closing (λ x. x) (put_at levels (p + 1) us)
 
+-- the statement of a keyword, unless it may not stand here
 abbrev pub unless_misplaced : (levels : ℕ) → Option Inside → Context → (label : Option Identifier) → (p k : ℕ) → Tokens → Keyword → Option Misplacement → Result (Front Body) Fault
 unless_misplaced levels inside c label p k us keyword (Some (AtLabel code)) = at_label code p label
 unless_misplaced levels inside c label p k us keyword (Some (AtStatement code)) = at_fault code p
@@ -444,6 +492,7 @@ body_from levels inside c label p k ts (Keyed keyword us) =
     unless_misplaced levels inside c label p k us keyword (misplacement c keyword (is_labelled label) c.in_unit)
 body_from levels inside c label p k ts Unknown = at_fault NotAStatement p
 
+-- the statement behind its label, unless the label may not stand here
 abbrev pub behind_label : (levels : ℕ) → Option Inside → Context → (k : ℕ) → Front (Option Identifier) → Option ℕ → Result (Front Statement) Fault
 behind_label levels inside c k x (Some p) = at_fault BadLabel p
 behind_label levels inside c k x None = mapped (Numbered k x.value x.next) (body_from levels inside c x.value x.next k x.rest (kind_of x.rest))
@@ -478,6 +527,7 @@ external_at name ts = deeper (inside_of nesting_limit) 2 (λ i. do
   list ← inner_list i name heading.next 2 heading.rest
   finished (record { heading = heading.value; statements = list.value.statements; end = list.value.end }) list.next list.rest)
 
+-- a unit: a name, `:`, PROCEDURE and what belongs to it, or the first of P1 and P9
 abbrev pub unit_from : Option ℕ → (has_semicolon : Bool) → Tokens → Result ExternalProcedure Fault
 unit_from (Some p) s ts = at_fault NoProcedure p
 unit_from None false ts = at_fault EndMissing (length ts - 1)

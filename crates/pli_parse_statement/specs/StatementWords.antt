@@ -18,12 +18,15 @@ pub record Context : Type 0 where
   pub standing : Standing
   pub in_unit : Bool
 
+-- the same place in the text, where a statement stands so
 abbrev pub standing : Standing → Context → Context
 standing s c = record { standing = s; in_unit = c.in_unit }
 
+-- where an ON-unit stands
 abbrev pub the_unit : Context
 the_unit = record { standing = AsUnit; in_unit = true }
 
+-- where the statements of a procedure stand
 abbrev pub a_procedure : Context
 a_procedure = record { standing = InBlock; in_unit = false }
 
@@ -67,6 +70,7 @@ up_to_semicolon [] = None
 up_to_semicolon (tokens.Sign signs.Semicolon ∷ ts) = Some []
 up_to_semicolon (t ∷ ts) = option_map (λ us. t ∷ us) (up_to_semicolon ts)
 
+-- whether what is left is tested as an assignment
 abbrev pub is_assigned : Option Tokens → Bool
 is_assigned None = false
 is_assigned (Some us) = is_assignment us
@@ -82,6 +86,7 @@ pub data Kind : Type 0 where
   Keyed : (keyword : Keyword) (behind : Tokens) → Kind
   Unknown : Kind
 
+-- GO with its TO behind it
 abbrev pub go_kind : Option Tokens → Kind
 go_kind (Some us) = Keyed GoTo us
 go_kind None = Unknown
@@ -91,6 +96,7 @@ abbrev pub word_kind : Option Keyword → Name → Tokens → Kind
 word_kind (Some k) n us = Keyed k us
 word_kind None n us = if same_name n (codes "GO") then go_kind (behind_word (codes "TO") us) else Unknown
 
+-- the kind of a statement by its first token, where it is no assignment
 unfoldable pub first_kind : Tokens → Kind
 first_kind (tokens.Sign signs.Semicolon ∷ us) = Empty us
 first_kind (tokens.Word n ∷ us) = word_kind (keyword_of n) n us

@@ -1,7 +1,7 @@
 use Go::{E1, E2, E3, M};
 use Word::{Ar, Bi, Ch, Di, Fb, Of, Pt, St, Va};
 use pli_map::{
-    Bounds, Description, Layout, Part, Step, alignment, areas_are_rounded,
+    Bounds, Description, Layout, PlacedPart, PathStep, alignment, areas_are_rounded,
     elements_are_in_row_major_order, elements_are_within_bounds, four_alignments, measure,
     parts_do_not_meet, parts_lie_within, parts_stand_aligned, place, same_is_equal, size,
     worked_examples,
@@ -94,20 +94,20 @@ fn described(alloc: Global, declaration: &[Word]) -> Result<Description, AllocEr
     Ok(last.pop().unwrap_or(Description::Pointer))
 }
 
-fn path(alloc: Global, steps: &[Go]) -> Result<Vec<Step>, AllocError> {
+fn path(alloc: Global, steps: &[Go]) -> Result<Vec<PathStep>, AllocError> {
     let mut path = Vec::new(alloc);
     for go in steps {
         path.push(match *go {
-            M(number) => Step::Member(number),
-            E1(x) => Step::Element(vec![in alloc; x]?),
-            E2(x, y) => Step::Element(vec![in alloc; x, y]?),
-            E3(x, y, z) => Step::Element(vec![in alloc; x, y, z]?),
+            M(number) => PathStep::Member(number),
+            E1(x) => PathStep::Element(vec![in alloc; x]?),
+            E2(x, y) => PathStep::Element(vec![in alloc; x, y]?),
+            E3(x, y, z) => PathStep::Element(vec![in alloc; x, y, z]?),
         })?;
     }
     Ok(path)
 }
 
-fn placed<'a>(description: &'a Description, path: &[Step]) -> Option<Part<'a>> {
+fn placed<'a>(description: &'a Description, path: &[PathStep]) -> Option<PlacedPart<'a>> {
     size(description)?;
     place(description, path)
 }

@@ -1,7 +1,7 @@
 use crate::members::name;
 use pli_base::{Name, Origin, TokenText};
 use pli_include::{
-    Expander, Expansion, Looked, level_is_never_met, texts_have_origins, trace_decides,
+    Expander, Expansion, TraceEntry, level_is_never_met, texts_have_origins, trace_decides,
     worked_examples,
 };
 use pli_members::{EditError, Kind, Members};
@@ -39,7 +39,7 @@ fn show_text(shown: &mut String, text: &TokenText, origin: Origin) -> Result<(),
 }
 
 /// Writes a name that was looked up, and its version.
-fn show_looked(shown: &mut String, looked: Looked) -> Result<(), AllocError> {
+fn show_looked(shown: &mut String, looked: TraceEntry) -> Result<(), AllocError> {
     let member = looked.name;
     match looked.version {
         Some(version) => write!(shown, " {member:?} {version}")?,

@@ -1,5 +1,5 @@
 use Rattle.std.proofs.Common.{Some, sym, ap, ◌∙◌, arith}
-use Rattle.pli_map.specs.Parts.{Part}
+use Rattle.pli_map.specs.Parts.{PlacedPart}
 use Rattle.pli_map.specs.DescriptionView.{description_view}
 use Rattle.pli_map.proofs.Members.{member_past, member_within, end_of_first}
 use Rattle.pli_map.proofs.parts.member.Goals as goal
@@ -15,5 +15,5 @@ returns c =
     let d = description_view c.index-members-number.result in
     let within = member_within 0 c.args.members.now c.args.number c.index-members-number.result (omega arith) c.index-members-number.is in
     let measured = c.next_multiple_of.ensures.value in
-    let place : (n : _) → Part = λ n. record { offset = n; description = d } in
+    let place : (n : _) → PlacedPart = λ n. record { offset = n; description = d } in
     ap (λ n. Some (place n)) (measured ∙ rw (c.in_ok-before.ensures.1, c.alignment.ensures.value)) ∙ sym within

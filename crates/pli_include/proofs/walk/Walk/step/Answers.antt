@@ -6,7 +6,7 @@ use Rattle.std.proofs.lemmas.List.{length_push}
 use Rattle.pli_base.specs.Name.{Name}
 use Rattle.pli_base.specs.declared.token.Token.{Token}
 use Rattle.pli_include.specs.declared.expansion.ExpansionFault.{ExpansionFault}
-use Rattle.pli_include.specs.declared.walk.Frame.{Frame}
+use Rattle.pli_include.specs.declared.walk.OpenMember.{OpenMember}
 use Rattle.pli_include.specs.Expanded.{look_in}
 use Rattle.pli_include.specs.Expansion.{Look, Progress, Outcome, ◌then◌}
 use Rattle.pli_include.specs.Pausing.{Reads}
@@ -16,21 +16,21 @@ use Rattle.pli_include.proofs.WalkGoesOn.{names_of, names_push, slot_of, steps_e
 use Rattle.pli_include.proofs.walk.Walk.step.Goals as goal
 
 -- the tokens that are read are those of the open member
-tokens_are : (look : Look) (looked : List Name) (texts : List (List Token)) (path : List Name) (fs : List Frame) (f : Frame) (item tokens : List Token)
+tokens_are : (look : Look) (looked : List Name) (texts : List (List Token)) (path : List Name) (fs : List OpenMember) (f : OpenMember) (item tokens : List Token)
     → IsUnderWay look looked texts path (fs ++ f ∷ []) → item ≡ get_or texts f.slot item → tokens ≡ item → look f.name ≡ Some (Ok tokens)
 tokens_are look looked texts path fs f item tokens way at is =
     held_at look looked texts f.slot f.name item way.texts_held (slot_of look looked texts path fs f way) ∙ ap (λ ts. Some (Ok ts)) (sym at ∙ sym is)
 
 -- the names that were looked up stay while tokens are read
-way_stays : (look : Look) (a b : List Name) (texts : List (List Token)) (path : List Name) (fs : List Frame) → b ≡ a → IsUnderWay look a texts path fs → IsUnderWay look b texts path fs
+way_stays : (look : Look) (a b : List Name) (texts : List (List Token)) (path : List Name) (fs : List OpenMember) → b ≡ a → IsUnderWay look a texts path fs → IsUnderWay look b texts path fs
 way_stays look a b texts path fs e way = subst (λ l. IsUnderWay look l texts path fs) (sym e) way
 
 -- a path with an open member has a last name
-has_last : (path : List Name) (fs : List Frame) (f : Frame) → path ≡ names_of (fs ++ f ∷ []) → 0 < length path
+has_last : (path : List Name) (fs : List OpenMember) (f : OpenMember) → path ≡ names_of (fs ++ f ∷ []) → 0 < length path
 has_last path fs f e = subst (λ p. 0 < length p) (sym (e ∙ names_push fs f)) (let h = length_push (names_of fs) f.name in omega arith)
 
 -- an answer that is the same as one is the same as another that this is
-passes : (limit : ℕ) (look : Look) (r : Result (Option ExpansionFault) AllocError) (s : Progress) (fs : List Frame) (x y : Outcome) → IfOk r (λ fault. goes_on limit look fault s fs ≡ x) → x ≡ y
+passes : (limit : ℕ) (look : Look) (r : Result (Option ExpansionFault) AllocError) (s : Progress) (fs : List OpenMember) (x y : Outcome) → IfOk r (λ fault. goes_on limit look fault s fs ≡ x) → x ≡ y
     → IfOk r (λ fault. goes_on limit look fault s fs ≡ y)
 passes limit look (Ok fault) s fs x y h e = h ∙ e
 passes limit look (Err error) s fs x y h e = tt
@@ -80,7 +80,7 @@ returns-in_ok-push-in-Include-clause-same c =
     let tokens = c.tokens-tokens.result.now in
     let t = c.read_tokens.new.progress in
     let r = c.in-Include.request in
-    let g : Frame = record { name = c.args.frame.name; slot = c.args.frame.slot; next = r.next } in
+    let g : OpenMember = record { name = c.args.frame.name; slot = c.args.frame.slot; next = r.next } in
     passes 200000 look c.enter.result c.enter.new.self.progress c.enter.new.self.frames.items
     (include_from 200000 look s.path.keys r.at r.name t then going 200000 look [] c.push.new.self.items) _ c.enter.ensures.same
     (ap (λ fs. include_from 200000 look s.path.keys r.at r.name t then going 200000 look [] fs) c.in_ok-push-in-Include.ensures.items
