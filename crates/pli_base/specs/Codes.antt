@@ -1,7 +1,29 @@
 -- The table of diagnostics: each code once, with its label and its text (own).
 use Rattle.std.specs.Prelude.{◌≡◌, ℕ, List, codes}
 use Rattle.pli_base.specs.declared.code.Code.{Code}
-use Rattle.pli_base.specs.declared.code.Code.TheVariants.{UnendedComment, UnendedString, BadCharacter, BadNumber, NameTooLong, BadBits, NoSuchMember, RecursiveInclude, TooManyTokens, BadInclude, NoProcedure, NotAStatement, ExpressionExpected, ParenthesisExpected, SemicolonExpected, NameExpected, ThenExpected, WrongEndName, EndMissing, TextAfterEnd, BadDo, BadAttribute, ConstantExpected, BadLabel, BadCondition, NestedTooDeep, MisplacedStatement, BadOption, NotDeclared, DeclaredTwice, AttributesConflict, AttributesMissing, BadPrecision, BadLength, BadBounds, BadLevel, BadInitial, Ambiguous, BadGoto, BadLocatorOrAreaName, AreaNotAllowedHere, TooManyParameters, GenerationTooLarge, NotYetBuilt, NotAVariable, AggregateNotAllowedHere, WrongNumberOfSubscripts, WrongOperandType, CannotAssign, WrongNumberOfArguments, WrongArgument, NotCallableHere, WrongReturn, LocatorMissingOrNotAllowed, CannotAllocateOrFree, BadControlVariable, WrongBuiltInArgument, CannotPrint, CodeTooLong, NoMainProcedure, TwoMainProcedures, Unresolved, DefinedTwice, Mismatch, ModuleTooLarge}
+use Rattle.pli_base.specs.declared.code.Code.TheVariants.{UnendedComment, UnendedString, BadCharacter}
+use Rattle.pli_base.specs.declared.code.Code.TheVariants.{BadNumber, NameTooLong, BadBits, NoSuchMember}
+use Rattle.pli_base.specs.declared.code.Code.TheVariants.{RecursiveInclude, TooManyTokens, BadInclude}
+use Rattle.pli_base.specs.declared.code.Code.TheVariants.{NoProcedure, NotAStatement, ExpressionExpected}
+use Rattle.pli_base.specs.declared.code.Code.TheVariants.{ParenthesisExpected, SemicolonExpected}
+use Rattle.pli_base.specs.declared.code.Code.TheVariants.{NameExpected, ThenExpected, WrongEndName}
+use Rattle.pli_base.specs.declared.code.Code.TheVariants.{EndMissing, TextAfterEnd, BadDo, BadAttribute}
+use Rattle.pli_base.specs.declared.code.Code.TheVariants.{ConstantExpected, BadLabel, BadCondition}
+use Rattle.pli_base.specs.declared.code.Code.TheVariants.{NestedTooDeep, MisplacedStatement, BadOption}
+use Rattle.pli_base.specs.declared.code.Code.TheVariants.{NotDeclared, DeclaredTwice, AttributesConflict}
+use Rattle.pli_base.specs.declared.code.Code.TheVariants.{AttributesMissing, BadPrecision, BadLength}
+use Rattle.pli_base.specs.declared.code.Code.TheVariants.{BadBounds, BadLevel, BadInitial, Ambiguous, BadGoto}
+use Rattle.pli_base.specs.declared.code.Code.TheVariants.{BadLocatorOrAreaName, AreaNotAllowedHere}
+use Rattle.pli_base.specs.declared.code.Code.TheVariants.{TooManyParameters, GenerationTooLarge, NotYetBuilt}
+use Rattle.pli_base.specs.declared.code.Code.TheVariants.{NotAVariable, AggregateNotAllowedHere}
+use Rattle.pli_base.specs.declared.code.Code.TheVariants.{WrongNumberOfSubscripts, WrongOperandType}
+use Rattle.pli_base.specs.declared.code.Code.TheVariants.{CannotAssign, WrongNumberOfArguments, WrongArgument}
+use Rattle.pli_base.specs.declared.code.Code.TheVariants.{NotCallableHere, WrongReturn}
+use Rattle.pli_base.specs.declared.code.Code.TheVariants.{LocatorMissingOrNotAllowed, CannotAllocateOrFree}
+use Rattle.pli_base.specs.declared.code.Code.TheVariants.{BadControlVariable, WrongBuiltInArgument}
+use Rattle.pli_base.specs.declared.code.Code.TheVariants.{CannotPrint, CodeTooLong, NoMainProcedure}
+use Rattle.pli_base.specs.declared.code.Code.TheVariants.{TwoMainProcedures, Unresolved, DefinedTwice}
+use Rattle.pli_base.specs.declared.code.Code.TheVariants.{Mismatch, ModuleTooLarge}
 
 -- no two codes have one label, or one text
 abbrev pub OneCode : (Code → List ℕ) → Type 0

@@ -16,7 +16,8 @@ pub data SimpleAttribute : Type 0 where
   Controlled Static Automatic External Internal Builtin : SimpleAttribute
   Initial : (values : List InitialValue) → SimpleAttribute
 
--- an attribute in the description of a parameter or of a result; nothing is kept of what an ENTRY or RETURNS there holds
+-- an attribute in the description of a parameter or of a result; nothing is kept of what an ENTRY or RETURNS
+-- there holds
 pub data DescribedAttribute : Type 0 where
   Plain : (attribute : SimpleAttribute) → DescribedAttribute
   AnyEntry AnyReturns : DescribedAttribute

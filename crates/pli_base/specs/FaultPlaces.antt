@@ -9,7 +9,8 @@ abbrev pub StandsAtToken : Tokens → Fault → Type 0
 StandsAtToken [] f = f.at ≡ 0
 StandsAtToken (t ∷ ts) f = f.at < length (t ∷ ts)
 
--- a fault met while tokens are read, the first of which is at p: it stands at one of them; or they have ended, and it
+-- a fault met while tokens are read, the first of which is at p: it stands at one of them; or they have
+-- ended, and it
 -- stands at the last token, which is the one before p where there are none
 abbrev pub FaultStands : (p : ℕ) → Tokens → Fault → Type 0
 FaultStands p ts f =

@@ -1,5 +1,6 @@
 -- Names: what a reader must believe of them (X3.74; `$` is own).
-use Rattle.std.specs.Prelude.{ℕ, ◌-◌, nat_le, nat_eq, Bool, false, ◌&&◌, ◌||◌, List, [], ◌∷◌, map, length, Option, Some, None, if◌then◌else◌}
+use Rattle.std.specs.Prelude.{ℕ, ◌-◌, nat_le, nat_eq, Bool, false, ◌&&◌, ◌||◌, List, [], ◌∷◌, map, length}
+use Rattle.std.specs.Prelude.{Option, Some, None, if◌then◌else◌}
 use Rattle.std.specs.List.{list_all}
 
 -- a name is a list of characters, none of them in lower case

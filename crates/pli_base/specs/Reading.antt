@@ -1,5 +1,7 @@
--- Reading tokens: what a reader gives, and how one goes on behind another. Tokens are counted from 0, and p is the place of the first.
-use Rattle.std.specs.Prelude.{ℕ, ◌+◌, ◌-◌, Bool, Option, Some, None, Result, Ok, Err, List, [], ◌∷◌, if◌then◌else◌}
+-- Reading tokens: what a reader gives, and how one goes on behind another. Tokens are counted from 0, and p
+-- is the place of the first.
+use Rattle.std.specs.Prelude.{ℕ, ◌+◌, ◌-◌, Bool, Option, Some, None, Result, Ok, Err, List, [], ◌∷◌}
+use Rattle.std.specs.Prelude.{if◌then◌else◌}
 use Rattle.pli_base.specs.Words.{Tokens, is_procedure, is_close, behind}
 use Rattle.pli_base.specs.declared.code.Code.{Code}
 use Rattle.pli_base.specs.declared.code.Code.TheVariants.{EndMissing, ParenthesisExpected}
@@ -50,10 +52,13 @@ taken fits code p ts = taken_or code p ts (behind fits ts)
 
 -- what is read, and the `)` behind it
 abbrev pub enclosed : {A : Type 0} → Result (Front A) Fault → Result (Front A) Fault
-enclosed read = read >>= λ x. taken is_close ParenthesisExpected x.next x.rest >>= λ rest. read_as x.value (x.next + 1) rest
+enclosed read =
+    read >>= λ x. taken is_close ParenthesisExpected x.next x.rest >>= λ rest. read_as x.value (x.next
+    + 1) rest
 
 -- what stands in parentheses, if there is a `(`
-abbrev pub if_open : {A : Type 0} → (ℕ → Tokens → Result (Front A) Fault) → ℕ → Tokens → Option Tokens → Result (Front (Option A)) Fault
+abbrev pub if_open : {A : Type 0} → (ℕ → Tokens → Result (Front A) Fault) → ℕ → Tokens → Option Tokens
+    → Result (Front (Option A)) Fault
 if_open read p ts None = read_as None p ts
 if_open read p ts (Some us) = mapped Some (enclosed (read (p + 1) us))
 
@@ -62,7 +67,8 @@ abbrev pub or_none : {A : Type 0} → Option (List A) → List A
 or_none (Some xs) = xs
 or_none None = []
 
--- the first of the tokens `name : PROCEDURE` that cannot stand there, of those that are there; of no tokens the first
+-- the first of the tokens `name : PROCEDURE` that cannot stand there, of those that are there; of no tokens
+-- the first
 unfoldable pub misplaced : Tokens → Option ℕ
 misplaced (Word n ∷ []) = None
 misplaced (Word n ∷ Sign Colon ∷ []) = None

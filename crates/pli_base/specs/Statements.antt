@@ -27,7 +27,8 @@ pub data Range : Type 0 where
 -- the specification of a DO group; equals is the token of `=`
 pub data Control : Type 0 where
   While : (condition : Expression) → Control
-  Iterate : (variable : Reference) (equals : ℕ) (first : Expression) (range : Option Range) (condition : Option Expression) → Control
+  Iterate : (variable : Reference) (equals : ℕ) (first : Expression) (range : Option Range)
+      (condition : Option Expression) → Control
 
 -- one variable of ALLOCATE, the area in IN and the locator in SET
 pub record Allocation : Type 0 where

@@ -21,7 +21,8 @@ mutual
 
   pub data JoinedParts : Type 0 where
     Alone : JoinedParts
-    Joined : (joining : Joining) (name : Identifier) (arguments : Arguments) (more : JoinedParts) → JoinedParts
+    Joined : (joining : Joining) (name : Identifier) (arguments : Arguments) (more : JoinedParts)
+        → JoinedParts
 
   -- `F()` has an empty list, and `F` has none
   pub data Arguments : Type 0 where

@@ -1,13 +1,21 @@
--- The tokens of a tree, in the order of the text: those of names, constants, operators, the `(` of an expression and
--- the `=` of an assignment or an iteration, and the first token of each statement behind its label. Tokens are counted
+-- The tokens of a tree, in the order of the text: those of names, constants, operators, the `(` of an
+-- expression and
+-- the `=` of an assignment or an iteration, and the first token of each statement behind its label. Tokens
+-- are counted
 -- from 0.
 use Rattle.std.specs.Prelude.{ℕ, ◌+◌, ◌≤◌, nat_lt, List, [], ◌∷◌, ◌++◌, Option, Some, None, if◌then◌else◌}
-use Rattle.pli_base.specs.Syntax.{Expression, Referred, Constant, Parenthesized, Prefix, Infix, Reference, Named, JoinedParts, Alone, Joined, Arguments, Absent, Given, Expressions, Empty, Listed}
+use Rattle.pli_base.specs.Syntax.{Expression, Referred, Constant, Parenthesized, Prefix, Infix, Reference}
+use Rattle.pli_base.specs.Syntax.{Named, JoinedParts, Alone, Joined, Arguments, Absent, Given, Expressions}
+use Rattle.pli_base.specs.Syntax.{Empty, Listed}
 use Rattle.pli_base.specs.Declarations.{Item}
-use Rattle.pli_base.specs.Statements.{Range, To, By, Repeat, Control, While, Iterate, Allocation, Statement, Numbered, Body, Assign, Declare, Procedure, Begin, Do, If, On, Allocate, Free, Call, Goto, Return, Put, Statements, Ended, Before, Alternative, NoElse, Else, ExternalProcedure}
+use Rattle.pli_base.specs.Statements.{Range, To, By, Repeat, Control, While, Iterate, Allocation, Statement}
+use Rattle.pli_base.specs.Statements.{Numbered, Body, Assign, Declare, Procedure, Begin, Do, If, On, Allocate}
+use Rattle.pli_base.specs.Statements.{Free, Call, Goto, Return, Put, Statements, Ended, Before, Alternative}
+use Rattle.pli_base.specs.Statements.{NoElse, Else, ExternalProcedure}
 use Rattle.pli_base.specs.declared.syntax.Identifier.{Identifier}
 
--- the tokens rise: the first is low or behind it, each other is behind the one before it, and all are before high
+-- the tokens rise: the first is low or behind it, each other is behind the one before it, and all are before
+-- high
 abbrev pub Rises : (low : ℕ) → List ℕ → (high : ℕ) → Type 0
 Rises low [] high = low ≤ high
 Rises low (t ∷ ts) high = (low ≤ t) × Rises (t + 1) ts high
@@ -25,7 +33,8 @@ abbrev mutual
 
   pub joined_tokens : JoinedParts → List ℕ
   joined_tokens Alone = []
-  joined_tokens (Joined joining name arguments more) = name.at ∷ (argument_tokens arguments ++ joined_tokens more)
+  joined_tokens (Joined joining name arguments more) =
+      name.at ∷ (argument_tokens arguments ++ joined_tokens more)
 
   pub argument_tokens : Arguments → List ℕ
   argument_tokens Absent = []
@@ -59,7 +68,9 @@ abbrev pub control_tokens : Control → List ℕ
 control_tokens (While condition) = expression_tokens condition
 control_tokens (Iterate variable equals first range condition) =
     reference_tokens variable
-    ++ (equals ∷ (expression_tokens first ++ (tokens_of_some range_tokens range ++ tokens_of_some expression_tokens condition)))
+    ++ (equals
+    ∷ (expression_tokens first
+    ++ (tokens_of_some range_tokens range ++ tokens_of_some expression_tokens condition)))
 
 -- the token of a reference's first name
 abbrev pub first_token : Reference → ℕ
@@ -86,7 +97,8 @@ abbrev mutual
   begun_tokens at (Procedure heading statements end) =
       at ∷ (tokens_of_each name_tokens heading.parameters ++ statements_tokens statements)
   begun_tokens at (Begin statements end) = at ∷ statements_tokens statements
-  begun_tokens at (Do control statements end) = at ∷ (tokens_of_some control_tokens control ++ statements_tokens statements)
+  begun_tokens at (Do control statements end) =
+      at ∷ (tokens_of_some control_tokens control ++ statements_tokens statements)
   begun_tokens at (If condition consequence alternative) =
       at ∷ (expression_tokens condition ++ (statement_tokens consequence ++ alternative_tokens alternative))
   begun_tokens at (On condition unit) = at ∷ statement_tokens unit
@@ -108,4 +120,5 @@ abbrev mutual
 
 abbrev pub unit_tokens : ExternalProcedure → List ℕ
 unit_tokens unit =
-    unit.heading.name.at ∷ (tokens_of_each name_tokens unit.heading.parameters ++ statements_tokens unit.statements)
+    unit.heading.name.at
+    ∷ (tokens_of_each name_tokens unit.heading.parameters ++ statements_tokens unit.statements)

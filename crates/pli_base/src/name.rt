@@ -27,7 +27,7 @@ pub struct Name {
 
 impl Model for Name {
     ghost use Rattle.std.specs.Prelude.{◌≡◌, ◌≤◌, ◌-◌, ◌++◌, ℕ, List, length, take, drop, replicate};
-    ghost use Rattle.pli_base.specs.NameFields.{restored};
+    ghost use Rattle.pli_base.specs.views.NameFields.{restored};
 
     ghost Value = { List ℕ };
 

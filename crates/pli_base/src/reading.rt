@@ -3,7 +3,7 @@ ghost use Rattle.std.specs.Option.{option_copied};
 ghost use Rattle.std.specs.Prelude.{◌≡◌, ◌+◌, length, option_map, IfOk, IfSome};
 ghost use Rattle.pli_base.specs.Words.{behind, name_first, is_open, is_close, is_comma, is_period, is_colon, is_semicolon};
 ghost use Rattle.pli_base.specs.Reading.{misfit, taken};
-ghost use Rattle.pli_base.specs.ReadingAnswers.{Gives};
+ghost use Rattle.pli_base.specs.answers.ReadingAnswers.{Gives};
 ghost use Rattle.pli_base.specs.declared.reading.ParseError.TheVariants.{OutOfMemory};
 
 use crate::code::Code;

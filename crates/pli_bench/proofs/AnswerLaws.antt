@@ -4,8 +4,8 @@ use Rattle.std.proofs.Common.{sym, ap, ◌∙◌, append_assoc, append-nil, take
 use Rattle.std.proofs.lemmas.List.{take_more, map-append}
 use Rattle.std.specs.Io.KnownBytes.{Appends}
 use Rattle.pli_base.specs.Devices.{AppendsPrefix}
-use Rattle.pli_base.specs.DeviceLaws.{Appends-then, AppendsPrefix-more, Appends-then_AppendsPrefix}
-use Rattle.pli_bench.specs.Answering.{joined}
+use Rattle.pli_base.specs.laws.DeviceLaws.{Appends-then, AppendsPrefix-more, Appends-then_AppendsPrefix}
+use Rattle.pli_bench.specs.answers.Answering.{joined}
 
 pub joined-append : (xs ys : List (List ℕ)) → joined (xs ++ ys) ≡ joined xs ++ joined ys
 joined-append [] ys = refl

@@ -4,9 +4,9 @@ use Rattle.std.proofs.Common.{sym, ap, ◌∙◌, subst, append_assoc, append-ni
 use Rattle.std.proofs.lemmas.List.{drop_more}
 use Rattle.std.specs.Io.KnownBytes.{Appends}
 use Rattle.pli_base.specs.Devices.{AppendsPrefix}
-use Rattle.pli_base.specs.DeviceLaws.{Appends-none, Appends-then, AppendsPrefix-more, Appends-then_AppendsPrefix}
-use Rattle.pli_bench.specs.Answering.{joined, Writes}
-use Rattle.pli_bench.specs.Batches.{HasPut, Passes}
+use Rattle.pli_base.specs.laws.DeviceLaws.{Appends-none, Appends-then, AppendsPrefix-more, Appends-then_AppendsPrefix}
+use Rattle.pli_bench.specs.answers.Answering.{joined, Writes}
+use Rattle.pli_bench.specs.answers.Batches.{HasPut, Passes}
 
 -- bytes that waited were put, and others behind them
 pub passed_by : {A E : Type 0} (a b c : Option (List ℕ)) (xs ys left : List ℕ) (r : Result A E) → Appends a b xs

@@ -7,7 +7,7 @@ use Rattle.pli_code.specs.Link.{Compiled}
 use Rattle.pli_gen.specs.Translation.{code_of, is_too_long}
 use Rattle.pli_lower.specs.LoweredTree.{LoweredUnit}
 use Rattle.pli_meaning.specs.Scratch as scratch
-use Rattle.pli_bench.specs.Compiling.{too_long, all_located, compiled_from}
+use Rattle.pli_bench.specs.answers.Compiling.{too_long, all_located, compiled_from}
 
 chosen : (unit : Name) (origins : List Origin) (c : Compiled) (b : Bool)
     → (if b then Err (scratch.located unit origins too_long ∷ []) else Ok c) ≡ all_located unit origins (if b then Err (too_long ∷ []) else Ok c)

@@ -5,21 +5,21 @@ use Rattle.std.proofs.lemmas.Bool.Decides.{nat_tests}
 use Rattle.std.specs.Io.KnownBytes.{Appends}
 use Rattle.pli_base.specs.Name.{Name}
 use Rattle.pli_base.specs.Devices.{AppendsPrefix}
-use Rattle.pli_base.specs.DeviceLaws.{Appends-then, Appends-then_AppendsPrefix, AppendsPrefix-more}
+use Rattle.pli_base.specs.laws.DeviceLaws.{Appends-then, Appends-then_AppendsPrefix, AppendsPrefix-more}
 use Rattle.pli_members.specs.Members.{Store, lines_of}
 use Rattle.pli_members.specs.declared.refusal.Refusal.{Refusal}
 use Rattle.pli_members.specs.declared.refusal.Refusal.TheVariants.{NoSuchMember}
-use Rattle.pli_code.specs.ModuleView.{Module, module_view}
+use Rattle.pli_code.specs.views.ModuleView.{Module, module_view}
 use Rattle.pli_code.specs.declared.instruction.Module as declared_module
-use Rattle.pli_bench.specs.Standing.{IsStanding}
+use Rattle.pli_bench.specs.answers.Standing.{IsStanding}
 use Rattle.pli_code.specs.declared.ending.Ending.{Ending}
 use Rattle.pli_code.specs.declared.ending.Ran.{Ran}
 use Rattle.pli_meaning.specs.Scratch.{Built, Made, scratch}
 use Rattle.pli_meaning.proofs.MembersDoAsMeant.{members_simulate}
 use Rattle.pli_meaning.specs.Members.{HasMeaning}
-use Rattle.pli_bench.specs.Answering.{Writes}
-use Rattle.pli_machine.specs.Runs.{RanTo, StoppedWithin}
-use Rattle.pli_bench.specs.Obeying.{Does, end_answer, gone}
+use Rattle.pli_bench.specs.answers.Answering.{Writes}
+use Rattle.pli_machine.specs.answers.Runs.{RanTo, StoppedWithin}
+use Rattle.pli_bench.specs.answers.Obeying.{Does, end_answer, gone}
 use Rattle.pli_bench.specs.Commands.{Command, command_of}
 use Rattle.pli_bench.specs.Runs.{AnsweredOne, next_after}
 use Rattle.pli_bench.specs.declared.serving.Next.{Next}

@@ -5,12 +5,12 @@ use Rattle.std.proofs.lemmas.List.Elements.{All-nil, All-cons, All-append}
 use Rattle.std.proofs.lemmas.Bool.{cases_lt}
 use Rattle.std.specs.Io.KnownBytes.{Appends, Consumes, IsAtEnd}
 use Rattle.pli_base.specs.Devices.{AppendsPrefix}
-use Rattle.pli_base.specs.DeviceLaws.{Appends-none, Appends-then, Consumes-then}
+use Rattle.pli_base.specs.laws.DeviceLaws.{Appends-none, Appends-then, Consumes-then}
 use Rattle.pli_bench.specs.Commands.{line_limit}
-use Rattle.pli_bench.specs.Kept.{kept_limit}
+use Rattle.pli_bench.specs.answers.Kept.{kept_limit}
 use Rattle.pli_bench.specs.Lines.{is_line_feed, without_return, complete_from, pending_from, complete_lines, pending_line, last_line, input_lines}
 use Rattle.pli_bench.specs.Runs.{Answers, nothing, quitting, going, Broken, Answered, QuitsWithin, Stops, next_after, IsInput}
-use Rattle.pli_bench.specs.Going.{Going}
+use Rattle.pli_bench.specs.answers.Going.{Going}
 use Rattle.pli_bench.specs.declared.serving.Next.{Next}
 use Rattle.pli_bench.specs.declared.serving.Next.TheVariants.{Go, Quit, End}
 use Rattle.pli_bench.specs.declared.serving.WriteFailed.{WriteFailed}

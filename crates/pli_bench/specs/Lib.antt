@@ -1,14 +1,7 @@
-pub mod Answering
-pub mod Batches
-pub mod Building
-pub mod CommandView
 pub mod Commands
-pub mod Compiling
-pub mod Going
-pub mod Kept
 pub mod Lines
-pub mod Obeying
 pub mod Runs
 pub mod Session
-pub mod SessionLaws
-pub mod Standing
+pub mod answers
+pub mod laws
+pub mod views

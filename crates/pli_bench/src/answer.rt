@@ -2,7 +2,7 @@
 ghost use Rattle.std.specs.Prelude.{◌≡◌, ◌++◌, OnOk, MatchResult, map};
 ghost use Rattle.std.specs.Io.KnownBytes.{Appends};
 ghost use Rattle.pli_base.specs.Devices.{AppendsPrefix};
-ghost use Rattle.pli_bench.specs.Answering.{joined, Writes};
+ghost use Rattle.pli_bench.specs.answers.Answering.{joined, Writes};
 ghost use Rattle.pli_bench.specs.Runs.{Marked};
 ghost use Rattle.pli_bench.specs.Session.{ending_line, refused};
 

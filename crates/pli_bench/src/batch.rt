@@ -1,7 +1,7 @@
 //! Bytes that are put in large pieces.
 ghost use Rattle.std.specs.Prelude.{◌≡◌, ◌+◌, ◌≤◌, [], ◌++◌, length, map, OnOk, OnErr};
-ghost use Rattle.pli_bench.specs.Answering.{joined, Writes};
-ghost use Rattle.pli_bench.specs.Batches.{Passes, batch_limit};
+ghost use Rattle.pli_bench.specs.answers.Answering.{joined, Writes};
+ghost use Rattle.pli_bench.specs.answers.Batches.{Passes, batch_limit};
 ghost use Rattle.pli_bench.specs.Runs.{Marked};
 
 use pli_base::{Failed, Sink, put_all};
@@ -19,7 +19,7 @@ pub struct Batch {
 
 impl Model for Batch {
     ghost use Rattle.std.specs.Prelude.{◌≤◌, ℕ, List, take};
-    ghost use Rattle.pli_bench.specs.Batches.{batch_limit};
+    ghost use Rattle.pli_bench.specs.answers.Batches.{batch_limit};
 
     ghost Value = { List ℕ };
 

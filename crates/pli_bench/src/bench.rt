@@ -1,9 +1,9 @@
 //! The workbench: members, the module that stands, and the commands on them.
 ghost use Rattle.std.specs.Prelude.{◌≡◌, Err};
 ghost use Rattle.pli_bench.specs.declared.serving.ServeFault.TheVariants.{TooManyReads};
-ghost use Rattle.pli_bench.specs.Answering.{Writes};
+ghost use Rattle.pli_bench.specs.answers.Answering.{Writes};
 ghost use Rattle.pli_bench.specs.Commands as spelt;
-ghost use Rattle.pli_bench.specs.Obeying.{Does, end_answer, gone};
+ghost use Rattle.pli_bench.specs.answers.Obeying.{Does, end_answer, gone};
 ghost use Rattle.pli_bench.specs.Runs.{AnsweredOne, Marked, Served, Takes, Blames, piece_limit};
 ghost use Rattle.pli_bench.specs.Session.{Obeys, Step, quits, opened};
 
@@ -40,7 +40,7 @@ impl Model for Bench {
 
     ghost Value = { State };
 
-    ghost use Rattle.pli_bench.specs.Standing.{IsStanding};
+    ghost use Rattle.pli_bench.specs.answers.Standing.{IsStanding};
 
     ghost view = { λ b. record { store = b.members; stands = is_some b.standing; steps = b.steps } };
 
@@ -285,7 +285,7 @@ impl Bench {
 
 impl Interpreter for Bench {
     ghost use Rattle.pli_bench.specs.Session.{Step, quits};
-    ghost use Rattle.pli_bench.specs.SessionLaws.{long_alike, long_goes};
+    ghost use Rattle.pli_bench.specs.laws.SessionLaws.{long_alike, long_goes};
 
     ghost steps = { Step };
 

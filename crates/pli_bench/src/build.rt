@@ -2,8 +2,8 @@
 ghost use Rattle.std.specs.Prelude.{◌≡◌, ◌++◌, IfOk, OnOk, map};
 ghost use Rattle.std.specs.List.{flat_map};
 ghost use Rattle.pli_meaning.specs.Scratch.{scratch, link_line, all_text, all_units, text_in, units_in, place_line};
-ghost use Rattle.pli_bench.specs.Building.{built_view};
-ghost use Rattle.pli_link.specs.Answers.{compiled_view, fault_view, place_view};
+ghost use Rattle.pli_bench.specs.answers.Building.{built_view};
+ghost use Rattle.pli_link.specs.answers.Answers.{compiled_view, fault_view, place_view};
 
 use crate::answer::append_parts;
 use crate::compile::compile;
@@ -11,7 +11,7 @@ use pli_base::Code;
 use pli_code::Module;
 use pli_include::Expander;
 use pli_link::{Compiled, LinkError, LinkFault, Place, link};
-use pli_members::{NamedMember, Kind, Members};
+use pli_members::{Kind, Members, NamedMember};
 use std::alloc::{AllocError, Global};
 
 /// What a build gives: the text of its diagnostics, or a module.

@@ -4,7 +4,7 @@ ghost use Rattle.std.specs.Option.{option_copied};
 ghost use Rattle.std.specs.List.{list_all, position};
 ghost use Rattle.pli_base.specs.Name.{is_digit};
 ghost use Rattle.pli_bench.specs.Commands.{is_blank, first_word, behind_blank, is_word, decimal_value, number_of, kind_of_word, numbered_text, numbered_of, add_of, insert_of, replace_of, remove_of, run_of, command_of};
-ghost use Rattle.pli_bench.specs.CommandView.{command_view};
+ghost use Rattle.pli_bench.specs.views.CommandView.{command_view};
 
 use pli_base::Name;
 use pli_members::Kind;

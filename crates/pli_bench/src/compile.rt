@@ -2,9 +2,9 @@
 ghost use Rattle.std.specs.Prelude.{◌≡◌, ◌≤◌, ◌++◌, length, map, option_map, slice_get, IfOk, OnOk};
 ghost use Rattle.std.specs.List.{flat_map};
 ghost use Rattle.pli_meaning.specs.Scratch.{diagnostic_line, located, origin_of, compiled_of};
-ghost use Rattle.pli_bench.specs.Compiling.{Compiles, Tells, all_located, compiled_texts, of_generating, of_lowering, of_parsing};
+ghost use Rattle.pli_bench.specs.answers.Compiling.{Compiles, Tells, all_located, compiled_texts, of_generating, of_lowering, of_parsing};
 ghost use Rattle.pli_bench.specs.declared.compile.CompileError.TheVariants as errors;
-ghost use Rattle.pli_link.specs.Answers.{compiled_view};
+ghost use Rattle.pli_link.specs.answers.Answers.{compiled_view};
 
 use crate::answer::append_parts;
 use itoa::Buffer;

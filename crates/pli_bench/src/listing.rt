@@ -1,14 +1,14 @@
 //! What LIST and MEMBERS show.
 ghost use Rattle.std.specs.Prelude.{◌≡◌};
 ghost use Rattle.std.specs.List.{flat_map};
-ghost use Rattle.pli_bench.specs.Answering.{Writes};
+ghost use Rattle.pli_bench.specs.answers.Answering.{Writes};
 ghost use Rattle.pli_bench.specs.Runs.{Marked};
 ghost use Rattle.pli_bench.specs.Session.{numbered_lines, kind_word, member_line};
 
 use crate::batch::Batch;
 use itoa::Buffer;
 use pli_base::{Failed, Line, Sink};
-use pli_members::{NamedMember, Kind};
+use pli_members::{Kind, NamedMember};
 
 /// Puts lines behind their numbers, from 1 on.
 pub fn put_lines<W: Sink>(writer: &mut W, lines: &[Line]) -> Result<(), Failed>

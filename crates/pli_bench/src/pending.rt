@@ -1,6 +1,6 @@
 //! The line that has begun and has not ended.
 ghost use Rattle.std.specs.Prelude.{◌≡◌, [], ◌∷◌, ◌++◌, take};
-ghost use Rattle.pli_bench.specs.Kept.{kept_limit};
+ghost use Rattle.pli_bench.specs.answers.Kept.{kept_limit};
 
 use crate::command::LINE_LIMIT;
 use std::marker::Model;
@@ -17,7 +17,7 @@ pub struct Pending {
 
 impl Model for Pending {
     ghost use Rattle.std.specs.Prelude.{◌≤◌, ℕ, List, take};
-    ghost use Rattle.pli_bench.specs.Kept.{kept_limit};
+    ghost use Rattle.pli_bench.specs.answers.Kept.{kept_limit};
 
     ghost Value = { List ℕ };
 

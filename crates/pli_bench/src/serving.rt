@@ -1,7 +1,7 @@
 //! The loop over a stream of command lines.
 ghost use Rattle.std.specs.Prelude.{◌≡◌, ◌*◌, ◌<◌, ℕ, List, Bool, false, length, take, ◌≢◌, Ok, Err};
 ghost use Rattle.pli_bench.specs.Commands.{line_limit};
-ghost use Rattle.pli_bench.specs.Kept.{kept_limit};
+ghost use Rattle.pli_bench.specs.answers.Kept.{kept_limit};
 ghost use Rattle.pli_bench.specs.Lines.{without_return, complete_from, pending_from, last_line};
 ghost use Rattle.pli_bench.specs.Runs.{AnsweredOne, Answered, Served, QuitsWithin, Takes, Marked, Blames, piece_limit};
 ghost use Rattle.pli_bench.specs.declared.serving.Next.TheVariants.{Go, Quit, End};

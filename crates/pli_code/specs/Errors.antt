@@ -1,7 +1,11 @@
 -- The errors that end a run: each with its label and its text (own).
 use Rattle.std.specs.Prelude.{ℕ, List, codes}
 use Rattle.pli_code.specs.declared.ending.RunError.{RunError}
-use Rattle.pli_code.specs.declared.ending.RunError.TheVariants.{SubscriptRange, StringRange, NullLocator, DeadLocator, DescriptionMismatch, NoGeneration, OutsideArea, NoReturnedValue, FixedOverflow, ZeroDivide, Area, StorageLimit, TooManyActivations}
+use Rattle.pli_code.specs.declared.ending.RunError.TheVariants.{SubscriptRange, StringRange, NullLocator}
+use Rattle.pli_code.specs.declared.ending.RunError.TheVariants.{DeadLocator, DescriptionMismatch}
+use Rattle.pli_code.specs.declared.ending.RunError.TheVariants.{NoGeneration, OutsideArea, NoReturnedValue}
+use Rattle.pli_code.specs.declared.ending.RunError.TheVariants.{FixedOverflow, ZeroDivide, Area, StorageLimit}
+use Rattle.pli_code.specs.declared.ending.RunError.TheVariants.{TooManyActivations}
 
 -- the label of an error
 abbrev pub error_label : RunError → List ℕ

@@ -1,7 +1,7 @@
 pub mod Errors
-pub mod Examples
 pub mod Link
 pub mod Machine
-pub mod ModuleView
 pub mod Print
 pub mod World
+pub mod examples
+pub mod views

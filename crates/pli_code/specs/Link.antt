@@ -5,9 +5,10 @@ use Rattle.std.specs.List.{filter}
 use Rattle.std.specs.Ordering.{nat_cmp, is_gt}
 use Rattle.pli_base.specs.Name.{Name}
 use Rattle.pli_base.specs.Words.{is_among}
-use Rattle.pli_code.specs.ModuleView.{Code, Module}
+use Rattle.pli_code.specs.views.ModuleView.{Code, Module}
 
--- a unit that has been compiled: the member's name, the procedure's name, whether that is a main procedure, and its code
+-- a unit that has been compiled: the member's name, the procedure's name, whether that is a main procedure,
+-- and its code
 pub record Compiled : Type 0 where
   pub unit : Name
   pub procedure : Name
@@ -19,7 +20,8 @@ pub record Place : Type 0 where
   pub procedure : Name
   pub unit : Name
 
--- a fault of linking: no unit has a main procedure; a main procedure after the first; a name that a unit before has already
+-- a fault of linking: no unit has a main procedure; a main procedure after the first; a name that a unit
+-- before has already
 pub data LinkFault : Type 0 where
   NoMainProcedure : LinkFault
   TwoMainProcedures : (place : Place) → LinkFault
@@ -28,7 +30,8 @@ pub data LinkFault : Type 0 where
 -- a place put before the first one whose procedure has a greater name
 abbrev pub inserted : Place → List Place → List Place
 inserted p [] = p ∷ []
-inserted p (q ∷ qs) = if is_gt (slice_cmp nat_cmp q.procedure p.procedure) then p ∷ q ∷ qs else q ∷ inserted p qs
+inserted p (q ∷ qs) =
+    if is_gt (slice_cmp nat_cmp q.procedure p.procedure) then p ∷ q ∷ qs else q ∷ inserted p qs
 
 -- places by procedure; those of one procedure as they stood, which is by unit
 abbrev pub in_order_after : (sorted : List Place) → List Place → List Place
@@ -47,7 +50,8 @@ place_of_unit c = record { procedure = c.procedure; unit = c.unit }
 abbrev pub defined_again : (before : List Name) → List Compiled → List Place
 defined_again before [] = []
 defined_again before (c ∷ cs) =
-    (if is_among c.procedure before then place_of_unit c ∷ [] else []) ++ defined_again (before ++ c.procedure ∷ []) cs
+    (if is_among c.procedure before then place_of_unit c ∷ [] else [])
+    ++ defined_again (before ++ c.procedure ∷ []) cs
 
 -- the units whose procedure is a main procedure
 abbrev pub mains : List Compiled → List Compiled
@@ -66,7 +70,8 @@ none_among (c ∷ cs) = []
 -- the faults of units in the order of their names, by code, procedure and unit
 abbrev pub link_faults : List Compiled → List LinkFault
 link_faults cs =
-    none_among (mains cs) ++ map TwoMainProcedures (in_order (map place_of_unit (later (mains cs)))) ++ map DefinedTwice (in_order (defined_again [] cs))
+    none_among (mains cs) ++ map TwoMainProcedures (in_order (map place_of_unit (later (mains cs))))
+    ++ map DefinedTwice (in_order (defined_again [] cs))
 
 -- where there are no faults, the module of the first of the main procedures
 abbrev pub module_or : List LinkFault → List Compiled → Result Module (List LinkFault)

@@ -1,6 +1,8 @@
--- Printing: the bytes of an item at a column, and the column after it (own). A line has 120 columns, counted from 1;
+-- Printing: the bytes of an item at a column, and the column after it (own). A line has 120 columns, counted
+-- from 1;
 -- at column 121 the line is full.
-use Rattle.std.specs.Prelude.{ℕ, ◌+◌, ◌-◌, nat_le, nat_eq, Bool, ◌||◌, Option, Some, None, List, [], ◌∷◌, ◌++◌, length, replicate, if◌then◌else◌}
+use Rattle.std.specs.Prelude.{ℕ, ◌+◌, ◌-◌, nat_le, nat_eq, Bool, ◌||◌, Option, Some, None, List, [], ◌∷◌}
+use Rattle.std.specs.Prelude.{◌++◌, length, replicate, if◌then◌else◌}
 
 -- what printing gives
 pub record Printed : Type 0 where
@@ -32,17 +34,21 @@ fresh = record { bytes = line_end ∷ []; column = 1 }
 -- from a column to the tab stop
 abbrev pub lead_to : (c size : ℕ) → Option ℕ → Printed
 lead_to c size None = fresh
-lead_to c size (Some s) = if may_begin s size then record { bytes = replicate (s - c) blank; column = s } else fresh
+lead_to c size (Some s) =
+    if may_begin s size then record { bytes = replicate (s - c) blank; column = s } else fresh
 
 -- what stands before an item, and the column at which it begins
 abbrev pub lead : (c size : ℕ) → Printed
 lead c size = lead_to c size (tab_from c)
 
--- the characters of an item from a column on, broken where a line is full; behind them a blank, or a line end where the line is full
+-- the characters of an item from a column on, broken where a line is full; behind them a blank, or a line end
+-- where the line is full
 abbrev pub characters_from : ℕ → List ℕ → Printed
 characters_from c [] = if nat_eq c 121 then fresh else record { bytes = blank ∷ []; column = c + 1 }
 characters_from c (x ∷ xs) =
-    if nat_eq c 121 then (let rest = characters_from 2 xs in record { bytes = line_end ∷ x ∷ rest.bytes; column = rest.column })
+    if nat_eq c 121
+    then (let rest = characters_from 2 xs in
+    record { bytes = line_end ∷ x ∷ rest.bytes; column = rest.column })
     else (let rest = characters_from (c + 1) xs in record { bytes = x ∷ rest.bytes; column = rest.column })
 
 -- an item at the next column c

@@ -1,6 +1,10 @@
--- What the meaning of a program and the machine share: storage, activations, output and column, and the operations on them.
--- A generation is the storage of one variable in one activation; generations are numbered from 0 in the order in which they are made.
-use Rattle.std.specs.Prelude.{ℕ, zero, suc, ◌-◌, ◌^◌, nat_lt, Bool, ◌&&◌, ℤ, pos, ◌+ℤ◌, nat_abs, Option, Some, None, List, [], ◌∷◌, ◌++◌, length, replicate, slice_get, slice_set, if◌then◌else◌}
+-- What the meaning of a program and the machine share: storage, activations, output and column, and the
+-- operations on them.
+-- A generation is the storage of one variable in one activation; generations are numbered from 0 in the order
+-- in which they are made.
+use Rattle.std.specs.Prelude.{ℕ, zero, suc, ◌-◌, ◌^◌, nat_lt, Bool, ◌&&◌, ℤ, pos, ◌+ℤ◌, nat_abs, Option, Some}
+use Rattle.std.specs.Prelude.{None, List, [], ◌∷◌, ◌++◌, length, replicate, slice_get, slice_set}
+use Rattle.std.specs.Prelude.{if◌then◌else◌}
 use Rattle.std.specs.Fmt.{signed_decimal}
 use Rattle.pli_base.specs.Name.{Name}
 use Rattle.pli_code.specs.declared.ending.RunError.{RunError}
@@ -8,7 +12,8 @@ use Rattle.pli_code.specs.declared.ending.Ending.{Ending}
 use Rattle.pli_code.specs.declared.ending.Ending.TheVariants.{Error, MachineFault}
 use Rattle.pli_code.specs.Print.{print}
 
--- an activation of a procedure: the unit in which it stands, the statement that is being executed, and the generation of each slot
+-- an activation of a procedure: the unit in which it stands, the statement that is being executed, and the
+-- generation of each slot
 pub record Activation : Type 0 where
   pub unit : Name
   pub statement : ℕ
@@ -34,7 +39,8 @@ numbers_from first (suc count) = first ∷ numbers_from (suc first) count
 unfoldable pub entered : Name → (count : ℕ) → World → World
 entered unit count w = record w {
   storage = w.storage ++ replicate count (pos 0);
-  activations = record { unit = unit; statement = 1; slots = numbers_from (length w.storage) count } ∷ w.activations;
+  activations =
+      record { unit = unit; statement = 1; slots = numbers_from (length w.storage) count } ∷ w.activations;
 }
 
 -- all but the newest
@@ -76,7 +82,8 @@ has_digits precision x = nat_lt (nat_abs x) (2 ^ precision)
 -- a number put into a generation, if that is there and holds it
 unfoldable pub stored : World → (generation : ℕ) → ℤ → Option World
 stored w generation x =
-    if nat_lt generation (length w.storage) && has_digits 31 x then Some (record w { storage = slice_set w.storage generation x }) else None
+    if nat_lt generation (length w.storage) && has_digits 31 x
+    then Some (record w { storage = slice_set w.storage generation x }) else None
 
 -- the item printed at the next column
 unfoldable pub printed : List ℕ → World → World
@@ -101,7 +108,8 @@ sum_of x y = fitted 31 (x +ℤ y)
 
 -- a text in so many columns, to the right
 abbrev pub right_in : (width : ℕ) → List ℕ → Option (List ℕ)
-right_in width text = if nat_lt width (length text) then None else Some (replicate (width - length text) 32 ++ text)
+right_in width text =
+    if nat_lt width (length text) then None else Some (replicate (width - length text) 32 ++ text)
 
 -- a number at the right of so many columns, if they hold it
 unfoldable pub number_text : (width : ℕ) → ℤ → Option (List ℕ)

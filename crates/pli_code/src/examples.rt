@@ -1,5 +1,5 @@
 //! Worked examples of the definitions.
-ghost use Rattle.pli_code.specs.Examples.{EndsBefore, EndsFull, DoesNotFit, AtTabStop, TwoUnits, OneOfThree, NoneOfTwo};
+ghost use Rattle.pli_code.specs.examples.Examples.{EndsBefore, EndsFull, DoesNotFit, AtTabStop, TwoUnits, OneOfThree, NoneOfTwo};
 
 /// Worked examples: printing at the end of a line, and linking.
 pub fn worked_examples()

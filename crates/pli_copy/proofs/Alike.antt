@@ -2,12 +2,12 @@
 use Rattle.std.proofs.Common.{◌≡◌, List, [], ◌∷◌, map, refl, ap, ◌∙◌, sym}
 use Rattle.pli_base.specs.Syntax.{Expressions, Empty, Listed, JoinedParts, Alone, Joined}
 use Rattle.pli_base.specs.Syntax as syntax
-use Rattle.pli_base.specs.SyntaxView.{expression_view, expressions_view, arguments_view, joined_view}
+use Rattle.pli_base.specs.views.SyntaxView.{expression_view, expressions_view, arguments_view, joined_view}
 use Rattle.pli_base.specs.declared.syntax.Expression.{Expression}
 use Rattle.pli_base.specs.declared.syntax.JoinedPart.{JoinedPart}
-use Rattle.pli_copy.specs.PartView.{part_view}
+use Rattle.pli_copy.specs.views.PartView.{part_view}
 use Rattle.pli_base.specs.Statements as tree
-use Rattle.pli_base.specs.StatementView.{statement_view, statements_view}
+use Rattle.pli_base.specs.views.StatementView.{statement_view, statements_view}
 use Rattle.pli_base.specs.declared.statement.Statement.{Statement}
 
 -- expressions

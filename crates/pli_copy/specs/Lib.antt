@@ -1,1 +1,1 @@
-pub mod PartView
+pub mod views

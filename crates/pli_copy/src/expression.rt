@@ -1,9 +1,9 @@
 //! Copies of expressions and references.
 ghost use Rattle.std.specs.Prelude.{◌≡◌, IfOk};
 ghost use Rattle.pli_base.specs.Syntax as tree;
-ghost use Rattle.pli_base.specs.SyntaxView.{expression_view, reference_view, expressions_view, arguments_view, joined_view};
+ghost use Rattle.pli_base.specs.views.SyntaxView.{expression_view, reference_view, expressions_view, arguments_view, joined_view};
 ghost use Rattle.pli_base.specs.declared.syntax.ConstantValue as constant;
-ghost use Rattle.pli_copy.specs.PartView.{part_view};
+ghost use Rattle.pli_copy.specs.views.PartView.{part_view};
 
 use crate::copied::Copied;
 use pli_base::syntax::{ConstantValue, Expression, JoinedPart, Part, Reference};

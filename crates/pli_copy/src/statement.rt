@@ -1,9 +1,9 @@
 //! Copies of statements and units.
 ghost use Rattle.std.specs.Prelude.{◌≡◌, map, option_map, IfOk};
-ghost use Rattle.pli_base.specs.SyntaxView.{expression_view, arguments_view, reference_view};
-ghost use Rattle.pli_base.specs.StatementLaws.{boxed_view};
+ghost use Rattle.pli_base.specs.views.SyntaxView.{expression_view, arguments_view, reference_view};
+ghost use Rattle.pli_base.specs.laws.StatementLaws.{boxed_view};
 ghost use Rattle.pli_base.specs.Statements as tree;
-ghost use Rattle.pli_base.specs.StatementView.{option_view, range_view, control_view, allocation_view, body_view, statement_view, statements_view, unit_view};
+ghost use Rattle.pli_base.specs.views.StatementView.{option_view, range_view, control_view, allocation_view, body_view, statement_view, statements_view, unit_view};
 
 use crate::copied::{Copied, copied_list, copied_option};
 use crate::expression::copied_expressions;

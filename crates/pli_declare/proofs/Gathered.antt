@@ -8,7 +8,7 @@ use Rattle.std.proofs.lemmas.Grind.{flat_map-append}
 use Rattle.pli_base.specs.Name.{Name}
 use Rattle.pli_base.specs.Statements.{Heading}
 use Rattle.pli_declare_outline.specs.Outlines.{Entered, Placed}
-use Rattle.pli_declare_outline.specs.OutlineView.{placed_view, marks_view}
+use Rattle.pli_declare_outline.specs.views.OutlineView.{placed_view, marks_view}
 use Rattle.pli_declare_outline.specs.declared.region.Placed as written
 use Rattle.pli_declare_tables.specs.Tables.{numbers_from}
 use Rattle.pli_declare.specs.Resolution.{headed}

@@ -7,7 +7,7 @@ use Rattle.pli_declare_scopes.specs.Scopes.{meant}
 use Rattle.pli_declare_scopes.specs.declared.found.Meant.TheVariants.{Ambiguous as Several, NotDeclared as Nothing}
 use Rattle.pli_declare_variables.specs.Places.{is_variable, is_locator, is_area}
 use Rattle.pli_declare.specs.Resolution.{names_fit, is_good}
-use Rattle.pli_declare.specs.Answers.{entries_at, IsFound}
+use Rattle.pli_declare.specs.answers.Answers.{entries_at, IsFound}
 
 pub found_fits : (o : Outline) (region : ℕ) (names : List Name) (block : Option ℕ) (number : ℕ) (fits : List Entry → ℕ → Bool)
     → IsFound o region names block number → is_good o region fits names ≡ fits (entries_at o block) number

@@ -2,8 +2,8 @@
 use Rattle.std.proofs.Common.{◌≡◌, Option, Some, None, map, refl, ap}
 use Rattle.pli_base.specs.declared.code.Code.{Code}
 use Rattle.pli_declare_attributes.specs.Faults.{lesser}
-use Rattle.pli_base.specs.StatementLaws.{unit_out}
-use Rattle.pli_base.specs.StatementView.{option_view, unit_view}
+use Rattle.pli_base.specs.laws.StatementLaws.{unit_out}
+use Rattle.pli_base.specs.views.StatementView.{option_view, unit_view}
 use Rattle.pli_base.specs.declared.statement.Procedure.{Procedure, out-Procedure}
 
 pub parameters_out : (p : Procedure) → (unit_view p).heading.parameters ≡ (out-Procedure p).parameters.items

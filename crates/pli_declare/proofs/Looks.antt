@@ -14,12 +14,12 @@ use Rattle.pli_declare_outline.specs.Outlines.{Region, Outline}
 use Rattle.pli_declare_constructs.specs.Regions.{first_of, innermost, blocks_round, blocks_from}
 use Rattle.pli_declare_tables.specs.Tables.{Entry, with_verdicts, entries_in, verdicts_in, block_in, unit_entries, unit_block, numbers_from, table_in, all_tables, scope_of, tables_of}
 use Rattle.pli_declare_tables.specs.Tables as plain
-use Rattle.pli_declare_tables.specs.TableView.{table_view}
+use Rattle.pli_declare_tables.specs.views.TableView.{table_view}
 use Rattle.pli_declare_tables.specs.declared.table.Table.{Table}
 use Rattle.pli_declare_tables.specs.declared.table.Tables.{Tables}
-use Rattle.pli_declare_tables.specs.Answers.{AreOf}
-use Rattle.pli_declare.specs.Answers.{entries_at, IsWithin, IsLookedUp}
-use Rattle.pli_declare.specs.Looking.{looked_there}
+use Rattle.pli_declare_tables.specs.answers.Answers.{AreOf}
+use Rattle.pli_declare.specs.answers.Answers.{entries_at, IsWithin, IsLookedUp}
+use Rattle.pli_declare.specs.answers.Looking.{looked_there}
 
 -- how far a block lies inside
 abbrev pub rank : Option ℕ → ℕ

@@ -4,7 +4,7 @@ use Rattle.std.specs.List.{flat_map}
 use Rattle.pli_base.specs.Name.{Name}
 use Rattle.pli_base.specs.declared.syntax.Identifier.{Identifier}
 use Rattle.pli_declare_outline.specs.Outlines.{Outline}
-use Rattle.pli_declare.specs.Answers.{IsLookedUp}
+use Rattle.pli_declare.specs.answers.Answers.{IsLookedUp}
 use Rattle.pli_declare.specs.Resolved.{used_as, named_at}
 use Rattle.pli_declare.specs.declared.look_up.Looked.{Looked}
 use Rattle.pli_declare.specs.declared.look_up.Looked.TheVariants.{Found, Ambiguous, NotDeclared}

@@ -10,7 +10,7 @@ use Rattle.pli_base.specs.declared.token.Fault.{Fault}
 use Rattle.pli_declare_outline.specs.Outlines.{Outline}
 use Rattle.pli_declare_tables.specs.Tables.{entries_in}
 use Rattle.pli_declare.specs.Resolution.{at_token, is_item_named, parameter_code, parameter_codes}
-use Rattle.pli_declare.specs.Walks.{code_of_parameter}
+use Rattle.pli_declare.specs.answers.Walks.{code_of_parameter}
 
 any_both : {A : Type 0} (test : A → Bool) (xs ys : List A) → list_any test (xs ++ ys) ≡ (list_any test xs || list_any test ys)
 any_both test [] ys = refl

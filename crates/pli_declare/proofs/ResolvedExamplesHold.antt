@@ -10,7 +10,7 @@ use Rattle.pli_declare_variables.specs.Places.{is_built_in}
 use Rattle.pli_declare_outline.specs.Outlines.{outline_of}
 use Rattle.pli_declare.specs.Resolution.{resolution_faults}
 use Rattle.pli_declare.specs.Resolved.{resolved_of}
-use Rattle.pli_declare.specs.ResolvedExamples.{OneVariable, Hiding, Jump, Located, Areas, OfMembers}
+use Rattle.pli_declare.specs.examples.ResolvedExamples.{OneVariable, Hiding, Jump, Located, Areas, OfMembers}
 
 pub one_variable : OneVariable
 unfolding set_agrees is_missing is_bad_precision is_bad_length scalar_of are_bad_bounds is_bad_initial is_bad_area is_built_in shape_fault description_fault own_fault parameter_of attributes_fault item_fault variable_of completed_of outline_of resolved_of resolution_faults

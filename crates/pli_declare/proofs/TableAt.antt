@@ -5,7 +5,7 @@ use Rattle.pli_declare_outline.specs.Outlines.{Region, Placed, Outline}
 use Rattle.pli_declare_constructs.specs.Regions.{innermost, first_or_unit, block_of}
 use Rattle.pli_declare_constructs.proofs.Blocks.{finds}
 use Rattle.pli_declare_tables.specs.Tables.{Entry, entries_of, entries_after, entries_in, inner_marks, table_in, all_tables}
-use Rattle.pli_declare_tables.specs.TableView.{table_view}
+use Rattle.pli_declare_tables.specs.views.TableView.{table_view}
 use Rattle.pli_declare_tables.specs.declared.table.Table.{Table}
 use Rattle.pli_declare.proofs.Numbers.{number_at, length_of_numbers}
 use Rattle.pli_declare.proofs.Gathered.{not_equal}

@@ -7,10 +7,10 @@ use Rattle.pli_base.specs.declared.code.Code.{Code}
 use Rattle.pli_base.specs.declared.syntax.Identifier.{Identifier}
 use Rattle.pli_base.specs.declared.token.Fault.{Fault}
 use Rattle.pli_base.specs.Declarations as tree
-use Rattle.pli_base.specs.DeclarationView.{item_view}
+use Rattle.pli_base.specs.views.DeclarationView.{item_view}
 use Rattle.pli_base.specs.declared.declaration.Item.{Item}
 use Rattle.pli_declare_outline.specs.Outlines.{Region, Mark, Declared, Labelled, Entered, Used, Jumped, Placed, Outline}
-use Rattle.pli_declare_outline.specs.OutlineView.{placed_view, marks_view}
+use Rattle.pli_declare_outline.specs.views.OutlineView.{placed_view, marks_view}
 use Rattle.pli_declare_outline.specs.declared.region.Placed as written
 use Rattle.pli_declare_constructs.specs.Regions.{block_of}
 use Rattle.pli_declare_scopes.specs.Levels.{standings_of, standings_after, level_of}
@@ -18,7 +18,7 @@ use Rattle.pli_declare_scopes.specs.declared.level.Numbered.{Numbered}
 use Rattle.pli_declare_scopes.specs.declared.level.Standing.{Standing}
 use Rattle.pli_declare_tables.specs.Tables.{Entry, named, item_entries, entries_of, entries_after, entries_in, inner_marks, numbers_from}
 use Rattle.pli_declare.specs.Resolution.{at_token, item_code, codes_from, parameter_faults, used_faults, declared_by, faults_after}
-use Rattle.pli_declare.specs.Walks.{of_blocks, block_codes, declared_names, name_faults}
+use Rattle.pli_declare.specs.answers.Walks.{of_blocks, block_codes, declared_names, name_faults}
 use Rattle.pli_declare.proofs.Numbers.{number_at, length_of_numbers, set_of_numbers}
 use Rattle.pli_declare.proofs.Gathered.{not_equal}
 use Rattle.pli_declare.proofs.TableAt.{block_within}

@@ -6,7 +6,7 @@ use Rattle.pli_declare_attributes.specs.Extents.{are_bad_bounds}
 use Rattle.pli_declare_variables.specs.Places.{is_built_in}
 use Rattle.pli_declare_attributes.specs.Initials.{is_bad_initial}
 use Rattle.pli_declare_attributes.specs.Faults.{is_bad_area, shape_fault, description_fault, own_fault, parameter_of, attributes_fault, item_fault}
-use Rattle.pli_declare.specs.ResolutionExamples.{OfOneName, OfItems, TwoMembers, UndeclaredNames, Groups, Units, Blocks, Locators, Parameters}
+use Rattle.pli_declare.specs.examples.ResolutionExamples.{OfOneName, OfItems, TwoMembers, UndeclaredNames, Groups, Units, Blocks, Locators, Parameters}
 
 pub of_one_name : OfOneName
 unfolding set_agrees is_missing is_bad_precision is_bad_length scalar_of are_bad_bounds is_bad_initial is_bad_area is_built_in shape_fault description_fault own_fault parameter_of attributes_fault item_fault

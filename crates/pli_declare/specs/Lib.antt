@@ -1,10 +1,6 @@
 pub mod Resolution
-pub mod Answers
-pub mod Looking
-pub mod Walks
-pub mod ResolutionExamples
-pub mod ResolvedExamples
 pub mod Resolved
-pub mod ResolvedView
-pub mod Targets
-pub mod FaultLaws
+pub mod answers
+pub mod examples
+pub mod laws
+pub mod views

@@ -1,25 +1,33 @@
--- The faults of the declarations of a unit: for each declared name and each reference the least code, in the order of their tokens.
-use Rattle.std.specs.Prelude.{ℕ, ◌+◌, Bool, true, false, not, ◌&&◌, ◌||◌, ◌==◌, nat_lt, Option, Some, None, List, [], ◌∷◌, ◌++◌, map, length, get_or, if◌then◌else◌}
+-- The faults of the declarations of a unit: for each declared name and each reference the least code, in the
+-- order of their tokens.
+use Rattle.std.specs.Prelude.{ℕ, ◌+◌, Bool, true, false, not, ◌&&◌, ◌||◌, ◌==◌, nat_lt, Option, Some, None}
+use Rattle.std.specs.Prelude.{List, [], ◌∷◌, ◌++◌, map, length, get_or, if◌then◌else◌}
 use Rattle.std.specs.List.{flat_map, list_any, list_all}
 use Rattle.pli_base.specs.Name.{Name}
 use Rattle.pli_base.specs.Words.{same_name}
 use Rattle.pli_base.specs.declared.code.Code.{Code}
-use Rattle.pli_base.specs.declared.code.Code.TheVariants.{NotDeclared, DeclaredTwice, AttributesConflict, AttributesMissing, BadLevel, Ambiguous, BadGoto, BadLocatorOrAreaName, TooManyParameters, GenerationTooLarge}
+use Rattle.pli_base.specs.declared.code.Code.TheVariants.{NotDeclared, DeclaredTwice, AttributesConflict}
+use Rattle.pli_base.specs.declared.code.Code.TheVariants.{AttributesMissing, BadLevel, Ambiguous, BadGoto}
+use Rattle.pli_base.specs.declared.code.Code.TheVariants.{BadLocatorOrAreaName, TooManyParameters}
+use Rattle.pli_base.specs.declared.code.Code.TheVariants.{GenerationTooLarge}
 use Rattle.pli_base.specs.declared.syntax.Identifier.{Identifier}
 use Rattle.pli_base.specs.declared.token.Fault.{Fault}
-use Rattle.pli_base.specs.Declarations.{SimpleAttribute, Offset, Based, DescribedAttribute, Plain, ParameterDescription, Attribute, Simple, Entry, Returns}
+use Rattle.pli_base.specs.Declarations.{SimpleAttribute, Offset, Based, DescribedAttribute, Plain}
+use Rattle.pli_base.specs.Declarations.{ParameterDescription, Attribute, Simple, Entry, Returns}
 use Rattle.pli_base.specs.Statements as options
 use Rattle.pli_base.specs.Statements.{Heading, ProcedureOption, ExternalProcedure}
 use Rattle.pli_declare_outline.specs.Outlines.{Mark, Entered, Used, Jumped, Placed, Outline, outline_of}
 use Rattle.pli_declare_attributes.specs.Faults.{first_of, lesser, result_fault}
 use Rattle.pli_declare_scopes.specs.Scopes.{meant}
 use Rattle.pli_declare_scopes.specs.declared.found.Meant.{Meant}
-use Rattle.pli_declare_scopes.specs.declared.found.Meant.TheVariants.{Item as Means, Ambiguous as Several, NotDeclared as Nothing}
+use Rattle.pli_declare_scopes.specs.declared.found.Meant.TheVariants.{Item as Means, Ambiguous as Several}
+use Rattle.pli_declare_scopes.specs.declared.found.Meant.TheVariants.{NotDeclared as Nothing}
 use Rattle.pli_declare_scopes.specs.declared.repeat.Verdict.{Verdict}
 use Rattle.pli_declare_scopes.specs.declared.repeat.Verdict.TheVariants.{Counts, Twice, Beneath}
 use Rattle.pli_declare_tables.specs.Tables as tables
 use Rattle.pli_declare_constructs.specs.Regions.{block_of}
-use Rattle.pli_declare_tables.specs.Tables.{Entity, AsItem, AsLabel, AsProcedure, no_entry, entries_in, entries_of, verdicts_in, scope_of, tables_of, entry_at}
+use Rattle.pli_declare_tables.specs.Tables.{Entity, AsItem, AsLabel, AsProcedure, no_entry, entries_in}
+use Rattle.pli_declare_tables.specs.Tables.{entries_of, verdicts_in, scope_of, tables_of, entry_at}
 use Rattle.pli_declare_constructs.specs.Reach.{reaches}
 use Rattle.pli_declare_variables.specs.Places.{stands_alone, is_built_in, own_code, is_locator, is_area}
 use Rattle.pli_declare_variables.specs.Descriptions.{is_too_large_variable}
@@ -120,14 +128,19 @@ abbrev pub least : List (Option Code) → Option Code
 least [] = None
 least (c ∷ cs) = lesser c (least cs)
 
--- RETURNS stands once; MAIN, which has no effect on an internal procedure, stands without parameters and without RETURNS; the result; names of areas in it, which
+-- RETURNS stands once; MAIN, which has no effect on an internal procedure, stands without parameters and
+-- without RETURNS; the result; names of areas in it, which
 -- are good or not; at most 64 parameters
 abbrev pub heading_code : (are_good : Bool) → Heading → Option Code
 heading_code are_good h =
     let returned = returned_by h.options in
     least (
     first_of ((nat_lt 1 (length returned), AttributesConflict) ∷ [])
-    ∷ first_of ((list_any is_main h.options && (nat_lt 0 (length h.parameters) || nat_lt 0 (length returned)), AttributesConflict) ∷ [])
+    ∷ first_of ((
+      list_any is_main h.options
+          && (nat_lt 0 (length h.parameters) || nat_lt 0 (length returned)),
+      AttributesConflict,
+    ) ∷ [])
     ∷ least (map result_fault returned)
     ∷ first_of ((not are_good, BadLocatorOrAreaName) ∷ [])
     ∷ first_of ((nat_lt 64 (length h.parameters), TooManyParameters) ∷ []) ∷ [])
@@ -141,16 +154,19 @@ headed block mark = []
 abbrev pub parameters_of : Outline → ℕ → List Name
 parameters_of o block = flat_map (λ p. headed block p.mark) o.marks
 
--- the codes of a name that is declared as an entity, apart from A2: for an item those of its own attributes, of its level, of the names in them and of the size of the
+-- the codes of a name that is declared as an entity, apart from A2: for an item those of its own attributes,
+-- of its level, of the names in them and of the size of the
 -- whole variable; for a procedure those of its heading
-abbrev pub entity_codes : Outline → (block : ℕ) → (own : Option Code) → (is_too_large : Bool) → Entity → List (Option Code)
+abbrev pub entity_codes : Outline → (block : ℕ) → (own : Option Code) → (is_too_large : Bool) → Entity
+    → List (Option Code)
 entity_codes o block own is_too_large (AsItem item is_bad) =
     own
     ∷ first_of ((is_bad, BadLevel) ∷ [])
     ∷ first_of ((not (list_all (attribute_is_good o block) item.attributes), BadLocatorOrAreaName) ∷ [])
     ∷ first_of ((is_too_large, GenerationTooLarge) ∷ []) ∷ []
 entity_codes o block own is_too_large (AsLabel region) = []
-entity_codes o block own is_too_large (AsProcedure heading region) = heading_code (returned_are (list_all (described_is_good o block)) heading) heading ∷ []
+entity_codes o block own is_too_large (AsProcedure heading region) =
+    heading_code (returned_are (list_all (described_is_good o block)) heading) heading ∷ []
 
 -- the least code of the name that has this number in a block
 abbrev pub item_code : Outline → (block number : ℕ) → Option Code
@@ -159,14 +175,17 @@ item_code o block number =
     let parameters = parameters_of o block in
     least (
     twice_code (get_or (verdicts_in o block) number Counts)
-    ∷ entity_codes o block (own_code entries parameters number) (is_too_large_variable entries parameters number) (get_or entries number no_entry).entity)
+    ∷ entity_codes o block (own_code entries parameters number)
+    (is_too_large_variable entries parameters number) (get_or entries number no_entry).entity)
 
 -- the names that a mark declares have these numbers in its block, from the first on
 abbrev pub codes_from : Outline → (block number : ℕ) → List tables.Entry → List Fault
 codes_from o block number [] = []
-codes_from o block number (e ∷ es) = at_token e.identifier.at (item_code o block number) ++ codes_from o block (number + 1) es
+codes_from o block number (e ∷ es) =
+    at_token e.identifier.at (item_code o block number) ++ codes_from o block (number + 1) es
 
--- a parameter's name is declared twice where a parameter before it has it, and is missing where its block declares no item of it that belongs to no item
+-- a parameter's name is declared twice where a parameter before it has it, and is missing where its block
+-- declares no item of it that belongs to no item
 abbrev pub is_item : Entity → Bool
 is_item (AsItem item is_bad) = true
 is_item (AsLabel region) = false
@@ -179,12 +198,14 @@ is_item_named name e = same_name e.identifier.name name && stands_alone e && is_
 -- the code of a parameter in its list: A2 where one before has its name, A4 where no item declares it
 abbrev pub parameter_code : Outline → (block : ℕ) → (before : List Name) → Name → Option Code
 parameter_code o block before name =
-    first_of ((list_any (same_name name) before, DeclaredTwice) ∷ (not (list_any (is_item_named name) (entries_in o block)), AttributesMissing) ∷ [])
+    first_of ((list_any (same_name name) before, DeclaredTwice)
+    ∷ (not (list_any (is_item_named name) (entries_in o block)), AttributesMissing) ∷ [])
 
 -- the codes of parameters, one after another
 abbrev pub parameter_codes : Outline → (block : ℕ) → (before : List Name) → List Identifier → List Fault
 parameter_codes o block before [] = []
-parameter_codes o block before (p ∷ ps) = at_token p.at (parameter_code o block before p.name) ++ parameter_codes o block (before ++ p.name ∷ []) ps
+parameter_codes o block before (p ∷ ps) =
+    at_token p.at (parameter_code o block before p.name) ++ parameter_codes o block (before ++ p.name ∷ []) ps
 
 -- the parameters of a procedure, by its mark
 abbrev pub parameter_faults : Outline → Mark → List Fault
@@ -195,14 +216,17 @@ parameter_faults o mark = []
 
 -- the fault of a reference or a GOTO
 abbrev pub used_faults : Outline → (here : ℕ) → Mark → List Fault
-used_faults o here (Used names) = at_first names (reference_code names (meant (scope_of o here) (names_of names)))
-used_faults o here (Jumped label) = at_token label.at (jump_code o here (meant (scope_of o here) (label.name ∷ [])))
+used_faults o here (Used names) =
+    at_first names (reference_code names (meant (scope_of o here) (names_of names)))
+used_faults o here (Jumped label) =
+    at_token label.at (jump_code o here (meant (scope_of o here) (label.name ∷ [])))
 used_faults o here mark = []
 
 -- the faults of a mark, of which the first name that it declares has this number in its block
 abbrev pub mark_faults : Outline → (number : ℕ) → Placed → List Fault
 mark_faults o number p =
-    codes_from o (block_of o.regions p.region) number (entries_of number p.region p.mark) ++ parameter_faults o p.mark ++ used_faults o p.region p.mark
+    codes_from o (block_of o.regions p.region) number (entries_of number p.region p.mark)
+    ++ parameter_faults o p.mark ++ used_faults o p.region p.mark
 
 -- how many names a block declares in some marks
 abbrev pub declared_by : Outline → (block : ℕ) → List Placed → ℕ
@@ -211,7 +235,9 @@ declared_by o block marks = length (tables.entries_after o.regions block [] mark
 -- the faults of marks, one after another, behind others
 abbrev pub faults_after : Outline → (before : List Placed) → List Placed → List Fault
 faults_after o before [] = []
-faults_after o before (p ∷ ps) = mark_faults o (declared_by o (block_of o.regions p.region) before) p ++ faults_after o (before ++ p ∷ []) ps
+faults_after o before (p ∷ ps) =
+    mark_faults o (declared_by o (block_of o.regions p.region) before) p
+    ++ faults_after o (before ++ p ∷ []) ps
 
 -- the unit's own heading: an area that its RETURNS names is found nowhere
 abbrev pub names_nothing : DescribedAttribute → Bool
@@ -220,7 +246,8 @@ names_nothing attribute = true
 
 -- the fault of the unit's own name, from its heading
 abbrev pub heading_faults : Mark → List Fault
-heading_faults (Entered heading region) = at_token heading.name.at (heading_code (returned_are (list_all names_nothing) heading) heading)
+heading_faults (Entered heading region) =
+    at_token heading.name.at (heading_code (returned_are (list_all names_nothing) heading) heading)
 heading_faults mark = []
 
 -- the faults of the unit's name and of its parameters

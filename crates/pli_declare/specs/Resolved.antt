@@ -2,14 +2,17 @@
 use Rattle.std.specs.Prelude.{ℕ, Option, Some, List, [], ◌∷◌, map, length, if◌then◌else◌}
 use Rattle.std.specs.List.{flat_map, slice_get}
 use Rattle.pli_base.specs.Name.{Name}
-use Rattle.pli_base.specs.Declarations.{Item, SimpleAttribute, Offset, Based, DescribedAttribute, Plain, Attribute, Simple, Entry, Returns}
+use Rattle.pli_base.specs.Declarations.{Item, SimpleAttribute, Offset, Based, DescribedAttribute, Plain}
+use Rattle.pli_base.specs.Declarations.{Attribute, Simple, Entry, Returns}
 use Rattle.pli_base.specs.Statements.{ExternalProcedure}
 use Rattle.pli_base.specs.declared.syntax.Identifier.{Identifier}
-use Rattle.pli_declare_outline.specs.Outlines.{Region, Mark, Declared, Entered, Used, Jumped, Placed, Outline, outline_of}
+use Rattle.pli_declare_outline.specs.Outlines.{Region, Mark, Declared, Entered, Used, Jumped, Placed, Outline}
+use Rattle.pli_declare_outline.specs.Outlines.{outline_of}
 use Rattle.pli_declare_constructs.specs.Regions.{blocks_round}
 use Rattle.pli_declare_scopes.specs.Scopes.{meant}
 use Rattle.pli_declare_scopes.specs.declared.found.Meant.{Meant}
-use Rattle.pli_declare_scopes.specs.declared.found.Meant.TheVariants.{Item as Means, Ambiguous as Several, NotDeclared as Nothing}
+use Rattle.pli_declare_scopes.specs.declared.found.Meant.TheVariants.{Item as Means, Ambiguous as Several}
+use Rattle.pli_declare_scopes.specs.declared.found.Meant.TheVariants.{NotDeclared as Nothing}
 use Rattle.pli_declare_tables.specs.Tables.{entries_in, unit_entries, inner_marks, numbers_from, scope_of}
 use Rattle.pli_declare_variables.specs.Declarations.{Declaration, declared_in, returned_by}
 use Rattle.pli_declare.specs.Resolution.{is_function, names_of, parameters_of}
@@ -21,8 +24,10 @@ pub record Block : Type 0 where
   pub parameters : List Name
   pub declarations : List Declaration
 
--- the outermost block, which declares the unit's own name; for each region what it declares, if it is a block; what each use means; for each
--- declared name the area of its OFFSET, or of that in its RETURNS, and the locator of its BASED; all in the order of the text
+-- the outermost block, which declares the unit's own name; for each region what it declares, if it is a
+-- block; what each use means; for each
+-- declared name the area of its OFFSET, or of that in its RETURNS, and the locator of its BASED; all in the
+-- order of the text
 pub record Resolved : Type 0 where
   pub regions : List Region
   pub outermost : List Declaration
@@ -33,7 +38,11 @@ pub record Resolved : Type 0 where
 
 -- what a block declares
 abbrev pub block_at : Outline → ℕ → Block
-block_at o block = record { parameters = parameters_of o block; declarations = declared_in (entries_in o block) (parameters_of o block) }
+block_at o block =
+    record {
+      parameters = parameters_of o block;
+      declarations = declared_in (entries_in o block) (parameters_of o block);
+    }
 
 -- uses
 
@@ -43,7 +52,8 @@ use_of at block number = record { at = at; target = AName block number }
 
 -- what is meant where a name that is not declared is used as this; names that are ambiguous are a fault
 abbrev pub used_as : Outline → (here at : ℕ) → (otherwise : List Use) → Meant → List Use
-used_as o here at otherwise (Means number out) = use_of at (slice_get (blocks_round o.regions here) out) number ∷ []
+used_as o here at otherwise (Means number out) =
+    use_of at (slice_get (blocks_round o.regions here) out) number ∷ []
 used_as o here at otherwise Several = []
 used_as o here at otherwise Nothing = otherwise
 
@@ -53,7 +63,8 @@ function_use at names = if is_function names then record { at = at; target = AFu
 
 -- references, at their first names, and the labels of GOTO
 abbrev pub uses_at : Outline → (here : ℕ) → Mark → List Use
-uses_at o here (Used (i ∷ is)) = used_as o here i.at (function_use i.at (i ∷ is)) (meant (scope_of o here) (names_of (i ∷ is)))
+uses_at o here (Used (i ∷ is)) =
+    used_as o here i.at (function_use i.at (i ∷ is)) (meant (scope_of o here) (names_of (i ∷ is)))
 uses_at o here (Jumped label) = used_as o here label.at [] (meant (scope_of o here) (label.name ∷ []))
 uses_at o here mark = []
 
@@ -88,12 +99,16 @@ locator_in (attribute ∷ more) = locator_in more
 
 -- what the names in an item's attributes mean, for each of its names
 abbrev pub item_names : Outline → (here : ℕ) → (List SimpleAttribute → List Name) → Item → List Use
-item_names o here names_in item = flat_map (named_at o here (names_in (flat_map simple_of item.attributes))) item.names
+item_names o here names_in item =
+    flat_map (named_at o here (names_in (flat_map simple_of item.attributes))) item.names
 
 -- the areas that a mark's declarations name
 abbrev pub areas_at : Outline → (here : ℕ) → Mark → List Use
 areas_at o here (Declared items) = flat_map (item_names o here area_in) items
-areas_at o here (Entered heading region) = named_at o here (area_in (flat_map plain_of (flat_map (λ attributes. attributes) (returned_by heading.options)))) heading.name
+areas_at o here (Entered heading region) =
+    named_at o here
+    (area_in (flat_map plain_of (flat_map (λ attributes. attributes) (returned_by heading.options))))
+    heading.name
 areas_at o here mark = []
 
 -- the locators that a mark's declarations name

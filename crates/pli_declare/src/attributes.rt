@@ -1,9 +1,9 @@
 //! What the names in the attributes of declared names mean.
 ghost use Rattle.std.specs.Prelude.{◌≡◌, ◌++◌, map, IfOk, OnOk};
 ghost use Rattle.std.specs.List.{flat_map};
-ghost use Rattle.pli_base.specs.DeclarationView.{item_view};
-ghost use Rattle.pli_declare_outline.specs.OutlineView.{outline_view, regions_view, marks_view, mark_view};
-ghost use Rattle.pli_declare_tables.specs.Answers.{AreOf};
+ghost use Rattle.pli_base.specs.views.DeclarationView.{item_view};
+ghost use Rattle.pli_declare_outline.specs.views.OutlineView.{outline_view, regions_view, marks_view, mark_view};
+ghost use Rattle.pli_declare_tables.specs.answers.Answers.{AreOf};
 ghost use Rattle.pli_declare.specs.Resolved.{of_marks, areas_at, locators_at, area_in, locator_in, item_names, named_at};
 
 use crate::heading::options_of;

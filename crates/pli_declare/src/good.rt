@@ -2,8 +2,8 @@
 ghost use Rattle.std.specs.Prelude.{◌≡◌, false, map, option_map};
 ghost use Rattle.std.specs.Option.{unwrap_or};
 ghost use Rattle.std.specs.List.{list_all};
-ghost use Rattle.pli_base.specs.DeclarationView.{simple_view, described_view, parameter_view, attribute_view};
-ghost use Rattle.pli_declare_outline.specs.OutlineView.{outline_view};
+ghost use Rattle.pli_base.specs.views.DeclarationView.{simple_view, described_view, parameter_view, attribute_view};
+ghost use Rattle.pli_declare_outline.specs.views.OutlineView.{outline_view};
 ghost use Rattle.pli_declare_variables.specs.Places.{is_locator, is_area};
 ghost use Rattle.pli_declare.specs.Resolution.{is_good, simple_is_good, described_is_good, attribute_is_good};
 

@@ -2,9 +2,9 @@
 ghost use Rattle.std.specs.Prelude.{◌≡◌, length, map};
 ghost use Rattle.std.specs.List.{list_any, list_all};
 ghost use Rattle.pli_declare_attributes.specs.Faults as faults;
-ghost use Rattle.pli_base.specs.DeclarationView.{described_view};
-ghost use Rattle.pli_base.specs.StatementView.{option_view, unit_view};
-ghost use Rattle.pli_declare_outline.specs.OutlineView.{outline_view};
+ghost use Rattle.pli_base.specs.views.DeclarationView.{described_view};
+ghost use Rattle.pli_base.specs.views.StatementView.{option_view, unit_view};
+ghost use Rattle.pli_declare_outline.specs.views.OutlineView.{outline_view};
 ghost use Rattle.pli_declare.specs.Resolution.{described_is_good, returned_are, names_nothing};
 ghost use Rattle.pli_declare_variables.specs.Declarations.{returned_by};
 ghost use Rattle.pli_declare.specs.Resolution as spec;

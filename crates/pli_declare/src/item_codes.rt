@@ -1,8 +1,8 @@
 //! The least code of each name of a block.
 ghost use Rattle.std.specs.Prelude.{◌≡◌, ◌+◌, ◌<◌, length, map, IfOk};
-ghost use Rattle.pli_declare_outline.specs.OutlineView.{outline_view};
+ghost use Rattle.pli_declare_outline.specs.views.OutlineView.{outline_view};
 ghost use Rattle.pli_declare_tables.specs.Tables.{entries_in, numbers_from};
-ghost use Rattle.pli_declare_tables.specs.TableView.{entity_view};
+ghost use Rattle.pli_declare_tables.specs.views.TableView.{entity_view};
 ghost use Rattle.pli_declare.specs.Resolution.{least as least_of, entity_codes, item_code};
 
 use crate::heading::heading_code;

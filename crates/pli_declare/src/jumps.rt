@@ -1,10 +1,10 @@
 //! The faults of GOTO.
 ghost use Rattle.std.specs.Prelude.{◌≡◌, [], ◌∷◌};
-ghost use Rattle.pli_declare_outline.specs.OutlineView.{outline_view, regions_view};
+ghost use Rattle.pli_declare_outline.specs.views.OutlineView.{outline_view, regions_view};
 ghost use Rattle.pli_declare_scopes.specs.Scopes.{meant};
 ghost use Rattle.pli_declare_tables.specs.Tables.{scope_of};
-ghost use Rattle.pli_declare_tables.specs.TableView.{entity_view};
-ghost use Rattle.pli_declare_tables.specs.Answers.{AreOf};
+ghost use Rattle.pli_declare_tables.specs.views.TableView.{entity_view};
+ghost use Rattle.pli_declare_tables.specs.answers.Answers.{AreOf};
 ghost use Rattle.pli_declare.specs.Resolution.{jump_code, target_code};
 
 use crate::look_up::{Looked, look_up, table_at};

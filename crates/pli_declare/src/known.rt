@@ -1,12 +1,12 @@
 //! The names of a unit, and what is known of each.
 ghost use Rattle.std.specs.Prelude.{◌≡◌, ◌+◌, ◌<◌, length, map};
-ghost use Rattle.pli_declare_outline.specs.OutlineView.{outline_view, regions_view};
+ghost use Rattle.pli_declare_outline.specs.views.OutlineView.{outline_view, regions_view};
 ghost use Rattle.pli_declare_tables.specs.Tables.{entries_in, table_in};
-ghost use Rattle.pli_declare_tables.specs.TableView.{table_view};
-ghost use Rattle.pli_declare_tables.specs.Answers.{AreOf};
+ghost use Rattle.pli_declare_tables.specs.views.TableView.{table_view};
+ghost use Rattle.pli_declare_tables.specs.answers.Answers.{AreOf};
 ghost use Rattle.pli_declare_variables.specs.Judging.{judged_at};
 ghost use Rattle.pli_declare.specs.Resolution.{parameters_of};
-ghost use Rattle.pli_declare.specs.Answers.{AreKnown};
+ghost use Rattle.pli_declare.specs.answers.Answers.{AreKnown};
 
 use pli_declare_constructs::Nesting;
 use pli_declare_outline::Outline;

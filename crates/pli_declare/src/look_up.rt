@@ -1,11 +1,11 @@
 //! What names mean where they stand.
 ghost use Rattle.std.specs.Prelude.{◌≡◌};
-ghost use Rattle.pli_declare_outline.specs.OutlineView.{outline_view, regions_view};
+ghost use Rattle.pli_declare_outline.specs.views.OutlineView.{outline_view, regions_view};
 ghost use Rattle.pli_declare_scopes.specs.Scopes.{found_in};
-ghost use Rattle.pli_declare_tables.specs.Answers.{AreOf};
-ghost use Rattle.pli_declare_tables.specs.TableView.{entries_view};
-ghost use Rattle.pli_declare.specs.Answers.{IsLookedUp, IsWithin, entries_at};
-ghost use Rattle.pli_declare.specs.Looking.{looked_there};
+ghost use Rattle.pli_declare_tables.specs.answers.Answers.{AreOf};
+ghost use Rattle.pli_declare_tables.specs.views.TableView.{entries_view};
+ghost use Rattle.pli_declare.specs.answers.Answers.{IsLookedUp, IsWithin, entries_at};
+ghost use Rattle.pli_declare.specs.answers.Looking.{looked_there};
 
 use pli_base::Name;
 use pli_declare_constructs::Nesting;

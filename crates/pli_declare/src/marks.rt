@@ -1,14 +1,14 @@
 //! The faults of the marks of a unit, one after another.
 ghost use Rattle.std.specs.Prelude.{◌≡◌, ◌+◌, ◌≤◌, ◌++◌, [], map, length, IfOk, OnOk};
 ghost use Rattle.std.specs.List.{flat_map};
-ghost use Rattle.pli_base.specs.DeclarationView.{item_view};
+ghost use Rattle.pli_base.specs.views.DeclarationView.{item_view};
 ghost use Rattle.pli_declare_outline.specs.Outlines.{Used};
-ghost use Rattle.pli_declare_outline.specs.OutlineView.{mark_view, marks_view, regions_view, outline_view};
+ghost use Rattle.pli_declare_outline.specs.views.OutlineView.{mark_view, marks_view, regions_view, outline_view};
 ghost use Rattle.pli_declare_constructs.specs.Regions.{block_of};
 ghost use Rattle.pli_declare_tables.specs.Tables.{inner_marks};
-ghost use Rattle.pli_declare_tables.specs.Answers.{AreOf};
+ghost use Rattle.pli_declare_tables.specs.answers.Answers.{AreOf};
 ghost use Rattle.pli_declare.specs.Resolution.{parameter_faults, used_faults, faults_after};
-ghost use Rattle.pli_declare.specs.Walks.{AreCodes, declared_names, name_faults};
+ghost use Rattle.pli_declare.specs.answers.Walks.{AreCodes, declared_names, name_faults};
 
 use crate::jumps::jump_code;
 use crate::parameters::tell_parameters;

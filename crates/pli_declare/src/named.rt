@@ -3,8 +3,8 @@ ghost use Rattle.std.specs.Prelude.{◌≡◌, ◌++◌, [], ◌∷◌, List, ma
 ghost use Rattle.std.specs.List.{flat_map};
 ghost use Rattle.std.specs.Option.{unwrap_or, option_copied};
 ghost use Rattle.pli_base.specs.Declarations.{SimpleAttribute as Said};
-ghost use Rattle.pli_base.specs.DeclarationView.{simple_view, described_view, attribute_view};
-ghost use Rattle.pli_base.specs.StatementView.{option_view};
+ghost use Rattle.pli_base.specs.views.DeclarationView.{simple_view, described_view, attribute_view};
+ghost use Rattle.pli_base.specs.views.StatementView.{option_view};
 ghost use Rattle.pli_declare.specs.Resolved.{plain_of, simple_of, area_in, locator_in};
 ghost use Rattle.pli_declare_variables.specs.Declarations.{returned_by};
 

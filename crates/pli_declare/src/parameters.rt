@@ -3,13 +3,13 @@ ghost use Rattle.std.specs.Prelude.{◌≡◌, ◌++◌, ◌∷◌, [], if◌the
 ghost use Rattle.std.specs.List.{list_any};
 ghost use Rattle.pli_base.specs.Name.{Name as Characters};
 ghost use Rattle.pli_base.specs.Words.{same_name};
-ghost use Rattle.pli_declare_outline.specs.OutlineView.{outline_view};
+ghost use Rattle.pli_declare_outline.specs.views.OutlineView.{outline_view};
 ghost use Rattle.pli_declare_tables.specs.Tables.{entries_in};
-ghost use Rattle.pli_declare_tables.specs.TableView.{entries_view};
-ghost use Rattle.pli_declare_tables.specs.Answers.{AreOf};
+ghost use Rattle.pli_declare_tables.specs.views.TableView.{entries_view};
+ghost use Rattle.pli_declare_tables.specs.answers.Answers.{AreOf};
 ghost use Rattle.pli_declare.specs.Resolution.{at_token, is_item_named, parameter_codes};
-ghost use Rattle.pli_declare.specs.Answers.{AreKnown};
-ghost use Rattle.pli_declare.specs.Walks.{AreParameters, code_of_parameter};
+ghost use Rattle.pli_declare.specs.answers.Answers.{AreKnown};
+ghost use Rattle.pli_declare.specs.answers.Walks.{AreParameters, code_of_parameter};
 
 use crate::told::tell;
 use indexmap::IndexSet;

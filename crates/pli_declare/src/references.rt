@@ -1,9 +1,9 @@
 //! The faults of references.
 ghost use Rattle.std.specs.Prelude.{◌≡◌, IfOk};
-ghost use Rattle.pli_declare_outline.specs.OutlineView.{outline_view, regions_view};
+ghost use Rattle.pli_declare_outline.specs.views.OutlineView.{outline_view, regions_view};
 ghost use Rattle.pli_declare_scopes.specs.Scopes.{meant};
 ghost use Rattle.pli_declare_tables.specs.Tables.{scope_of};
-ghost use Rattle.pli_declare_tables.specs.Answers.{AreOf};
+ghost use Rattle.pli_declare_tables.specs.answers.Answers.{AreOf};
 ghost use Rattle.pli_declare.specs.Resolution.{is_function, names_of, reference_code};
 
 use crate::look_up::{Looked, look_up};

@@ -1,7 +1,7 @@
 //! Resolved units.
 ghost use Rattle.std.specs.Prelude.{◌≡◌, map, IfOk};
-ghost use Rattle.pli_declare_variables.specs.DeclarationView.{declaration_view};
-ghost use Rattle.pli_declare.specs.ResolvedView.{block_view, resolved_view};
+ghost use Rattle.pli_declare_variables.specs.views.DeclarationView.{declaration_view};
+ghost use Rattle.pli_declare.specs.views.ResolvedView.{block_view, resolved_view};
 
 use pli_base::Name;
 use pli_declare_outline::Region;

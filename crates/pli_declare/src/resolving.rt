@@ -1,15 +1,15 @@
 //! From a unit to the resolved unit.
 ghost use Rattle.std.specs.Prelude.{◌≡◌, ◌<◌, [], length, map, IfOk};
-ghost use Rattle.pli_base.specs.StatementView.{unit_view};
-ghost use Rattle.pli_declare_outline.specs.OutlineView.{outline_view, regions_view, marks_view};
+ghost use Rattle.pli_base.specs.views.StatementView.{unit_view};
+ghost use Rattle.pli_declare_outline.specs.views.OutlineView.{outline_view, regions_view, marks_view};
 ghost use Rattle.pli_declare_tables.specs.Tables.{numbers_from, inner_marks, unit_entries};
-ghost use Rattle.pli_declare_tables.specs.Answers.{AreOf};
+ghost use Rattle.pli_declare_tables.specs.answers.Answers.{AreOf};
 ghost use Rattle.pli_declare_variables.specs.Declarations.{declared_in};
-ghost use Rattle.pli_declare_variables.specs.DeclarationView.{declaration_view};
+ghost use Rattle.pli_declare_variables.specs.views.DeclarationView.{declaration_view};
 ghost use Rattle.pli_declare.specs.Resolution.{outline_faults};
 ghost use Rattle.pli_declare.specs.Resolved.{block_at, resolution_of};
-ghost use Rattle.pli_declare.specs.ResolvedView.{block_view, resolved_view, IsResolved, IsResolvedOutline};
-ghost use Rattle.pli_declare.specs.Walks.{AreParameters};
+ghost use Rattle.pli_declare.specs.views.ResolvedView.{block_view, resolved_view, IsResolved, IsResolvedOutline};
+ghost use Rattle.pli_declare.specs.answers.Walks.{AreParameters};
 ghost use Rattle.pli_declare.specs.declared.resolving.ResolveError.TheVariants.{OutOfMemory};
 
 use crate::attributes::{areas, locators};

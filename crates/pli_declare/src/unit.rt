@@ -1,10 +1,10 @@
 //! The faults of the declarations of a unit.
 ghost use Rattle.std.specs.Prelude.{◌≡◌, ◌++◌, map, IfOk, OnOk};
-ghost use Rattle.pli_base.specs.StatementView.{unit_view};
-ghost use Rattle.pli_declare_outline.specs.OutlineView.{outline_view, placed_view, regions_view};
-ghost use Rattle.pli_declare_tables.specs.Answers.{AreOf};
+ghost use Rattle.pli_base.specs.views.StatementView.{unit_view};
+ghost use Rattle.pli_declare_outline.specs.views.OutlineView.{outline_view, placed_view, regions_view};
+ghost use Rattle.pli_declare_tables.specs.answers.Answers.{AreOf};
 ghost use Rattle.pli_declare.specs.Resolution.{unit_faults, outline_faults, resolution_faults};
-ghost use Rattle.pli_declare.specs.Walks.{AreCodes};
+ghost use Rattle.pli_declare.specs.answers.Walks.{AreCodes};
 
 use crate::heading::{heading_code, returned_name_nothing};
 use crate::known::Known;

@@ -1,12 +1,12 @@
 //! What the names that a unit uses mean.
 ghost use Rattle.std.specs.Prelude.{◌≡◌, ℕ, ◌++◌, IfOk, OnOk};
 ghost use Rattle.pli_declare_outline.specs.Outlines.{Used};
-ghost use Rattle.pli_declare_outline.specs.OutlineView.{outline_view, regions_view, mark_view, marks_view};
+ghost use Rattle.pli_declare_outline.specs.views.OutlineView.{outline_view, regions_view, mark_view, marks_view};
 ghost use Rattle.pli_declare_scopes.specs.Scopes.{meant};
 ghost use Rattle.pli_declare_tables.specs.Tables.{scope_of};
-ghost use Rattle.pli_declare_tables.specs.Answers.{AreOf};
+ghost use Rattle.pli_declare_tables.specs.answers.Answers.{AreOf};
 ghost use Rattle.pli_declare.specs.Resolved.{of_marks, used_as, uses_at};
-ghost use Rattle.pli_declare.specs.Targets.{target_uses};
+ghost use Rattle.pli_declare.specs.answers.Targets.{target_uses};
 
 use crate::look_up::{Looked, look_up};
 use crate::references::{is_function, names_of};

@@ -7,7 +7,7 @@ use Rattle.std.proofs.lemmas.Nat.{and_assoc}
 use Rattle.pli_declare_attributes.specs.Sets.{has, none_of, is_one_of, data_attributes, fixed, binary, entry, built_in, returns}
 use Rattle.pli_declare_attributes.specs.Agreement.{data_types, agrees_as_variable, is_missing}
 use Rattle.pli_declare_attributes.specs.Types.{is_up_to, number_or, is_bad_precision, is_bad_length, scalar_of}
-use Rattle.pli_declare_attributes.specs.Laws.{IsScalar}
+use Rattle.pli_declare_attributes.specs.laws.Laws.{IsScalar}
 use Rattle.pli_declare_attributes.specs.declared.place.Place.{Place}
 
 -- the sets of one whole data type

@@ -11,7 +11,7 @@ use Rattle.pli_declare_attributes.specs.Types.{number_of, scalar_of, is_bad_prec
 use Rattle.pli_declare_attributes.specs.Extents.{is_array, are_bad_bounds}
 use Rattle.pli_declare_attributes.specs.Faults.{first_of, shape_fault, description_fault, own_fault, attributes_fault, item_fault, entry_fault, parameters_in, parameter_place, result_place}
 use Rattle.pli_declare_attributes.specs.Completed.{Variable, OfVariable, OfEntry, OfBuiltIn, variable_of, completed_of}
-use Rattle.pli_declare_attributes.specs.Laws.{IsScalar, ResultsAreScalars, ParametersAreOfScalars, VariablesAreOfScalars}
+use Rattle.pli_declare_attributes.specs.laws.Laws.{IsScalar, ResultsAreScalars, ParametersAreOfScalars, VariablesAreOfScalars}
 use Rattle.pli_declare_attributes.specs.declared.place.Place.{Place}
 use Rattle.pli_declare_attributes.proofs.Limits.{variable_whole, scalar_whole}
 use Rattle.pli_declare_attributes.proofs.Shapes.{shape_sound, or_none, parts_none}

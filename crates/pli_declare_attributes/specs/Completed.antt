@@ -4,20 +4,24 @@ use Rattle.pli_base.specs.Declarations as tree
 use Rattle.pli_base.specs.declared.declaration.InitialValue.{InitialValue}
 use Rattle.pli_map.specs.Description.{Description}
 use Rattle.pli_map.specs.declared.description.Bounds.{Bounds}
-use Rattle.pli_declare_attributes.specs.Sets.{static, based, controlled, external, built_in, entry, has, set_of, outermost}
+use Rattle.pli_declare_attributes.specs.Sets.{static, based, controlled, external, built_in, entry, has}
+use Rattle.pli_declare_attributes.specs.Sets.{set_of, outermost}
 use Rattle.pli_declare_attributes.specs.Types.{number_of, scalar_of}
 use Rattle.pli_declare_attributes.specs.Extents.{all_bounds}
 use Rattle.pli_declare_attributes.specs.Initials.{values_in}
 use Rattle.pli_declare_attributes.specs.Faults.{parameters_in, returned_in, parameter_of, described_scalar}
 use Rattle.pli_declare_attributes.specs.declared.place.Place.{Place}
 use Rattle.pli_declare_attributes.specs.declared.place.Position.{Position}
-use Rattle.pli_declare_attributes.specs.declared.place.Position.TheVariants.{AtLevelOne, Member, Parameter, Result}
+use Rattle.pli_declare_attributes.specs.declared.place.Position.TheVariants.{AtLevelOne, Member, Parameter}
+use Rattle.pli_declare_attributes.specs.declared.place.Position.TheVariants.{Result}
 use Rattle.pli_declare_attributes.specs.declared.completed.Storage.{Storage}
-use Rattle.pli_declare_attributes.specs.declared.completed.Storage.TheVariants.{Automatic, Static, Based, Controlled}
+use Rattle.pli_declare_attributes.specs.declared.completed.Storage.TheVariants.{Automatic, Static, Based}
+use Rattle.pli_declare_attributes.specs.declared.completed.Storage.TheVariants.{Controlled}
 use Rattle.pli_declare_attributes.specs.declared.completed.Scope.{Scope}
 use Rattle.pli_declare_attributes.specs.declared.completed.Scope.TheVariants.{Internal, External}
 
--- a variable, or a member of one: its type unless it has members, its own dimensions, its storage, its scope and its first values
+-- a variable, or a member of one: its type unless it has members, its own dimensions, its storage, its scope
+-- and its first values
 pub record Variable : Type 0 where
   pub description : Option Description
   pub bounds : List Bounds
@@ -33,7 +37,9 @@ pub data Completed : Type 0 where
 
 -- AUTOMATIC by default; EXTERNAL implies STATIC unless CONTROLLED stands
 abbrev pub storage_of : ℕ → Storage
-storage_of s = if has s controlled then Controlled else if has s based then Based else if has s static then Static else if has s external then Static else Automatic
+storage_of s =
+    if has s controlled then Controlled else if has s based then Based else if has s static then Static
+    else if has s external then Static else Automatic
 
 -- a member has the storage of the whole, a parameter that of its argument
 abbrev pub storage_at : Position → ℕ → Option Storage
@@ -51,7 +57,8 @@ unfoldable pub variable_of : Place → tree.Item → Variable
 variable_of p i =
     let attributes = map outermost i.attributes in
     record {
-      description = if p.has_members then None else Some (scalar_of (set_of attributes) (number_of attributes));
+      description =
+          if p.has_members then None else Some (scalar_of (set_of attributes) (number_of attributes));
       bounds = all_bounds i.dimensions;
       storage = storage_at p.position (set_of attributes);
       scope = scope_of (set_of attributes);
@@ -62,6 +69,8 @@ variable_of p i =
 unfoldable pub completed_of : Place → tree.Item → Completed
 completed_of p i =
     let s = set_of (map outermost i.attributes) in
-    if has s entry then OfEntry (map parameter_of (parameters_in i.attributes)) (option_map described_scalar (returned_in i.attributes))
+    if has s entry
+    then OfEntry (map parameter_of (parameters_in i.attributes))
+    (option_map described_scalar (returned_in i.attributes))
     else if has s built_in then OfBuiltIn
     else OfVariable (variable_of p i)

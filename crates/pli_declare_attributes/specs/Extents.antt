@@ -1,5 +1,6 @@
 -- The bounds of dimensions.
-use Rattle.std.specs.Prelude.{Bool, not, ◌&&◌, ◌||◌, nat_lt, int_le, ℤ, pos, negsuc, ◌-ℤ◌, if◌then◌else◌, Option, Some, None, List, length, map}
+use Rattle.std.specs.Prelude.{Bool, not, ◌&&◌, ◌||◌, nat_lt, int_le, ℤ, pos, negsuc, ◌-ℤ◌, if◌then◌else◌}
+use Rattle.std.specs.Prelude.{Option, Some, None, List, length, map}
 use Rattle.std.specs.List.{list_all}
 use Rattle.pli_base.specs.declared.declaration.Bounds.{Bounds}
 use Rattle.pli_base.specs.declared.declaration.Integer.{Integer}
@@ -20,7 +21,9 @@ bounds_of b = record { low = low_of b.low; high = integer_of b.high }
 
 -- each bound is one of -32,767 to 32,767, and the lower one is not above the other
 abbrev pub are_good : Bounds → Bool
-are_good b = int_le (negsuc 32766) (low_of b.low) && int_le (low_of b.low) (integer_of b.high) && int_le (integer_of b.high) (pos 32767)
+are_good b =
+    int_le (negsuc 32766) (low_of b.low) && int_le (low_of b.low) (integer_of b.high)
+    && int_le (integer_of b.high) (pos 32767)
 
 -- at most 8 dimensions of its own, each with good bounds
 unfoldable pub are_bad_bounds : List Bounds → Bool

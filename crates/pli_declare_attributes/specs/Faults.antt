@@ -1,5 +1,6 @@
 -- The least fault of the attributes of an item, and of a result, apart from faults of names and levels.
-use Rattle.std.specs.Prelude.{ℕ, Bool, false, not, ◌&&◌, ◌||◌, nat_lt, if◌then◌else◌, Option, Some, None, List, [], ◌∷◌, length, map}
+use Rattle.std.specs.Prelude.{ℕ, Bool, false, not, ◌&&◌, ◌||◌, nat_lt, if◌then◌else◌, Option, Some, None}
+use Rattle.std.specs.Prelude.{List, [], ◌∷◌, length, map}
 use Rattle.std.specs.Option.{option_or}
 use Rattle.std.specs.List.{list_any}
 use Rattle.std.specs.Ordering.{nat_cmp}
@@ -7,7 +8,10 @@ use Rattle.std.specs.declared.cmp.Ordering.{Ordering}
 use Rattle.std.specs.declared.cmp.Ordering.TheVariants.{Less, Equal, Greater}
 use Rattle.pli_base.specs.Codes.{code_place}
 use Rattle.pli_base.specs.declared.code.Code.{Code}
-use Rattle.pli_base.specs.declared.code.Code.TheVariants.{AttributesConflict, AttributesMissing, BadPrecision, BadLength, BadBounds, BadInitial, AreaNotAllowedHere, TooManyParameters, GenerationTooLarge}
+use Rattle.pli_base.specs.declared.code.Code.TheVariants.{AttributesConflict, AttributesMissing, BadPrecision}
+use Rattle.pli_base.specs.declared.code.Code.TheVariants.{BadLength, BadBounds, BadInitial}
+use Rattle.pli_base.specs.declared.code.Code.TheVariants.{AreaNotAllowedHere, TooManyParameters}
+use Rattle.pli_base.specs.declared.code.Code.TheVariants.{GenerationTooLarge}
 use Rattle.pli_base.specs.Declarations as tree
 use Rattle.pli_base.specs.declared.declaration.Bounds.{Bounds}
 use Rattle.pli_map.specs.Description as described
@@ -40,7 +44,8 @@ lesser (Some c) (Some d) = Some (first_in_order (nat_cmp (code_place c) (code_pl
 
 -- an AREA is no member, stands in no array and is not BASED
 unfoldable pub is_bad_area : Place → List Bounds → ℕ → Bool
-is_bad_area p dimensions s = has s area && (is_member p.position || is_array dimensions || p.in_array || has s based)
+is_bad_area p dimensions s =
+    has s area && (is_member p.position || is_array dimensions || p.in_array || has s based)
 
 -- faults of attributes that stand once each, or do not, of this set and with this precision, length or size
 unfoldable pub shape_fault : Place → List Bounds → Bool → ℕ → Option ℕ → Option Code
@@ -59,23 +64,43 @@ area_fault p dimensions s = first_of ((is_bad_area p dimensions s, AreaNotAllowe
 -- the fault of the description of a parameter or of a result, at its place
 unfoldable pub description_fault : Place → List Bounds → List tree.DescribedAttribute → Option Code
 description_fault p dimensions attributes =
-    option_or (shape_fault p dimensions (each_once 0 attributes) (set_of attributes) (number_of attributes)) (area_fault p dimensions (set_of attributes))
+    option_or (shape_fault p dimensions (each_once 0 attributes) (set_of attributes) (number_of attributes))
+    (area_fault p dimensions (set_of attributes))
 
 -- the fault of an item's own attributes
 unfoldable pub own_fault : Place → tree.Item → Option Code
 own_fault p i =
     let attributes = map outermost i.attributes in
     option_or (shape_fault p i.dimensions (each_once 0 attributes) (set_of attributes) (number_of attributes))
-    (option_or (first_of ((is_bad_initial p i.dimensions (set_of attributes) (number_of attributes) (values_in i.attributes), BadInitial) ∷ []))
+    (option_or
+    (first_of
+    ((
+      is_bad_initial p i.dimensions (set_of attributes) (number_of attributes) (values_in i.attributes),
+      BadInitial,
+    ) ∷ []))
     (area_fault p i.dimensions (set_of attributes)))
 
 -- the description of a parameter or of a result stands nowhere else, and a result is a scalar
 abbrev pub parameter_place : Place
-parameter_place = record { position = Parameter; has_members = false; in_array = false; elements_above = Some 1; built_in_name = false }
+parameter_place =
+    record {
+      position = Parameter;
+      has_members = false;
+      in_array = false;
+      elements_above = Some 1;
+      built_in_name = false;
+    }
 
 -- where what RETURNS describes stands
 abbrev pub result_place : Place
-result_place = record { position = Result; has_members = false; in_array = false; elements_above = Some 1; built_in_name = false }
+result_place =
+    record {
+      position = Result;
+      has_members = false;
+      in_array = false;
+      elements_above = Some 1;
+      built_in_name = false;
+    }
 
 -- the fault of RETURNS, of a procedure and of an ENTRY
 abbrev pub result_fault : List tree.DescribedAttribute → Option Code
@@ -127,12 +152,15 @@ is_too_large d = nat_lt 1000000 (size_of d)
 -- more than 64 parameters, or one that is too large
 abbrev pub entry_fault : List tree.ParameterDescription → Option Code
 entry_fault ds =
-    first_of ((nat_lt 64 (length ds), TooManyParameters) ∷ (list_any is_too_large (map parameter_of ds), GenerationTooLarge) ∷ [])
+    first_of ((nat_lt 64 (length ds), TooManyParameters)
+    ∷ (list_any is_too_large (map parameter_of ds), GenerationTooLarge) ∷ [])
 
--- the least fault of the attributes, of those in the descriptions of an ENTRY's parameters and of those in RETURNS
+-- the least fault of the attributes, of those in the descriptions of an ENTRY's parameters and of those in
+-- RETURNS
 unfoldable pub attributes_fault : Place → tree.Item → Option Code
 attributes_fault p i =
-    lesser (own_fault p i) (lesser (parameters_fault (parameters_in i.attributes)) (returned_fault (returned_in i.attributes)))
+    lesser (own_fault p i)
+    (lesser (parameters_fault (parameters_in i.attributes)) (returned_fault (returned_in i.attributes)))
 
 -- the least fault of an item
 unfoldable pub item_fault : Place → tree.Item → Option Code

@@ -1,10 +1,10 @@
 pub mod Agreement
 pub mod Completed
-pub mod CompletedView
-pub mod Examples
 pub mod Extents
 pub mod Faults
 pub mod Initials
-pub mod Laws
 pub mod Sets
 pub mod Types
+pub mod examples
+pub mod laws
+pub mod views

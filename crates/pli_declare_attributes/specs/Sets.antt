@@ -1,4 +1,5 @@
--- The attributes that stand beside a name, as a set. A set is the sum of its attributes' numbers, each a power of 2.
+-- The attributes that stand beside a name, as a set. A set is the sum of its attributes' numbers, each a
+-- power of 2.
 use Rattle.std.specs.Prelude.{ℕ, ◌+◌, Bool, true, ◌==◌, ◌&&◌, List, [], ◌∷◌, Option, Some, None}
 use Rattle.std.specs.Int.RustNames.{bit_and, bit_or}
 use Rattle.std.specs.List.{list_any}

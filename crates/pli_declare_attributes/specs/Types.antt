@@ -1,5 +1,6 @@
 -- The type that a set of data attributes says, with its defaults.
-use Rattle.std.specs.Prelude.{ℕ, Bool, true, not, nat_le, ◌&&◌, ◌||◌, if◌then◌else◌, List, [], ◌∷◌, Option, Some, None}
+use Rattle.std.specs.Prelude.{ℕ, Bool, true, not, nat_le, ◌&&◌, ◌||◌, if◌then◌else◌, List, [], ◌∷◌, Option}
+use Rattle.std.specs.Prelude.{Some, None}
 use Rattle.std.specs.Option.{option_or}
 use Rattle.pli_base.specs.Declarations as tree
 use Rattle.pli_map.specs.Description as map
@@ -41,7 +42,9 @@ is_bad_precision s n = has s fixed && not (is_up_to 31 n)
 
 -- a length is one of 1 to 32,767, and an area's size one of 1 to 1,000,000 bytes
 unfoldable pub is_bad_length : ℕ → Option ℕ → Bool
-is_bad_length s n = (has s character || has s varying || has s bit) && not (is_up_to 32767 n) || has s area && not (is_up_to 1000000 n)
+is_bad_length s n =
+    (has s character || has s varying || has s bit) && not (is_up_to 32767 n) || has s area
+    && not (is_up_to 1000000 n)
 
 -- the type, with precision 15, length 1 and size 1,000 by default
 unfoldable pub scalar_of : ℕ → Option ℕ → map.Description

@@ -1,13 +1,13 @@
 //! What the attributes of an item and of a result are completed to, or their least fault.
 ghost use Rattle.std.specs.Prelude.{◌≡◌, true, false, None, map, option_map, IfOk};
 ghost use Rattle.std.specs.List.{list_any};
-ghost use Rattle.pli_base.specs.DeclarationView.{described_view, parameter_view, attribute_view, item_view};
-ghost use Rattle.pli_map.specs.DescriptionView.{description_view};
+ghost use Rattle.pli_base.specs.views.DeclarationView.{described_view, parameter_view, attribute_view, item_view};
+ghost use Rattle.pli_map.specs.views.DescriptionView.{description_view};
 ghost use Rattle.pli_declare_attributes.specs.Extents.{are_bad_bounds};
 ghost use Rattle.pli_declare_attributes.specs.Faults.{parameter_of, parameter_fault, parameters_fault, described_scalar, is_too_large, with_bounds, own_fault, returned_fault, returned_in};
 ghost use Rattle.pli_declare_attributes.specs.Faults as spec;
 ghost use Rattle.pli_declare_attributes.specs.Completed.{storage_at, storage_of, scope_of, variable_of, completed_of};
-ghost use Rattle.pli_declare_attributes.specs.CompletedView.{variable_view, completed_view, IsCompleted, IsResult};
+ghost use Rattle.pli_declare_attributes.specs.views.CompletedView.{variable_view, completed_view, IsCompleted, IsResult};
 ghost use Rattle.pli_declare_attributes.specs.declared.complete.AttributeError.TheVariants.{OutOfMemory};
 
 use crate::completed::{Completed, Scope, Storage, Variable};

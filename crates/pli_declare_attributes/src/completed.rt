@@ -1,7 +1,7 @@
 //! What the attributes of a name are completed to.
 ghost use Rattle.std.specs.Prelude.{◌≡◌, map, option_map, IfOk};
-ghost use Rattle.pli_map.specs.DescriptionView.{description_view};
-ghost use Rattle.pli_declare_attributes.specs.CompletedView.{variable_view, completed_view};
+ghost use Rattle.pli_map.specs.views.DescriptionView.{description_view};
+ghost use Rattle.pli_declare_attributes.specs.views.CompletedView.{variable_view, completed_view};
 
 use pli_base::declaration::{InitialValue, copied_values};
 use pli_map::{Bounds, Description};

@@ -1,7 +1,7 @@
 //! What attributes and dimensions describe, for those who put descriptions together of their parts.
 ghost use Rattle.std.specs.Prelude.{◌≡◌, false, map, IfOk};
-ghost use Rattle.pli_base.specs.DeclarationView.{attribute_view};
-ghost use Rattle.pli_map.specs.DescriptionView.{description_view};
+ghost use Rattle.pli_base.specs.views.DeclarationView.{attribute_view};
+ghost use Rattle.pli_map.specs.views.DescriptionView.{description_view};
 ghost use Rattle.pli_declare_attributes.specs.Sets.{set_of, outermost};
 ghost use Rattle.pli_declare_attributes.specs.Extents.{are_bad_bounds, all_bounds};
 ghost use Rattle.pli_declare_attributes.specs.Faults.{with_bounds, described_scalar};

@@ -1,6 +1,6 @@
 //! The least fault of attributes.
 ghost use Rattle.std.specs.Prelude.{◌≡◌, [], false, None, map};
-ghost use Rattle.pli_base.specs.DeclarationView.{described_view, parameter_view, attribute_view, item_view};
+ghost use Rattle.pli_base.specs.views.DeclarationView.{described_view, parameter_view, attribute_view, item_view};
 ghost use Rattle.pli_declare_attributes.specs.Types.{is_bad_precision, is_bad_length};
 ghost use Rattle.pli_declare_attributes.specs.Extents.{are_bad_bounds};
 ghost use Rattle.pli_declare_attributes.specs.Initials.{is_bad_initial};

@@ -1,9 +1,9 @@
 //! The values in INITIAL.
 ghost use Rattle.std.specs.Prelude.{◌≡◌, ◌≤◌, ◌^◌, ◌*◌, true, min, map, nat_lt};
 ghost use Rattle.std.specs.List.{list_all};
-ghost use Rattle.pli_base.specs.DeclarationView.{attribute_view};
+ghost use Rattle.pli_base.specs.views.DeclarationView.{attribute_view};
 ghost use Rattle.pli_map.specs.Sizes.{count_of};
-ghost use Rattle.pli_map.specs.DescriptionView.{description_view};
+ghost use Rattle.pli_map.specs.views.DescriptionView.{description_view};
 ghost use Rattle.pli_declare_attributes.specs.Extents.{are_good, all_bounds};
 ghost use Rattle.pli_declare_attributes.specs.Initials.{values_in, fits, elements_given, all_given, is_more_than, elements_of, elements_inside};
 

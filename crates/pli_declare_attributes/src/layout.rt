@@ -1,7 +1,7 @@
 //! What items take by their attributes and dimensions alone, without a tree.
 ghost use Rattle.std.specs.Prelude.{◌≡◌, ◌*◌, false, map, if◌then◌else◌, nat_le};
 ghost use Rattle.std.specs.Int.{next_multiple_of};
-ghost use Rattle.pli_base.specs.DeclarationView.{attribute_view};
+ghost use Rattle.pli_base.specs.views.DeclarationView.{attribute_view};
 ghost use Rattle.pli_map.specs.Layouts.{IsLayout};
 ghost use Rattle.pli_map.specs.Sizes.{count_of, size_of, alignment_of};
 ghost use Rattle.pli_declare_attributes.specs.Sets.{outermost};

@@ -1,6 +1,6 @@
 //! What an item is to BASED and OFFSET, which name others.
 ghost use Rattle.std.specs.Prelude.{◌≡◌, ◌+◌, ◌||◌, map};
-ghost use Rattle.pli_base.specs.DeclarationView.{attribute_view};
+ghost use Rattle.pli_base.specs.views.DeclarationView.{attribute_view};
 ghost use Rattle.pli_declare_attributes.specs.Sets.{has, none_of, set_of, outermost, entry, built_in, based, pointer, offset, area};
 
 use crate::set::AttributeSet;

@@ -1,7 +1,7 @@
 //! Sets of attributes.
 ghost use Rattle.std.specs.Prelude.{⊤, ◌≡◌, ◌==◌, [], ◌∷◌, codes, map};
 ghost use Rattle.std.specs.Int.RustNames.{bit_and, bit_or};
-ghost use Rattle.pli_base.specs.DeclarationView.{simple_view, described_view, attribute_view};
+ghost use Rattle.pli_base.specs.views.DeclarationView.{simple_view, described_view, attribute_view};
 ghost use Rattle.pli_declare_attributes.specs.Sets.{has, none_of, within, is_one_of, simple_kind, kind_of, outermost};
 
 use bitflags::{Flag, Flags, bitflag_items};

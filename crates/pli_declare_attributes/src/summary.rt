@@ -2,7 +2,7 @@
 ghost use Rattle.std.specs.Prelude.{◌≡◌, ◌&&◌, true, map};
 ghost use Rattle.std.specs.Int.RustNames.{bit_or};
 ghost use Rattle.std.specs.Option.{option_or};
-ghost use Rattle.pli_base.specs.DeclarationView.{simple_view, described_view, attribute_view};
+ghost use Rattle.pli_base.specs.views.DeclarationView.{simple_view, described_view, attribute_view};
 ghost use Rattle.pli_declare_attributes.specs.Sets.{none_of, set_of, each_once, outermost};
 ghost use Rattle.pli_declare_attributes.specs.Types.{simple_number, described_number, number_of};
 

@@ -1,6 +1,6 @@
 //! The type that data attributes say.
 ghost use Rattle.std.specs.Prelude.{◌≡◌, true, false};
-ghost use Rattle.pli_map.specs.DescriptionView.{description_view};
+ghost use Rattle.pli_map.specs.views.DescriptionView.{description_view};
 ghost use Rattle.pli_declare_attributes.specs.Types.{is_up_to, number_or, is_bad_precision, is_bad_length, scalar_of};
 
 use crate::set::AttributeSet;

@@ -5,10 +5,10 @@ use Rattle.std.proofs.lemmas.Bool.{lt-ltb, le-ltb, ltb-true, ltb-false}
 use Rattle.std.proofs.lemmas.List.{get_or-map, length-map, get_or_append_left, get_or_past}
 use Rattle.std.proofs.Math.Seq.{get_or-append_seam}
 use Rattle.pli_declare_outline.specs.Outlines.{Region}
-use Rattle.pli_declare_outline.specs.OutlineView.{region_view, regions_view}
+use Rattle.pli_declare_outline.specs.views.OutlineView.{region_view, regions_view}
 use Rattle.pli_declare_outline.specs.declared.region.Region.{Region as Written}
 use Rattle.pli_declare_constructs.specs.Regions.{round_of, rounds_after, outside, is_block, kind_at, blocks_round, first_of, innermost, blocks_from}
-use Rattle.pli_declare_constructs.specs.Kept.{IsKept}
+use Rattle.pli_declare_constructs.specs.answers.Kept.{IsKept}
 use Rattle.pli_declare_constructs.proofs.Rounds.{before, round_step, round_past}
 
 -- the blocks round the outer region, if it stands before

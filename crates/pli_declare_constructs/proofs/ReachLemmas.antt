@@ -7,7 +7,7 @@ use Rattle.pli_declare_outline.specs.declared.region.RegionKind.{RegionKind}
 use Rattle.pli_declare_outline.specs.declared.region.RegionKind.TheVariants as kinds
 use Rattle.pli_declare_constructs.specs.Regions.{round_of, rounds_after, outside, is_block, kind_at, innermost, block_of, first_or_unit}
 use Rattle.pli_declare_constructs.specs.Reach.{is_group, is_unit, encloses, in_front_of, is_unit_of, unit_between, reaches}
-use Rattle.pli_declare_constructs.specs.ReachSteps.{left_unit, reaches_through}
+use Rattle.pli_declare_constructs.specs.answers.ReachSteps.{left_unit, reaches_through}
 use Rattle.pli_declare_constructs.proofs.Rounds.{before, round_step, round_past}
 use Rattle.pli_declare_constructs.proofs.Blocks.{finds, next, innermost_step}
 
@@ -24,6 +24,7 @@ outwards rs n lt = to (get_or rs n outside).outer (round_step rs n lt)
         → (is_block (kind_at rs n) ≡ false → innermost rs n ≡ (if b then innermost rs o else None)) → Outwards rs n
     by o true t e i = goes_on o (ltb-true o n t) e i
     by o false t e i = ends e
+
     to : (outer : Option ℕ) → round_of rs n ≡ n ∷ before (rounds_after [] rs) n outer
         → (is_block (kind_at rs n) ≡ false → innermost rs n ≡ next rs n outer) → Outwards rs n
     to None e i = ends e
@@ -36,14 +37,18 @@ encloses_step rs n label inner e = within (nat_lt n (length rs)) refl
     here : (b : Bool) → (n == label) ≡ b → (o : ℕ) → o < n → (b || encloses rs o label) ≡ true → label ≤ n
     here true t o less e = omega (arith, eqb-true n label t)
     here false t o less e = omega (arith, less, inner o less e)
+
     last : (b : Bool) → (n == label) ≡ b → (b || false) ≡ true → label ≤ n
     last true t e = omega (arith, eqb-true n label t)
     last false t e = cc
+
     way : Outwards rs n → label ≤ n
     way (ends f) = last (n == label) refl (ap (list_any (λ r. r == label)) (sym f) ∙ e)
     way (goes_on o less f i) = here (n == label) refl o less (ap (list_any (λ r. r == label)) (sym f) ∙ e)
+
     beyond : false ≡ true → ⊥
     beyond e = cc
+
     within : (b : Bool) → nat_lt n (length rs) ≡ b → label ≤ n
     within true t = way (outwards rs n (ltb-true n (length rs) t))
     within false t = absurd (beyond (ap (list_any (λ r. r == label)) (sym (round_past rs n (ltb-false n (length rs) t))) ∙ e))
@@ -114,6 +119,7 @@ module _ (rs : List Region) (label : ℕ) where
           ap (λ k. not (left && is_group (kind_at rs k))) same
           ∙ at_label left (is_group (kind_at rs label)) (block_of rs n == block_of rs label) (eq-eqb (block_of rs n) (block_of rs label) (ap (block_of rs) same))
       last false t = refl
+
       here : (o : ℕ) → n < length rs → o < n → (is_block (kind_at rs n) ≡ false → innermost rs n ≡ innermost rs o) → (b : Bool) → (n == label) ≡ b
           → (if b then not (left && is_group (kind_at rs n)) else reaches_through rs (left_unit left (kind_at rs n)) (round_of rs o) label)
           ≡ ((b || encloses rs o label) && not (is_group (kind_at rs label) && ((left && (block_of rs n == block_of rs label)) || list_any (is_unit_of rs label) (if b then [] else n ∷ in_front_of label (round_of rs o)))))
@@ -124,10 +130,12 @@ module _ (rs : List Region) (label : ℕ) where
       here o is less i false t =
           inner o less (left_unit left (kind_at rs n))
           ∙ goes (is_group (kind_at rs label)) left (unit_between rs o label) (encloses rs o label) (block_of rs o == block_of rs label) (block_of rs n == block_of rs label)
-              (kind_at rs n) (other_block n o is less) (λ f. ap (λ b. first_or_unit b == block_of rs label) (sym (i f)))
+          (kind_at rs n) (other_block n o is less) (λ f. ap (λ b. first_or_unit b == block_of rs label) (sym (i f)))
+
       way : n < length rs → Outwards rs n → Tells left (round_of rs n) n
       way is (ends e) = subst (λ round. Tells left round n) (sym e) (last (n == label) refl)
       way is (goes_on o less e i) = subst (λ round. Tells left round n) (sym e) (here o is less i (n == label) refl)
+
       within : (b : Bool) → nat_lt n (length rs) ≡ b → Tells left (round_of rs n) n
       within true t = way (ltb-true n (length rs) t) (outwards rs n (ltb-true n (length rs) t))
       within false t = subst (λ round. Tells left round n) (sym (round_past rs n (ltb-false n (length rs) t))) refl

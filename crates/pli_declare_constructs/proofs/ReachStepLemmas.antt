@@ -3,7 +3,7 @@ use Rattle.std.proofs.Common.{◌≡◌, ◌<◌, ◌≤◌, ℕ, Bool, true, fa
 use Rattle.pli_declare_outline.specs.Outlines.{Region}
 use Rattle.pli_declare_constructs.specs.Regions.{round_of, rounds_after, outside}
 use Rattle.pli_declare_constructs.specs.Reach.{is_group}
-use Rattle.pli_declare_constructs.specs.ReachSteps.{left_unit, reaches_through}
+use Rattle.pli_declare_constructs.specs.answers.ReachSteps.{left_unit, reaches_through}
 use Rattle.std.proofs.lemmas.Bool.{eq-eqb, eqb-true, lt-ltb, le-ltb}
 use Rattle.pli_declare_constructs.proofs.Rounds.{before, round_step, round_past}
 

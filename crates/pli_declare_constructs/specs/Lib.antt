@@ -1,4 +1,3 @@
 pub mod Regions
 pub mod Reach
-pub mod ReachSteps
-pub mod Kept
+pub mod answers

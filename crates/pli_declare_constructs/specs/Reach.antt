@@ -1,5 +1,7 @@
--- Which labels a GOTO reaches (X3.74): those of the statement lists that enclose it. But out of an ON-unit no label in a
--- group of the block in which the ON stands is reached (own), since the unit may run when that group does not.
+-- Which labels a GOTO reaches (X3.74): those of the statement lists that enclose it. But out of an ON-unit no
+-- label in a
+-- group of the block in which the ON stands is reached (own), since the unit may run when that group does
+-- not.
 use Rattle.std.specs.Prelude.{ℕ, Bool, true, false, not, ◌&&◌, ◌==◌, List, [], ◌∷◌, if◌then◌else◌}
 use Rattle.std.specs.List.{list_any}
 use Rattle.pli_declare_outline.specs.Outlines.{Region}
@@ -36,7 +38,8 @@ is_unit_of regions label r = is_unit (kind_at regions r) && block_of regions r =
 
 -- such an ON-unit stands between
 abbrev pub unit_between : List Region → (from label : ℕ) → Bool
-unit_between regions from label = list_any (is_unit_of regions label) (in_front_of label (round_of regions from))
+unit_between regions from label =
+    list_any (is_unit_of regions label) (in_front_of label (round_of regions from))
 
 -- from a region to a label of the list of another
 abbrev pub reaches : List Region → (from label : ℕ) → Bool

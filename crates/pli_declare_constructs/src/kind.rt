@@ -2,7 +2,7 @@
 ghost use Rattle.std.specs.Prelude.{◌≡◌};
 ghost use Rattle.pli_declare_constructs.specs.Regions.{is_block};
 ghost use Rattle.pli_declare_constructs.specs.Reach.{is_group};
-ghost use Rattle.pli_declare_constructs.specs.ReachSteps.{left_unit};
+ghost use Rattle.pli_declare_constructs.specs.answers.ReachSteps.{left_unit};
 
 use pli_declare_outline::RegionKind;
 

@@ -1,7 +1,7 @@
 //! How regions nest.
 ghost use Rattle.std.specs.Prelude.{◌≡◌, ◌<◌, ◌∷◌, Some, length, IfOk, IfSome};
-ghost use Rattle.pli_declare_outline.specs.OutlineView.{regions_view};
-ghost use Rattle.pli_declare_constructs.specs.Kept.{IsKept};
+ghost use Rattle.pli_declare_outline.specs.views.OutlineView.{regions_view};
+ghost use Rattle.pli_declare_constructs.specs.answers.Kept.{IsKept};
 ghost use Rattle.pli_declare_constructs.specs.Regions.{innermost, blocks_round, blocks_from};
 ghost use Rattle.pli_declare_constructs.specs.Reach.{reaches};
 
@@ -20,8 +20,8 @@ pub struct Nesting {
 impl Model for Nesting {
     ghost use Rattle.std.specs.Prelude.{List};
     ghost use Rattle.pli_declare_outline.specs.Outlines.{Region as Plain};
-    ghost use Rattle.pli_declare_outline.specs.OutlineView.{regions_view};
-    ghost use Rattle.pli_declare_constructs.specs.Kept.{IsKept};
+    ghost use Rattle.pli_declare_outline.specs.views.OutlineView.{regions_view};
+    ghost use Rattle.pli_declare_constructs.specs.answers.Kept.{IsKept};
 
     ghost Value = { List Plain };
 

@@ -1,8 +1,8 @@
 -- The marks of a region, one after another.
 use Rattle.std.proofs.Common.{◌≡◌, ℕ, List, [], ◌∷◌, ◌++◌, ap, ◌∙◌, sym, append_assoc}
 use Rattle.std.proofs.lemmas.List.{map-append}
-use Rattle.pli_base.specs.SyntaxView.{reference_view, arguments_view, joined_view}
-use Rattle.pli_base.specs.SyntaxLaws.{reference_out}
+use Rattle.pli_base.specs.views.SyntaxView.{reference_view, arguments_view, joined_view}
+use Rattle.pli_base.specs.laws.SyntaxLaws.{reference_out}
 use Rattle.pli_base.specs.declared.syntax.Identifier.{Identifier}
 use Rattle.pli_base.specs.declared.syntax.Reference.{Reference, out-Reference}
 use Rattle.pli_declare_outline.specs.Outlines.{Mark, Used, Placed, placed, member_names, reference_marks, argument_marks, joined_marks}

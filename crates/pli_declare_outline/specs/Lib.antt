@@ -1,3 +1,3 @@
 pub mod Outlines
-pub mod OutlineView
-pub mod OutlineExamples
+pub mod examples
+pub mod views

@@ -1,12 +1,18 @@
--- The outline of a unit: its regions, and what is declared and used in each, in the order of the text. A region is a procedure, a BEGIN block,
--- a DO group or an ON-unit. Regions are numbered from 0 in the order in which they begin, and the external procedure is region 0.
+-- The outline of a unit: its regions, and what is declared and used in each, in the order of the text. A
+-- region is a procedure, a BEGIN block,
+-- a DO group or an ON-unit. Regions are numbered from 0 in the order in which they begin, and the external
+-- procedure is region 0.
 use Rattle.std.specs.Prelude.{ℕ, ◌+◌, nat_lt, Option, Some, None, List, [], ◌∷◌, ◌++◌, map, if◌then◌else◌}
 use Rattle.std.specs.List.{flat_map}
-use Rattle.pli_base.specs.Syntax.{Expression, Referred, Constant, Parenthesized, Prefix, Infix, Reference, Named, JoinedParts, Alone, Joined, Arguments, Absent, Given, Expressions, Empty, Listed}
+use Rattle.pli_base.specs.Syntax.{Expression, Referred, Constant, Parenthesized, Prefix, Infix, Reference}
+use Rattle.pli_base.specs.Syntax.{Named, JoinedParts, Alone, Joined, Arguments, Absent, Given, Expressions}
+use Rattle.pli_base.specs.Syntax.{Empty, Listed}
 use Rattle.pli_base.specs.declared.syntax.Identifier.{Identifier}
 use Rattle.pli_base.specs.declared.syntax.Joining.TheVariants.{Member, Located}
 use Rattle.pli_base.specs.Declarations.{Item}
-use Rattle.pli_base.specs.Statements.{Heading, Range, To, By, Repeat, Control, While, Iterate, Allocation, Statement, Numbered, Body, Statements, Ended, Before, Alternative, NoElse, Else, ExternalProcedure}
+use Rattle.pli_base.specs.Statements.{Heading, Range, To, By, Repeat, Control, While, Iterate, Allocation}
+use Rattle.pli_base.specs.Statements.{Statement, Numbered, Body, Statements, Ended, Before, Alternative}
+use Rattle.pli_base.specs.Statements.{NoElse, Else, ExternalProcedure}
 use Rattle.pli_base.specs.Statements as body
 use Rattle.pli_declare_outline.specs.declared.region.RegionKind.{RegionKind}
 use Rattle.pli_declare_outline.specs.declared.region.RegionKind.TheVariants as kinds
@@ -16,7 +22,8 @@ pub record Region : Type 0 where
   pub kind : RegionKind
   pub outer : Option ℕ
 
--- what the text declares or uses. Entered has the number of the procedure's own region; the names of Used are those of a reference between
+-- what the text declares or uses. Entered has the number of the procedure's own region; the names of Used are
+-- those of a reference between
 -- its arrows, of which each locator is a reference of its own
 pub data Mark : Type 0 where
   Declared : (items : List Item) → Mark
@@ -45,13 +52,15 @@ member_names (Joined Located name arguments more) = []
 
 abbrev mutual
   pub reference_marks : Reference → List Mark
-  reference_marks (Named name arguments more) = Used (name ∷ member_names more) ∷ argument_marks arguments ++ joined_marks more
+  reference_marks (Named name arguments more) =
+      Used (name ∷ member_names more) ∷ argument_marks arguments ++ joined_marks more
 
   -- a name behind `->` begins another reference
   pub joined_marks : JoinedParts → List Mark
   joined_marks Alone = []
   joined_marks (Joined Member name arguments more) = argument_marks arguments ++ joined_marks more
-  joined_marks (Joined Located name arguments more) = Used (name ∷ member_names more) ∷ argument_marks arguments ++ joined_marks more
+  joined_marks (Joined Located name arguments more) =
+      Used (name ∷ member_names more) ∷ argument_marks arguments ++ joined_marks more
 
   pub argument_marks : Arguments → List Mark
   argument_marks Absent = []
@@ -83,7 +92,8 @@ range_marks (Repeat next) = expression_marks next
 abbrev pub control_marks : Control → List Mark
 control_marks (While condition) = expression_marks condition
 control_marks (Iterate variable equals first range condition) =
-    reference_marks variable ++ expression_marks first ++ optional_marks range_marks range ++ optional_marks expression_marks condition
+    reference_marks variable ++ expression_marks first ++ optional_marks range_marks range
+    ++ optional_marks expression_marks condition
 
 -- the token of a reference's first name
 abbrev pub first_token : Reference → ℕ
@@ -92,7 +102,8 @@ first_token (Named name arguments more) = name.at
 -- two references in the order of the text
 abbrev pub both_marks : (area target : Option Reference) → List Mark
 both_marks (Some area) (Some target) =
-    if nat_lt (first_token target) (first_token area) then reference_marks target ++ reference_marks area else reference_marks area ++ reference_marks target
+    if nat_lt (first_token target) (first_token area) then reference_marks target ++ reference_marks area
+    else reference_marks area ++ reference_marks target
 both_marks area target = optional_marks reference_marks area ++ optional_marks reference_marks target
 
 -- the marks of an item of ALLOCATE
@@ -152,40 +163,52 @@ abbrev mutual
   statement_regions here next (Numbered number label at body) = body_regions here next body
 
   pub body_regions : (here next : ℕ) → Body → List Region
-  body_regions here next (body.Procedure heading statements end) = region_in kinds.Procedure here ∷ statements_regions next (next + 1) statements
-  body_regions here next (body.Begin statements end) = region_in kinds.Begin here ∷ statements_regions next (next + 1) statements
-  body_regions here next (body.Do control statements end) = region_in kinds.Group here ∷ statements_regions next (next + 1) statements
+  body_regions here next (body.Procedure heading statements end) =
+      region_in kinds.Procedure here ∷ statements_regions next (next + 1) statements
+  body_regions here next (body.Begin statements end) =
+      region_in kinds.Begin here ∷ statements_regions next (next + 1) statements
+  body_regions here next (body.Do control statements end) =
+      region_in kinds.Group here ∷ statements_regions next (next + 1) statements
   body_regions here next (body.If condition consequence alternative) =
-      statement_regions here next consequence ++ alternative_regions here (next + regions_in consequence) alternative
-  body_regions here next (body.On condition unit) = region_in kinds.Unit here ∷ statement_regions next (next + 1) unit
+      statement_regions here next consequence
+      ++ alternative_regions here (next + regions_in consequence) alternative
+  body_regions here next (body.On condition unit) =
+      region_in kinds.Unit here ∷ statement_regions next (next + 1) unit
   body_regions here next other = []
 
   pub statements_regions : (here next : ℕ) → Statements → List Region
   statements_regions here next Ended = []
-  statements_regions here next (Before first more) = statement_regions here next first ++ statements_regions here (next + regions_in first) more
+  statements_regions here next (Before first more) =
+      statement_regions here next first ++ statements_regions here (next + regions_in first) more
 
   pub alternative_regions : (here next : ℕ) → Alternative → List Region
   alternative_regions here next NoElse = []
   alternative_regions here next (Else statement) = statement_regions here next statement
 
--- the marks of a statement of the region here; the first region that begins in it has the number next. The control of a DO group stands
+-- the marks of a statement of the region here; the first region that begins in it has the number next. The
+-- control of a DO group stands
 -- outside the group
 abbrev mutual
   pub statement_marks : (here next : ℕ) → Statement → List Placed
-  statement_marks here next (Numbered number label at body) = placed here (label_marks label body) ++ body_marks here next body
+  statement_marks here next (Numbered number label at body) =
+      placed here (label_marks label body) ++ body_marks here next body
 
   pub body_marks : (here next : ℕ) → Body → List Placed
-  body_marks here next (body.Procedure heading statements end) = placed here (Entered heading next ∷ []) ++ statements_marks next (next + 1) statements
+  body_marks here next (body.Procedure heading statements end) =
+      placed here (Entered heading next ∷ []) ++ statements_marks next (next + 1) statements
   body_marks here next (body.Begin statements end) = statements_marks next (next + 1) statements
-  body_marks here next (body.Do control statements end) = placed here (optional_marks control_marks control) ++ statements_marks next (next + 1) statements
+  body_marks here next (body.Do control statements end) =
+      placed here (optional_marks control_marks control) ++ statements_marks next (next + 1) statements
   body_marks here next (body.If condition consequence alternative) =
-      placed here (expression_marks condition) ++ statement_marks here next consequence ++ alternative_marks here (next + regions_in consequence) alternative
+      placed here (expression_marks condition) ++ statement_marks here next consequence
+      ++ alternative_marks here (next + regions_in consequence) alternative
   body_marks here next (body.On condition unit) = statement_marks next (next + 1) unit
   body_marks here next other = placed here (head_marks other)
 
   pub statements_marks : (here next : ℕ) → Statements → List Placed
   statements_marks here next Ended = []
-  statements_marks here next (Before first more) = statement_marks here next first ++ statements_marks here (next + regions_in first) more
+  statements_marks here next (Before first more) =
+      statement_marks here next first ++ statements_marks here (next + regions_in first) more
 
   pub alternative_marks : (here next : ℕ) → Alternative → List Placed
   alternative_marks here next NoElse = []

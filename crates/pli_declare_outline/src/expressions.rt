@@ -1,8 +1,8 @@
 //! The marks of expressions and references.
 ghost use Rattle.std.specs.Prelude.{◌≡◌, ◌++◌, ◌∷◌, [], OnOk, IfOk};
-ghost use Rattle.pli_base.specs.SyntaxView.{expression_view, reference_view, expressions_view, arguments_view, joined_view};
+ghost use Rattle.pli_base.specs.views.SyntaxView.{expression_view, reference_view, expressions_view, arguments_view, joined_view};
 ghost use Rattle.pli_declare_outline.specs.Outlines.{placed, member_names, reference_marks, joined_marks, argument_marks, list_marks, expression_marks};
-ghost use Rattle.pli_declare_outline.specs.OutlineView.{mark_view, marks_view};
+ghost use Rattle.pli_declare_outline.specs.views.OutlineView.{mark_view, marks_view};
 
 use crate::region::{Mark, Placed};
 use pli_base::syntax::{Expression, Identifier, JoinedPart, Joining, Part, Reference};

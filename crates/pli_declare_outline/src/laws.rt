@@ -1,5 +1,5 @@
 //! Worked examples.
-ghost use Rattle.pli_declare_outline.specs.OutlineExamples.{Uses, Regions};
+ghost use Rattle.pli_declare_outline.specs.examples.OutlineExamples.{Uses, Regions};
 
 /// Outlines that compute.
 #[tactic(auto, unfolding(crate::specs::Outlines::outline_of))]

@@ -1,11 +1,11 @@
 //! The outline of statements.
 ghost use Rattle.std.specs.Prelude.{◌≡◌, ◌++◌, ◌<◌, ◌≤◌, ◌+◌, [], ◌∷◌, map, length, option_map, OnOk, IfOk};
 ghost use Rattle.std.specs.List.{flat_map};
-ghost use Rattle.pli_base.specs.SyntaxView.{expression_view, reference_view};
-ghost use Rattle.pli_base.specs.StatementView.{range_view, control_view, allocation_view, body_view, statement_view, statements_view, unit_view};
-ghost use Rattle.pli_base.specs.StatementLaws.{boxed_view};
+ghost use Rattle.pli_base.specs.views.SyntaxView.{expression_view, reference_view};
+ghost use Rattle.pli_base.specs.views.StatementView.{range_view, control_view, allocation_view, body_view, statement_view, statements_view, unit_view};
+ghost use Rattle.pli_base.specs.laws.StatementLaws.{boxed_view};
 ghost use Rattle.pli_declare_outline.specs.Outlines.{placed, optional_marks, range_marks, control_marks, both_marks, allocation_marks, expression_marks, reference_marks, label_marks, head_marks, regions_of, statement_marks, statement_regions, statements_marks, statements_regions, body_marks, body_regions, alternative_marks, alternative_regions, outline_of};
-ghost use Rattle.pli_declare_outline.specs.OutlineView.{regions_view, marks_view, outline_view};
+ghost use Rattle.pli_declare_outline.specs.views.OutlineView.{regions_view, marks_view, outline_view};
 
 use crate::expressions::{mark, mark_expression, mark_expressions, mark_reference};
 use crate::region::{Mark, Outline, Placed, Region, RegionKind};

@@ -1,9 +1,9 @@
 //! The regions and marks of statements with statements inside them.
 ghost use Rattle.std.specs.Prelude.{◌≡◌, ◌++◌, ◌+◌, ◌∷◌, [], length, OnOk, IfOk};
-ghost use Rattle.pli_base.specs.StatementView.{body_view, statement_view, statements_view, unit_view};
-ghost use Rattle.pli_base.specs.StatementLaws.{boxed_view};
+ghost use Rattle.pli_base.specs.views.StatementView.{body_view, statement_view, statements_view, unit_view};
+ghost use Rattle.pli_base.specs.laws.StatementLaws.{boxed_view};
 ghost use Rattle.pli_declare_outline.specs.Outlines.{region_in, regions_in, regions_of, regions_among, regions_else, statement_marks, statement_regions, statements_marks, statements_regions, body_marks, body_regions, alternative_marks, alternative_regions, outline_of};
-ghost use Rattle.pli_declare_outline.specs.OutlineView.{region_view, regions_view, marks_view, outline_view};
+ghost use Rattle.pli_declare_outline.specs.views.OutlineView.{region_view, regions_view, marks_view, outline_view};
 
 use crate::expressions::{mark, mark_expression};
 use crate::region::{Mark, Outline, Placed, Region, RegionKind};

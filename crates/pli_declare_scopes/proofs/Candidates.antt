@@ -4,12 +4,12 @@ use Rattle.std.specs.Prelude.{reverse}
 use Rattle.std.proofs.Math.Seq.{take-length}
 use Rattle.std.specs.Cmp.Lexicographic.{same_text}
 use Rattle.pli_base.specs.Name.{Name}
-use Rattle.pli_base.specs.NameLaws.{pointwise-refl}
+use Rattle.pli_base.specs.laws.NameLaws.{pointwise-refl}
 use Rattle.pli_base.specs.Words.{same_name}
 use Rattle.pli_declare_scopes.specs.declared.found.Found.{Found}
 use Rattle.pli_declare_scopes.specs.declared.found.Found.TheVariants.{Nothing, One, Several}
 use Rattle.pli_declare_scopes.specs.Scopes.{Block, item_at, is_named, chain_at, chain_over, is_part, fits_chain, is_chain, fits, fits_fully, with_number, found_below}
-use Rattle.pli_declare_scopes.specs.Indexes.{last_below, OwnersBefore}
+use Rattle.pli_declare_scopes.specs.answers.Indexes.{last_below, OwnersBefore}
 use Rattle.pli_declare_scopes.proofs.IndexKept.{both_true}
 use Rattle.pli_declare_scopes.proofs.Chains.{rank, chain_is, backwards}
 

@@ -8,7 +8,7 @@ use Rattle.pli_base.specs.Name.{Name}
 use Rattle.pli_base.specs.Words.{same_name}
 use Rattle.pli_declare_scopes.specs.declared.block.Declared.{Declared}
 use Rattle.pli_declare_scopes.specs.Scopes.{Block, item_at, chain_above, chains_after, chain_over, chain_at, is_part}
-use Rattle.pli_declare_scopes.specs.Indexes.{OwnersBefore}
+use Rattle.pli_declare_scopes.specs.answers.Indexes.{OwnersBefore}
 
 -- how far up an owner stands
 abbrev pub rank : Option ℕ → ℕ

@@ -9,7 +9,7 @@ use Rattle.pli_base.specs.Name.{Name}
 use Rattle.pli_base.specs.Words.{same_name}
 use Rattle.pli_declare_scopes.specs.declared.block.Declared.{Declared}
 use Rattle.pli_declare_scopes.specs.Scopes.{Block, no_item, item_at, is_named, any_below}
-use Rattle.pli_declare_scopes.specs.Indexes.{last_below, OwnersBefore, IsIndexed}
+use Rattle.pli_declare_scopes.specs.answers.Indexes.{last_below, OwnersBefore, IsIndexed}
 
 last_below_same : (test other : ℕ → Bool) (k : ℕ) → ((j : ℕ) → j < k → test j ≡ other j) → last_below test k ≡ last_below other k
 last_below_same test other zero same = refl

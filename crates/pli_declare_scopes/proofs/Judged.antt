@@ -6,13 +6,13 @@ use Rattle.std.proofs.lemmas.Bool.Decides.{nat_tests}
 use Rattle.std.proofs.lemmas.List.{get_or-take, length-take-le}
 use Rattle.std.proofs.Math.ListN.{get_or-append}
 use Rattle.std.proofs.Math.Seq.{get_or-append_seam}
-use Rattle.pli_base.specs.NameLaws.{pointwise-refl}
+use Rattle.pli_base.specs.laws.NameLaws.{pointwise-refl}
 use Rattle.pli_base.specs.Words.{same_name}
 use Rattle.pli_declare_scopes.specs.declared.repeat.Written.{Written}
 use Rattle.pli_declare_scopes.specs.declared.repeat.Verdict.{Verdict}
 use Rattle.pli_declare_scopes.specs.declared.repeat.Verdict.TheVariants.{Counts, Twice, Beneath}
 use Rattle.pli_declare_scopes.specs.Repeats.{repeats, is_counting, counts_above, judged, verdicts_after, verdicts_of}
-use Rattle.pli_declare_scopes.specs.RepeatLaws.{written_at, verdict_at, OwnersFirst, IsRepeated, OwnerCounts, AllAreJudged, CountsOnce, LaterIsFault, MembersArePassedOver}
+use Rattle.pli_declare_scopes.specs.laws.RepeatLaws.{written_at, verdict_at, OwnersFirst, IsRepeated, OwnerCounts, AllAreJudged, CountsOnce, LaterIsFault, MembersArePassedOver}
 use Rattle.pli_declare_scopes.proofs.Repeated.{repeats_same}
 
 verdicts_kept : (is before : List Written) (verdicts : List Verdict) (n : ℕ) → n < length verdicts → get_or (verdicts_after before verdicts is) n Beneath ≡ get_or verdicts n Beneath

@@ -3,14 +3,14 @@ use Rattle.std.proofs.Common.{◌≡◌, ℕ, zero, suc, ◌+◌, ◌<◌, ◌�
 use Rattle.std.proofs.lemmas.Bool.Decides.{nat_tests}
 use Rattle.std.specs.Cmp.Lexicographic.{same_text}
 use Rattle.pli_base.specs.Name.{Name}
-use Rattle.pli_base.specs.NameLaws.{pointwise-refl}
+use Rattle.pli_base.specs.laws.NameLaws.{pointwise-refl}
 use Rattle.pli_base.specs.Words.{same_name}
 use Rattle.pli_declare_scopes.specs.declared.found.Found.{Found}
 use Rattle.pli_declare_scopes.specs.declared.found.Found.TheVariants.{Nothing, One, Several}
 use Rattle.pli_declare_scopes.specs.declared.found.Meant.{Meant}
 use Rattle.pli_declare_scopes.specs.declared.found.Meant.TheVariants.{Item, Ambiguous, NotDeclared}
 use Rattle.pli_declare_scopes.specs.Scopes.{Block, Scope, item_at, is_named, any_below, chain_at, is_part, fits_chain, is_chain, fits, fits_fully, with_number, found_below, preferred, found_in, meant_there, declares_first, meant_from}
-use Rattle.pli_declare_scopes.specs.ScopeLaws.{IsPart, FitsChain, Fits, FitsFully, IsNone, IsOnly, AreTwo, IsFoundIn, DeclaresFirst, Decides, MeansFrom, Means, MeansOne, MeantIsMeans}
+use Rattle.pli_declare_scopes.specs.laws.ScopeLaws.{IsPart, FitsChain, Fits, FitsFully, IsNone, IsOnly, AreTwo, IsFoundIn, DeclaresFirst, Decides, MeansFrom, Means, MeansOne, MeantIsMeans}
 use Rattle.pli_declare_scopes.proofs.IndexKept.{both_true}
 
 same_to : (x y : Name) → same_name x y ≡ true → x ≡ y

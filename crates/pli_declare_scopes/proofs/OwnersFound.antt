@@ -7,7 +7,7 @@ use Rattle.std.specs.Option.{is_none}
 use Rattle.pli_declare_scopes.specs.declared.level.Numbered.{Numbered}
 use Rattle.pli_declare_scopes.specs.declared.level.Standing.{Standing}
 use Rattle.pli_declare_scopes.specs.Levels.{level_of, nearest_after, nearest, owner_of, is_bad, standing, standings_after}
-use Rattle.pli_declare_scopes.specs.LevelLaws.{level_at, stands_at, Belongs, IsLeast, HasNoOwner, IsBadLevel, AllStand, OwnersAreNearest, OwnersAreMissed, BadLevelsAreFound, LevelOneHasNoOwner}
+use Rattle.pli_declare_scopes.specs.laws.LevelLaws.{level_at, stands_at, Belongs, IsLeast, HasNoOwner, IsBadLevel, AllStand, OwnersAreNearest, OwnersAreMissed, BadLevelsAreFound, LevelOneHasNoOwner}
 
 -- levels with the numbers of their items
 abbrev pub numbered : ℕ → List ℕ → List Numbered

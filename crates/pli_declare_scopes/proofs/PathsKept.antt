@@ -18,9 +18,9 @@ use Rattle.pli_declare_scopes.specs.declared.path.Step.{Step}
 use Rattle.pli_declare_scopes.specs.declared.found.Found.{Found}
 use Rattle.pli_declare_scopes.specs.declared.found.Found.TheVariants.{Nothing}
 use Rattle.pli_declare_scopes.specs.Scopes.{Block, item_at, chain_above, chains_after, chain_at, chain_over, is_chain, fits_fully, with_number, found_below}
-use Rattle.pli_declare_scopes.specs.Indexes.{OwnersBefore}
-use Rattle.pli_declare_scopes.specs.Paths.{no_step, step_at, Spells, ends_at, ArePaths}
-use Rattle.pli_base.specs.NameLaws.{pointwise-refl}
+use Rattle.pli_declare_scopes.specs.answers.Indexes.{OwnersBefore}
+use Rattle.pli_declare_scopes.specs.answers.Paths.{no_step, step_at, Spells, ends_at, ArePaths}
+use Rattle.pli_base.specs.laws.NameLaws.{pointwise-refl}
 use Rattle.pli_declare_scopes.proofs.Repeated.{same_owners}
 use Rattle.pli_declare_scopes.proofs.Judged.{owner_refl}
 use Rattle.pli_declare_scopes.proofs.Chains.{backwards, chain_is, chains_kept}

@@ -13,9 +13,9 @@ use Rattle.pli_base.specs.Name.{Name}
 use Rattle.pli_base.specs.Words.{same_name}
 use Rattle.pli_declare_scopes.specs.declared.block.Declared.{Declared}
 use Rattle.pli_declare_scopes.specs.Scopes.{Block, item_at, chain_at, chain_over, is_part}
-use Rattle.pli_declare_scopes.specs.ScopeLaws.{IsPart}
-use Rattle.pli_declare_scopes.specs.Indexes.{OwnersBefore}
-use Rattle.pli_declare_scopes.specs.Roots.{joined, IsShared, IsAmong, AreRooted, RootIsOf}
+use Rattle.pli_declare_scopes.specs.laws.ScopeLaws.{IsPart}
+use Rattle.pli_declare_scopes.specs.answers.Indexes.{OwnersBefore}
+use Rattle.pli_declare_scopes.specs.answers.Roots.{joined, IsShared, IsAmong, AreRooted, RootIsOf}
 use Rattle.pli_declare_scopes.proofs.Chains.{chain_is}
 use Rattle.pli_declare_scopes.proofs.IndexKept.{below_or_last}
 use Rattle.pli_declare_scopes.proofs.MeantMeans.{part_to}

@@ -1,5 +1,6 @@
 -- Levels: which item each declared item belongs to.
-use Rattle.std.specs.Prelude.{ℕ, ◌+◌, Bool, ◌||◌, ◌&&◌, nat_eq, nat_lt, List, [], ◌∷◌, ◌++◌, map, Option, None, Some, if◌then◌else◌}
+use Rattle.std.specs.Prelude.{ℕ, ◌+◌, Bool, ◌||◌, ◌&&◌, nat_eq, nat_lt, List, [], ◌∷◌, ◌++◌, map, Option}
+use Rattle.std.specs.Prelude.{None, Some, if◌then◌else◌}
 use Rattle.std.specs.Option.{is_none, unwrap_or}
 use Rattle.pli_declare_scopes.specs.declared.level.Numbered.{Numbered}
 use Rattle.pli_declare_scopes.specs.declared.level.Standing.{Standing}
@@ -11,7 +12,8 @@ level_of written = unwrap_or written 1
 -- the last of some items that has a lesser level, or else the one found before
 abbrev pub nearest_after : Option ℕ → ℕ → List Numbered → Option ℕ
 nearest_after found level [] = found
-nearest_after found level (i ∷ is) = nearest_after (if nat_lt i.level level then Some i.number else found) level is
+nearest_after found level (i ∷ is) =
+    nearest_after (if nat_lt i.level level then Some i.number else found) level is
 
 -- the nearest item before with a lesser level
 abbrev pub nearest : ℕ → List Numbered → Option ℕ
@@ -33,7 +35,8 @@ standing level nearest = record { owner = owner_of level nearest; is_bad = is_ba
 abbrev pub standings_after : List Numbered → ℕ → List ℕ → List Standing
 standings_after before number [] = []
 standings_after before number (l ∷ ls) =
-    standing l (nearest l before) ∷ standings_after (before ++ record { number = number; level = l } ∷ []) (number + 1) ls
+    standing l (nearest l before)
+    ∷ standings_after (before ++ record { number = number; level = l } ∷ []) (number + 1) ls
 
 -- how the items of a list stand, numbered from 0
 abbrev pub standings_of : List (Option ℕ) → List Standing

@@ -1,10 +1,6 @@
 pub mod Levels
-pub mod LevelLaws
 pub mod Repeats
-pub mod RepeatLaws
 pub mod Scopes
-pub mod Examples
-pub mod ScopeLaws
-pub mod Indexes
-pub mod Paths
-pub mod Roots
+pub mod answers
+pub mod examples
+pub mod laws

@@ -1,5 +1,6 @@
 -- Names that are declared twice.
-use Rattle.std.specs.Prelude.{ℕ, Bool, true, false, ◌&&◌, nat_eq, List, [], ◌∷◌, ◌++◌, get_or, Option, None, Some, if◌then◌else◌}
+use Rattle.std.specs.Prelude.{ℕ, Bool, true, false, ◌&&◌, nat_eq, List, [], ◌∷◌, ◌++◌, get_or, Option, None}
+use Rattle.std.specs.Prelude.{Some, if◌then◌else◌}
 use Rattle.std.specs.List.{list_any}
 use Rattle.std.specs.Option.{option_eq}
 use Rattle.pli_base.specs.Words.{same_name}
@@ -30,7 +31,8 @@ judged above repeated = if above then (if repeated then Twice else Counts) else 
 abbrev pub verdicts_after : List Written → List Verdict → List Written → List Verdict
 verdicts_after before verdicts [] = verdicts
 verdicts_after before verdicts (i ∷ is) =
-    verdicts_after (before ++ i ∷ []) (verdicts ++ judged (counts_above verdicts i.owner) (list_any (repeats i) before) ∷ []) is
+    verdicts_after (before ++ i ∷ []) (verdicts
+    ++ judged (counts_above verdicts i.owner) (list_any (repeats i) before) ∷ []) is
 
 -- what becomes of the items of a block, in order
 abbrev pub verdicts_of : List Written → List Verdict

@@ -1,5 +1,6 @@
 -- Scopes: which item a reference means.
-use Rattle.std.specs.Prelude.{ℕ, zero, suc, ◌+◌, Bool, true, false, ◌&&◌, ◌||◌, List, [], ◌∷◌, ◌++◌, reverse, length, get_or, Option, None, Some, if◌then◌else◌}
+use Rattle.std.specs.Prelude.{ℕ, zero, suc, ◌+◌, Bool, true, false, ◌&&◌, ◌||◌, List, [], ◌∷◌, ◌++◌, reverse}
+use Rattle.std.specs.Prelude.{length, get_or, Option, None, Some, if◌then◌else◌}
 use Rattle.std.specs.Cmp.Lexicographic.{pointwise}
 use Rattle.pli_base.specs.Name.{Name}
 use Rattle.pli_base.specs.Words.{same_name}
@@ -9,7 +10,8 @@ use Rattle.pli_declare_scopes.specs.declared.found.Found.TheVariants.{Nothing, O
 use Rattle.pli_declare_scopes.specs.declared.found.Meant.{Meant}
 use Rattle.pli_declare_scopes.specs.declared.found.Meant.TheVariants.{Item, Ambiguous, NotDeclared}
 
--- the items that a block declares, in order; an item's number is its place, from 0, and members stand after the item that they belong to
+-- the items that a block declares, in order; an item's number is its place, from 0, and members stand after
+-- the item that they belong to
 abbrev pub Block : Type 0
 Block = List Declared
 
@@ -62,7 +64,8 @@ is_part [] ys = true
 is_part (x ∷ xs) [] = false
 is_part (x ∷ xs) (y ∷ ys) = is_part (if same_name x y then xs else x ∷ xs) ys
 
--- names that are read backwards fit a chain: they begin with the item's own name and go on with names of items that it belongs to
+-- names that are read backwards fit a chain: they begin with the item's own name and go on with names of
+-- items that it belongs to
 abbrev pub fits_chain : List Name → List Name → Bool
 fits_chain [] chain = false
 fits_chain (n ∷ ns) [] = false
@@ -99,7 +102,9 @@ preferred Several partly = Several
 
 -- what names mean in a block: a full qualification first
 abbrev pub found_in : Block → List Name → Found
-found_in block names = preferred (found_below (fits_fully block names) (length block) Nothing) (found_below (fits block names) (length block) Nothing)
+found_in block names =
+    preferred (found_below (fits_fully block names) (length block) Nothing)
+    (found_below (fits block names) (length block) Nothing)
 
 -- what is found in the block that is so many blocks outwards
 abbrev pub meant_there : ℕ → Found → Meant
@@ -115,7 +120,8 @@ declares_first block (n ∷ ns) = declares block n
 -- the first of the blocks that declares an item of the first name decides
 abbrev pub meant_from : ℕ → Scope → List Name → Meant
 meant_from out [] names = NotDeclared
-meant_from out (b ∷ bs) names = if declares_first b names then meant_there out (found_in b names) else meant_from (out + 1) bs names
+meant_from out (b ∷ bs) names =
+    if declares_first b names then meant_there out (found_in b names) else meant_from (out + 1) bs names
 
 -- what the names of a reference mean
 abbrev pub meant : Scope → List Name → Meant

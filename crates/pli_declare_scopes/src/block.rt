@@ -5,8 +5,8 @@ ghost use Rattle.pli_base.specs.Name.{Name as Characters};
 ghost use Rattle.pli_base.specs.Words.{same_name};
 ghost use Rattle.pli_declare_scopes.specs.Scopes.{declares, item_at, chain_over, is_part, fits, fits_fully, found_below, found_in};
 ghost use Rattle.pli_declare_scopes.specs.declared.found.Found.TheVariants as variants;
-ghost use Rattle.pli_declare_scopes.specs.Indexes.{OwnersBefore};
-ghost use Rattle.pli_declare_scopes.specs.Roots.{RootIsOf};
+ghost use Rattle.pli_declare_scopes.specs.answers.Indexes.{OwnersBefore};
+ghost use Rattle.pli_declare_scopes.specs.answers.Roots.{RootIsOf};
 
 use crate::found::Found;
 use crate::path::{Step, note_end, path_above, path_of};
@@ -49,9 +49,9 @@ pub struct Block {
 impl Model for Block {
     ghost use Rattle.std.specs.Prelude.{List};
     ghost use Rattle.pli_declare_scopes.specs.declared.block.Declared.{Declared as Item};
-    ghost use Rattle.pli_declare_scopes.specs.Indexes.{IsIndexed};
-    ghost use Rattle.pli_declare_scopes.specs.Paths.{ArePaths};
-    ghost use Rattle.pli_declare_scopes.specs.Roots.{AreRooted};
+    ghost use Rattle.pli_declare_scopes.specs.answers.Indexes.{IsIndexed};
+    ghost use Rattle.pli_declare_scopes.specs.answers.Paths.{ArePaths};
+    ghost use Rattle.pli_declare_scopes.specs.answers.Roots.{AreRooted};
 
     ghost Value = { List Item };
 

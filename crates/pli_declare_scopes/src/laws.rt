@@ -1,8 +1,8 @@
 //! Laws and worked examples of levels and references.
-ghost use Rattle.pli_declare_scopes.specs.ScopeLaws.{MeantIsMeans, MeansOne};
-ghost use Rattle.pli_declare_scopes.specs.Examples.{MembersOfMembers, LevelZero, LevelOneAfterZero, NoLesserLevel, LevelsOver255, PartialQualification, FullBeforePartial, InnermostBlock, ItemsThatCount, SecondIsTwice, MembersOfSecond};
-ghost use Rattle.pli_declare_scopes.specs.RepeatLaws.{AllAreJudged, CountsOnce, LaterIsFault, MembersArePassedOver};
-ghost use Rattle.pli_declare_scopes.specs.LevelLaws.{AllStand, OwnersAreNearest, OwnersAreMissed, BadLevelsAreFound, LevelOneHasNoOwner};
+ghost use Rattle.pli_declare_scopes.specs.laws.ScopeLaws.{MeantIsMeans, MeansOne};
+ghost use Rattle.pli_declare_scopes.specs.examples.Examples.{MembersOfMembers, LevelZero, LevelOneAfterZero, NoLesserLevel, LevelsOver255, PartialQualification, FullBeforePartial, InnermostBlock, ItemsThatCount, SecondIsTwice, MembersOfSecond};
+ghost use Rattle.pli_declare_scopes.specs.laws.RepeatLaws.{AllAreJudged, CountsOnce, LaterIsFault, MembersArePassedOver};
+ghost use Rattle.pli_declare_scopes.specs.laws.LevelLaws.{AllStand, OwnersAreNearest, OwnersAreMissed, BadLevelsAreFound, LevelOneHasNoOwner};
 
 /// A law: the owner of an item of a level over 1 is the nearest item before it with a lesser level, and else it has none; where
 /// levels are not bad, the items of level 1 are those without one.

@@ -2,7 +2,7 @@
 ghost use Rattle.std.specs.Prelude.{◌≡◌, ◌<◌, ℕ, List, Bool, true, get_or, set, if◌then◌else◌, length, option_map, IfSome, IfOk};
 ghost use Rattle.pli_declare_scopes.specs.Scopes.{Block as Items, with_number};
 ghost use Rattle.pli_declare_scopes.specs.declared.found.Found.TheVariants as variants;
-ghost use Rattle.pli_declare_scopes.specs.Paths.{step_at, ArePaths};
+ghost use Rattle.pli_declare_scopes.specs.answers.Paths.{step_at, ArePaths};
 
 use crate::found::Found;
 use indexmap::IndexSet;

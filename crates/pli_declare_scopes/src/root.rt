@@ -4,7 +4,7 @@ ghost use Rattle.std.specs.Option.{unwrap_or};
 ghost use Rattle.indexmap.specs.IndexMap.{get, IsUnchanged};
 ghost use Rattle.pli_base.specs.Name.{Name as Characters};
 ghost use Rattle.pli_base.specs.Words.{same_name};
-ghost use Rattle.pli_declare_scopes.specs.Roots.{joined, AreRooted};
+ghost use Rattle.pli_declare_scopes.specs.answers.Roots.{joined, AreRooted};
 ghost use Rattle.pli_declare_scopes.specs.Scopes.{Block as Items};
 
 use indexmap::IndexMap;

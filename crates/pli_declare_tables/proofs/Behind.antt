@@ -7,11 +7,11 @@ use Rattle.pli_base.specs.Declarations.{Item}
 use Rattle.pli_declare_outline.specs.Outlines.{Region, Mark, Declared, Labelled, Entered, Used, Jumped, Placed}
 use Rattle.pli_declare_constructs.specs.Regions.{block_of}
 use Rattle.pli_declare_scopes.specs.Levels.{standings_of}
-use Rattle.pli_declare_scopes.specs.RepeatLaws.{written_at}
+use Rattle.pli_declare_scopes.specs.laws.RepeatLaws.{written_at}
 use Rattle.pli_declare_scopes.specs.declared.level.Standing.{Standing}
 use Rattle.pli_declare_tables.specs.Tables.{Entry, written, named, item_entries, entries_of, entries_after, inner_marks, heading_entries, unit_entries}
-use Rattle.pli_declare_tables.specs.Answers.{AreBehindOwners}
-use Rattle.pli_declare_tables.specs.TableLaws.{OwnersStandBefore}
+use Rattle.pli_declare_tables.specs.answers.Answers.{AreBehindOwners}
+use Rattle.pli_declare_tables.specs.laws.TableLaws.{OwnersStandBefore}
 use Rattle.pli_declare_tables.proofs.Standings.{StandFrom, standings_stand}
 
 -- each of some names that stand behind so many others has its owner before it

@@ -6,7 +6,7 @@ use Rattle.pli_declare_scopes.specs.Levels.{level_of, nearest_after, nearest, ow
 use Rattle.pli_declare_scopes.specs.declared.level.Numbered.{Numbered}
 use Rattle.pli_declare_scopes.specs.declared.level.Standing.{Standing}
 use Rattle.pli_declare_tables.specs.Tables.{item_entries}
-use Rattle.pli_declare_tables.specs.Answers.{StandBehindOwners}
+use Rattle.pli_declare_tables.specs.answers.Answers.{StandBehindOwners}
 
 -- each of some items that stand behind so many others has its owner before it
 abbrev pub StandFrom : ℕ → List Standing → Type 0

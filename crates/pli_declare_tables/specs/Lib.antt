@@ -1,4 +1,4 @@
 pub mod Tables
-pub mod TableView
-pub mod Answers
-pub mod TableLaws
+pub mod answers
+pub mod laws
+pub mod views

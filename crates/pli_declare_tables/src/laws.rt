@@ -1,5 +1,5 @@
 //! Laws of tables.
-ghost use Rattle.pli_declare_tables.specs.TableLaws.{OwnersStandBefore};
+ghost use Rattle.pli_declare_tables.specs.laws.TableLaws.{OwnersStandBefore};
 
 /// A law: in each block each name stands behind the item that it is a member of.
 #[tactic(auto, using(crate::proofs::Behind::owners_stand_before))]

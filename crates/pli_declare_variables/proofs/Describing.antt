@@ -7,13 +7,13 @@ use Rattle.std.proofs.lemmas.List.{length-map, get_or-map, drop_more, drop_all, 
 use Rattle.std.proofs.lemmas.Bool.{eqb-true, eq-eqb}
 use Rattle.pli_base.specs.declared.code.Code.{Code}
 use Rattle.pli_map.specs.Description.{Description, Structure, Members, NoMembers, MemberThen}
-use Rattle.pli_map.specs.DescriptionView as view
+use Rattle.pli_map.specs.views.DescriptionView as view
 use Rattle.pli_map.specs.declared.description.Description as program
 use Rattle.pli_map.specs.declared.description.Description.TheVariants as made
 use Rattle.pli_map.specs.declared.description.Description.TheFolds as folds
 use Rattle.pli_declare_attributes.specs.Extents.{all_bounds}
 use Rattle.pli_declare_attributes.specs.Faults.{with_bounds}
-use Rattle.pli_declare_tables.specs.Answers.{AreBehindOwners}
+use Rattle.pli_declare_tables.specs.answers.Answers.{AreBehindOwners}
 use Rattle.pli_declare_tables.specs.Tables.{Entry, numbers_from}
 use Rattle.pli_declare_variables.specs.Places.{members_of, item_of}
 use Rattle.pli_declare_variables.specs.Descriptions.{is_of_shape, scalar_at, member_then, members_made, inside, described}

@@ -7,12 +7,12 @@ use Rattle.pli_map.specs.Description.{Description}
 use Rattle.pli_declare_attributes.specs.Faults.{item_fault}
 use Rattle.pli_declare_attributes.specs.declared.place.Place.{Place}
 use Rattle.pli_declare_tables.specs.Tables.{Entity, AsItem, AsLabel, AsProcedure, Entry, no_entry, numbers_from}
-use Rattle.pli_declare_tables.specs.TableView.{entry_view, entries_view}
+use Rattle.pli_declare_tables.specs.views.TableView.{entry_view, entries_view}
 use Rattle.pli_declare_tables.specs.declared.entry.Entry as program
 use Rattle.pli_declare_variables.specs.Places.{item_in, place_in, own_code}
 use Rattle.pli_declare_variables.specs.Descriptions.{own_codes}
 use Rattle.pli_declare_variables.specs.Declarations.{Kind, whole_description, kind_of, IsGood}
-use Rattle.pli_declare_variables.specs.Declaring.{kind_with, whole_at, IsFaultless}
+use Rattle.pli_declare_variables.specs.answers.Declaring.{kind_with, whole_at, IsFaultless}
 
 -- the codes of all entries
 pub all_codes : (entries : List program.Entry) (names : List Name) (codes : List (Option Code))

@@ -3,13 +3,13 @@ use Rattle.std.proofs.Common.{◌≡◌, ℕ, ◌<◌, ◌||◌, Option, Some, N
 use Rattle.std.proofs.lemmas.List.{get_or-map, length-map}
 use Rattle.pli_declare_attributes.specs.Extents.{is_array}
 use Rattle.pli_declare_attributes.specs.Initials.{elements_inside}
-use Rattle.pli_declare_tables.specs.Answers.{AreBehindOwners}
-use Rattle.pli_declare_tables.specs.TableView.{entry_view, entries_view}
+use Rattle.pli_declare_tables.specs.answers.Answers.{AreBehindOwners}
+use Rattle.pli_declare_tables.specs.views.TableView.{entry_view, entries_view}
 use Rattle.pli_declare_tables.specs.Tables as plain
 use Rattle.pli_declare_tables.specs.Tables.{no_entry, numbers_from}
 use Rattle.pli_declare_tables.specs.declared.entry.Entry.{Entry}
 use Rattle.pli_declare_variables.specs.Places.{item_of}
-use Rattle.pli_declare_variables.specs.Walks.{made_by, above_at, above_owner, nothing_above}
+use Rattle.pli_declare_variables.specs.answers.Walks.{made_by, above_at, above_owner, nothing_above}
 use Rattle.pli_declare_variables.specs.declared.places.Surroundings.{Surroundings}
 use Rattle.pli_declare_variables.proofs.Numbers.{mapped_at}
 use Rattle.pli_declare_variables.proofs.Owners.{Below, owner_below, owners_next, owners_none}

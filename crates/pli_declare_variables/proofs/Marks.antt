@@ -7,7 +7,7 @@ use Rattle.std.proofs.lemmas.List.{ext_get_or, take_more, get_or-set_same, get_o
 use Rattle.std.proofs.lemmas.List.Folds.{list_any-append}
 use Rattle.pli_declare_tables.specs.Tables.{Entry, no_entry, numbers_from}
 use Rattle.pli_declare_variables.specs.Places.{owner_is}
-use Rattle.pli_declare_variables.specs.Walks.{has_members_at}
+use Rattle.pli_declare_variables.specs.answers.Walks.{has_members_at}
 use Rattle.pli_declare_variables.proofs.Numbers.{mapped_at, mapped_length}
 
 or_true : (a : Bool) → (a || true) ≡ true

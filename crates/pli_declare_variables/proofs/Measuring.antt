@@ -14,7 +14,7 @@ use Rattle.pli_declare_attributes.specs.Extents.{low_of, integer_of, are_good, a
 use Rattle.pli_declare_attributes.specs.Faults.{with_bounds}
 use Rattle.pli_declare_attributes.proofs.Shapes.{bounds_good}
 use Rattle.pli_declare_variables.specs.Descriptions.{member_then, members_made, inside}
-use Rattle.pli_declare_variables.specs.Measures.{of_layout, IsMeasured, IsFront}
+use Rattle.pli_declare_variables.specs.answers.Measures.{of_layout, IsMeasured, IsFront}
 use Rattle.pli_declare_variables.specs.declared.sizes.Measured.{Measured}
 use Rattle.pli_declare_variables.specs.declared.sizes.Measured.TheVariants.{Unknown, TooLarge, Takes}
 

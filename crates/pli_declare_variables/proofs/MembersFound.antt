@@ -8,13 +8,13 @@ use Rattle.pli_base.specs.declared.code.Code.{Code}
 use Rattle.pli_map.specs.Description.{Description}
 use Rattle.pli_declare_attributes.specs.Extents.{all_bounds}
 use Rattle.pli_declare_attributes.specs.Faults.{with_bounds}
-use Rattle.pli_declare_tables.specs.Answers.{AreBehindOwners}
+use Rattle.pli_declare_tables.specs.answers.Answers.{AreBehindOwners}
 use Rattle.pli_declare_tables.specs.Tables.{Entry, no_entry, written, numbers_from}
-use Rattle.pli_declare_tables.specs.TableView.{entry_view, entries_view}
+use Rattle.pli_declare_tables.specs.views.TableView.{entry_view, entries_view}
 use Rattle.pli_declare_tables.specs.declared.entry.Entry as program
 use Rattle.pli_declare_variables.specs.Places.{owner_is, members_of, item_of}
 use Rattle.pli_declare_variables.specs.Descriptions.{is_of_shape, scalar_at, member_then, members_made, inside, described}
-use Rattle.pli_declare_variables.specs.Measures.{IsMeasured, AreMeasured}
+use Rattle.pli_declare_variables.specs.answers.Measures.{IsMeasured, AreMeasured}
 use Rattle.pli_declare_variables.specs.declared.sizes.Measured.{Measured}
 use Rattle.pli_declare_variables.specs.declared.sizes.Measured.TheVariants.{Unknown}
 use Rattle.pli_declare_variables.proofs.NumbersOn.{length_numbers, numbers_more, map_at, map_same, set_at_number, filtered, filter_push}

@@ -3,13 +3,13 @@ use Rattle.std.proofs.Common.{◌≡◌, ℕ, ◌<◌, ◌&&◌, ◌||◌, Bool,
 use Rattle.std.proofs.lemmas.List.{length-map}
 use Rattle.pli_declare_attributes.specs.Sets.{set_of, has, outermost, area, pointer, offset}
 use Rattle.pli_declare_attributes.specs.declared.named.Named.{Named}
-use Rattle.pli_declare_tables.specs.Answers.{AreBehindOwners}
-use Rattle.pli_declare_tables.specs.TableView.{entry_view, entries_view}
+use Rattle.pli_declare_tables.specs.answers.Answers.{AreBehindOwners}
+use Rattle.pli_declare_tables.specs.views.TableView.{entry_view, entries_view}
 use Rattle.pli_declare_tables.specs.Tables as plain
 use Rattle.pli_declare_tables.specs.Tables.{no_entry, numbers_from}
 use Rattle.pli_declare_tables.specs.declared.entry.Entry.{Entry}
 use Rattle.pli_declare_variables.specs.Places.{owners_of, item_in, is_variable}
-use Rattle.pli_declare_variables.specs.Walks.{chain_of, chain_at, chain_above, chain_with, no_chain, nameable_at}
+use Rattle.pli_declare_variables.specs.answers.Walks.{chain_of, chain_at, chain_above, chain_with, no_chain, nameable_at}
 use Rattle.pli_declare_variables.specs.declared.locators.Chain.{Chain}
 use Rattle.pli_declare_variables.specs.declared.locators.Nameable.{Nameable}
 use Rattle.pli_declare_variables.proofs.Levelled.{view_at, owner_before}

@@ -2,8 +2,8 @@
 use Rattle.std.proofs.Common.{◌≡◌, ℕ, zero, suc, ◌<◌, ◌≤◌, IfSome, Option, Some, None, List, [], ◌∷◌, length, get_or, map, refl, ap, subst, ◌∙◌, arith}
 use Rattle.std.proofs.lemmas.List.{get_or-map, length-map}
 use Rattle.pli_declare_scopes.specs.declared.repeat.Written.{Written}
-use Rattle.pli_declare_scopes.specs.RepeatLaws.{written_at}
-use Rattle.pli_declare_tables.specs.Answers.{AreBehindOwners}
+use Rattle.pli_declare_scopes.specs.laws.RepeatLaws.{written_at}
+use Rattle.pli_declare_tables.specs.answers.Answers.{AreBehindOwners}
 use Rattle.pli_declare_tables.specs.Tables.{Entry, no_entry, written}
 use Rattle.pli_declare_variables.specs.Places.{above, owners_of}
 

@@ -4,12 +4,12 @@ use Rattle.std.specs.List.{list_any}
 use Rattle.pli_base.specs.Name.{Name}
 use Rattle.pli_base.specs.Words.{same_name}
 use Rattle.pli_declare_attributes.specs.declared.place.Place.{Place}
-use Rattle.pli_declare_tables.specs.TableView.{entry_view, entries_view}
+use Rattle.pli_declare_tables.specs.views.TableView.{entry_view, entries_view}
 use Rattle.pli_declare_tables.specs.Tables as plain
 use Rattle.pli_declare_tables.specs.Tables.{no_entry, numbers_from}
 use Rattle.pli_declare_tables.specs.declared.entry.Entry.{Entry}
 use Rattle.pli_declare_variables.specs.Places.{is_bad_level, stands_alone, position_of, is_built_in, place_in}
-use Rattle.pli_declare_variables.specs.Walks.{has_members_at, above_at, placed}
+use Rattle.pli_declare_variables.specs.answers.Walks.{has_members_at, above_at, placed}
 use Rattle.pli_declare_variables.specs.declared.places.Surroundings.{Surroundings}
 use Rattle.pli_declare_variables.proofs.Levelled.{view_at}
 use Rattle.pli_declare_variables.proofs.Numbers.{mapped_at}

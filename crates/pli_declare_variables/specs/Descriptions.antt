@@ -1,5 +1,6 @@
 -- The descriptions of variables, where they are known.
-use Rattle.std.specs.Prelude.{◌≡◌, ℕ, zero, suc, Bool, false, ◌&&◌, nat_le, Option, Some, None, is_none, option_map, List, [], ◌∷◌, map, length, get_or, if◌then◌else◌}
+use Rattle.std.specs.Prelude.{◌≡◌, ℕ, zero, suc, Bool, false, ◌&&◌, nat_le, Option, Some, None, is_none}
+use Rattle.std.specs.Prelude.{option_map, List, [], ◌∷◌, map, length, get_or, if◌then◌else◌}
 use Rattle.pli_base.specs.Name.{Name}
 use Rattle.pli_base.specs.Codes.{code_place}
 use Rattle.pli_base.specs.Declarations.{Item}
@@ -37,12 +38,14 @@ abbrev pub inside : (ℕ → Option Description) → Description → List ℕ �
 inside describe scalar [] = Some scalar
 inside describe scalar (k ∷ ks) = option_map Structure (members_made describe (k ∷ ks))
 
--- the description of an item, where neither it nor an item in it has one of A3 to A7; its members stand behind it, so they nest less deep than there are entries
+-- the description of an item, where neither it nor an item in it has one of A3 to A7; its members stand
+-- behind it, so they nest less deep than there are entries
 abbrev pub described : (bound : ℕ) → List Entry → (codes : List (Option Code)) → ℕ → Option Description
 described zero entries codes n = None
 described (suc bound) entries codes n =
     if is_of_shape (get_or codes n None) then None
-    else option_map (with_bounds (all_bounds (item_of entries n).dimensions)) (inside (described bound entries codes) (scalar_at entries n) (members_of entries n))
+    else option_map (with_bounds (all_bounds (item_of entries n).dimensions))
+    (inside (described bound entries codes) (scalar_at entries n) (members_of entries n))
 
 -- each item's least fault apart from names
 abbrev pub own_codes : List Entry → (parameters : List Name) → List (Option Code)
@@ -60,7 +63,8 @@ is_large (Some d) = is_too_large d
 -- a variable of its own that is too large, where its size is known
 abbrev pub is_large_at : List Entry → (codes : List (Option Code)) → ℕ → Bool
 is_large_at entries codes n =
-    is_none (get_or entries n no_entry).owner && is_variable (get_or entries n no_entry).entity && is_large (described (length entries) entries codes n)
+    is_none (get_or entries n no_entry).owner && is_variable (get_or entries n no_entry).entity
+    && is_large (described (length entries) entries codes n)
 
 -- the same, by each item's least fault
 abbrev pub is_too_large_variable : List Entry → (parameters : List Name) → ℕ → Bool
@@ -69,9 +73,12 @@ is_too_large_variable entries parameters n = is_large_at entries (own_codes entr
 -- bounds, precision and length are within the limits
 pub record IsSoundItem (item : Item) : Type 0 where
   pub bounds : are_bad_bounds item.dimensions ≡ false
-  pub precision : is_bad_precision (set_of (map outermost item.attributes)) (number_of (map outermost item.attributes)) ≡ false
-  pub length_of : is_bad_length (set_of (map outermost item.attributes)) (number_of (map outermost item.attributes)) ≡ false
+  pub precision : is_bad_precision (set_of (map outermost item.attributes))
+      (number_of (map outermost item.attributes)) ≡ false
+  pub length_of : is_bad_length (set_of (map outermost item.attributes))
+      (number_of (map outermost item.attributes)) ≡ false
 
 -- an item whose code is none of A3 to A7 is within the limits
 abbrev pub ShapesAreSound : List Entry → (codes : List (Option Code)) → Type 0
-ShapesAreSound entries codes = (n : ℕ) → is_of_shape (get_or codes n None) ≡ false → IsSoundItem (item_of entries n)
+ShapesAreSound entries codes =
+    (n : ℕ) → is_of_shape (get_or codes n None) ≡ false → IsSoundItem (item_of entries n)

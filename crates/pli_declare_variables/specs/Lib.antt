@@ -1,8 +1,6 @@
 pub mod Places
-pub mod Walks
 pub mod Descriptions
 pub mod Judging
-pub mod Measures
 pub mod Declarations
-pub mod DeclarationView
-pub mod Declaring
+pub mod answers
+pub mod views

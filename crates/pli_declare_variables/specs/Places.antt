@@ -1,5 +1,7 @@
 -- The items of a block as variables: where each stands, and its least fault apart from names.
-use Rattle.std.specs.Prelude.{ℕ, zero, suc, ◌+◌, ◌*◌, ◌^◌, ◌-◌, min, Bool, false, not, ◌&&◌, ◌||◌, ◌==◌, Option, Some, None, is_none, option_map, List, [], ◌∷◌, map, length, get_or, if◌then◌else◌, codes}
+use Rattle.std.specs.Prelude.{ℕ, zero, suc, ◌+◌, ◌*◌, ◌^◌, ◌-◌, min, Bool, false, not, ◌&&◌, ◌||◌, ◌==◌}
+use Rattle.std.specs.Prelude.{Option, Some, None, is_none, option_map, List, [], ◌∷◌, map, length, get_or}
+use Rattle.std.specs.Prelude.{if◌then◌else◌, codes}
 use Rattle.std.specs.List.{list_any, list_all, filter}
 use Rattle.std.specs.Option.{unwrap_or}
 use Rattle.pli_base.specs.Name.{Name}
@@ -9,11 +11,13 @@ use Rattle.pli_base.specs.Declarations.{Item}
 use Rattle.pli_map.specs.Sizes.{count_of}
 use Rattle.pli_declare_attributes.specs.Extents.{all_bounds, are_bad_bounds, is_array}
 use Rattle.pli_declare_attributes.specs.Faults.{item_fault}
-use Rattle.pli_declare_attributes.specs.Sets.{outermost, set_of, has, none_of, entry, built_in, based, area, pointer, offset}
+use Rattle.pli_declare_attributes.specs.Sets.{outermost, set_of, has, none_of, entry, built_in, based, area}
+use Rattle.pli_declare_attributes.specs.Sets.{pointer, offset}
 use Rattle.pli_declare_attributes.specs.declared.place.Place.{Place}
 use Rattle.pli_declare_attributes.specs.declared.place.Position.{Position}
 use Rattle.pli_declare_attributes.specs.declared.place.Position.TheVariants.{AtLevelOne, Member, Parameter}
-use Rattle.pli_declare_tables.specs.Tables.{Entity, AsItem, AsLabel, AsProcedure, Entry, no_entry, numbers_from}
+use Rattle.pli_declare_tables.specs.Tables.{Entity, AsItem, AsLabel, AsProcedure, Entry, no_entry}
+use Rattle.pli_declare_tables.specs.Tables.{numbers_from}
 
 -- the items that an entry is a member of, the nearest first; each stands before it
 abbrev pub above : (bound : ℕ) → List Entry → Option ℕ → List ℕ
@@ -50,7 +54,8 @@ item_of entries n = item_in (get_or entries n no_entry).entity
 -- the names of built-in functions
 abbrev pub built_in_names : List Name
 built_in_names =
-    codes "ABS" ∷ codes "MAX" ∷ codes "MIN" ∷ codes "MOD" ∷ codes "DIVIDE" ∷ codes "SIGN" ∷ codes "LENGTH" ∷ codes "INDEX" ∷ codes "ALLOCATION" ∷ codes "LBOUND" ∷ codes "HBOUND"
+    codes "ABS" ∷ codes "MAX" ∷ codes "MIN" ∷ codes "MOD" ∷ codes "DIVIDE" ∷ codes "SIGN" ∷ codes "LENGTH"
+    ∷ codes "INDEX" ∷ codes "ALLOCATION" ∷ codes "LBOUND" ∷ codes "HBOUND"
     ∷ codes "SUBSTR" ∷ codes "ADDR" ∷ codes "NULL" ∷ codes "EMPTY" ∷ codes "POINTER" ∷ codes "OFFSET" ∷ []
 
 -- the name of a built-in function
@@ -67,9 +72,11 @@ is_bad_level (AsProcedure heading region) = false
 abbrev pub stands_alone : Entry → Bool
 stands_alone e = is_none e.owner
 
--- what belongs to no item is a parameter, where its name is one's, or else at level 1, unless its level is a fault
+-- what belongs to no item is a parameter, where its name is one's, or else at level 1, unless its level is a
+-- fault
 abbrev pub position_of : (stands_alone is_named is_bad : Bool) → Position
-position_of alone is_named is_bad = if alone && is_named then Parameter else if alone && not is_bad then AtLevelOne else Member
+position_of alone is_named is_bad =
+    if alone && is_named then Parameter else if alone && not is_bad then AtLevelOne else Member
 
 -- elements are counted up to here; no text gives as many values
 abbrev pub most_elements : ℕ
@@ -80,7 +87,9 @@ abbrev pub elements_through : List Entry → List ℕ → Option ℕ
 elements_through entries [] = Some 1
 elements_through entries (n ∷ ns) =
     let dimensions = (item_of entries n).dimensions in
-    if are_bad_bounds dimensions then None else option_map (λ count. min (count * count_of (all_bounds dimensions)) most_elements) (elements_through entries ns)
+    if are_bad_bounds dimensions then None
+    else option_map (λ count. min (count * count_of (all_bounds dimensions)) most_elements)
+    (elements_through entries ns)
 
 -- where an item stands; the parameters are those of the procedure that is the block
 abbrev pub place_in : List Entry → (parameters : List Name) → ℕ → Place
@@ -88,7 +97,8 @@ place_in entries parameters n =
     let entry = get_or entries n no_entry in
     let name = entry.identifier.name in
     record {
-      position = position_of (stands_alone entry) (list_any (same_name name) parameters) (is_bad_level entry.entity);
+      position =
+          position_of (stands_alone entry) (list_any (same_name name) parameters) (is_bad_level entry.entity);
       has_members = not (length (members_of entries n) == 0);
       in_array = list_any (λ k. is_array (item_of entries k).dimensions) (owners_of entries n);
       elements_above = elements_through entries (owners_of entries n);
@@ -111,14 +121,19 @@ is_variable (AsProcedure heading region) = false
 
 -- neither it nor an item that it is a member of has dimensions
 abbrev pub is_unsubscripted : List Entry → ℕ → Bool
-is_unsubscripted entries n = list_all (λ k. not (is_array (item_of entries k).dimensions)) (n ∷ owners_of entries n)
+is_unsubscripted entries n =
+    list_all (λ k. not (is_array (item_of entries k).dimensions)) (n ∷ owners_of entries n)
 
 -- a locator that BASED may name: a variable with POINTER or OFFSET, unsubscripted, that is not BASED
 abbrev pub is_locator : List Entry → ℕ → Bool
 is_locator entries n =
-    is_variable (get_or entries n no_entry).entity && (has (set_in entries n) pointer || has (set_in entries n) offset) && is_unsubscripted entries n
+    is_variable (get_or entries n no_entry).entity
+    && (has (set_in entries n) pointer || has (set_in entries n) offset) && is_unsubscripted entries n
     && list_all (λ k. none_of (set_in entries k) based) (n ∷ owners_of entries n)
 
--- an area that OFFSET may name: a variable with AREA, unsubscripted; what else is wrong with it is a fault of its own
+-- an area that OFFSET may name: a variable with AREA, unsubscripted; what else is wrong with it is a fault of
+-- its own
 abbrev pub is_area : List Entry → ℕ → Bool
-is_area entries n = is_variable (get_or entries n no_entry).entity && has (set_in entries n) area && is_unsubscripted entries n
+is_area entries n =
+    is_variable (get_or entries n no_entry).entity && has (set_in entries n) area
+    && is_unsubscripted entries n

@@ -1,10 +1,10 @@
 //! The least fault of each item of a block, apart from names.
 ghost use Rattle.std.specs.Prelude.{◌≡◌, map, length, IfOk};
-ghost use Rattle.pli_base.specs.DeclarationView.{item_view};
+ghost use Rattle.pli_base.specs.views.DeclarationView.{item_view};
 ghost use Rattle.pli_declare_attributes.specs.Faults as fault;
 ghost use Rattle.pli_declare_tables.specs.Tables.{numbers_from};
-ghost use Rattle.pli_declare_tables.specs.TableView.{entry_view, entries_view};
-ghost use Rattle.pli_declare_tables.specs.Answers.{AreBehindOwners};
+ghost use Rattle.pli_declare_tables.specs.views.TableView.{entry_view, entries_view};
+ghost use Rattle.pli_declare_tables.specs.answers.Answers.{AreBehindOwners};
 ghost use Rattle.pli_declare_variables.specs.Places.{no_item, item_in};
 ghost use Rattle.pli_declare_variables.specs.Places as place;
 

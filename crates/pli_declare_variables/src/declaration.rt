@@ -1,6 +1,6 @@
 //! What the names of a block are declared as.
 ghost use Rattle.std.specs.Prelude.{◌≡◌, IfOk};
-ghost use Rattle.pli_declare_variables.specs.DeclarationView.{kind_view, declaration_view};
+ghost use Rattle.pli_declare_variables.specs.views.DeclarationView.{kind_view, declaration_view};
 
 use pli_base::syntax::Identifier;
 use pli_declare_attributes::{Completed, copied_description};

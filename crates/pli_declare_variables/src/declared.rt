@@ -1,18 +1,18 @@
 //! What the names of a block are declared as, where none of them has a fault of its own.
 ghost use Rattle.std.specs.Prelude.{◌≡◌, ◌<◌, None, map, option_map, length, IfOk};
-ghost use Rattle.pli_base.specs.DeclarationView.{item_view};
-ghost use Rattle.pli_map.specs.DescriptionView.{description_view};
+ghost use Rattle.pli_base.specs.views.DeclarationView.{item_view};
+ghost use Rattle.pli_map.specs.views.DescriptionView.{description_view};
 ghost use Rattle.pli_declare_attributes.specs.Completed.{completed_of};
-ghost use Rattle.pli_declare_attributes.specs.CompletedView.{completed_view};
+ghost use Rattle.pli_declare_attributes.specs.views.CompletedView.{completed_view};
 ghost use Rattle.pli_declare_attributes.specs.Faults.{item_fault};
 ghost use Rattle.pli_declare_tables.specs.Tables.{numbers_from};
-ghost use Rattle.pli_declare_tables.specs.TableView.{entry_view, entries_view};
-ghost use Rattle.pli_declare_tables.specs.Answers.{AreBehindOwners};
+ghost use Rattle.pli_declare_tables.specs.views.TableView.{entry_view, entries_view};
+ghost use Rattle.pli_declare_tables.specs.answers.Answers.{AreBehindOwners};
 ghost use Rattle.pli_declare_variables.specs.Places.{members_of};
 ghost use Rattle.pli_declare_variables.specs.Descriptions.{ShapesAreSound};
 ghost use Rattle.pli_declare_variables.specs.Declarations.{AreGood, declared_in};
-ghost use Rattle.pli_declare_variables.specs.DeclarationView.{kind_view, declaration_view};
-ghost use Rattle.pli_declare_variables.specs.Declaring.{kind_with, whole_at, IsFaultless};
+ghost use Rattle.pli_declare_variables.specs.views.DeclarationView.{kind_view, declaration_view};
+ghost use Rattle.pli_declare_variables.specs.answers.Declaring.{kind_with, whole_at, IsFaultless};
 
 use crate::codes::own_codes;
 use crate::declaration::{Declaration, Kind};

@@ -1,9 +1,9 @@
 //! The descriptions of variables.
 ghost use Rattle.std.specs.Prelude.{◌≡◌, ◌<◌, map, option_map, length, IfOk};
-ghost use Rattle.pli_map.specs.DescriptionView.{description_view, members_view};
+ghost use Rattle.pli_map.specs.views.DescriptionView.{description_view, members_view};
 ghost use Rattle.pli_declare_tables.specs.Tables.{numbers_from};
-ghost use Rattle.pli_declare_tables.specs.TableView.{entries_view};
-ghost use Rattle.pli_declare_tables.specs.Answers.{AreBehindOwners};
+ghost use Rattle.pli_declare_tables.specs.views.TableView.{entries_view};
+ghost use Rattle.pli_declare_tables.specs.answers.Answers.{AreBehindOwners};
 ghost use Rattle.pli_declare_variables.specs.Places.{members_of};
 ghost use Rattle.pli_declare_variables.specs.Descriptions.{described, members_made, ShapesAreSound};
 

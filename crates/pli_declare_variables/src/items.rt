@@ -1,7 +1,7 @@
 //! What an entry has as an item. A label and a procedure have nothing.
 ghost use Rattle.std.specs.Prelude.{◌≡◌, map};
-ghost use Rattle.pli_base.specs.DeclarationView.{attribute_view};
-ghost use Rattle.pli_declare_tables.specs.TableView.{entry_view};
+ghost use Rattle.pli_base.specs.views.DeclarationView.{attribute_view};
+ghost use Rattle.pli_declare_tables.specs.views.TableView.{entry_view};
 ghost use Rattle.pli_declare_variables.specs.Places.{item_in};
 ghost use Rattle.pli_declare_variables.specs.Places as places;
 

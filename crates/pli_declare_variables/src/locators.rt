@@ -3,10 +3,10 @@ ghost use Rattle.std.specs.Prelude.{◌≡◌, ◌<◌, ◌&&◌, ◌||◌, not,
 ghost use Rattle.pli_declare_attributes.specs.Extents.{is_array};
 ghost use Rattle.pli_declare_attributes.specs.Sets.{set_of, has, none_of, outermost, area, based, pointer, offset};
 ghost use Rattle.pli_declare_tables.specs.Tables.{numbers_from};
-ghost use Rattle.pli_declare_tables.specs.TableView.{entry_view, entries_view};
-ghost use Rattle.pli_declare_tables.specs.Answers.{AreBehindOwners};
+ghost use Rattle.pli_declare_tables.specs.views.TableView.{entry_view, entries_view};
+ghost use Rattle.pli_declare_tables.specs.answers.Answers.{AreBehindOwners};
 ghost use Rattle.pli_declare_variables.specs.Places.{item_in, is_variable};
-ghost use Rattle.pli_declare_variables.specs.Walks as walk;
+ghost use Rattle.pli_declare_variables.specs.answers.Walks as walk;
 
 use crate::items::dimensions;
 use pli_declare_attributes::Named;

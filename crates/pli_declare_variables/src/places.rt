@@ -6,10 +6,10 @@ ghost use Rattle.pli_base.specs.Words.{same_name};
 ghost use Rattle.pli_declare_attributes.specs.Extents.{is_array};
 ghost use Rattle.pli_declare_attributes.specs.Initials.{elements_inside};
 ghost use Rattle.pli_declare_tables.specs.Tables.{no_entry, numbers_from};
-ghost use Rattle.pli_declare_tables.specs.TableView.{entry_view, entries_view};
-ghost use Rattle.pli_declare_tables.specs.Answers.{AreBehindOwners};
+ghost use Rattle.pli_declare_tables.specs.views.TableView.{entry_view, entries_view};
+ghost use Rattle.pli_declare_tables.specs.answers.Answers.{AreBehindOwners};
 ghost use Rattle.pli_declare_variables.specs.Places.{item_in, is_bad_level, stands_alone, is_built_in, position_of, place_in};
-ghost use Rattle.pli_declare_variables.specs.Walks.{has_members_at, above_at, above_owner, placed};
+ghost use Rattle.pli_declare_variables.specs.answers.Walks.{has_members_at, above_at, above_owner, placed};
 
 use crate::items::{self, dimensions};
 use crate::words::is_built_in;

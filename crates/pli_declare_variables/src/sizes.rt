@@ -2,16 +2,16 @@
 //! recurs as deep as structures nest.
 ghost use Rattle.std.specs.Prelude.{◌≡◌, ◌<◌, ◌+◌, ◌++◌, ◌∷◌, [], ◌&&◌, false, map, length, get_or, set, Some, Option, option_map, OnOk, IfOk, ℕ};
 ghost use Rattle.std.specs.Option.{is_none};
-ghost use Rattle.pli_base.specs.DeclarationView.{attribute_view};
+ghost use Rattle.pli_base.specs.views.DeclarationView.{attribute_view};
 ghost use Rattle.pli_map.specs.Description.{Description, Structure, Members};
 ghost use Rattle.pli_declare_attributes.specs.Extents.{all_bounds, are_bad_bounds};
 ghost use Rattle.pli_declare_attributes.specs.Faults.{with_bounds, described_scalar};
 ghost use Rattle.pli_declare_attributes.specs.Sets.{outermost};
-ghost use Rattle.pli_declare_tables.specs.Answers.{AreBehindOwners};
+ghost use Rattle.pli_declare_tables.specs.answers.Answers.{AreBehindOwners};
 ghost use Rattle.pli_declare_tables.specs.Tables.{numbers_from};
-ghost use Rattle.pli_declare_tables.specs.TableView.{entry_view, entries_view};
+ghost use Rattle.pli_declare_tables.specs.views.TableView.{entry_view, entries_view};
 ghost use Rattle.pli_declare_variables.specs.Descriptions.{is_of_shape, described, inside, members_made, member_then, is_large, is_large_at, ShapesAreSound};
-ghost use Rattle.pli_declare_variables.specs.Measures.{of_layout, IsMeasured, AreMeasured, IsFront};
+ghost use Rattle.pli_declare_variables.specs.answers.Measures.{of_layout, IsMeasured, AreMeasured, IsFront};
 ghost use Rattle.pli_declare_variables.specs.Places as places;
 ghost use Rattle.pli_declare_variables.specs.Places.{item_in, members_of};
 ghost use Rattle.pli_declare_variables.specs.declared.sizes.Measured.TheVariants as variants;

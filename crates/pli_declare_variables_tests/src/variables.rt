@@ -1,12 +1,12 @@
 ghost use Rattle.std.specs.Prelude.{◌≡◌, ◌<◌, true, map, IfSome, IfOk};
-ghost use Rattle.pli_base.specs.StatementView.{option_view, unit_view};
+ghost use Rattle.pli_base.specs.views.StatementView.{option_view, unit_view};
 ghost use Rattle.pli_declare_attributes.specs.Faults.{item_fault};
 ghost use Rattle.pli_declare_attributes.specs.declared.place.Place.{Place};
-ghost use Rattle.pli_declare_tables.specs.TableView.{entry_view, entries_view};
-ghost use Rattle.pli_declare_tables.specs.Answers.{AreBehindOwners};
+ghost use Rattle.pli_declare_tables.specs.views.TableView.{entry_view, entries_view};
+ghost use Rattle.pli_declare_tables.specs.answers.Answers.{AreBehindOwners};
 ghost use Rattle.pli_declare_variables.specs.Places.{item_in};
 ghost use Rattle.pli_declare_variables.specs.Declarations.{returned_by, AreSound, AreGood};
-ghost use Rattle.pli_declare_variables.specs.Declaring.{IsFaultless};
+ghost use Rattle.pli_declare_variables.specs.answers.Declaring.{IsFaultless};
 
 use crate::reading::{items_of, name};
 use pli_base::declaration::{DescribedAttribute, Item, SimpleAttribute};

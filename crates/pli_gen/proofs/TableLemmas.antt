@@ -13,7 +13,7 @@ use Rattle.pli_gen.specs.Translation.{number_in, numbered, values_of, statements
 use Rattle.pli_code.specs.declared.instruction.Description.{Description}
 use Rattle.pli_code.specs.declared.instruction.Instruction.{Instruction}
 use Rattle.pli_code.specs.declared.instruction.Instruction.TheVariants as op
-use Rattle.pli_code.specs.ModuleView.{Code}
+use Rattle.pli_code.specs.views.ModuleView.{Code}
 
 -- a place that is not past the end
 chosen : (a n : ℕ) → a ≤ n → unwrap_or (cond (nat_lt a n) (Some a) None) n ≡ a

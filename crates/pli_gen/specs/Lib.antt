@@ -1,3 +1,3 @@
-pub mod Answers
-pub mod Examples
 pub mod Translation
+pub mod answers
+pub mod examples

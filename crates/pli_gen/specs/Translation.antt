@@ -4,9 +4,10 @@ use Rattle.std.specs.Prelude.{List, [], ◌∷◌, ◌++◌, map, length}
 use Rattle.std.specs.List.{flat_map, list_any}
 use Rattle.pli_base.specs.Name.{Name}
 use Rattle.pli_lower.specs.LoweredTree.{LoweredReference, LoweredExpression, Variable, Constant, Sum}
-use Rattle.pli_lower.specs.LoweredTree.{LoweredBody, Null, Declare, Assign, Put, LoweredStatement, LoweredUnit}
+use Rattle.pli_lower.specs.LoweredTree.{LoweredBody, Null, Declare, Assign, Put, LoweredStatement}
+use Rattle.pli_lower.specs.LoweredTree.{LoweredUnit}
 use Rattle.pli_lower.specs.LoweredNames.{declared_names, slot_of}
-use Rattle.pli_code.specs.ModuleView.{Code}
+use Rattle.pli_code.specs.views.ModuleView.{Code}
 use Rattle.pli_lower.specs.LoweredTypes.{width, greatest_precision}
 use Rattle.pli_code.specs.declared.instruction.Description.{Description}
 use Rattle.pli_code.specs.declared.instruction.Description.TheVariants.{FixedBinary}
@@ -52,11 +53,13 @@ module _ (names : List Name) (values : List ℕ) where
   abbrev pub item_code : LoweredExpression → List Instruction
   item_code e = expression_code e ++ op.ToCharacters (width e) ∷ op.Put ∷ []
 
-  -- the step; for an assignment the target's place, the value, its conversion and the store; for PUT one item after another
+  -- the step; for an assignment the target's place, the value, its conversion and the store; for PUT one item
+  -- after another
   abbrev pub body_code : (number : ℕ) → LoweredBody → List Instruction
   body_code number Null = op.Step number ∷ []
   body_code number (Declare items) = []
-  body_code number (Assign target value) = op.Step number ∷ place_code target ++ expression_code value ++ op.Fit 0 ∷ op.Store ∷ []
+  body_code number (Assign target value) =
+      op.Step number ∷ place_code target ++ expression_code value ++ op.Fit 0 ∷ op.Store ∷ []
   body_code number (Put items) = op.Step number ∷ flat_map item_code items
 
   abbrev pub statements_code : List LoweredStatement → List Instruction
@@ -86,4 +89,5 @@ is_wide x = nat_lt 2147483647 (nat_abs x)
 -- a limit of a unit's tables is passed
 abbrev pub is_too_long : Code → Bool
 is_too_long c =
-    nat_lt table_limit (length c.instructions) || nat_lt table_limit (length c.values) || nat_lt table_limit c.slots || list_any is_wide c.values
+    nat_lt table_limit (length c.instructions) || nat_lt table_limit (length c.values)
+    || nat_lt table_limit c.slots || list_any is_wide c.values

@@ -1,11 +1,11 @@
 //! Code from trees.
 ghost use Rattle.std.specs.Prelude.{◌≡◌, ◌≤◌, ◌++◌, ◌∷◌, [], length, map, pos, OnOk, IfOk};
 ghost use Rattle.std.specs.List.{flat_map};
-ghost use Rattle.pli_lower.specs.LoweredView.{reference_view, expression_view, body_view, statement_view, unit_view};
+ghost use Rattle.pli_lower.specs.views.LoweredView.{reference_view, expression_view, body_view, statement_view, unit_view};
 ghost use Rattle.pli_lower.specs.LoweredNames.{declared_names, slot_of};
 ghost use Rattle.pli_lower.specs.LoweredTypes.{precision, decimal_digits, width};
 ghost use Rattle.pli_gen.specs.Translation.{constants_in, body_constants, numbered, values_of, number_in, place_code, expression_code, item_code, body_code, statements_code, descriptions_of, code_of};
-ghost use Rattle.pli_gen.specs.Answers.{Generates, Holds, statement_values};
+ghost use Rattle.pli_gen.specs.answers.Answers.{Generates, Holds, statement_values};
 ghost use Rattle.pli_gen.specs.declared.translation.GenerateError.TheVariants.{OutOfMemory};
 
 use indexmap::IndexSet;

@@ -13,7 +13,7 @@ use Rattle.pli_include.specs.declared.reading.Pause.{Pause}
 use Rattle.pli_include.specs.declared.reading.Pause.TheVariants as at
 use Rattle.pli_include.specs.Pieces.{Piece, Plain, Directive, Misplaced, pieces_after, pieces_of, piece_at, is_percent, begun, directive, named_by, further}
 use Rattle.pli_include.specs.Expansion.{Progress, Include, stopped, read_piece, read_pieces, unless, kept, directed, origin_of, ◌then◌}
-use Rattle.pli_include.specs.Pausing.{Reads}
+use Rattle.pli_include.specs.answers.Pausing.{Reads}
 use Rattle.pli_include.proofs.LevelNeverMet.{past_end}
 
 -- the tokens of a piece before are passed over

@@ -7,10 +7,10 @@ use Rattle.std.proofs.lemmas.Option.{slice_get_within, slice_get-get_or}
 use Rattle.std.proofs.lemmas.List.{length_push}
 use Rattle.pli_base.specs.Name.{Name}
 use Rattle.pli_base.specs.declared.token.Token.{Token}
-use Rattle.pli_members.specs.Kept.{IsKept, IsKeptMember}
+use Rattle.pli_members.specs.answers.Kept.{IsKept, IsKeptMember}
 use Rattle.pli_members.specs.Members.{Store, Member, lines_of, member_of, is_named}
 use Rattle.pli_include.specs.Expansion.{Look, Progress, looking, is_among}
-use Rattle.pli_include.specs.Walking.{HoldsTexts}
+use Rattle.pli_include.specs.answers.Walking.{HoldsTexts}
 
 -- a member has at most 9,999 lines
 few_lines : (s : Store) (name : Name) (lines : List (List ℕ)) (m : Option Member) → IfSome m (IsKeptMember s.next) → option_map (λ m. m.lines) m ≡ Some lines → length lines ≤ 9999

@@ -4,7 +4,7 @@ use Rattle.std.proofs.Common.{option_map, arith, sym, ap, ◌∙◌}
 use Rattle.std.proofs.lemmas.List.Elements.{Contains-append_left, Contains-get_or, Contains-append_right}
 use Rattle.indexmap.proofs.CallerLemmas.{Contains-insert_key}
 use Rattle.pli_base.specs.Name.{Name}
-use Rattle.pli_base.specs.NameLaws.{equal_from_pointwise}
+use Rattle.pli_base.specs.laws.NameLaws.{equal_from_pointwise}
 use Rattle.pli_base.specs.Words.{same_name}
 use Rattle.pli_base.specs.declared.code.Code.TheVariants.{RecursiveInclude}
 use Rattle.pli_base.specs.declared.token.Origin.{Origin}
@@ -15,7 +15,7 @@ use Rattle.pli_members.specs.Members.{Store}
 use Rattle.pli_include.specs.Pieces.{Piece, Plain, Directive, Misplaced, pieces_of}
 use Rattle.pli_include.specs.Expansion.{Look, Progress, Outcome, Include, included, is_among, stopped, found, looking, entered, read_piece, read_pieces, unless, too_many, kept, directed, origin_of, started, expanded_within, token_limit, ◌then◌}
 use Rattle.pli_include.specs.Expanded.{look_in, outcome_of, answered, told, expansion_of}
-use Rattle.pli_include.specs.Laws.{looked_in, Agree, TraceDecides, AnswersAlike, ExpansionStays}
+use Rattle.pli_include.specs.laws.Laws.{looked_in, Agree, TraceDecides, AnswersAlike, ExpansionStays}
 
 -- each of the names is among those that were looked up in the end
 abbrev Keeps : List Name → Outcome → Type 0

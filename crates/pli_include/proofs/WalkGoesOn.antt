@@ -19,8 +19,8 @@ use Rattle.pli_members.specs.Members.{Store}
 use Rattle.pli_include.specs.Expanded.{look_in, outcome_of}
 use Rattle.pli_include.specs.Pieces.{pieces_of}
 use Rattle.pli_include.specs.Expansion.{Look, Progress, Outcome, Include, included, expanded_within, is_among, stopped, found, looking, read_pieces, ◌then◌}
-use Rattle.pli_include.specs.Pausing.{Reads}
-use Rattle.pli_include.specs.Walking.{HoldsTexts, IsFresh, IsUnderWay, going, ended, include_from, rest_of, tokens_in}
+use Rattle.pli_include.specs.answers.Pausing.{Reads}
+use Rattle.pli_include.specs.answers.Walking.{HoldsTexts, IsFresh, IsUnderWay, going, ended, include_from, rest_of, tokens_in}
 use Rattle.pli_include.proofs.TextsHeld.{looked_stays}
 use Rattle.pli_include.proofs.LevelNeverMet.{level_is_never_met}
 

@@ -1,7 +1,6 @@
-pub mod Examples
 pub mod Expanded
 pub mod Expansion
-pub mod Laws
-pub mod Pausing
 pub mod Pieces
-pub mod Walking
+pub mod answers
+pub mod examples
+pub mod laws

@@ -1,7 +1,7 @@
 //! The expander.
 ghost use Rattle.std.specs.Prelude.{◌≡◌, ◌+◌, ◌-◌, ◌^◌, None, min, map, OnOk, OnErr, IfOk};
 ghost use Rattle.pli_include.specs.Expanded.{answered, told, expansion_of};
-ghost use Rattle.pli_include.specs.Walking.{ended, IsEven};
+ghost use Rattle.pli_include.specs.answers.Walking.{ended, IsEven};
 
 use crate::expansion::{Expansion, ExpansionFault, TraceEntry};
 use crate::progress::Progress;

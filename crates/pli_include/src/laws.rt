@@ -1,6 +1,6 @@
 //! Laws of expansion.
-ghost use Rattle.pli_include.specs.Examples.{Included, IncludedQuoted, LastTokenTooMany, DirectiveTooLong, AbsentMember, Recursive, TooManyBeforeRecursive, NotEndedInMember, QuotedNoName, FaultyMember, Twice};
-ghost use Rattle.pli_include.specs.Laws.{LevelIsNeverMet, TextsHaveOrigins, TraceDecides, ExpansionStays};
+ghost use Rattle.pli_include.specs.examples.Examples.{Included, IncludedQuoted, LastTokenTooMany, DirectiveTooLong, AbsentMember, Recursive, TooManyBeforeRecursive, NotEndedInMember, QuotedNoName, FaultyMember, Twice};
+ghost use Rattle.pli_include.specs.laws.Laws.{LevelIsNeverMet, TextsHaveOrigins, TraceDecides, ExpansionStays};
 
 /// A law: an expansion's recursion is founded on the tokens that may still be read, so that its level is never met.
 pub fn level_is_never_met()

@@ -1,9 +1,9 @@
 //! The tokens of the members that were looked up, each lexed once in an expansion.
 ghost use Rattle.std.specs.Prelude.{◌≡◌, ◌≤◌, OnOk, IfOk};
-ghost use Rattle.pli_members.specs.Kept.{IsKept};
+ghost use Rattle.pli_members.specs.answers.Kept.{IsKept};
 ghost use Rattle.pli_include.specs.Expanded.{look_in};
 ghost use Rattle.pli_include.specs.Expansion.{looking};
-ghost use Rattle.pli_include.specs.Walking.{HoldsTexts, Finds};
+ghost use Rattle.pli_include.specs.answers.Walking.{HoldsTexts, Finds};
 
 use crate::progress::Progress;
 use pli_base::{Name, Token};

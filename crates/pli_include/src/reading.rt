@@ -1,7 +1,7 @@
 //! The reading of one member's tokens, up to the next directive.
 ghost use Rattle.std.specs.Prelude.{◌≡◌, ◌<◌, length, slice_get, Some, true, IfOk};
 ghost use Rattle.pli_include.specs.Pieces.{is_percent};
-ghost use Rattle.pli_include.specs.Pausing.{Reads};
+ghost use Rattle.pli_include.specs.answers.Pausing.{Reads};
 
 use crate::directive::{is_percent, named_by};
 use crate::expansion::ExpansionFault;

@@ -1,10 +1,10 @@
 //! The members that are open in an expansion: a list of work in place of a recursion, since members may include one
 //! another in a chain of 999.
 ghost use Rattle.std.specs.Prelude.{◌≡◌, ◌<◌, ◌≤◌, ◌+◌, [], ◌∷◌, ◌++◌, length, None, IfOk};
-ghost use Rattle.pli_members.specs.Kept.{IsKept};
+ghost use Rattle.pli_members.specs.answers.Kept.{IsKept};
 ghost use Rattle.pli_include.specs.Expanded.{look_in, outcome_of};
 ghost use Rattle.pli_include.specs.Expansion.{◌then◌};
-ghost use Rattle.pli_include.specs.Walking.{IsUnderWay, IsFresh, going, goes_on, ended, include_from, work_left};
+ghost use Rattle.pli_include.specs.answers.Walking.{IsUnderWay, IsFresh, going, goes_on, ended, include_from, work_left};
 
 use crate::expansion::ExpansionFault;
 use crate::library::{Membership, Text, look};

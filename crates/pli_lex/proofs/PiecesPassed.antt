@@ -11,7 +11,7 @@ use Rattle.pli_lex.specs.declared.answer.LexFault.{LexFault}
 use Rattle.pli_lex.specs.declared.answer.LexError.{LexError}
 use Rattle.pli_lex.specs.declared.answer.LexError.TheVariants as errors
 use Rattle.pli_lex.specs.Characters.{line_end, is_line_end, text_of, line_ends, is_blank, begins_with, begins_comment}
-use Rattle.pli_lex.specs.Answers.{Fails, in_comment, reads}
+use Rattle.pli_lex.specs.answers.Answers.{Fails, in_comment, reads}
 use Rattle.pli_lex.specs.Reading.{token_at, closing_width, comment, piece, piece_at, with_front, tokens_after, lexed}
 use Rattle.pli_lex.proofs.CommentsEnd.{closes_on_line, closes_later, closes_within}
 use Rattle.pli_lex.proofs.FoundStands.{token_stands}

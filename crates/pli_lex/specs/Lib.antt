@@ -1,7 +1,7 @@
-pub mod Answers
 pub mod Characters
-pub mod Examples
 pub mod Faults
 pub mod Reading
 pub mod Signs
 pub mod Tokens
+pub mod answers
+pub mod examples

@@ -3,7 +3,7 @@ ghost use Rattle.std.specs.Prelude.{◌≡◌, ◌≢◌, ℕ, List, [], ◌++�
 ghost use Rattle.pli_base.specs.declared.token.Token.{Token};
 ghost use Rattle.pli_base.specs.declared.token.TokenText.{TokenText};
 ghost use Rattle.pli_lex.specs.declared.answer.LexFault.{LexFault};
-ghost use Rattle.pli_lex.specs.Examples.{ProcedureLine, LowerCaseLine, TabLine, BinaryConstants, CharacterConstants, BitConstants, Signs, CommentLine, CommentLines, CommentOnOneLine, TwoLines, UnendedComments, UnendedStrings, BadNumbers, TooManyDigits, GreatestNumbers, BadBitConstants, CharactersThenName, BadCharacters, LongestName};
+ghost use Rattle.pli_lex.specs.examples.Examples.{ProcedureLine, LowerCaseLine, TabLine, BinaryConstants, CharacterConstants, BitConstants, Signs, CommentLine, CommentLines, CommentOnOneLine, TwoLines, UnendedComments, UnendedStrings, BadNumbers, TooManyDigits, GreatestNumbers, BadBitConstants, CharactersThenName, BadCharacters, LongestName};
 ghost use Rattle.pli_lex.specs.Tokens.{IsToken, EndsAt, Spells, SpellsLines};
 ghost use Rattle.pli_lex.specs.Faults.{HasFault, HasLineFault};
 ghost use Rattle.pli_lex.specs.Reading.{tokens_of, lexed};

@@ -1,7 +1,7 @@
 //! Lines of text as tokens.
 ghost use Rattle.std.specs.Prelude.{◌≡◌, ◌≤◌, ◌<◌, IfOk, length};
 ghost use Rattle.pli_lex.specs.Reading.{lexed};
-ghost use Rattle.pli_lex.specs.Answers.{Gives, Passes, PassesLine};
+ghost use Rattle.pli_lex.specs.answers.Answers.{Gives, Passes, PassesLine};
 
 use crate::answer::{LexError, LexFault};
 use crate::character::{begins_comment, is_blank};

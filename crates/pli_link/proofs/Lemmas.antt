@@ -10,8 +10,8 @@ use Rattle.std.proofs.lemmas.List.{at_drop_more}
 use Rattle.pli_base.specs.Name.{Name}
 use Rattle.pli_base.specs.Words.{same_name, is_among}
 use Rattle.pli_code.specs.Link as link
-use Rattle.pli_code.specs.ModuleView.{Module, code_view}
-use Rattle.pli_link.specs.Answers.{compiled_view, place_view, is_past, first_module}
+use Rattle.pli_code.specs.views.ModuleView.{Module, code_view}
+use Rattle.pli_link.specs.answers.Answers.{compiled_view, place_view, is_past, first_module}
 use Rattle.pli_link.specs.declared.linking.Compiled.{Compiled}
 use Rattle.pli_link.specs.declared.linking.Place.{Place}
 

@@ -1,8 +1,8 @@
 //! Modules from the code of units.
 ghost use Rattle.std.specs.Prelude.{◌≡◌, ◌++◌, [], map, option_map, position, OnOk, IfOk};
 ghost use Rattle.pli_code.specs.Link as link;
-ghost use Rattle.pli_code.specs.ModuleView.{module_view};
-ghost use Rattle.pli_link.specs.Answers.{Links, compiled_view, place_view, fault_view, is_past, first_module};
+ghost use Rattle.pli_code.specs.views.ModuleView.{module_view};
+ghost use Rattle.pli_link.specs.answers.Answers.{Links, compiled_view, place_view, fault_view, is_past, first_module};
 ghost use Rattle.pli_link.specs.declared.linking.LinkError.TheVariants.{OutOfMemory};
 
 use pli_base::Name;

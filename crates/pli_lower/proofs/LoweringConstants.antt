@@ -13,7 +13,7 @@ use Rattle.pli_base.specs.declared.token.Fault.{Fault}
 use Rattle.pli_lower.specs.LoweredNames.{names_in, body_faults}
 use Rattle.pli_base.specs.Statements.{Statement, Numbered, Body, Null, Declare, Assign, Put, Statements, Ended, Before}
 use Rattle.pli_lower.specs.Lowering.{both, is_of_language, lowered_constant, lowered_reference, lowered_expression, lowered_expressions, lowered_items, lowered_body, is_faultless, of_variables, variables_of, not_yet_built, numbered, lowered_statement, lowered_statements, is_plain, procedure_of, lowered}
-use Rattle.pli_lower.specs.LoweringLaws.{IsConstantOfLanguage, IsExpressionOfLanguage, AreExpressionsOfLanguage, IsBodyOfLanguage, AreStatementsOfLanguage, IsOfLanguage, LowersToLanguage}
+use Rattle.pli_lower.specs.laws.LoweringLaws.{IsConstantOfLanguage, IsExpressionOfLanguage, AreExpressionsOfLanguage, IsBodyOfLanguage, AreStatementsOfLanguage, IsOfLanguage, LowersToLanguage}
 
 pub same_ok : {A : Type 0} {x y : A} → ◌≡◌ {A = Result A Fault} (Ok x) (Ok y) → x ≡ y
 same_ok h = cc

@@ -8,7 +8,7 @@ use Rattle.pli_base.specs.declared.token.Fault.{Fault}
 use Rattle.pli_lower.specs.LoweredNames.{names_in}
 use Rattle.pli_base.specs.Statements.{Statement, Numbered, Statements, Ended, Before}
 use Rattle.pli_lower.specs.Lowering.{not_yet_built, numbered, of_variables, variables_of, lowered_body, lowered_statement, lowered_statements, is_plain, procedure_of, lowered}
-use Rattle.pli_lower.specs.LoweringLaws.{FailsAsNotYetBuilt}
+use Rattle.pli_lower.specs.laws.LoweringLaws.{FailsAsNotYetBuilt}
 
 same_err : {A : Type 0} {e f : Fault} → ◌≡◌ {A = Result A Fault} (Err e) (Err f) → e ≡ f
 same_err h = cc

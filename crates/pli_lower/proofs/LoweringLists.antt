@@ -4,19 +4,19 @@ use Rattle.std.proofs.lemmas.List.{at_drop_more, at_drop_all, map-append}
 use Rattle.pli_base.specs.Name.{Name}
 use Rattle.pli_lower.specs.LoweredTree as tree
 use Rattle.pli_base.specs.Reading.{◌>>=◌}
-use Rattle.pli_base.specs.SyntaxView.{expression_view}
-use Rattle.pli_lower.specs.LoweredView as lowered
+use Rattle.pli_base.specs.views.SyntaxView.{expression_view}
+use Rattle.pli_lower.specs.views.LoweredView as lowered
 use Rattle.pli_lower.specs.declared.tree.LoweredExpression.{LoweredExpression}
 use Rattle.pli_lower.specs.declared.tree.LoweredStatement.{LoweredStatement}
 use Rattle.pli_base.specs.declared.syntax.Expression.{Expression}
 use Rattle.pli_base.specs.declared.token.Fault.{Fault}
 use Rattle.pli_lower.specs.LoweredNames.{names_in, names_of}
-use Rattle.pli_base.specs.DeclarationView.{item_view}
+use Rattle.pli_base.specs.views.DeclarationView.{item_view}
 use Rattle.pli_base.specs.declared.declaration.Item.{Item}
-use Rattle.pli_base.specs.StatementView.{statement_view, statements_view}
+use Rattle.pli_base.specs.views.StatementView.{statement_view, statements_view}
 use Rattle.pli_base.specs.declared.statement.Statement.{Statement}
 use Rattle.pli_lower.specs.Lowering.{both, lowered_expression, lowered_expressions, is_variables, variable_named, lowered_item, lowered_items, lowered_statement, lowered_statements}
-use Rattle.pli_lower.specs.LoweringAnswers.{Fails, Refuses}
+use Rattle.pli_lower.specs.answers.LoweringAnswers.{Fails, Refuses}
 use Rattle.pli_lower.specs.declared.answer.LowerError.{LowerError}
 use Rattle.pli_lower.specs.declared.answer.LowerError.TheVariants as errors
 use Rattle.pli_lower.specs.declared.answer.Refusal.{Refusal}

@@ -11,11 +11,11 @@ use Rattle.pli_base.specs.Words.{same_name, is_among}
 use Rattle.pli_base.specs.declared.code.Code.TheVariants.{NotDeclared}
 use Rattle.pli_base.specs.declared.token.Fault.{Fault}
 use Rattle.pli_lower.specs.LoweredNames.{names_in, undeclared, expression_faults, body_faults, faults_from, declaration_faults}
-use Rattle.pli_base.specs.StatementView.{statement_view, statements_view}
+use Rattle.pli_base.specs.views.StatementView.{statement_view, statements_view}
 use Rattle.pli_base.specs.Statements.{Statement, Numbered, Body, Null, Declare, Assign, Put, Statements, Ended, Before}
 use Rattle.pli_base.specs.declared.statement.Statement.{Statement as Written}
 use Rattle.pli_lower.specs.Lowering.{lowered_reference, lowered_expression, lowered_expressions, lowered_items, lowered_body, names_of_items, variables_in, variables_of, is_faultless, of_variables, not_yet_built, numbered, lowered_statement, lowered_statements, is_plain, procedure_of, lowered}
-use Rattle.pli_lower.specs.LoweringLaws.{LowersToFaultless}
+use Rattle.pli_lower.specs.laws.LoweringLaws.{LowersToFaultless}
 use Rattle.pli_lower.proofs.LoweringConstants.{same_ok, bind_ok, some_ok, both_ok, mapped_ok, of_variables_ok, numbered_ok}
 
 -- faults of two parts, and of parts in a list

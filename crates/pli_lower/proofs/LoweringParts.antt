@@ -8,14 +8,14 @@ use Rattle.pli_lower.specs.LoweredTree as tree
 use Rattle.pli_base.specs.Reading.{◌>>=◌}
 use Rattle.pli_base.specs.Syntax.{Named}
 use Rattle.pli_base.specs.declared.token.Fault.{Fault}
-use Rattle.pli_base.specs.SyntaxView.{reference_view, arguments_view, joined_view}
-use Rattle.pli_base.specs.SyntaxLaws.{reference_out}
+use Rattle.pli_base.specs.views.SyntaxView.{reference_view, arguments_view, joined_view}
+use Rattle.pli_base.specs.laws.SyntaxLaws.{reference_out}
 use Rattle.pli_base.specs.declared.syntax.Expression.{Expression}
 use Rattle.pli_base.specs.declared.syntax.Identifier.{Identifier}
 use Rattle.pli_base.specs.declared.syntax.JoinedPart.{JoinedPart}
 use Rattle.pli_base.specs.declared.syntax.Reference.{Reference, out-Reference}
-use Rattle.pli_base.specs.StatementView.{option_view, statements_view, unit_view}
-use Rattle.pli_base.specs.StatementLaws.{heading_made, unit_made}
+use Rattle.pli_base.specs.views.StatementView.{option_view, statements_view, unit_view}
+use Rattle.pli_base.specs.laws.StatementLaws.{heading_made, unit_made}
 use Rattle.pli_base.specs.declared.statement.Procedure.{Procedure, out-Procedure, roll-out-Procedure}
 use Rattle.pli_lower.specs.Lowering.{lowered_reference, variable_named, variables_of, lowered_statements, lowered, is_main, is_returns, not_yet_built}
 

@@ -1,8 +1,8 @@
 pub mod LoweredNames
 pub mod LoweredTree
 pub mod LoweredTypes
-pub mod LoweredView
 pub mod Lowering
-pub mod LoweringAnswers
-pub mod LoweringExamples
-pub mod LoweringLaws
+pub mod answers
+pub mod examples
+pub mod laws
+pub mod views

@@ -4,7 +4,8 @@ use Rattle.std.specs.List.{flat_map}
 use Rattle.pli_base.specs.Name.{Name}
 use Rattle.pli_base.specs.Words.{same_name, is_among}
 use Rattle.pli_lower.specs.LoweredTree.{LoweredReference, LoweredExpression, Variable, Constant, Sum}
-use Rattle.pli_lower.specs.LoweredTree.{LoweredBody, Null, Declare, Assign, Put, LoweredStatement, LoweredUnit}
+use Rattle.pli_lower.specs.LoweredTree.{LoweredBody, Null, Declare, Assign, Put, LoweredStatement}
+use Rattle.pli_lower.specs.LoweredTree.{LoweredUnit}
 use Rattle.pli_base.specs.declared.code.Code.TheVariants.{NotDeclared, DeclaredTwice}
 use Rattle.pli_base.specs.declared.token.Fault.{Fault}
 
@@ -32,7 +33,8 @@ slot_of (m ∷ ms) n = if same_name m n then 0 else slot_of ms n + 1
 abbrev pub repeats : (before : List Name) → List LoweredReference → List Fault
 repeats before [] = []
 repeats before (r ∷ rs) =
-    (if is_among r.name before then record { code = DeclaredTwice; at = r.at } ∷ [] else []) ++ repeats (before ++ r.name ∷ []) rs
+    (if is_among r.name before then record { code = DeclaredTwice; at = r.at } ∷ [] else [])
+    ++ repeats (before ++ r.name ∷ []) rs
 
 -- a use of a name that the procedure declares nowhere
 abbrev pub undeclared : List Name → LoweredReference → List Fault
@@ -44,7 +46,8 @@ expression_faults names (Variable r) = undeclared names r
 expression_faults names (Constant v d) = []
 expression_faults names (Sum l r) = expression_faults names l ++ expression_faults names r
 
--- the faults of a statement, where names are all that the procedure declares and before those that it declares before
+-- the faults of a statement, where names are all that the procedure declares and before those that it
+-- declares before
 -- the statement
 abbrev pub body_faults : (names before : List Name) → LoweredBody → List Fault
 body_faults names before Null = []
@@ -55,7 +58,8 @@ body_faults names before (Put items) = flat_map (expression_faults names) items
 -- the faults of statements one after another
 abbrev pub faults_from : (names before : List Name) → List LoweredStatement → List Fault
 faults_from names before [] = []
-faults_from names before (s ∷ ss) = body_faults names before s.body ++ faults_from names (before ++ names_in s.body) ss
+faults_from names before (s ∷ ss) =
+    body_faults names before s.body ++ faults_from names (before ++ names_in s.body) ss
 
 -- the faults of a procedure's declarations and uses, in the order of their tokens
 abbrev pub declaration_faults : LoweredUnit → List Fault

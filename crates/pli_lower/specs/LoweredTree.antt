@@ -1,4 +1,5 @@
--- The language that is compiled today: its trees, as definitions speak of them, without where they lie in memory.
+-- The language that is compiled today: its trees, as definitions speak of them, without where they lie in
+-- memory.
 use Rattle.std.specs.Prelude.{ℕ, Bool, List}
 use Rattle.pli_base.specs.Name.{Name}
 
@@ -25,7 +26,8 @@ pub record LoweredStatement : Type 0 where
   pub number : ℕ
   pub body : LoweredBody
 
--- an external procedure: its name, whether it is a main procedure, and the statements between PROCEDURE and END
+-- an external procedure: its name, whether it is a main procedure, and the statements between PROCEDURE and
+-- END
 pub record LoweredUnit : Type 0 where
   pub name : Name
   pub is_main : Bool

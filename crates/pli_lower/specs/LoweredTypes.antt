@@ -1,5 +1,7 @@
--- The precision of an expression, and the columns of a printed number (own). p binary digits are 1 + ceil(p / 3.32) decimal digits,
--- and p decimal digits 1 + ceil(3.32 p) binary digits, but never over 31. A number of p decimal digits takes p + 3 columns.
+-- The precision of an expression, and the columns of a printed number (own). p binary digits are 1 + ceil(p /
+-- 3.32) decimal digits,
+-- and p decimal digits 1 + ceil(3.32 p) binary digits, but never over 31. A number of p decimal digits takes
+-- p + 3 columns.
 use Rattle.std.specs.Prelude.{ℕ, ◌+◌, ◌*◌, ◌/◌, min, max}
 use Rattle.pli_lower.specs.LoweredTree.{LoweredExpression, Variable, Constant, Sum}
 

@@ -1,5 +1,7 @@
--- Lowering: what a unit says in the language that is compiled today, or its first statement that cannot be compiled yet (own).
-use Rattle.std.specs.Prelude.{ℕ, ◌^◌, ◌==◌, nat_lt, Bool, true, false, not, ◌&&◌, if◌then◌else◌, Option, Some, None, is_none, option_map, Result, Ok, List, [], ◌∷◌, ◌++◌, map, length}
+-- Lowering: what a unit says in the language that is compiled today, or its first statement that cannot be
+-- compiled yet (own).
+use Rattle.std.specs.Prelude.{ℕ, ◌^◌, ◌==◌, nat_lt, Bool, true, false, not, ◌&&◌, if◌then◌else◌, Option, Some}
+use Rattle.std.specs.Prelude.{None, is_none, option_map, Result, Ok, List, [], ◌∷◌, ◌++◌, map, length}
 use Rattle.std.specs.List.{list_any}
 use Rattle.pli_base.specs.Name.{Name}
 use Rattle.pli_base.specs.Words.{declared_precision}
@@ -14,7 +16,9 @@ use Rattle.pli_base.specs.declared.code.Code.TheVariants.{NotYetBuilt}
 use Rattle.pli_base.specs.declared.token.Fault.{Fault}
 use Rattle.pli_lower.specs.LoweredNames.{names_in, body_faults}
 use Rattle.pli_base.specs.Declarations.{Attribute, Simple, Fixed, Binary, Item}
-use Rattle.pli_base.specs.Statements.{ProcedureOption, Main, Returns, Heading, Statement, Numbered, Body, Null, Declare, Assign, Put, Statements, Ended, Before, ExternalProcedure}
+use Rattle.pli_base.specs.Statements.{ProcedureOption, Main, Returns, Heading, Statement, Numbered, Body}
+use Rattle.pli_base.specs.Statements.{Null, Declare, Assign, Put, Statements, Ended, Before}
+use Rattle.pli_base.specs.Statements.{ExternalProcedure}
 
 -- what two parts make, where both can be compiled
 abbrev pub both : {A B C : Type 0} → (make : A → B → C) → Option A → Option B → Option C
@@ -28,7 +32,8 @@ is_of_language value digits = nat_lt value (2 ^ 31) && nat_lt value (10 ^ digits
 
 -- a decimal constant
 unfoldable pub lowered_constant : ConstantValue → Option tree.LoweredExpression
-lowered_constant (Decimal value digits) = if is_of_language value digits then Some (tree.Constant value digits) else None
+lowered_constant (Decimal value digits) =
+    if is_of_language value digits then Some (tree.Constant value digits) else None
 lowered_constant value = None
 
 -- a variable by its name, at the name's token
@@ -44,7 +49,8 @@ lowered_reference reference = None
 unfoldable pub lowered_expression : Expression → Option tree.LoweredExpression
 lowered_expression (Referred reference) = option_map tree.Variable (lowered_reference reference)
 lowered_expression (Constant at value) = lowered_constant value
-lowered_expression (Infix Add at left right) = both tree.Sum (lowered_expression left) (lowered_expression right)
+lowered_expression (Infix Add at left right) =
+    both tree.Sum (lowered_expression left) (lowered_expression right)
 lowered_expression expression = None
 
 -- the items of a list, in order
@@ -81,7 +87,8 @@ lowered_items (item ∷ items) = both (λ xs ys. xs ++ ys) (lowered_item item) (
 unfoldable pub lowered_body : Body → Option tree.LoweredBody
 lowered_body Null = Some tree.Null
 lowered_body (Declare items) = option_map tree.Declare (lowered_items items)
-lowered_body (Assign target equals value) = both tree.Assign (lowered_reference target) (lowered_expression value)
+lowered_body (Assign target equals value) =
+    both tree.Assign (lowered_reference target) (lowered_expression value)
 lowered_body (Put false (first ∷ more)) = option_map tree.Put (lowered_expressions (first ∷ more))
 lowered_body body = None
 
@@ -105,12 +112,15 @@ abbrev pub is_faultless : List Fault → Bool
 is_faultless [] = true
 is_faultless (fault ∷ faults) = false
 
--- a body that uses variables alone and declares none again, where names are all variables of the unit and before those that are declared before. Any other name
--- that a unit without faults of its declarations uses is a label's, a procedure's, a built-in function's or that of another variable; and no such unit declares
+-- a body that uses variables alone and declares none again, where names are all variables of the unit and
+-- before those that are declared before. Any other name
+-- that a unit without faults of its declarations uses is a label's, a procedure's, a built-in function's or
+-- that of another variable; and no such unit declares
 -- a name again
 abbrev pub of_variables : (names before : List Name) → Option tree.LoweredBody → Option tree.LoweredBody
 of_variables names before None = None
-of_variables names before (Some body) = if is_faultless (body_faults names before body) then Some body else None
+of_variables names before (Some body) =
+    if is_faultless (body_faults names before body) then Some body else None
 
 -- the statement that begins at this token cannot be compiled yet
 abbrev pub not_yet_built : {A : Type 0} → ℕ → Result A Fault
@@ -123,11 +133,13 @@ numbered number at (Some body) = Ok (record { number = number; body = body })
 
 -- a statement without a label; a labelled one begins with its label
 unfoldable pub lowered_statement : (names before : List Name) → Statement → Result tree.LoweredStatement Fault
-lowered_statement names before (Numbered number None at body) = numbered number at (of_variables names before (lowered_body body))
+lowered_statement names before (Numbered number None at body) =
+    numbered number at (of_variables names before (lowered_body body))
 lowered_statement names before (Numbered number (Some label) at body) = not_yet_built label.at
 
 -- statements in order, or the fault of the first that cannot be compiled
-unfoldable pub lowered_statements : (names before : List Name) → Statements → Result (List tree.LoweredStatement) Fault
+unfoldable pub lowered_statements : (names before : List Name) → Statements
+    → Result (List tree.LoweredStatement) Fault
 lowered_statements names before Ended = Ok []
 lowered_statements names before (Before first more) = do
   statement ← lowered_statement names before first
@@ -150,11 +162,13 @@ is_plain heading = (length heading.parameters == 0) && not (list_any is_returns 
 
 -- a procedure of this heading and these statements
 abbrev pub procedure_of : Heading → List tree.LoweredStatement → tree.LoweredUnit
-procedure_of heading statements = record { name = heading.name.name; is_main = list_any is_main heading.options; statements = statements }
+procedure_of heading statements =
+    record { name = heading.name.name; is_main = list_any is_main heading.options; statements = statements }
 
 -- a unit: first its heading, which begins with its name, and then its statements
 unfoldable pub lowered : ExternalProcedure → Result tree.LoweredUnit Fault
 lowered unit =
     if is_plain unit.heading
-    then (lowered_statements (variables_of unit.statements) [] unit.statements >>= λ statements. Ok (procedure_of unit.heading statements))
+    then (lowered_statements (variables_of unit.statements) [] unit.statements >>= λ statements. Ok
+    (procedure_of unit.heading statements))
     else not_yet_built unit.heading.name.at

@@ -1,9 +1,9 @@
 //! Lowering of declarations.
 ghost use Rattle.std.specs.Prelude.{◌≡◌, ◌++◌, map, OnOk, is_none};
-ghost use Rattle.pli_lower.specs.LoweredView as lowered;
-ghost use Rattle.pli_base.specs.DeclarationView.{attribute_view, item_view};
+ghost use Rattle.pli_lower.specs.views.LoweredView as lowered;
+ghost use Rattle.pli_base.specs.views.DeclarationView.{attribute_view, item_view};
 ghost use Rattle.pli_lower.specs.Lowering.{is_declared_once, is_fixed_binary, variable_named, lowered_items, is_variables};
-ghost use Rattle.pli_lower.specs.LoweringAnswers.{Lowers};
+ghost use Rattle.pli_lower.specs.answers.LoweringAnswers.{Lowers};
 
 use crate::answer::Refusal;
 use crate::expression::variable_named;

@@ -1,9 +1,9 @@
 //! Lowering of expressions.
 ghost use Rattle.std.specs.Prelude.{◌≡◌, map};
-ghost use Rattle.pli_base.specs.SyntaxView as syntax;
-ghost use Rattle.pli_lower.specs.LoweredView as lowered;
+ghost use Rattle.pli_base.specs.views.SyntaxView as syntax;
+ghost use Rattle.pli_lower.specs.views.LoweredView as lowered;
 ghost use Rattle.pli_lower.specs.Lowering.{is_of_language, lowered_constant, variable_named, lowered_reference, lowered_expression, lowered_expressions};
-ghost use Rattle.pli_lower.specs.LoweringAnswers.{Lowers};
+ghost use Rattle.pli_lower.specs.answers.LoweringAnswers.{Lowers};
 
 use crate::answer::Refusal;
 use crate::tree::{LoweredExpression, LoweredReference};

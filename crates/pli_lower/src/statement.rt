@@ -1,10 +1,10 @@
 //! Lowering of statements.
 ghost use Rattle.std.specs.Prelude.{◌≡◌, ◌++◌, [], map, IfOk};
-ghost use Rattle.pli_lower.specs.LoweredView as lowered;
+ghost use Rattle.pli_lower.specs.views.LoweredView as lowered;
 ghost use Rattle.pli_lower.specs.LoweredNames.{names_in, names_of};
-ghost use Rattle.pli_base.specs.StatementView.{body_view, statement_view, statements_view};
+ghost use Rattle.pli_base.specs.views.StatementView.{body_view, statement_view, statements_view};
 ghost use Rattle.pli_lower.specs.Lowering.{lowered_body, of_variables, variables_of, lowered_statement, lowered_statements};
-ghost use Rattle.pli_lower.specs.LoweringAnswers.{Gives, Lowers};
+ghost use Rattle.pli_lower.specs.answers.LoweringAnswers.{Gives, Lowers};
 
 use crate::answer::{LowerError, Refusal, not_yet_built};
 use crate::declaration::lower_items;

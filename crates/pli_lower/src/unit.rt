@@ -1,11 +1,11 @@
 //! Lowering of units.
 ghost use Rattle.std.specs.Prelude.{◌≡◌, IfOk};
 ghost use Rattle.std.specs.List.{list_any};
-ghost use Rattle.pli_lower.specs.LoweredView as lowered_tree;
+ghost use Rattle.pli_lower.specs.views.LoweredView as lowered_tree;
 ghost use Rattle.pli_lower.specs.LoweredNames.{declared_names};
-ghost use Rattle.pli_base.specs.StatementView.{option_view, unit_view};
+ghost use Rattle.pli_base.specs.views.StatementView.{option_view, unit_view};
 ghost use Rattle.pli_lower.specs.Lowering.{lowered, is_main, is_returns};
-ghost use Rattle.pli_lower.specs.LoweringAnswers.{Gives};
+ghost use Rattle.pli_lower.specs.answers.LoweringAnswers.{Gives};
 
 use crate::answer::{LowerError, not_yet_built};
 use crate::statement::lower_statements;

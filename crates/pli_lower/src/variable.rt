@@ -3,9 +3,9 @@ ghost use Rattle.std.specs.Prelude.{◌≡◌, ◌++◌, [], map, true, Ok, IfOk
 ghost use Rattle.std.specs.List.{list_all};
 ghost use Rattle.indexmap.specs.IndexSet.{insert_all};
 ghost use Rattle.pli_base.specs.Words.{same_name};
-ghost use Rattle.pli_lower.specs.LoweredView as lowered;
+ghost use Rattle.pli_lower.specs.views.LoweredView as lowered;
 ghost use Rattle.pli_lower.specs.LoweredNames.{names_in, repeats, expression_faults, body_faults};
-ghost use Rattle.pli_base.specs.StatementView.{statement_view, statements_view};
+ghost use Rattle.pli_base.specs.views.StatementView.{statement_view, statements_view};
 ghost use Rattle.pli_lower.specs.Lowering.{variables_in, variables_of, is_faultless};
 
 use crate::answer::Refusal;

@@ -1,3 +1,2 @@
-pub mod Prints
-pub mod Runs
-pub mod View
+pub mod answers
+pub mod views

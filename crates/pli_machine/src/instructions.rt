@@ -2,8 +2,8 @@
 ghost use Rattle.std.specs.Prelude.{◌≡◌, ℕ, List, None, Some, IfOk, OnOk, slice_get};
 ghost use Rattle.pli_code.specs.World.{place_of, printed};
 ghost use Rattle.pli_code.specs.Machine.{added, loaded, kept, fitted_to, in_characters, put};
-ghost use Rattle.pli_code.specs.ModuleView.{code_view};
-ghost use Rattle.pli_machine.specs.View.{Acts, Works, Performs, push_or_raise, text_of, world_of};
+ghost use Rattle.pli_code.specs.views.ModuleView.{code_view};
+ghost use Rattle.pli_machine.specs.views.View.{Acts, Works, Performs, push_or_raise, text_of, world_of};
 
 use crate::numbers::{GREATEST_PRECISION, fitted, has_digits, is_within, number_at, sum_of};
 use crate::operands::{pop_characters, pop_number, pop_place, push};

@@ -1,5 +1,5 @@
 //! Laws of runs.
-ghost use Rattle.pli_machine.specs.Runs.{OneOutcome, EveryRunEnds};
+ghost use Rattle.pli_machine.specs.answers.Runs.{OneOutcome, EveryRunEnds};
 
 /// A law: a module's run gives one outcome.
 pub fn one_outcome()

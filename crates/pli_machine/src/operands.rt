@@ -1,7 +1,7 @@
 //! The machine's operands: the newest is the last of a `Vec`.
 ghost use Rattle.std.specs.Prelude.{◌≡◌, ◌∷◌, IfOk, MatchOption, ℕ};
 ghost use Rattle.pli_code.specs.Machine.{Number, Characters, Place};
-ghost use Rattle.pli_machine.specs.View.{stack, operand_of, text_of, NoNumber, NoPlace, NoCharacters};
+ghost use Rattle.pli_machine.specs.views.View.{stack, operand_of, text_of, NoNumber, NoPlace, NoCharacters};
 
 use crate::world::{Operand, Stop};
 use std::alloc::AllocError;

@@ -1,9 +1,9 @@
 //! One instruction after another.
 ghost use Rattle.std.specs.Prelude.{IfOk};
-ghost use Rattle.pli_code.specs.ModuleView as view;
-ghost use Rattle.pli_code.specs.ModuleView.{code_view};
+ghost use Rattle.pli_code.specs.views.ModuleView as view;
+ghost use Rattle.pli_code.specs.views.ModuleView.{code_view};
 ghost use Rattle.pli_code.specs.declared.instruction.Instruction.TheVariants.{Step};
-ghost use Rattle.pli_machine.specs.View.{Performs};
+ghost use Rattle.pli_machine.specs.views.View.{Performs};
 
 use crate::instructions::{
     add, description_at, fit, load, place_of, put_characters, store, to_characters,

@@ -1,7 +1,7 @@
 //! Printing: items in the columns of lines.
 ghost use Rattle.std.specs.Prelude.{◌≡◌, ◌+◌, ◌≤◌, length, [], IfOk, IfSome};
 ghost use Rattle.pli_code.specs.Print.{tab_from, may_begin, lead, characters_from, print};
-ghost use Rattle.pli_machine.specs.Prints.{Prints};
+ghost use Rattle.pli_machine.specs.answers.Prints.{Prints};
 
 use std::alloc::AllocError;
 

@@ -2,7 +2,7 @@
 use Rattle.std.proofs.Common.{◌≡◌, ℕ, ◌<◌, refl, sym, ap, ◌∙◌, List, [], ◌∷◌, map, length, get_or, arith}
 use Rattle.std.proofs.lemmas.List.{get_or-map}
 use Rattle.pli_map.specs.Description as tree
-use Rattle.pli_map.specs.DescriptionView.{description_view, members_of, members_view}
+use Rattle.pli_map.specs.views.DescriptionView.{description_view, members_of, members_view}
 use Rattle.pli_map.specs.declared.description.Description.{Description}
 
 -- two lists of members that are equal have equal members

@@ -3,7 +3,7 @@ use Rattle.std.proofs.Common.{◌≡◌, ℕ, zero, suc, ◌+◌, ◌<◌, ◌�
 use Rattle.std.specs.Int.{next_multiple_of}
 use Rattle.std.proofs.lemmas.List.{at_drop_more}
 use Rattle.pli_map.specs.Description as tree
-use Rattle.pli_map.specs.DescriptionView.{description_view, members_view}
+use Rattle.pli_map.specs.views.DescriptionView.{description_view, members_view}
 use Rattle.pli_map.specs.Parts.{PlacedPart, member_behind}
 use Rattle.pli_map.specs.Sizes.{alignment_of, size_of, end_behind}
 use Rattle.pli_map.specs.declared.description.Description.{Description}

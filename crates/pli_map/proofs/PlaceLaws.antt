@@ -7,7 +7,7 @@ use Rattle.std.proofs.lemmas.Option.{same_Some, none-some}
 use Rattle.std.proofs.Math.Nat.{mul-le-mul_right}
 use Rattle.pli_map.specs.declared.description.Bounds.{Bounds}
 use Rattle.pli_map.specs.Description.{Description, FixedBinary, Character, Varying, Bit, Pointer, Offset, Area, Array, Structure, Members, NoMembers, MemberThen}
-use Rattle.pli_map.specs.Laws.{Apart, PartsDoNotMeet, PartsLieWithin, PartsStandAligned, AreasAreRounded, WithinBounds, ElementsAreWithinBounds, ElementsAreInRowMajorOrder}
+use Rattle.pli_map.specs.laws.Laws.{Apart, PartsDoNotMeet, PartsLieWithin, PartsStandAligned, AreasAreRounded, WithinBounds, ElementsAreWithinBounds, ElementsAreInRowMajorOrder}
 use Rattle.pli_map.specs.Parts.{PathStep, Member, Element, PlacedPart, index_of, member_behind, part_at, moved, place_of}
 use Rattle.pli_map.specs.Sizes.{count_of, alignment_of, greatest_alignment, size_of, stride_of}
 use Rattle.pli_map.proofs.Multiples.{IsAlignment, sum_aligned, next_aligned, times_aligned, divides, greater}

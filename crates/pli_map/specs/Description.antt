@@ -1,4 +1,5 @@
--- Descriptions, as definitions speak of them: without where they lie in memory. Names do not stand in them, so two descriptions are
+-- Descriptions, as definitions speak of them: without where they lie in memory. Names do not stand in them,
+-- so two descriptions are
 -- equal where types, bounds and structure agree.
 use Rattle.std.specs.Prelude.{ℕ, List}
 use Rattle.std.specs.Int.{next_multiple_of}

@@ -1,10 +1,8 @@
 pub mod Description
-pub mod DescriptionView
-pub mod Examples
-pub mod Laws
 pub mod Layouts
 pub mod Parts
-pub mod PartView
 pub mod Same
-pub mod SameLaws
 pub mod Sizes
+pub mod examples
+pub mod laws
+pub mod views

@@ -1,11 +1,13 @@
 -- Where the parts of a description stand in it.
-use Rattle.std.specs.Prelude.{ℕ, zero, suc, ◌+◌, ◌*◌, ◌&&◌, int_le, ℤ, ◌-ℤ◌, unsigned_abs, Option, Some, None, option_map, option_and_then, List, [], ◌∷◌, if◌then◌else◌}
+use Rattle.std.specs.Prelude.{ℕ, zero, suc, ◌+◌, ◌*◌, ◌&&◌, int_le, ℤ, ◌-ℤ◌, unsigned_abs, Option, Some, None}
+use Rattle.std.specs.Prelude.{option_map, option_and_then, List, [], ◌∷◌, if◌then◌else◌}
 use Rattle.std.specs.Int.{next_multiple_of}
 use Rattle.pli_map.specs.declared.description.Bounds.{Bounds}
 use Rattle.pli_map.specs.Description.{Description, Array, Structure, Members, NoMembers, MemberThen}
 use Rattle.pli_map.specs.Sizes.{count_of, alignment_of, size_of, stride_of}
 
--- a step from a description to a part of it: to a member of a structure, counted from 0, or to the element of an array at its subscripts
+-- a step from a description to a part of it: to a member of a structure, counted from 0, or to the element of
+-- an array at its subscripts
 pub data PathStep : Type 0 where
   Member : (number : ℕ) → PathStep
   Element : (subscripts : List ℤ) → PathStep
@@ -19,22 +21,28 @@ pub record PlacedPart : Type 0 where
 abbrev pub distance_of : Bounds → ℤ → Option ℕ
 distance_of b x = if int_le b.low x && int_le x b.high then Some (unsigned_abs (x -ℤ b.low)) else None
 
--- how many elements stand before the one at these subscripts, in row-major order: the last subscript varies fastest
+-- how many elements stand before the one at these subscripts, in row-major order: the last subscript varies
+-- fastest
 abbrev pub index_of : List Bounds → List ℤ → Option ℕ
 index_of [] [] = Some 0
-index_of (b ∷ bs) (x ∷ xs) = option_and_then (λ d. option_map (λ k. d * count_of bs + k) (index_of bs xs)) (distance_of b x)
+index_of (b ∷ bs) (x ∷ xs) =
+    option_and_then (λ d. option_map (λ k. d * count_of bs + k) (index_of bs xs)) (distance_of b x)
 index_of [] (x ∷ xs) = None
 index_of (b ∷ bs) [] = None
 
--- the member of this number, if each stands at its next aligned place behind the one before, and the first behind this byte
+-- the member of this number, if each stands at its next aligned place behind the one before, and the first
+-- behind this byte
 abbrev pub member_behind : ℕ → Members → ℕ → Option PlacedPart
 member_behind at NoMembers i = None
-member_behind at (MemberThen d ds) zero = Some (record { offset = next_multiple_of at (alignment_of d); description = d })
-member_behind at (MemberThen d ds) (suc i) = member_behind (next_multiple_of at (alignment_of d) + size_of d) ds i
+member_behind at (MemberThen d ds) zero =
+    Some (record { offset = next_multiple_of at (alignment_of d); description = d })
+member_behind at (MemberThen d ds) (suc i) =
+    member_behind (next_multiple_of at (alignment_of d) + size_of d) ds i
 
 -- the element at these subscripts
 abbrev pub element_at : List Bounds → Description → List ℤ → Option PlacedPart
-element_at bounds element xs = option_map (λ k. record { offset = k * stride_of element; description = element }) (index_of bounds xs)
+element_at bounds element xs =
+    option_map (λ k. record { offset = k * stride_of element; description = element }) (index_of bounds xs)
 
 -- the part that one step leads to
 abbrev pub part_at : Description → PathStep → Option PlacedPart
@@ -49,4 +57,5 @@ moved n p = record { offset = n + p.offset; description = p.description }
 -- the part that a path of steps leads to
 abbrev pub place_of : Description → List PathStep → Option PlacedPart
 place_of d [] = Some (record { offset = 0; description = d })
-place_of d (s ∷ path) = option_and_then (λ p. option_map (moved p.offset) (place_of p.description path)) (part_at d s)
+place_of d (s ∷ path) =
+    option_and_then (λ p. option_map (moved p.offset) (place_of p.description path)) (part_at d s)

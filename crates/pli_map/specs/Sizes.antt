@@ -1,8 +1,10 @@
 -- How many bytes a description takes, and on which bytes it may stand.
-use Rattle.std.specs.Prelude.{ℕ, ◌+◌, ◌*◌, max, nat_le, int_le, ◌-ℤ◌, unsigned_abs, List, [], ◌∷◌, if◌then◌else◌}
+use Rattle.std.specs.Prelude.{ℕ, ◌+◌, ◌*◌, max, nat_le, int_le, ◌-ℤ◌, unsigned_abs, List, [], ◌∷◌}
+use Rattle.std.specs.Prelude.{if◌then◌else◌}
 use Rattle.std.specs.Int.{next_multiple_of, div_ceil}
 use Rattle.pli_map.specs.declared.description.Bounds.{Bounds}
-use Rattle.pli_map.specs.Description.{Description, FixedBinary, Character, Varying, Bit, Pointer, Offset, Area, Array, Structure, Members, NoMembers, MemberThen}
+use Rattle.pli_map.specs.Description.{Description, FixedBinary, Character, Varying, Bit, Pointer, Offset}
+use Rattle.pli_map.specs.Description.{Area, Array, Structure, Members, NoMembers, MemberThen}
 
 -- how many subscripts bounds have
 abbrev pub extent_of : Bounds → ℕ
@@ -30,7 +32,8 @@ abbrev mutual
   greatest_alignment NoMembers = 1
   greatest_alignment (MemberThen d ds) = max (alignment_of d) (greatest_alignment ds)
 
--- the size in bytes (own): a member stands at its next aligned place, and a structure ends with its last member
+-- the size in bytes (own): a member stands at its next aligned place, and a structure ends with its last
+-- member
 abbrev mutual
   pub size_of : Description → ℕ
   size_of (FixedBinary p) = if nat_le p 15 then 2 else 4
@@ -43,7 +46,8 @@ abbrev mutual
   size_of (Array bounds element) = count_of bounds * next_multiple_of (size_of element) (alignment_of element)
   size_of (Structure members) = end_behind 0 members
 
-  -- where the last of these members ends, if each stands at its next aligned place behind the one before, and the first behind this byte
+  -- where the last of these members ends, if each stands at its next aligned place behind the one before, and
+  -- the first behind this byte
   pub end_behind : ℕ → Members → ℕ
   end_behind at NoMembers = at
   end_behind at (MemberThen d ds) = end_behind (next_multiple_of at (alignment_of d) + size_of d) ds

@@ -2,7 +2,7 @@
 ghost use Rattle.std.specs.Prelude.{◌≡◌, ◌↔◌, ◌<◌, ◌≤◌, IfOk, IfSome, IsTrue};
 ghost use Rattle.pli_map.specs.Sizes.{extent_of};
 ghost use Rattle.pli_map.specs.Parts.{distance_of};
-ghost use Rattle.pli_map.specs.DescriptionView.{description_view, members_view};
+ghost use Rattle.pli_map.specs.views.DescriptionView.{description_view, members_view};
 
 use std::alloc::{AllocError, Global};
 
@@ -122,7 +122,7 @@ impl PartialEq for Description {
     ghost use Rattle.std.specs.Cmp.{on_per, partial_equiv_from_equiv};
     ghost use Rattle.std.specs.Ordering.{on};
     ghost use Rattle.pli_map.specs.Same.{same};
-    ghost use Rattle.pli_map.specs.SameLaws.{same_equivalence};
+    ghost use Rattle.pli_map.specs.laws.SameLaws.{same_equivalence};
 
     ghost eq = { on description_view same };
 
@@ -135,7 +135,7 @@ impl PartialEq for Description {
 
 impl Eq for Description {
     ghost use Rattle.std.specs.Cmp.{on_equiv};
-    ghost use Rattle.pli_map.specs.SameLaws.{same_equivalence};
+    ghost use Rattle.pli_map.specs.laws.SameLaws.{same_equivalence};
 
     ghost laws = { on_equiv description_view same_equivalence };
 }

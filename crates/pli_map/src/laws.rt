@@ -1,6 +1,6 @@
 //! Laws and worked examples of sizes and places.
-ghost use Rattle.pli_map.specs.Examples.{ScalarSizes, MixedMembers, RowMajorOrder, StridesAreAligned, NoElements};
-ghost use Rattle.pli_map.specs.Laws.{PartsDoNotMeet, PartsLieWithin, PartsStandAligned, FourAlignments, AreasAreRounded, ElementsAreWithinBounds, ElementsAreInRowMajorOrder, ElementsAreCounted, SameIsEqual};
+ghost use Rattle.pli_map.specs.examples.Examples.{ScalarSizes, MixedMembers, RowMajorOrder, StridesAreAligned, NoElements};
+ghost use Rattle.pli_map.specs.laws.Laws.{PartsDoNotMeet, PartsLieWithin, PartsStandAligned, FourAlignments, AreasAreRounded, ElementsAreWithinBounds, ElementsAreInRowMajorOrder, ElementsAreCounted, SameIsEqual};
 
 /// A law: two different members or elements of one whole have no byte in common, nor have parts of them.
 #[tactic(auto, using(crate::proofs::PlaceLaws::do_not_meet))]
@@ -46,7 +46,7 @@ pub fn elements_are_in_row_major_order()
 {}
 
 /// A law: the test for equality holds exactly of equal descriptions.
-#[tactic(auto, using(crate::specs::SameLaws::same_decides))]
+#[tactic(auto, using(crate::specs::laws::SameLaws::same_decides))]
 pub fn same_is_equal()
     ensures { SameIsEqual }
 {}

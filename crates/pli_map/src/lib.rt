@@ -14,5 +14,5 @@ pub use laws::{
     worked_examples,
 };
 pub use layout::{Layout, SIZE_LIMIT};
-pub use parts::{PlacedPart, PathStep, place};
+pub use parts::{PathStep, PlacedPart, place};
 pub use sizes::{alignment, measure, size};

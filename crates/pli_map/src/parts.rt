@@ -1,9 +1,9 @@
 //! Where the parts of a description stand in it (own).
 ghost use Rattle.std.specs.Prelude.{◌≡◌, ◌≤◌, ◌*◌, min, map, option_map};
 ghost use Rattle.pli_map.specs.Sizes.{count_of, size_of, stride_of, end_behind};
-ghost use Rattle.pli_map.specs.DescriptionView.{description_view, members_view};
+ghost use Rattle.pli_map.specs.views.DescriptionView.{description_view, members_view};
 ghost use Rattle.pli_map.specs.Parts.{index_of, member_behind, element_at, part_at, place_of};
-ghost use Rattle.pli_map.specs.PartView.{step_view, part_view};
+ghost use Rattle.pli_map.specs.views.PartView.{step_view, part_view};
 
 use crate::description::{Bounds, Description};
 use crate::layout::OVER_LIMIT;

@@ -2,7 +2,7 @@
 ghost use Rattle.std.specs.Prelude.{◌≡◌, ◌<◌, ◌≤◌, ◌+◌, ◌*◌, min, max, nat_le, if◌then◌else◌, SomeIff};
 ghost use Rattle.std.specs.Int.{next_multiple_of};
 ghost use Rattle.pli_map.specs.Sizes.{count_of, alignment_of, greatest_alignment, size_of, end_behind, stride_of};
-ghost use Rattle.pli_map.specs.DescriptionView.{description_view, members_view};
+ghost use Rattle.pli_map.specs.views.DescriptionView.{description_view, members_view};
 ghost use Rattle.pli_map.specs.Layouts.{IsLayout};
 
 use crate::description::{Bounds, Description};

@@ -6,7 +6,7 @@ use Rattle.pli_base.specs.Name.{Name}
 use Rattle.pli_lower.specs.LoweredTree.{LoweredExpression, Variable, Constant, Sum, LoweredBody, Null, Declare, Assign, Put, LoweredStatement, LoweredUnit}
 use Rattle.pli_base.specs.Words.{is_among}
 use Rattle.pli_lower.specs.LoweredNames.{declared_names, declaration_faults}
-use Rattle.pli_code.specs.ModuleView.{Code}
+use Rattle.pli_code.specs.views.ModuleView.{Code}
 use Rattle.pli_lower.specs.LoweredTypes.{width}
 use Rattle.pli_gen.specs.Translation.{constants_in, body_constants, values_of, number_in, expression_code, item_code, body_code, statements_code, descriptions_of, code_of}
 use Rattle.pli_code.specs.declared.instruction.Description.TheVariants.{FixedBinary}

@@ -3,7 +3,7 @@ use Rattle.std.specs.Prelude.{refl}
 use Rattle.std.proofs.Common.{arith}
 use Rattle.std.specs.Fmt.{digits}
 use Rattle.pli_code.specs.World.{nothing, entered, left_by, begun, place_of, held, stored, printed, error_at, fitted, sum_of, number_text}
-use Rattle.pli_meaning.specs.Examples.{FirstIsSound, FirstRunEnds, TwoStepsStop, NoStepStops, SumOverflows, ItemBeforeIsWritten, NullIsAStep, UndeclaredIsLost}
+use Rattle.pli_meaning.specs.examples.Examples.{FirstIsSound, FirstRunEnds, TwoStepsStop, NoStepStops, SumOverflows, ItemBeforeIsWritten, NullIsAStep, UndeclaredIsLost}
 
 pub first_run : FirstRunEnds
 unfolding nothing entered left_by begun place_of held stored printed error_at fitted sum_of number_text digits

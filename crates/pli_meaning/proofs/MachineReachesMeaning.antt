@@ -4,7 +4,7 @@ use Rattle.std.proofs.Common.{ap}
 use Rattle.pli_base.specs.Name.{Name}
 use Rattle.pli_lower.specs.LoweredTree.{LoweredReference, LoweredExpression, Variable, Constant, Sum, LoweredBody, Null, Declare, Assign, Put, LoweredStatement}
 use Rattle.pli_lower.specs.LoweredNames.{slot_of}
-use Rattle.pli_code.specs.ModuleView.{Code}
+use Rattle.pli_code.specs.views.ModuleView.{Code}
 use Rattle.pli_code.specs.declared.instruction.Instruction.TheVariants as op
 use Rattle.pli_lower.specs.LoweredTypes.{width}
 use Rattle.pli_code.specs.World.{World, place_of, held, stored, printed, fitted, sum_of, number_text}

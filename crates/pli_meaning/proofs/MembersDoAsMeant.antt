@@ -9,7 +9,7 @@ use Rattle.pli_include.specs.Expanded.{outcome_of}
 use Rattle.pli_include.specs.Expansion.{Outcome as Expansion}
 use Rattle.pli_members.specs.Members.{Member}
 use Rattle.pli_code.specs.Machine.{Outcome, RunsTo}
-use Rattle.pli_meaning.specs.Laws.{GoesOn}
+use Rattle.pli_meaning.specs.laws.Laws.{GoesOn}
 use Rattle.pli_meaning.specs.Meaning.{whole_run}
 use Rattle.pli_meaning.specs.Members.{MembersSimulate, OneMeaning, MembersGrow}
 use Rattle.pli_meaning.specs.Scratch.{Diagnostic, read_or_fault, lowered_unless, program_from, Parsed, program_of, parsed_as, parsed_from, parsed_of, main_units, Means}

@@ -16,7 +16,7 @@ use Rattle.pli_members.specs.declared.kind.Kind.{Kind}
 use Rattle.pli_members.specs.declared.kind.Kind.TheVariants.{Source, Include}
 use Rattle.pli_lower.specs.LoweredNames.{declaration_faults}
 use Rattle.pli_code.specs.Link.{Compiled, Place, LinkFault, TwoMainProcedures, inserted, in_order_after, in_order, place_of_unit, mains, later, none_among, link_faults, module_or, link_of}
-use Rattle.pli_code.specs.ModuleView.{Module}
+use Rattle.pli_code.specs.views.ModuleView.{Module}
 use Rattle.pli_gen.specs.Translation.{code_of, is_too_long}
 use Rattle.pli_lower.specs.Lowering.{lowered}
 use Rattle.pli_lower.proofs.LoweringNames.{lowers_to_faultless}

@@ -10,7 +10,7 @@ use Rattle.pli_code.specs.Machine.{Operand, RunsTo, start}
 use Rattle.pli_code.specs.declared.ending.Ending.TheVariants.{Ended, OutOfSteps, MachineFault}
 use Rattle.pli_meaning.specs.Effects.{Effect, Gives, Jumps, Fails, Spent, Lost, Short, Flow, leaving}
 use Rattle.pli_meaning.specs.Meaning.{does_all, ran}
-use Rattle.pli_meaning.specs.Laws.{module_of, IsMeant, Simulation}
+use Rattle.pli_meaning.specs.laws.Laws.{module_of, IsMeant, Simulation}
 use Rattle.pli_meaning.proofs.ReachesLemmas.{Reach, returns, leaves}
 use Rattle.pli_meaning.proofs.UsesHaveSlots.{knows_all}
 use Rattle.pli_meaning.proofs.NothingIsLost.{Means, Anything, does_all_mean}

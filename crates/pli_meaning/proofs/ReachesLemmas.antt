@@ -2,7 +2,7 @@
 -- combinator of the meaning, over variables: no form of the tree is mentioned.
 use Rattle.std.specs.Prelude.{◌≡◌, ℕ, ℤ, zero, suc, ◌+◌, ◌<◌, Option, Some, None, List, [], ◌∷◌, slice_get, refl}
 use Rattle.std.proofs.Common.{ap, ◌∙◌, subst}
-use Rattle.pli_code.specs.ModuleView.{Code}
+use Rattle.pli_code.specs.views.ModuleView.{Code}
 use Rattle.pli_code.specs.World.{World, begun, left_by, error_at}
 use Rattle.pli_code.specs.Machine.{Operand, Number, Frame, State, At, Over, act, after, resume, resumed, pushed_if, pushed_or_raised, changed as put_into, iterate}
 use Rattle.pli_code.specs.declared.ending.Ending.TheVariants.{OutOfSteps}

@@ -2,7 +2,7 @@
 use Rattle.std.specs.Prelude.{◌≡◌, ◌⊎◌, ℕ, ℤ, zero, suc, ◌+◌, nat_lt, Bool, true, false, ◌&&◌, if◌then◌else◌, length, slice_set, Option, Some, None, List, [], ◌∷◌, ◌++◌, slice_get, refl}
 use Rattle.std.proofs.Common.{arith, sym, ap, ◌∙◌, subst, inl, inr, ⊎_elim, append_assoc, append-nil}
 use Rattle.pli_base.specs.Name.{Name}
-use Rattle.pli_code.specs.ModuleView.{Code, Module}
+use Rattle.pli_code.specs.views.ModuleView.{Code, Module}
 use Rattle.pli_code.specs.World.{World, nothing, entered, left_by, begun, place_of, held, stored, printed, fitted, sum_of, number_text, has_digits}
 use Rattle.pli_code.specs.Print.{print}
 use Rattle.std.proofs.lemmas.Option.{same_Some}
@@ -14,7 +14,7 @@ use Rattle.pli_code.specs.declared.instruction.Description.TheVariants.{FixedBin
 use Rattle.pli_code.specs.declared.instruction.Instruction.{Instruction}
 use Rattle.pli_code.specs.declared.instruction.Instruction.TheVariants as op
 use Rattle.pli_meaning.specs.Meaning.{whole_run}
-use Rattle.pli_meaning.specs.Laws.{module_of, IsPrefix, GoesOn, Growth}
+use Rattle.pli_meaning.specs.laws.Laws.{module_of, IsPrefix, GoesOn, Growth}
 use Rattle.pli_meaning.proofs.ProceduresSimulate.{simulation}
 
 same_output : (xs : List ℕ) → IsPrefix xs xs

@@ -5,7 +5,7 @@ use Rattle.std.proofs.Common.{arith, sym, ◌∙◌}
 use Rattle.std.proofs.lemmas.Bool.{true≢false, or_cases}
 use Rattle.std.proofs.Common.{⊎_elim}
 use Rattle.pli_base.specs.Name.{Name}
-use Rattle.pli_base.specs.NameLaws.{equal_from_pointwise, pointwise-from_equal}
+use Rattle.pli_base.specs.laws.NameLaws.{equal_from_pointwise, pointwise-from_equal}
 use Rattle.pli_base.specs.Words.{same_name, is_among}
 use Rattle.pli_lower.specs.LoweredTree.{LoweredReference, LoweredExpression, Variable, Constant, Sum, LoweredBody, Null, Declare, Assign, Put, LoweredStatement, LoweredUnit}
 use Rattle.pli_base.specs.declared.token.Fault.{Fault}

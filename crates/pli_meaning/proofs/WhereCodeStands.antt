@@ -3,7 +3,7 @@ use Rattle.std.specs.Prelude.{◌≡◌, ℕ, ℤ, pos, Some, List, [], ◌∷�
 use Rattle.pli_base.specs.Name.{Name}
 use Rattle.pli_lower.specs.LoweredTree.{LoweredReference, LoweredExpression, Variable, Constant, Sum, LoweredBody, Null, Declare, Assign, Put, LoweredStatement}
 use Rattle.pli_lower.specs.LoweredNames.{slot_of}
-use Rattle.pli_code.specs.ModuleView.{Code}
+use Rattle.pli_code.specs.views.ModuleView.{Code}
 use Rattle.pli_lower.specs.LoweredTypes.{width}
 use Rattle.pli_code.specs.declared.instruction.Description.TheVariants.{FixedBinary}
 use Rattle.pli_code.specs.declared.instruction.Instruction.TheVariants as op

@@ -1,12 +1,15 @@
--- What doing something comes to, and how one thing is done after another. A level bounds the recursion of a definition; the steps left are
+-- What doing something comes to, and how one thing is done after another. A level bounds the recursion of a
+-- definition; the steps left are
 -- what the language counts, and go from one thing to the next.
 use Rattle.std.specs.Prelude.{ℕ, zero, suc, nat_eq, length, Option, Some, None, if◌then◌else◌}
 use Rattle.pli_code.specs.World.{World, begun, left_by, error_at}
 use Rattle.pli_code.specs.declared.ending.Ending.{Ending}
 use Rattle.pli_code.specs.declared.ending.RunError.TheVariants.{FixedOverflow}
 
--- it gives a result and leaves so many steps; it jumps to a label of an activation, which is named by how many there are when it is the newest;
--- it ends the run; it has spent the steps; it has no meaning; or the level was too low for it, which never comes
+-- it gives a result and leaves so many steps; it jumps to a label of an activation, which is named by how
+-- many there are when it is the newest;
+-- it ends the run; it has spent the steps; it has no meaning; or the level was too low for it, which never
+-- comes
 pub data Effect (A : Type 0) : Type 0 where
   Gives : (result : A) (world : World) (left : ℕ) → Effect A
   Jumps : (activation label : ℕ) (world : World) (left : ℕ) → Effect A
@@ -67,7 +70,8 @@ abbrev pub changed : Option World → Doing Flow
 changed (Some new) w left = Gives Next new left
 changed None w left = Lost
 
--- leaves the newest activation; a jump to a label of it is lost, as none of its lists has held it, and any other goes on outside
+-- leaves the newest activation; a jump to a label of it is lost, as none of its lists has held it, and any
+-- other goes on outside
 abbrev pub leaving : Effect Flow → Effect Flow
 leaving (Gives flow w left) = Gives Next (left_by w) left
 leaving (Jumps h k w left) = if nat_eq h (length w.activations) then Lost else Jumps h k (left_by w) left

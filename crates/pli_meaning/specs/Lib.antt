@@ -1,7 +1,7 @@
 pub mod Effects
-pub mod Examples
-pub mod Laws
 pub mod Meaning
 pub mod Members
 pub mod Scratch
 pub mod Sound
+pub mod examples
+pub mod laws

@@ -1,15 +1,21 @@
 -- Meaning: what a procedure does, by recursion on its tree (own). No instruction is mentioned.
 use Rattle.std.specs.Prelude.{ℕ, zero, suc, ℤ, pos, List, [], ◌∷◌, length}
 use Rattle.pli_base.specs.Name.{Name}
-use Rattle.pli_lower.specs.LoweredTree.{LoweredReference, LoweredExpression, Variable, Constant, Sum, LoweredBody, Null, Declare, Assign, Put, LoweredStatement, LoweredUnit}
+use Rattle.pli_lower.specs.LoweredTree.{LoweredReference, LoweredExpression, Variable, Constant, Sum}
+use Rattle.pli_lower.specs.LoweredTree.{LoweredBody, Null, Declare, Assign, Put, LoweredStatement}
+use Rattle.pli_lower.specs.LoweredTree.{LoweredUnit}
 use Rattle.pli_lower.specs.LoweredNames.{declared_names, slot_of}
 use Rattle.pli_lower.specs.LoweredTypes.{width}
-use Rattle.pli_code.specs.World.{nothing, entered, place_of, held, stored, printed, fitted, sum_of, number_text}
+use Rattle.pli_code.specs.World.{nothing, entered, place_of, held, stored, printed, fitted, sum_of}
+use Rattle.pli_code.specs.World.{number_text}
 use Rattle.pli_code.specs.Machine.{Outcome, outcome_of}
 use Rattle.pli_code.specs.declared.ending.Ending.TheVariants.{Ended, OutOfSteps, MachineFault}
-use Rattle.pli_meaning.specs.Effects.{Effect, Gives, Jumps, Fails, Spent, Lost, Short, Flow, Next, Doing, and_then, followed, as_step, as_statement, found, or_overflow, changed, leaving}
+use Rattle.pli_meaning.specs.Effects.{Effect, Gives, Jumps, Fails, Spent, Lost, Short, Flow, Next, Doing}
+use Rattle.pli_meaning.specs.Effects.{and_then, followed, as_step, as_statement, found, or_overflow, changed}
+use Rattle.pli_meaning.specs.Effects.{leaving}
 
--- in a procedure that declares these names, at a level: what an activation, a turn or a repetition inside may do is the level below
+-- in a procedure that declares these names, at a level: what an activation, a turn or a repetition inside may
+-- do is the level below
 module _ (names : List Name) (level : ℕ) where
   -- the place of a variable, in the newest activation
   abbrev pub place_at : LoweredReference → Doing ℕ
@@ -19,16 +25,24 @@ module _ (names : List Name) (level : ℕ) where
   abbrev pub value_of : LoweredExpression → Doing ℤ
   value_of (Variable r) w left = and_then (place_at r w left) (λ g w left. found (held w g) w left)
   value_of (Constant v d) w left = Gives (pos v) w left
-  value_of (Sum l r) w left = and_then (value_of l w left) (λ x w left. and_then (value_of r w left) (λ y w left. or_overflow (sum_of x y) w left))
+  value_of (Sum l r) w left =
+      and_then (value_of l w left)
+      (λ x w left. and_then (value_of r w left) (λ y w left. or_overflow (sum_of x y) w left))
 
   -- an assignment: the target's place, then the value, then its conversion, then the store
   abbrev pub assigns : LoweredReference → LoweredExpression → Doing Flow
   assigns target e w left =
-      and_then (place_at target w left) (λ g w left. and_then (value_of e w left) (λ x w left. and_then (or_overflow (fitted 31 x) w left) (λ y w left. changed (stored w g y) w left)))
+      and_then (place_at target w left)
+      (λ g w left. and_then (value_of e w left)
+      (λ x w left. and_then (or_overflow (fitted 31 x) w left)
+      (λ y w left. changed (stored w g y) w left)))
 
   -- an item of PUT LIST: its value, its characters, and the print of them
   abbrev pub puts : LoweredExpression → Doing Flow
-  puts e w left = and_then (value_of e w left) (λ x w left. and_then (found (number_text (width e) x) w left) (λ text w left. Gives Next (printed text w) left))
+  puts e w left =
+      and_then (value_of e w left)
+      (λ x w left. and_then (found (number_text (width e) x) w left)
+      (λ text w left. Gives Next (printed text w) left))
 
   -- items one after another: each is written before the next is evaluated
   abbrev pub puts_all : List LoweredExpression → Doing Flow
@@ -51,7 +65,10 @@ module _ (names : List Name) (level : ℕ) where
 abbrev pub activated : (unit : Name) → LoweredUnit → (level : ℕ) → Doing Flow
 activated unit u zero w left = Short
 activated unit u (suc level) w left =
-    as_step (λ w left. leaving (does_all (declared_names u) level u.statements (entered unit (length (declared_names u)) w) left)) w left
+    as_step
+    (λ w left. leaving
+    (does_all (declared_names u) level u.statements (entered unit (length (declared_names u)) w) left)) w
+    left
 
 -- how a run has ended; what has no meaning counts as a fault of the machine, and never comes
 abbrev pub ran : Effect Flow → Outcome

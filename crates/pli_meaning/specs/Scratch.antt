@@ -1,5 +1,6 @@
 -- A build from scratch: the diagnostics or the module that members give, and what their program means.
-use Rattle.std.specs.Prelude.{◌≡◌, ℕ, Bool, false, Option, Some, None, Result, Ok, Err, List, [], ◌∷◌, ◌++◌, map, decimal, slice_get, if◌then◌else◌}
+use Rattle.std.specs.Prelude.{◌≡◌, ℕ, Bool, false, Option, Some, None, Result, Ok, Err, List, [], ◌∷◌, ◌++◌}
+use Rattle.std.specs.Prelude.{map, decimal, slice_get, if◌then◌else◌}
 use Rattle.std.specs.List.{filter, flat_map}
 use Rattle.pli_base.specs.Name.{Name}
 use Rattle.pli_base.specs.Codes.{code_label, code_text}
@@ -18,9 +19,10 @@ use Rattle.pli_members.specs.declared.kind.Kind.TheVariants.{Source, Include}
 use Rattle.pli_parse_statement.specs.StatementReading.{unit_of}
 use Rattle.pli_base.specs.Statements.{ExternalProcedure}
 use Rattle.pli_declare.specs.Resolution.{resolution_faults}
-use Rattle.pli_code.specs.Link.{Compiled, Place, LinkFault, NoMainProcedure, TwoMainProcedures, DefinedTwice, link_of}
+use Rattle.pli_code.specs.Link.{Compiled, Place, LinkFault, NoMainProcedure, TwoMainProcedures, DefinedTwice}
+use Rattle.pli_code.specs.Link.{link_of}
 use Rattle.pli_code.specs.Machine.{Outcome}
-use Rattle.pli_code.specs.ModuleView.{Module}
+use Rattle.pli_code.specs.views.ModuleView.{Module}
 use Rattle.pli_gen.specs.Translation.{code_of, is_too_long}
 use Rattle.pli_meaning.specs.Meaning.{whole_run}
 
@@ -36,7 +38,8 @@ origin_of unit None = record { member = unit; line = 1 }
 
 -- a fault at a token stands where the token does
 abbrev pub located : Name → List Origin → Fault → Diagnostic
-located unit origins fault = record { origin = origin_of unit (slice_get origins fault.at); code = fault.code }
+located unit origins fault =
+    record { origin = origin_of unit (slice_get origins fault.at); code = fault.code }
 
 -- one diagnostic
 abbrev pub one : Code → Origin → List Diagnostic
@@ -47,7 +50,8 @@ abbrev pub read_or_fault : {A : Type 0} → Result A Fault → Result A (List Fa
 read_or_fault (Ok x) = Ok x
 read_or_fault (Err fault) = Err (fault ∷ [])
 
--- all faults of a unit's declarations and uses, if there are any; else the unit in the language that is compiled today, or the fault of its first form that
+-- all faults of a unit's declarations and uses, if there are any; else the unit in the language that is
+-- compiled today, or the fault of its first form that
 -- cannot be compiled yet
 abbrev pub lowered_unless : List Fault → ExternalProcedure → Result LoweredUnit (List Fault)
 lowered_unless [] unit = read_or_fault (lowered unit)
@@ -58,7 +62,8 @@ abbrev pub program_from : Result ExternalProcedure Fault → Result LoweredUnit 
 program_from (Ok unit) = lowered_unless (resolution_faults unit) unit
 program_from (Err fault) = Err (fault ∷ [])
 
--- the tree of a unit's tokens, in the language that is compiled today; or the faults of the first pass that has any: reading, then the declarations, then lowering
+-- the tree of a unit's tokens, in the language that is compiled today; or the faults of the first pass that
+-- has any: reading, then the declarations, then lowering
 abbrev pub program_of : Tokens → Result LoweredUnit (List Fault)
 program_of texts = program_from (unit_of texts)
 
@@ -77,7 +82,8 @@ abbrev pub parsed_from : Name → Expansion → Result Parsed (List Diagnostic)
 parsed_from unit (Err stop) = Err (one stop.fault.code stop.fault.origin)
 parsed_from unit (Ok p) = parsed_as unit p.origins (program_of p.texts)
 
--- the tree of a unit's expansion, or its diagnostics: the one of the expansion, or those of the first pass over its tokens that has any
+-- the tree of a unit's expansion, or its diagnostics: the one of the expansion, or those of the first pass
+-- over its tokens that has any
 unfoldable pub parsed_of : List (Name × Member) → Name → Result Parsed (List Diagnostic)
 parsed_of entries unit = parsed_from unit (outcome_of entries unit)
 
@@ -114,7 +120,8 @@ units_of (Err diagnostics) = []
 -- `unit member:line code text`
 abbrev pub diagnostic_line : Name → Diagnostic → List ℕ
 diagnostic_line unit d =
-    unit ++ 32 ∷ d.origin.member ++ 58 ∷ decimal d.origin.line ++ 32 ∷ code_label d.code ++ 32 ∷ code_text d.code ++ 10 ∷ []
+    unit ++ 32 ∷ d.origin.member ++ 58 ∷ decimal d.origin.line ++ 32 ∷ code_label d.code ++ 32
+    ∷ code_text d.code ++ 10 ∷ []
 
 -- the lines of a unit's diagnostics
 abbrev pub diagnostics_in : Name → Result Compiled (List Diagnostic) → List ℕ
@@ -179,7 +186,8 @@ has_main (Err diagnostics) = false
 abbrev pub main_units : List (Name × Member) → List Name
 main_units entries = filter (λ unit. has_main (parsed_of entries unit)) (sources entries)
 
--- what the members' program does with so many steps: just one source member is a main unit, and this is its whole run
+-- what the members' program does with so many steps: just one source member is a main unit, and this is its
+-- whole run
 pub record Means (entries : List (Name × Member)) (steps : ℕ) (outcome : Outcome) : Type 0 where
   pub unit : Name
   pub parsed : Parsed

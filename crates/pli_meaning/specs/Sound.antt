@@ -1,7 +1,9 @@
 -- Trees whose constants are of the language, as those of each unit that is lowered are.
 use Rattle.std.specs.Prelude.{ℕ, List}
 use Rattle.pli_lower.specs.LoweredTree.{LoweredExpression, LoweredBody, LoweredStatement, LoweredUnit}
-use Rattle.pli_lower.specs.LoweringLaws.{IsConstantOfLanguage, IsExpressionOfLanguage, AreExpressionsOfLanguage, IsBodyOfLanguage, AreStatementsOfLanguage, IsOfLanguage}
+use Rattle.pli_lower.specs.laws.LoweringLaws.{IsConstantOfLanguage, IsExpressionOfLanguage}
+use Rattle.pli_lower.specs.laws.LoweringLaws.{AreExpressionsOfLanguage, IsBodyOfLanguage}
+use Rattle.pli_lower.specs.laws.LoweringLaws.{AreStatementsOfLanguage, IsOfLanguage}
 
 -- a constant of the language
 abbrev pub IsSoundConstant : (value digits : ℕ) → Type 0

@@ -1,7 +1,7 @@
 //! Laws of the meaning.
-ghost use Rattle.pli_meaning.specs.Laws.{Simulation, Growth};
+ghost use Rattle.pli_meaning.specs.laws.Laws.{Simulation, Growth};
 ghost use Rattle.pli_meaning.specs.Members.{MembersSimulate, MembersGrow, OneMeaning};
-ghost use Rattle.pli_meaning.specs.Examples.{FirstIsSound, FirstRunEnds, TwoStepsStop, NoStepStops, SumOverflows, ItemBeforeIsWritten, NullIsAStep, UndeclaredIsLost};
+ghost use Rattle.pli_meaning.specs.examples.Examples.{FirstIsSound, FirstRunEnds, TwoStepsStop, NoStepStops, SumOverflows, ItemBeforeIsWritten, NullIsAStep, UndeclaredIsLost};
 
 /// For members that have a module and every number of steps, the module's run gives the output, the ending and the next
 /// column that the source means. The source has a meaning, which no run ends in a fault of the machine and no bound of the

@@ -2,7 +2,7 @@
 use Rattle.std.proofs.Common.{◌≡◌, ℕ, Bool, true, false, ◌&&◌, nat_le, zero, suc, [], ◌∷◌, take, drop, subst, ◌+◌, ◌-◌, ◌<◌, ◌≤◌, ◌^◌, List, length, Option, Some, None, refl, ap, sym, ◌∙◌, get_or, set, if◌then◌else◌, arith, length-append, length-drop}
 use Rattle.std.specs.List.{All}
 use Rattle.std.proofs.lemmas.Bool.Decides.{nat_tests}
-use Rattle.pli_members.specs.Kept.{IsKept, IsKeptMember, IsLine}
+use Rattle.pli_members.specs.answers.Kept.{IsKept, IsKeptMember, IsLine}
 use Rattle.std.specs.Option.{IfSome}
 use Rattle.std.proofs.lemmas.List.{length-set, length-take-le}
 use Rattle.std.proofs.lemmas.List.Edits.{length-insert}
@@ -14,7 +14,7 @@ use Rattle.pli_members.specs.Members.{Store, Member, Change, Insert, Replace, Re
 use Rattle.pli_members.proofs.StaysKept.{store_of, store-≡, kept_with_member}
 use Rattle.std.specs.BTreeMap.{insert_entry}
 use Rattle.pli_members.specs.Refusals.{refusal_of_lines, refusal_of_text, or_full, refusal_in_member, refusal_of_change, or_exhausted, is_exhausted}
-use Rattle.pli_members.specs.Search.{IsPlace}
+use Rattle.pli_members.specs.answers.Search.{IsPlace}
 use Rattle.pli_members.specs.declared.refusal.Refusal.{Refusal}
 use Rattle.pli_members.specs.declared.refusal.Refusal.TheVariants.{NoSuchLine, VersionsExhausted}
 

@@ -5,7 +5,7 @@ use Rattle.std.proofs.lemmas.Map.Entries.{place_from_lookup}
 use Rattle.std.proofs.lemmas.Map.Lookups.{exact_bytes}
 use Rattle.std.proofs.lemmas.Map.Views.{tells_apart}
 use Rattle.pli_base.specs.Name.{Name}
-use Rattle.pli_members.specs.Kept.{IsKept}
+use Rattle.pli_members.specs.answers.Kept.{IsKept}
 use Rattle.pli_members.specs.Members.{Member, Store, Change, added, is_named, member_of, name_order, with_change}
 use Rattle.pli_members.specs.Refusals.{or_exhausted, refusal_of_add, refusal_of_lines, refusal_in_member}
 use Rattle.pli_members.specs.Versions.{begun, adding, deleting, changing, RunsKeep}

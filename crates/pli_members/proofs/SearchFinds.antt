@@ -15,7 +15,7 @@ use Rattle.std.proofs.lemmas.Map.Keys.{IsDistinct-from_sorted, Less-from_sorted}
 use Rattle.std.proofs.lemmas.Map.Lookups.{exact_bytes}
 use Rattle.pli_base.specs.Name.{Name}
 use Rattle.pli_members.specs.Members.{Member, Store, names_of, name_order}
-use Rattle.pli_members.specs.Search.{IsPlace, IsGap}
+use Rattle.pli_members.specs.answers.Search.{IsPlace, IsGap}
 use Rattle.pli_members.proofs.EditsAtPlace.{insert-at_gap, set-at_place, remove-at_place, above_first, compares_at, above, below}
 
 -- an element stands within its list

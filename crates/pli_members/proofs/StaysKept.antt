@@ -10,13 +10,13 @@ use Rattle.pli_members.proofs.EditsAtPlace.{by_test}
 use Rattle.pli_members.proofs.RunLaws.{edit_gives_next, edit_keeps_others, deletion_takes, deletion_keeps_others}
 use Rattle.std.specs.List.{All, insert}
 use Rattle.std.specs.Option.{SomeIff}
-use Rattle.pli_members.specs.Fields.{next_version}
-use Rattle.pli_members.specs.Search.{IsGap}
+use Rattle.pli_members.specs.views.Fields.{next_version}
+use Rattle.pli_members.specs.answers.Search.{IsGap}
 use Rattle.std.specs.Cmp.Lexicographic.{nat_list_cmp_total}
 use Rattle.std.proofs.lemmas.Map.Views.{All-values-insert_entry, All-map-remove_entry}
 use Rattle.pli_base.specs.Name.{Name}
 use Rattle.pli_members.specs.Members.{Member, Store, name_order, is_named, with_member, added, deleted, empty_store, version_of, member_of}
-use Rattle.pli_members.specs.Kept.{IsKept, IsKeptMember, IsLine}
+use Rattle.pli_members.specs.answers.Kept.{IsKept, IsKeptMember, IsLine}
 use Rattle.pli_members.specs.declared.kind.Kind.{Kind}
 use Rattle.pli_members.proofs.EditsByKey.{sorted_none, sorted_put, sorted_taken, length-taken}
 

@@ -1,8 +1,6 @@
-pub mod ChangeView
-pub mod Examples
-pub mod Fields
-pub mod Kept
 pub mod Members
 pub mod Refusals
-pub mod Search
 pub mod Versions
+pub mod answers
+pub mod examples
+pub mod views

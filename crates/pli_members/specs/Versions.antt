@@ -3,7 +3,7 @@ use Rattle.std.specs.Prelude.{◌≡◌, ◌≢◌, ℕ, List, [], ◌∷◌, No
 use Rattle.pli_base.specs.Name.{Name}
 use Rattle.pli_members.specs.Members.{Store, Change, added, deleted, with_change, with_member, member_of}
 use Rattle.pli_members.specs.Members.{version_of}
-use Rattle.pli_members.specs.Kept.{IsKept}
+use Rattle.pli_members.specs.answers.Kept.{IsKept}
 use Rattle.pli_members.specs.Refusals.{refusal_of_add, refusal_of_delete, refusal_of_change}
 use Rattle.pli_members.specs.declared.kind.Kind.{Kind}
 

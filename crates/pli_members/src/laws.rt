@@ -1,5 +1,5 @@
 //! Laws of the members.
-ghost use Rattle.pli_members.specs.Examples.{LinePut, FirstLineReplaced, LastLinesRemoved, OneLineRemoved, NoLineZero, RemovalsInRange, RefusedInOrder};
+ghost use Rattle.pli_members.specs.examples.Examples.{LinePut, FirstLineReplaced, LastLinesRemoved, OneLineRemoved, NoLineZero, RemovalsInRange, RefusedInOrder};
 ghost use Rattle.pli_members.specs.Versions.{NextIsNew, EditGivesNext, EditKeepsOthers, DeletionTakes, DeletionKeepsOthers, RunsKeep};
 
 /// The version that an accepted edit gives was never given before.

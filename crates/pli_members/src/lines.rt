@@ -1,7 +1,7 @@
 //! Changes of a member's lines, and which may be made.
 ghost use Rattle.std.specs.Prelude.{◌≡◌};
 ghost use Rattle.std.specs.List.{list_all};
-ghost use Rattle.pli_members.specs.ChangeView.{change_view};
+ghost use Rattle.pli_members.specs.views.ChangeView.{change_view};
 ghost use Rattle.pli_members.specs.Refusals.{may_stand, refusal_of_lines, refusal_of_text, or_full};
 
 use crate::refusal::Refusal;

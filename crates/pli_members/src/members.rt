@@ -1,13 +1,13 @@
 //! The member store.
-ghost use Rattle.pli_members.specs.Fields.{next_version};
+ghost use Rattle.pli_members.specs.views.Fields.{next_version};
 ghost use Rattle.std.specs.Prelude.{◌≡◌, ◌+◌, ◌^◌, ◌<◌, ◌≤◌, length, IfOk, IfErr, OnOk, OnErr, None};
 ghost use Rattle.std.specs.Option.{option_copied, option_map};
 ghost use Rattle.std.specs.Result.{result_err};
 ghost use Rattle.pli_members.specs.Members.{empty_store, names_of, member_of, kind_of, lines_of, version_of, added, deleted, with_line, with_line_replaced, without_lines};
-ghost use Rattle.pli_members.specs.Kept.{IsKept};
+ghost use Rattle.pli_members.specs.answers.Kept.{IsKept};
 ghost use Rattle.pli_members.specs.Refusals.{refusal_of_add, refusal_of_delete, refusal_of_insert, refusal_of_replace, refusal_of_remove, refusal_of_change, refusal_in};
-ghost use Rattle.pli_members.specs.ChangeView.{change_view};
-ghost use Rattle.pli_members.specs.Search.{IsPlace, IsGap, IsStep, CanChange};
+ghost use Rattle.pli_members.specs.views.ChangeView.{change_view};
+ghost use Rattle.pli_members.specs.answers.Search.{IsPlace, IsGap, IsStep, CanChange};
 ghost use Rattle.pli_members.specs.declared.refusal.Refusal.TheVariants.{VersionsExhausted};
 
 use crate::entry::NamedMember;
@@ -33,8 +33,8 @@ pub struct Members {
 
 impl Model for Members {
     ghost use Rattle.pli_members.specs.Members.{Store};
-    ghost use Rattle.pli_members.specs.Kept.{IsKept};
-    ghost use Rattle.pli_members.specs.Fields.{next_version};
+    ghost use Rattle.pli_members.specs.answers.Kept.{IsKept};
+    ghost use Rattle.pli_members.specs.views.Fields.{next_version};
 
     ghost Value = { Store };
 

@@ -10,7 +10,7 @@ use Rattle.pli_parse_statement.specs.StatementWords.{Context, standing}
 use Rattle.pli_parse_statement.specs.declared.keyword.Standing.TheVariants.{AsClause}
 use Rattle.pli_parse_statement.specs.StatementReading.{Inside, expression_in, alternative_from, else_first, if_at}
 use Rattle.pli_base.specs.declared.reading.ParseError.{ParseError}
-use Rattle.pli_base.specs.ReadingAnswers.{Fails}
+use Rattle.pli_base.specs.answers.ReadingAnswers.{Fails}
 
 -- behind a condition, THEN and the first clause, a fault of the second clause is the fault of the statement; m is the number of the next statement
 pub alternative_fails : (i : Inside) (c : Context) (p k m : ℕ) (ts us : Tokens) (condition : Front Expression) (first : Front Statement) (e : ParseError)

@@ -1,7 +1,7 @@
 -- A fault of reading stands at a token: statements and the unit.
 use Rattle.std.proofs.Common.{◌≡◌, ◌<◌, ◌≤◌, ◌+◌, ◌-◌, ℕ, suc, zero, Bool, true, false, cond, [], ◌∷◌, Option, Some, None, Result, Ok, Err, length, codes, refl, ap, ◌∙◌, sym, subst, arith}
 use Rattle.pli_base.specs.FaultPlaces.{StandsAtToken, FaultStands, Passes}
-use Rattle.pli_base.specs.FaultPlaceLaws.{passes_none, passes_one, passes_two, passes_on, fault_first, fault_last, fault_behind, fault_of_text}
+use Rattle.pli_base.specs.laws.FaultPlaceLaws.{passes_none, passes_one, passes_two, passes_on, fault_first, fault_last, fault_behind, fault_of_text}
 use Rattle.pli_base.specs.Words.{Tokens, is_procedure, is_semicolon, is_open, is_word}
 use Rattle.pli_base.specs.Reading.{◌>>=◌, Front, at_fault, misplaced}
 use Rattle.pli_base.specs.declared.code.Code.{Code}

@@ -2,7 +2,7 @@
 use Rattle.std.proofs.Common.{◌≡◌, ◌<◌, ◌≤◌, ◌+◌, ℕ, suc, zero, Bool, true, false, cond, List, [], ◌∷◌, Option, Some, None, Result, Ok, Err, option_map, length, codes, refl, ap, sym, subst, arith}
 use Rattle.pli_base.specs.Name.{Name}
 use Rattle.pli_base.specs.FaultPlaces.{FaultStands, Passes}
-use Rattle.pli_base.specs.FaultPlaceLaws.{passes_none, passes_one, fault_first}
+use Rattle.pli_base.specs.laws.FaultPlaceLaws.{passes_none, passes_one, fault_first}
 use Rattle.pli_base.specs.Words.{Tokens, same_name, is_semicolon, is_open, is_word}
 use Rattle.pli_base.specs.Reading.{◌>>=◌, Front, at_fault}
 use Rattle.pli_base.specs.Syntax.{Expression, Reference, Arguments}

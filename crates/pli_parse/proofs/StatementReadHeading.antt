@@ -1,7 +1,7 @@
 -- What is read is spelled so: what stands behind CALL and PROCEDURE, labels and the ends of blocks.
 use Rattle.std.proofs.Common.{◌≡◌, ◌+◌, ◌≤◌, ⊎_elim, ℕ, suc, zero, true, List, [], ◌∷◌, ◌++◌, Option, Some, None, Result, Ok, option_map, length, codes, refl, ap, ◌∙◌, sym, subst, arith}
 use Rattle.pli_base.specs.Name.{Name}
-use Rattle.pli_base.specs.NameLaws.{equal_from_pointwise}
+use Rattle.pli_base.specs.laws.NameLaws.{equal_from_pointwise}
 use Rattle.pli_base.specs.Words.{Tokens, same_name, is_open, is_word, behind}
 use Rattle.pli_base.specs.Reading.{◌>>=◌, Front, read_as, taken, mapped, if_open, or_none}
 use Rattle.pli_base.specs.Syntax.{Arguments}

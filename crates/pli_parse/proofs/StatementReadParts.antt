@@ -1,7 +1,7 @@
 -- What is read is spelled so: the parts of statements.
 use Rattle.std.proofs.Common.{◌≡◌, ◌+◌, ◌⊎◌, ⊎_elim, inl, inr, ℕ, Bool, true, false, cond, [], ◌∷◌, ◌++◌, Option, Some, None, Result, Ok, length, codes, refl, ap, ◌∙◌, subst, arith}
 use Rattle.pli_base.specs.Name.{Name}
-use Rattle.pli_base.specs.NameLaws.{equal_from_pointwise}
+use Rattle.pli_base.specs.laws.NameLaws.{equal_from_pointwise}
 use Rattle.pli_base.specs.Words.{Tokens, same_name, is_open, behind}
 use Rattle.pli_base.specs.Reading.{Front, taken, enclosed, if_open}
 use Rattle.pli_base.specs.declared.code.Code.TheVariants.{BadDo}

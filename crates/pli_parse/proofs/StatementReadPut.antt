@@ -1,7 +1,7 @@
 -- What is read is spelled so: what stands behind PUT and CALL.
 use Rattle.std.proofs.Common.{◌≡◌, ◌+◌, ⊎_elim, inl, inr, ℕ, suc, Bool, true, false, List, [], ◌∷◌, ◌++◌, Option, Some, None, Ok, length, codes, refl, ap, ◌∙◌, subst, arith}
 use Rattle.pli_base.specs.Name.{Name}
-use Rattle.pli_base.specs.NameLaws.{equal_from_pointwise}
+use Rattle.pli_base.specs.laws.NameLaws.{equal_from_pointwise}
 use Rattle.pli_base.specs.Words.{Tokens, same_name}
 use Rattle.pli_base.specs.Reading.{Front}
 use Rattle.pli_base.specs.Syntax.{Expression}

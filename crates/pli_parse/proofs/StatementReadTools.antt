@@ -1,7 +1,7 @@
 -- Steps of reading statements, taken apart.
 use Rattle.std.proofs.Common.{◌≡◌, ◌+◌, ℕ, Bool, true, false, cond, [], ◌∷◌, Option, Some, None, Result, Ok, Err, length, refl, ap, ◌∙◌, sym, subst, arith}
 use Rattle.pli_base.specs.Name.{Name}
-use Rattle.pli_base.specs.NameLaws.{equal_from_pointwise}
+use Rattle.pli_base.specs.laws.NameLaws.{equal_from_pointwise}
 use Rattle.pli_base.specs.Words.{Tokens, same_name, is_semicolon, is_open, is_word, behind, name_first}
 use Rattle.pli_base.specs.Reading.{Front, taken}
 use Rattle.pli_base.specs.declared.code.Code.TheVariants.{SemicolonExpected, ParenthesisExpected}

@@ -8,11 +8,11 @@ use Rattle.pli_base.specs.declared.reading.ParseError.TheVariants as errors
 use Rattle.pli_base.specs.Statements as tree
 use Rattle.pli_base.specs.Statements.{count, list_count}
 use Rattle.pli_parse_statement.specs.StatementWords.{Context}
-use Rattle.pli_base.specs.StatementView.{statement_view, statements_view}
+use Rattle.pli_base.specs.views.StatementView.{statement_view, statements_view}
 use Rattle.pli_base.specs.declared.statement.Statement.{Statement}
 use Rattle.pli_parse_statement.specs.StatementReading.{StatementReader, Listing, Next, EndsHere, Another, next_of, list_by, list_from, before, ending_at}
 use Rattle.pli_base.specs.declared.reading.ParseError.{ParseError}
-use Rattle.pli_base.specs.ReadingAnswers.{Fails}
+use Rattle.pli_base.specs.answers.ReadingAnswers.{Fails}
 
 -- statements in front of others
 abbrev pub in_front : List Statement → tree.Statements → tree.Statements

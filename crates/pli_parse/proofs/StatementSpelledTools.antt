@@ -1,7 +1,7 @@
 -- Tests of tokens: what begins an assignment, and where the first `;` stands.
 use Rattle.std.proofs.Common.{⊎_elim, ◌⊎◌, inl, inr, ◌≡◌, ℕ, Bool, true, false, ◌||◌, List, [], ◌∷◌, ◌++◌, Some, option_map, refl, ap, ◌∙◌, sym, subst, append_assoc}
 use Rattle.pli_base.specs.Name.{Name}
-use Rattle.pli_base.specs.NameLaws.{equal_from_pointwise, pointwise-refl}
+use Rattle.pli_base.specs.laws.NameLaws.{equal_from_pointwise, pointwise-refl}
 use Rattle.pli_base.specs.Words.{Tokens, same_name, is_semicolon}
 use Rattle.pli_base.specs.declared.token.Sign.TheVariants as signs
 use Rattle.pli_base.specs.declared.token.TokenText.{TokenText}

@@ -6,7 +6,7 @@ use Rattle.pli_base.specs.Words.{Tokens}
 use Rattle.pli_base.specs.Reading.{Front}
 use Rattle.pli_base.specs.Syntax.{Expression, Reference, Named, Arguments}
 use Rattle.pli_base.specs.TreeTokens.{Rises, expression_tokens, reference_tokens, argument_tokens, tokens_of_each, tokens_of_some, name_tokens, item_tokens, range_tokens, control_tokens, first_token, placed_tokens, allocation_tokens, statement_tokens, begun_tokens, statements_tokens, alternative_tokens, unit_tokens}
-use Rattle.pli_base.specs.TreeTokenLaws.{rises_within, rises_on, rises_up}
+use Rattle.pli_base.specs.laws.TreeTokenLaws.{rises_within, rises_on, rises_up}
 use Rattle.pli_base.specs.declared.syntax.Identifier.{Identifier}
 use Rattle.pli_base.specs.declared.token.Sign.TheVariants.{Colon, Semicolon, CloseParenthesis, Equals}
 use Rattle.pli_base.specs.declared.token.TokenText.TheVariants.{Word, Sign}
@@ -178,36 +178,33 @@ mutual
       let sizes : length us ≡ length ps + length os + (1 + (length ss + length es)) =
       omega (arith, ap length whole, ap length split, length-append hs (Sign Semicolon ∷ (ss ++ es)), length-append ss es, length-append ps os)
       in
-      let heads : length hs ≡ length ps + length os = omega (arith, ap length split, length-append ps os) in
-      (
+      let heads : length hs ≡ length ps + length os = omega (arith, ap length split, length-append ps os) in (
         omega arith,
         rises_on (tokens_of_each name_tokens heading.parameters) (statements_tokens statements) (p + 1) (p + 1 + length ps) (p + 1 + length hs + 1) (p + length ts) (omega arith)
-        (parameters_rise (p + 1) ps heading.parameters params)
-        (inner_rises (statements_tokens statements) (p + 1 + length hs + 1) (p + 1 + length hs + 1) (p + length ts) ss (omega arith) (omega (arith, ap length shape))
-        (statements_rise a_procedure levels (p + 1 + length hs + 1) (k + 1) ss statements inner)),
+            (parameters_rise (p + 1) ps heading.parameters params)
+            (inner_rises (statements_tokens statements) (p + 1 + length hs + 1) (p + 1 + length hs + 1) (p + length ts) ss (omega arith) (omega (arith, ap length shape))
+            (statements_rise a_procedure levels (p + 1 + length hs + 1) (k + 1) ss statements inner)),
       )
   body_rises c zero label p k ts (Begin statements end) (n, us, shape, word, (ss, es, whole, inner, ended, last)) = absurd inner
   body_rises c (suc levels) label p k ts (Begin statements end) (n, us, shape, word, (ss, es, whole, inner, ended, last)) =
       keyed_rises (statements_tokens statements) p (p + 2) ts us n shape (omega arith) ss (omega (arith, ap length whole, length-append ss es)) (statements_rise (standing InBlock c) levels (p + 2) (k + 1) ss statements inner)
   body_rises c zero label p k ts (Do control statements end) (n, us, shape, word, (cs, ss, es, whole, inner, ended, last)) = absurd inner
   body_rises c (suc levels) label p k ts (Do control statements end) (n, us, shape, word, (cs, ss, es, whole, (controls, inner), ended, last)) =
-      let sizes : length us ≡ length cs + (1 + (length ss + length es)) = omega (arith, ap length whole, length-append cs (Sign Semicolon ∷ (ss ++ es)), length-append ss es) in
-      (
+      let sizes : length us ≡ length cs + (1 + (length ss + length es)) = omega (arith, ap length whole, length-append cs (Sign Semicolon ∷ (ss ++ es)), length-append ss es) in (
         omega arith,
         rises_on (tokens_of_some control_tokens control) (statements_tokens statements) (p + 1) (p + 1 + length cs) (p + 1 + length cs + 1) (p + length ts) (omega arith) (control_rises levels (p + 1) cs control controls)
-        (inner_rises (statements_tokens statements) (p + 1 + length cs + 1) (p + 1 + length cs + 1) (p + length ts) ss (omega arith) (omega (arith, ap length shape))
-        (statements_rise (standing InGroup c) levels (p + 1 + length cs + 1) (k + 1) ss statements inner)),
+            (inner_rises (statements_tokens statements) (p + 1 + length cs + 1) (p + 1 + length cs + 1) (p + length ts) ss (omega arith) (omega (arith, ap length shape))
+            (statements_rise (standing InGroup c) levels (p + 1 + length cs + 1) (k + 1) ss statements inner)),
       )
   body_rises c zero label p k ts (If condition consequence alternative) (n, us, shape, word, (cs, ss, es, whole, inner)) = absurd inner
   body_rises c (suc levels) label p k ts (If condition consequence alternative) (n, us, shape, word, (cs, ss, es, whole, (tested, first, second))) =
       let sizes : length us ≡ length cs + (1 + (length ss + length es)) = omega (arith, ap length whole, length-append cs (Word (codes "THEN") ∷ (ss ++ es)), length-append ss es) in
-      let a : ℕ = p + 1 + length cs + 1 in
-      (
+      let a : ℕ = p + 1 + length cs + 1 in (
         omega arith,
         rises_on (expression_tokens condition) (statement_tokens consequence ++ alternative_tokens alternative) (p + 1) (p + 1 + length cs) a (p + length ts) (omega arith) (outermost_rises levels (p + 1) cs condition tested)
-        (rises_on (statement_tokens consequence) (alternative_tokens alternative) a (a + length ss) (a + length ss) (p + length ts) (omega arith) (statement_rises (standing AsClause c) levels a (k + 1) ss consequence first)
-        (inner_rises (alternative_tokens alternative) (a + length ss) (a + length ss) (p + length ts) es (omega arith) (omega (arith, ap length shape))
-        (alternative_rises c levels (a + length ss) (k + 1 + count consequence) es consequence alternative second))),
+            (rises_on (statement_tokens consequence) (alternative_tokens alternative) a (a + length ss) (a + length ss) (p + length ts) (omega arith) (statement_rises (standing AsClause c) levels a (k + 1) ss consequence first)
+            (inner_rises (alternative_tokens alternative) (a + length ss) (a + length ss) (p + length ts) es (omega arith) (omega (arith, ap length shape))
+            (alternative_rises c levels (a + length ss) (k + 1 + count consequence) es consequence alternative second))),
       )
   body_rises c zero label p k ts (On condition unit) (n, us, shape, word, (cs, ss, whole, is, inner)) = absurd inner
   body_rises c (suc levels) label p k ts (On condition unit) (n, us, shape, word, (cs, ss, whole, is, inner)) =
@@ -250,12 +247,11 @@ inner_statements (suc levels) q ss statements inner = statements_rise a_procedur
 unit_rises : (ts : Tokens) (u : ExternalProcedure) → SpellsUnit ts u → Rises 0 (unit_tokens u) (length ts)
 unit_rises ts u (n, hs, ss, es, shape, word, at, first, (ps, os, split, params, options), inner, ended, last) =
     let heads : length hs ≡ length ps + length os = omega (arith, ap length split, length-append ps os) in
-    let whole : length ts ≡ 3 + length hs + 1 + (length ss + length es) = omega (arith, ap length shape, length-append hs (Sign Semicolon ∷ (ss ++ es)), length-append ss es) in
-    (
+    let whole : length ts ≡ 3 + length hs + 1 + (length ss + length es) = omega (arith, ap length shape, length-append hs (Sign Semicolon ∷ (ss ++ es)), length-append ss es) in (
       omega arith,
       rises_on (tokens_of_each name_tokens u.heading.parameters) (statements_tokens u.statements) (u.heading.name.at + 1) (3 + length ps) (3 + length hs + 1) (length ts) (omega arith)
-      (inner_rises (tokens_of_each name_tokens u.heading.parameters) (u.heading.name.at + 1) 3 (3 + length ps) ps (omega (arith, at)) (omega arith) (parameters_rise 3 ps u.heading.parameters params))
-      (inner_rises (statements_tokens u.statements) (3 + length hs + 1) (3 + length hs + 1) (length ts) ss (omega arith) (omega arith) (inner_statements nesting_limit (3 + length hs + 1) ss u.statements inner)),
+          (inner_rises (tokens_of_each name_tokens u.heading.parameters) (u.heading.name.at + 1) 3 (3 + length ps) ps (omega (arith, at)) (omega arith) (parameters_rise 3 ps u.heading.parameters params))
+          (inner_rises (statements_tokens u.statements) (3 + length hs + 1) (3 + length hs + 1) (length ts) ss (omega arith) (omega arith) (inner_statements nesting_limit (3 + length hs + 1) ss u.statements inner)),
     )
 
 pub statement_read_rises : (c : Context) (levels p k : ℕ) (ts : Tokens) (x : Front Statement) → statement_at levels c p k ts ≡ Ok x → Rises p (statement_tokens x.value) x.next

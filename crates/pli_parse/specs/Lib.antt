@@ -1,1 +1,1 @@
-pub mod StatementExamples
+pub mod examples

@@ -1,14 +1,14 @@
 //! Statements, with those inside them.
 ghost use Rattle.std.specs.Prelude.{◌≡◌, ◌≤◌, ◌<◌, ◌+◌, ◌-◌, length, IfOk};
 ghost use Rattle.pli_base.specs.Statements.{count, body_count, list_count, alternative_count};
-ghost use Rattle.pli_base.specs.StatementLaws.{boxed_view};
-ghost use Rattle.pli_base.specs.StatementView.{body_view, statement_view, statements_view};
+ghost use Rattle.pli_base.specs.laws.StatementLaws.{boxed_view};
+ghost use Rattle.pli_base.specs.views.StatementView.{body_view, statement_view, statements_view};
 ghost use Rattle.pli_parse_statement.specs.StatementReading.{is_label, ending_at, list_in, begin_at, do_at, procedure_at, alternative_from, if_at, on_at, keyed_at, body_from, statement_at, inside_of};
 ghost use Rattle.pli_parse_statement.specs.StatementReading as reading;
 ghost use Rattle.pli_base.specs.Statements as tree;
 ghost use Rattle.pli_parse_statement.specs.StatementWords as grammar;
-ghost use Rattle.pli_parse_statement.specs.StatementAnswers.{heading_view, counted_view, Counts, inside_at, listing_view, context_view, words};
-ghost use Rattle.pli_base.specs.ReadingAnswers.{Gives, Advances, front_view};
+ghost use Rattle.pli_parse_statement.specs.answers.StatementAnswers.{heading_view, counted_view, Counts, inside_at, listing_view, context_view, words};
+ghost use Rattle.pli_base.specs.answers.ReadingAnswers.{Gives, Advances, front_view};
 
 use pli_base::statement::{Body, Procedure, Statement};
 use pli_base::syntax::Identifier;
@@ -130,7 +130,7 @@ pub fn list_in<'a>(
 
 /// What stands behind BEGIN.
 #[cycle(reader)]
-#[tactic(auto, unfolding(pli_parse_statement::specs::StatementReading::begin_at), using(pli_base::specs::StatementLaws::begin_made))]
+#[tactic(auto, unfolding(pli_parse_statement::specs::StatementReading::begin_at), using(pli_base::specs::laws::StatementLaws::begin_made))]
 fn begin_at<'a>(
     alloc: Global,
     levels: u32,
@@ -165,7 +165,7 @@ fn begin_at<'a>(
 
 /// What stands behind DO.
 #[cycle(reader)]
-#[tactic(auto, unfolding(pli_parse_statement::specs::StatementReading::do_at), using(pli_base::specs::StatementLaws::do_made))]
+#[tactic(auto, unfolding(pli_parse_statement::specs::StatementReading::do_at), using(pli_base::specs::laws::StatementLaws::do_made))]
 fn do_at<'a>(
     alloc: Global,
     levels: u32,
@@ -213,7 +213,7 @@ fn do_at<'a>(
 }
 
 /// A procedure inside a unit, of its parts.
-#[tactic(auto, using(pli_base::specs::StatementLaws::procedure_made))]
+#[tactic(auto, using(pli_base::specs::laws::StatementLaws::procedure_made))]
 fn procedure_of(name: Identifier, number: u32, heading: Heading, list: Listing) -> Body
     ensures { body_view result ≡ tree.Procedure (heading_view name number heading) (statements_view list.statements.items) list.end }
 {
@@ -310,7 +310,7 @@ fn alternative_at<'a>(
 
 /// What stands behind IF.
 #[cycle(reader)]
-#[tactic(auto, unfolding(pli_parse_statement::specs::StatementReading::if_at), using(pli_base::specs::StatementLaws::if_made))]
+#[tactic(auto, unfolding(pli_parse_statement::specs::StatementReading::if_at), using(pli_base::specs::laws::StatementLaws::if_made))]
 fn if_at<'a>(
     alloc: Global,
     levels: u32,
@@ -348,7 +348,7 @@ fn if_at<'a>(
 
 /// What stands behind ON.
 #[cycle(reader)]
-#[tactic(auto, unfolding(pli_parse_statement::specs::StatementReading::on_at), using(pli_base::specs::StatementLaws::on_made))]
+#[tactic(auto, unfolding(pli_parse_statement::specs::StatementReading::on_at), using(pli_base::specs::laws::StatementLaws::on_made))]
 fn on_at<'a>(
     alloc: Global,
     levels: u32,

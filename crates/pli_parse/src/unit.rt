@@ -2,9 +2,9 @@
 ghost use Rattle.std.specs.Prelude.{◌≡◌, ◌≤◌, ◌+◌, length};
 ghost use Rattle.pli_base.specs.Reading.{misplaced};
 ghost use Rattle.pli_base.specs.Words.{is_procedure};
-ghost use Rattle.pli_base.specs.StatementView.{unit_view};
+ghost use Rattle.pli_base.specs.views.StatementView.{unit_view};
 ghost use Rattle.pli_parse_statement.specs.StatementReading.{external_at, unit_of};
-ghost use Rattle.pli_base.specs.ReadingAnswers.{Gives};
+ghost use Rattle.pli_base.specs.answers.ReadingAnswers.{Gives};
 
 use crate::reader::{last_place, list_in};
 use pli_base::statement::Procedure;
@@ -43,7 +43,7 @@ fn misplaced(texts: &[TokenText]) -> Option<u32>
 }
 
 /// The external procedure of this name, behind PROCEDURE.
-#[tactic(auto, unfolding(pli_parse_statement::specs::StatementReading::external_at, pli_parse_statement::specs::StatementReading::inside_of), using(pli_base::specs::StatementLaws::unit_made))]
+#[tactic(auto, unfolding(pli_parse_statement::specs::StatementReading::external_at, pli_parse_statement::specs::StatementReading::inside_of), using(pli_base::specs::laws::StatementLaws::unit_made))]
 fn external_at(
     alloc: Global,
     name: &Identifier,

@@ -1,7 +1,7 @@
 -- Items that are read end where they are left off: the tokens that are left do not continue them, and no longer front spells any.
 use Rattle.std.proofs.Common.{◌≡◌, ◌≤◌, ◌+◌, ℕ, suc, zero, Bool, true, false, cond, List, [], ◌∷◌, ◌++◌, Option, Some, None, Result, Ok, length, refl, ap, ◌∙◌, sym, subst}
 use Rattle.std.proofs.lemmas.List.{append-nil}
-use Rattle.pli_base.specs.FrontLaws.{no_longer}
+use Rattle.pli_base.specs.laws.FrontLaws.{no_longer}
 use Rattle.pli_base.specs.Words.{Tokens, is_open, is_comma}
 use Rattle.pli_base.specs.Reading.{Front}
 use Rattle.pli_base.specs.declared.token.Fault.{Fault}

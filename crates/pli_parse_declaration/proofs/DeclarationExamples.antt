@@ -1,6 +1,6 @@
 -- The worked examples compute.
 use Rattle.std.proofs.Common.{refl}
-use Rattle.pli_parse_declaration.specs.DeclarationExamples.{NameThatIsKeyword, Levels, Nest, Values, WrongWord, NoLevelInParentheses, NoScaleButZero, NoFactorOfString, NoDescription, NoDescriptionBehindComma, NoAttributeInNest, TextEnds}
+use Rattle.pli_parse_declaration.specs.examples.DeclarationExamples.{NameThatIsKeyword, Levels, Nest, Values, WrongWord, NoLevelInParentheses, NoScaleButZero, NoFactorOfString, NoDescription, NoDescriptionBehindComma, NoAttributeInNest, TextEnds}
 use Rattle.pli_parse_declaration.specs.DeclarationWords.{data_word, storage_word, nesting_word, attribute_word, attribute_first, begins_description}
 use Rattle.pli_parse_declaration.specs.DeclarationReading.{listed_at, number_at, integer_at, bounds_at, dimensions_at, length_at, scaled_at, precision_at, name_at, identifier_at, area_at, locator_at, repeated_at, value_at, values_at, simple_of, description_walk, word_walk, behind_walk, step_at, walked, nest_at, described_at, parameter_at, parameters_at, entry_at, returned_at, attribute_at, attributes_at, level_at, names_at, item_at, declaration_at}
 use Rattle.pli_base.specs.Words.{behind, name_first}

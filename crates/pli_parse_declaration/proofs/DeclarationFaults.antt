@@ -1,7 +1,7 @@
 -- A fault of reading stands at one of the tokens, or at the last where they have ended.
 use Rattle.std.proofs.Common.{◌≡◌, ◌<◌, ◌≤◌, ◌+◌, ℕ, suc, zero, Bool, true, false, cond, List, [], ◌∷◌, ◌++◌, Option, Some, None, Result, Ok, Err, length, codes, refl, ap, subst, arith, length-append}
 use Rattle.pli_base.specs.FaultPlaces.{FaultStands, Passes}
-use Rattle.pli_base.specs.FaultPlaceLaws.{passes_none, passes_one, passes_on, fault_first, fault_ended, fault_behind}
+use Rattle.pli_base.specs.laws.FaultPlaceLaws.{passes_none, passes_one, passes_on, fault_first, fault_ended, fault_behind}
 use Rattle.pli_base.specs.Words.{Tokens, same_name, is_open, is_close, is_comma, is_semicolon}
 use Rattle.pli_base.specs.Reading.{◌>>=◌, Front}
 use Rattle.pli_base.specs.declared.code.Code.{Code}

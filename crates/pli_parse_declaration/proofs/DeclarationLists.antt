@@ -6,7 +6,7 @@ use Rattle.pli_base.specs.declared.token.Fault.{Fault}
 use Rattle.pli_base.specs.declared.reading.ParseError.TheVariants as errors
 use Rattle.pli_parse_declaration.specs.DeclarationReading.{listed_after, listed_at}
 use Rattle.pli_base.specs.declared.reading.ParseError.{ParseError}
-use Rattle.pli_base.specs.ReadingAnswers.{Fails}
+use Rattle.pli_base.specs.answers.ReadingAnswers.{Fails}
 use Rattle.pli_parse_declaration.specs.Separators.{separated, behind_separator}
 use Rattle.pli_parse_declaration.specs.declared.list.Separator.{Separator}
 

@@ -10,7 +10,7 @@ use Rattle.pli_parse_declaration.specs.declared.nest.Expects.{Expects}
 use Rattle.pli_parse_declaration.specs.declared.nest.Expects.TheVariants as expects
 use Rattle.pli_parse_declaration.specs.DeclarationReading.{Walk, step_at, is_over, walked_after, walked, nest_at}
 use Rattle.pli_base.specs.declared.reading.ParseError.{ParseError}
-use Rattle.pli_base.specs.ReadingAnswers.{Fails}
+use Rattle.pli_base.specs.answers.ReadingAnswers.{Fails}
 
 -- the walk from here is the whole walk
 abbrev pub Walks : List Open → Expects → ℕ → Tokens → Result (Front (Unit {0})) Fault → Type 0

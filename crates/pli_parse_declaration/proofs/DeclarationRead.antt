@@ -1,7 +1,7 @@
 -- What is read is spelled so: lists, and what stands in parentheses; numbers, names and values; simple attributes.
 use Rattle.std.proofs.Common.{⊎_elim, ◌≡◌, ◌+◌, ℕ, suc, zero, Bool, true, false, cond, List, [], ◌∷◌, ◌++◌, Option, Some, None, Result, Ok, length, codes, refl, ap, ◌∙◌, sym, subst, arith, ◌⊎◌, inl, inr, append_assoc, length-append}
 use Rattle.pli_base.specs.Name.{Name}
-use Rattle.pli_base.specs.NameLaws.{equal_from_pointwise}
+use Rattle.pli_base.specs.laws.NameLaws.{equal_from_pointwise}
 use Rattle.pli_base.specs.Words.{Tokens, same_name, is_open, is_close, is_comma, behind, name_first, is_colon}
 use Rattle.pli_base.specs.Reading.{Front, read_as, mapped, expected, taken, enclosed, if_open, or_none}
 use Rattle.pli_base.specs.declared.code.Code.TheVariants.{ParenthesisExpected, ConstantExpected}

@@ -1,7 +1,7 @@
 -- The tokens of items that are spelled rise in the order of the text.
 use Rattle.std.proofs.Common.{◌≡◌, ◌+◌, ℕ, List, [], ◌∷◌, ◌++◌, Ok, length, ap, sym, subst, arith, ⊎_elim, length-append}
 use Rattle.pli_base.specs.TreeTokens.{Rises, tokens_of_each, name_tokens, item_tokens}
-use Rattle.pli_base.specs.TreeTokenLaws.{rises_within, rises_on}
+use Rattle.pli_base.specs.laws.TreeTokenLaws.{rises_within, rises_on}
 use Rattle.pli_base.specs.Words.{Tokens}
 use Rattle.pli_base.specs.Reading.{Front}
 use Rattle.pli_base.specs.Declarations as tree

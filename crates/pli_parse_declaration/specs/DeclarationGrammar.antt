@@ -1,9 +1,12 @@
--- The grammar of what stands behind DECLARE: which tokens spell which tree. Tokens are counted from 0; p, where it is given, is the place of the first.
-use Rattle.std.specs.Prelude.{◌≡◌, ℕ, ◌+◌, ◌⊎◌, Bool, true, false, Option, Some, None, List, [], ◌∷◌, ◌++◌, length, codes}
+-- The grammar of what stands behind DECLARE: which tokens spell which tree. Tokens are counted from 0; p,
+-- where it is given, is the place of the first.
+use Rattle.std.specs.Prelude.{◌≡◌, ℕ, ◌+◌, ◌⊎◌, Bool, true, false, Option, Some, None, List, [], ◌∷◌, ◌++◌}
+use Rattle.std.specs.Prelude.{length, codes}
 use Rattle.pli_base.specs.Name.{Name}
 use Rattle.pli_base.specs.Words.{Tokens, is_open, is_comma, behind}
 use Rattle.pli_base.specs.Reading.{Front}
-use Rattle.pli_base.specs.declared.token.Sign.TheVariants.{Colon, Semicolon, Comma, Period, OpenParenthesis, CloseParenthesis, Plus, Minus}
+use Rattle.pli_base.specs.declared.token.Sign.TheVariants.{Colon, Semicolon, Comma, Period, OpenParenthesis}
+use Rattle.pli_base.specs.declared.token.Sign.TheVariants.{CloseParenthesis, Plus, Minus}
 use Rattle.pli_base.specs.declared.token.TokenText.TheVariants.{Word, Decimal, Binary, Characters, Bits, Sign}
 use Rattle.pli_parse_declaration.specs.DeclarationWords.{attribute_word, with_attribute}
 use Rattle.pli_base.specs.Declarations as tree
@@ -26,7 +29,8 @@ between Periods = Sign Period ∷ []
 between Nothing = []
 
 -- one or more, with the separator between
-abbrev pub SpellsListed : {A : Type 0} → Separator → (Spells : ℕ → Tokens → A → Type 0) → ℕ → Tokens → List A → Type 0
+abbrev pub SpellsListed : {A : Type 0} → Separator → (Spells : ℕ → Tokens → A → Type 0) → ℕ → Tokens → List A
+    → Type 0
 SpellsListed separator Spells p ts [] = ⊥
 SpellsListed separator Spells p ts (x ∷ []) = Spells p ts x
 SpellsListed separator Spells p ts (x ∷ y ∷ more) =
@@ -43,7 +47,8 @@ SpellsList separator Spells ts xs = SpellsListed separator (Anywhere Spells) 0 t
 
 -- in parentheses
 abbrev pub SpellsEnclosed : {A : Type 0} → (Tokens → A → Type 0) → Tokens → A → Type 0
-SpellsEnclosed Spells ts x = (inner : Tokens) × (ts ≡ Sign OpenParenthesis ∷ inner ++ Sign CloseParenthesis ∷ []) × Spells inner x
+SpellsEnclosed Spells ts x =
+    (inner : Tokens) × (ts ≡ Sign OpenParenthesis ∷ inner ++ Sign CloseParenthesis ∷ []) × Spells inner x
 
 -- in parentheses, or not there
 abbrev pub SpellsOptional : {A : Type 0} → (Tokens → A → Type 0) → Tokens → Option A → Type 0
@@ -66,7 +71,9 @@ SpellsInteger ts i = SpellsSigned ts i.negative i.value
 -- bound = [int ":"] int
 abbrev pub SpellsRange : Tokens → Option Integer → Integer → Type 0
 SpellsRange ts None high = SpellsInteger ts high
-SpellsRange ts (Some low) high = (ls : Tokens) × (hs : Tokens) × (ts ≡ ls ++ Sign Colon ∷ hs) × SpellsInteger ls low × SpellsInteger hs high
+SpellsRange ts (Some low) high =
+    (ls : Tokens) × (hs : Tokens) × (ts ≡ ls ++ Sign Colon ∷ hs) × SpellsInteger ls low
+    × SpellsInteger hs high
 
 -- the bounds of a dimension
 abbrev pub SpellsBounds : Tokens → Bounds → Type 0
@@ -79,7 +86,8 @@ SpellsDimensions ts (b ∷ bs) = SpellsEnclosed (SpellsList Commas SpellsBounds)
 
 -- number ["," "0"], in the parentheses of a precision
 abbrev pub SpellsScaled : Tokens → ℕ → Type 0
-SpellsScaled ts n = SpellsNumber ts n ⊎ ((us : Tokens) × (ts ≡ us ++ Sign Comma ∷ Decimal 0 1 ∷ []) × SpellsNumber us n)
+SpellsScaled ts n =
+    SpellsNumber ts n ⊎ ((us : Tokens) × (ts ≡ us ++ Sign Comma ∷ Decimal 0 1 ∷ []) × SpellsNumber us n)
 
 -- a name
 abbrev pub SpellsName : Tokens → Name → Type 0
@@ -89,11 +97,13 @@ SpellsName ts n = ts ≡ Word n ∷ []
 abbrev pub SpellsValue : Tokens → InitialValue → Type 0
 SpellsValue ts (initial.Integer None v) = SpellsInteger ts v
 SpellsValue ts (initial.Integer (Some factor) v) =
-    (fs : Tokens) × (vs : Tokens) × (ts ≡ Sign OpenParenthesis ∷ fs ++ Sign CloseParenthesis ∷ vs) × SpellsNumber fs factor × SpellsInteger vs v
+    (fs : Tokens) × (vs : Tokens) × (ts ≡ Sign OpenParenthesis ∷ fs ++ Sign CloseParenthesis ∷ vs)
+    × SpellsNumber fs factor × SpellsInteger vs v
 SpellsValue ts (initial.Characters s) = ts ≡ Characters s ∷ []
 SpellsValue ts (initial.Bits s) = ts ≡ Bits s ∷ []
 SpellsValue ts initial.Null =
-    (ts ≡ Word (codes "NULL") ∷ []) ⊎ (ts ≡ Word (codes "NULL") ∷ Sign OpenParenthesis ∷ Sign CloseParenthesis ∷ [])
+    (ts ≡ Word (codes "NULL") ∷ [])
+    ⊎ (ts ≡ Word (codes "NULL") ∷ Sign OpenParenthesis ∷ Sign CloseParenthesis ∷ [])
 
 -- the keyword of a simple attribute
 abbrev pub word_of : tree.SimpleAttribute → SimpleWord
@@ -128,7 +138,9 @@ SpellsBehind ts a = ts ≡ []
 
 -- a keyword, long or short, and what stands behind it; no word is reserved
 abbrev pub SpellsSimple : Tokens → tree.SimpleAttribute → Type 0
-SpellsSimple ts a = (k : Name) × (us : Tokens) × (ts ≡ Word k ∷ us) × (attribute_word k ≡ Some (attribute.Simple (word_of a))) × SpellsBehind us a
+SpellsSimple ts a =
+    (k : Name) × (us : Tokens) × (ts ≡ Word k ∷ us) × (attribute_word k ≡ Some (attribute.Simple (word_of a)))
+    × SpellsBehind us a
 
 -- the parts of a nest
 pub data Part : Type 0 where
@@ -141,25 +153,34 @@ pub data Part : Type 0 where
 pub data IsWellFormed : Part → Tokens → Type 0 where
   simple : (ts : Tokens) (a : tree.SimpleAttribute) → SpellsSimple ts a → IsWellFormed OneAttribute ts
   entry : (ts : Tokens) → ts ≡ Word (codes "ENTRY") ∷ [] → IsWellFormed OneAttribute ts
-  entry_of_none : (ts : Tokens) → ts ≡ Word (codes "ENTRY") ∷ Sign OpenParenthesis ∷ Sign CloseParenthesis ∷ [] → IsWellFormed OneAttribute ts
-  entry_of : (ts inner : Tokens) → ts ≡ Word (codes "ENTRY") ∷ Sign OpenParenthesis ∷ inner ++ Sign CloseParenthesis ∷ [] → IsWellFormed Descriptions inner → IsWellFormed OneAttribute ts
-  returns_of : (ts inner : Tokens) → ts ≡ Word (codes "RETURNS") ∷ Sign OpenParenthesis ∷ inner ++ Sign CloseParenthesis ∷ [] → IsWellFormed Attributes inner → IsWellFormed OneAttribute ts
+  entry_of_none : (ts : Tokens) → ts ≡ Word (codes "ENTRY") ∷ Sign OpenParenthesis ∷ Sign CloseParenthesis
+      ∷ [] → IsWellFormed OneAttribute ts
+  entry_of : (ts inner : Tokens) → ts ≡ Word (codes "ENTRY") ∷ Sign OpenParenthesis ∷ inner
+      ++ Sign CloseParenthesis ∷ [] → IsWellFormed Descriptions inner → IsWellFormed OneAttribute ts
+  returns_of : (ts inner : Tokens) → ts ≡ Word (codes "RETURNS") ∷ Sign OpenParenthesis ∷ inner
+      ++ Sign CloseParenthesis ∷ [] → IsWellFormed Attributes inner → IsWellFormed OneAttribute ts
   last_attribute : (ts : Tokens) → IsWellFormed OneAttribute ts → IsWellFormed Attributes ts
-  more_attributes : (ts front rest : Tokens) → ts ≡ front ++ rest → IsWellFormed OneAttribute front → IsWellFormed Attributes rest → IsWellFormed Attributes ts
-  description : (ts front rest : Tokens) (dimensions : List Bounds) → ts ≡ front ++ rest → SpellsDimensions front dimensions → IsWellFormed Attributes rest → IsWellFormed OneDescription ts
+  more_attributes : (ts front rest : Tokens) → ts ≡ front ++ rest → IsWellFormed OneAttribute front
+      → IsWellFormed Attributes rest → IsWellFormed Attributes ts
+  description : (ts front rest : Tokens) (dimensions : List Bounds) → ts ≡ front ++ rest
+      → SpellsDimensions front dimensions → IsWellFormed Attributes rest → IsWellFormed OneDescription ts
   last_description : (ts : Tokens) → IsWellFormed OneDescription ts → IsWellFormed Descriptions ts
-  more_descriptions : (ts front rest : Tokens) → ts ≡ front ++ Sign Comma ∷ rest → IsWellFormed OneDescription front → IsWellFormed Descriptions rest → IsWellFormed Descriptions ts
+  more_descriptions : (ts front rest : Tokens) → ts ≡ front ++ Sign Comma ∷ rest
+      → IsWellFormed OneDescription front → IsWellFormed Descriptions rest → IsWellFormed Descriptions ts
 
 -- attr, in a description
 abbrev pub SpellsDescribed : Tokens → tree.DescribedAttribute → Type 0
 SpellsDescribed ts (tree.Plain a) = SpellsSimple ts a
-SpellsDescribed ts tree.AnyEntry = (us : Tokens) × (ts ≡ Word (codes "ENTRY") ∷ us) × IsWellFormed OneAttribute ts
-SpellsDescribed ts tree.AnyReturns = (us : Tokens) × (ts ≡ Word (codes "RETURNS") ∷ us) × IsWellFormed OneAttribute ts
+SpellsDescribed ts tree.AnyEntry =
+    (us : Tokens) × (ts ≡ Word (codes "ENTRY") ∷ us) × IsWellFormed OneAttribute ts
+SpellsDescribed ts tree.AnyReturns =
+    (us : Tokens) × (ts ≡ Word (codes "RETURNS") ∷ us) × IsWellFormed OneAttribute ts
 
 -- pd = [dims] attr {attr}
 abbrev pub SpellsParameter : Tokens → tree.ParameterDescription → Type 0
 SpellsParameter ts d =
-    (front : Tokens) × (rest : Tokens) × (ts ≡ front ++ rest) × SpellsDimensions front d.dimensions × SpellsList Nothing SpellsDescribed rest d.attributes
+    (front : Tokens) × (rest : Tokens) × (ts ≡ front ++ rest) × SpellsDimensions front d.dimensions
+    × SpellsList Nothing SpellsDescribed rest d.attributes
 
 -- [pd {"," pd}], in the parentheses of an ENTRY
 abbrev pub SpellsParameters : Tokens → List tree.ParameterDescription → Type 0
@@ -173,8 +194,10 @@ SpellsReturned ts attributes = SpellsEnclosed (SpellsList Nothing SpellsDescribe
 -- attr, of an item
 abbrev pub SpellsAttribute : Tokens → tree.Attribute → Type 0
 SpellsAttribute ts (tree.Simple a) = SpellsSimple ts a
-SpellsAttribute ts (tree.Entry parameters) = (us : Tokens) × (ts ≡ Word (codes "ENTRY") ∷ us) × SpellsOptional SpellsParameters us parameters
-SpellsAttribute ts (tree.Returns attributes) = (us : Tokens) × (ts ≡ Word (codes "RETURNS") ∷ us) × SpellsReturned us attributes
+SpellsAttribute ts (tree.Entry parameters) =
+    (us : Tokens) × (ts ≡ Word (codes "ENTRY") ∷ us) × SpellsOptional SpellsParameters us parameters
+SpellsAttribute ts (tree.Returns attributes) =
+    (us : Tokens) × (ts ≡ Word (codes "RETURNS") ∷ us) × SpellsReturned us attributes
 
 -- {attr}
 abbrev pub SpellsAttributes : Tokens → List tree.Attribute → Type 0
@@ -189,7 +212,8 @@ SpellsIdentifier p ts i = (ts ≡ Word i.name ∷ []) × (i.at ≡ p)
 abbrev pub SpellsNames : ℕ → Tokens → List Identifier → Type 0
 SpellsNames p ts names =
     ((i : Identifier) × (names ≡ i ∷ []) × SpellsIdentifier p ts i)
-    ⊎ ((inner : Tokens) × (ts ≡ Sign OpenParenthesis ∷ inner ++ Sign CloseParenthesis ∷ []) × SpellsListed Commas SpellsIdentifier (p + 1) inner names)
+    ⊎ ((inner : Tokens) × (ts ≡ Sign OpenParenthesis ∷ inner ++ Sign CloseParenthesis ∷ [])
+    × SpellsListed Commas SpellsIdentifier (p + 1) inner names)
 
 -- [number]
 abbrev pub SpellsLevel : Tokens → Option ℕ → Type 0
@@ -200,7 +224,8 @@ SpellsLevel ts (Some n) = SpellsNumber ts n
 abbrev pub SpellsItem : ℕ → Tokens → tree.Item → Type 0
 SpellsItem p ts i =
     (ls : Tokens) × (ns : Tokens) × (ds : Tokens) × (rs : Tokens) × (ts ≡ ls ++ (ns ++ (ds ++ rs)))
-    × SpellsLevel ls i.level × SpellsNames (p + length ls) ns i.names × SpellsDimensions ds i.dimensions × SpellsAttributes rs i.attributes
+    × SpellsLevel ls i.level × SpellsNames (p + length ls) ns i.names × SpellsDimensions ds i.dimensions
+    × SpellsAttributes rs i.attributes
 
 -- item {"," item}
 abbrev pub SpellsItems : ℕ → Tokens → List tree.Item → Type 0
@@ -212,7 +237,8 @@ SpellsDeclaration p ts items = (us : Tokens) × (ts ≡ us ++ Sign Semicolon ∷
 
 -- the front of the tokens spells what was read, and the rest is left
 abbrev pub SpellsFront : {A : Type 0} → (Spells : ℕ → Tokens → A → Type 0) → ℕ → Tokens → Front A → Type 0
-SpellsFront Spells p ts x = (front : Tokens) × (ts ≡ front ++ x.rest) × (x.next ≡ p + length front) × Spells p front x.value
+SpellsFront Spells p ts x =
+    (front : Tokens) × (ts ≡ front ++ x.rest) × (x.next ≡ p + length front) × Spells p front x.value
 
 -- no item goes on at these tokens: they begin with no comma, parenthesis or keyword of an attribute
 abbrev pub EndsItems : Tokens → Type 0

@@ -1,16 +1,23 @@
--- Reading what stands behind DECLARE: items, or the one fault. Tokens are counted from 0, and p is the place of the first.
+-- Reading what stands behind DECLARE: items, or the one fault. Tokens are counted from 0, and p is the place
+-- of the first.
 -- A part that need not stand is passed over, so a fault is about what must stand next.
-use Rattle.std.specs.Prelude.{ℕ, zero, suc, ◌+◌, ◌-◌, nat_eq, Bool, true, false, Option, Some, None, Result, Ok, Err, List, [], ◌∷◌, length, codes, if◌then◌else◌}
+use Rattle.std.specs.Prelude.{ℕ, zero, suc, ◌+◌, ◌-◌, nat_eq, Bool, true, false, Option, Some, None, Result}
+use Rattle.std.specs.Prelude.{Ok, Err, List, [], ◌∷◌, length, codes, if◌then◌else◌}
 use Rattle.pli_base.specs.Name.{Name}
-use Rattle.pli_base.specs.Words.{Tokens, same_name, is_open, is_close, is_comma, is_semicolon, behind, name_first, is_colon, is_period}
-use Rattle.pli_base.specs.Reading.{◌>>=◌, at_fault, Front, expected, read_as, mapped, taken, enclosed, if_open, or_none}
+use Rattle.pli_base.specs.Words.{Tokens, same_name, is_open, is_close, is_comma, is_semicolon, behind}
+use Rattle.pli_base.specs.Words.{name_first, is_colon, is_period}
+use Rattle.pli_base.specs.Reading.{◌>>=◌, at_fault, Front, expected, read_as, mapped, taken, enclosed}
+use Rattle.pli_base.specs.Reading.{if_open, or_none}
 use Rattle.pli_base.specs.declared.code.Code.{Code}
-use Rattle.pli_base.specs.declared.code.Code.TheVariants.{ParenthesisExpected, SemicolonExpected, NameExpected, EndMissing, BadAttribute, ConstantExpected}
+use Rattle.pli_base.specs.declared.code.Code.TheVariants.{ParenthesisExpected, SemicolonExpected}
+use Rattle.pli_base.specs.declared.code.Code.TheVariants.{NameExpected, EndMissing, BadAttribute}
+use Rattle.pli_base.specs.declared.code.Code.TheVariants.{ConstantExpected}
 use Rattle.pli_base.specs.declared.token.Fault.{Fault}
 use Rattle.pli_base.specs.declared.token.Sign.TheVariants.{OpenParenthesis, Plus, Minus}
 use Rattle.pli_base.specs.declared.token.TokenText.{TokenText}
 use Rattle.pli_base.specs.declared.token.TokenText.TheVariants.{Word, Decimal, Binary, Characters, Bits, Sign}
-use Rattle.pli_parse_declaration.specs.DeclarationWords.{attribute_first, with_attribute, begins_description, is_zero}
+use Rattle.pli_parse_declaration.specs.DeclarationWords.{attribute_first, with_attribute, begins_description}
+use Rattle.pli_parse_declaration.specs.DeclarationWords.{is_zero}
 use Rattle.pli_base.specs.Declarations as tree
 use Rattle.pli_base.specs.declared.syntax.Identifier.{Identifier}
 use Rattle.pli_base.specs.declared.declaration.Integer.{Integer}
@@ -30,17 +37,22 @@ use Rattle.pli_parse_declaration.specs.declared.list.Separator.{Separator}
 use Rattle.pli_parse_declaration.specs.declared.list.Separator.TheVariants.{Commas, Periods, Nothing}
 
 -- behind a value of a list: what more reads, or the list's end
-abbrev pub listed_after : {A : Type 0} → Separator → (more : ℕ → Tokens → Result (Front (List A)) Fault) → Front A → Option Tokens → Result (Front (List A)) Fault
+abbrev pub listed_after : {A : Type 0} → Separator → (more : ℕ → Tokens → Result (Front (List A)) Fault)
+    → Front A → Option Tokens → Result (Front (List A)) Fault
 listed_after separator more x None = read_as (x.value ∷ []) x.next x.rest
-listed_after separator more x (Some us) = more (behind_separator separator x.next) us >>= λ y. read_as (x.value ∷ y.value) y.next y.rest
+listed_after separator more x (Some us) =
+    more (behind_separator separator x.next) us >>= λ y. read_as (x.value ∷ y.value) y.next y.rest
 
 -- one or more of what `one` reads; each takes one of the bound, which is more than the number of tokens
-unfoldable pub listed_at : {A : Type 0} → Separator → (one : ℕ → Tokens → Result (Front A) Fault) → (bound : ℕ) → ℕ → Tokens → Result (Front (List A)) Fault
+unfoldable pub listed_at : {A : Type 0} → Separator → (one : ℕ → Tokens → Result (Front A) Fault)
+    → (bound : ℕ) → ℕ → Tokens → Result (Front (List A)) Fault
 listed_at separator one zero p ts = at_fault EndMissing p
-listed_at separator one (suc bound) p ts = one p ts >>= λ x. listed_after separator (listed_at separator one bound) x (separated separator x.rest)
+listed_at separator one (suc bound) p ts =
+    one p ts >>= λ x. listed_after separator (listed_at separator one bound) x (separated separator x.rest)
 
 -- a list with its separators
-abbrev pub list_at : {A : Type 0} → Separator → (one : ℕ → Tokens → Result (Front A) Fault) → ℕ → Tokens → Result (Front (List A)) Fault
+abbrev pub list_at : {A : Type 0} → Separator → (one : ℕ → Tokens → Result (Front A) Fault) → ℕ → Tokens
+    → Result (Front (List A)) Fault
 list_at separator one p ts = listed_at separator one (length ts + 1) p ts
 
 -- a decimal or binary constant
@@ -62,7 +74,8 @@ integer_at p ts = signed false (number_at p ts)
 -- a lower bound is one behind which a colon stands
 abbrev pub bounds_from : Front Integer → Option Tokens → Result (Front Bounds) Fault
 bounds_from x None = read_as (record { low = None; high = x.value }) x.next x.rest
-bounds_from x (Some us) = mapped (λ high. record { low = Some x.value; high = high }) (integer_at (x.next + 1) us)
+bounds_from x (Some us) =
+    mapped (λ high. record { low = Some x.value; high = high }) (integer_at (x.next + 1) us)
 
 -- the bounds of a dimension: one number, or two with a colon between them
 unfoldable pub bounds_at : ℕ → Tokens → Result (Front Bounds) Fault
@@ -79,7 +92,8 @@ length_at p ts = if_open number_at p ts (behind is_open ts)
 -- a scale is 0
 abbrev pub with_scale : Front ℕ → Option Tokens → Result (Front ℕ) Fault
 with_scale x None = Ok x
-with_scale x (Some us) = taken is_zero ConstantExpected (x.next + 1) us >>= λ rest. read_as x.value (x.next + 2) rest
+with_scale x (Some us) =
+    taken is_zero ConstantExpected (x.next + 1) us >>= λ rest. read_as x.value (x.next + 2) rest
 
 -- a precision, perhaps with the scale 0
 unfoldable pub scaled_at : ℕ → Tokens → Result (Front ℕ) Fault
@@ -112,24 +126,30 @@ locator_at p ts = if_open (list_at Periods name_at) p ts (behind is_open ts)
 
 -- a factor stands before an integer only
 unfoldable pub repeated_at : ℕ → Tokens → Result (Front InitialValue) Fault
-repeated_at p ts = enclosed (number_at p ts) >>= λ factor. mapped (initial.Integer (Some factor.value)) (integer_at factor.next factor.rest)
+repeated_at p ts =
+    enclosed (number_at p ts) >>= λ factor. mapped (initial.Integer (Some factor.value))
+    (integer_at factor.next factor.rest)
 
 -- NULL with or without `()`
 abbrev pub null_from : ℕ → Tokens → Option Tokens → Result (Front InitialValue) Fault
 null_from p ts None = read_as initial.Null p ts
-null_from p ts (Some us) = taken is_close ParenthesisExpected (p + 1) us >>= λ rest. read_as initial.Null (p + 2) rest
+null_from p ts (Some us) =
+    taken is_close ParenthesisExpected (p + 1) us >>= λ rest. read_as initial.Null (p + 2) rest
 
 -- a value in INITIAL
 unfoldable pub value_at : ℕ → Tokens → Result (Front InitialValue) Fault
 value_at p (Characters s ∷ ts) = read_as (initial.Characters s) (p + 1) ts
 value_at p (Bits s ∷ ts) = read_as (initial.Bits s) (p + 1) ts
 value_at p (Sign OpenParenthesis ∷ ts) = repeated_at (p + 1) ts
-value_at p (Word n ∷ ts) = if same_name n (codes "NULL") then null_from (p + 1) ts (behind is_open ts) else expected ConstantExpected p (Word n ∷ ts)
+value_at p (Word n ∷ ts) =
+    if same_name n (codes "NULL") then null_from (p + 1) ts (behind is_open ts)
+    else expected ConstantExpected p (Word n ∷ ts)
 value_at p ts = mapped (initial.Integer None) (integer_at p ts)
 
 -- the values of INITIAL in their parentheses
 unfoldable pub values_at : ℕ → Tokens → Result (Front (List InitialValue)) Fault
-values_at p ts = taken is_open ParenthesisExpected p ts >>= λ us. enclosed (list_at Commas value_at (p + 1) us)
+values_at p ts =
+    taken is_open ParenthesisExpected p ts >>= λ us. enclosed (list_at Commas value_at (p + 1) us)
 
 -- behind the keyword of a simple attribute
 unfoldable pub simple_of : SimpleWord → ℕ → Tokens → Result (Front tree.SimpleAttribute) Fault
@@ -150,7 +170,8 @@ simple_of words.Internal p ts = read_as tree.Internal p ts
 simple_of words.Builtin p ts = read_as tree.Builtin p ts
 simple_of words.Initial p ts = mapped tree.Initial (values_at p ts)
 
--- A nest: an ENTRY or RETURNS in a description. It is walked with a list of the parentheses that are open, the innermost first, since it may be as deep as the text is long.
+-- A nest: an ENTRY or RETURNS in a description. It is walked with a list of the parentheses that are open,
+-- the innermost first, since it may be as deep as the text is long.
 pub record Walk : Type 0 where
   pub opens : List Open
   pub expects : Expects
@@ -159,12 +180,21 @@ pub record Walk : Type 0 where
 
 -- a description in the parentheses of an ENTRY: its attributes must stand behind its dimensions
 unfoldable pub description_walk : List Open → ℕ → Tokens → Result Walk Fault
-description_walk opens p ts = dimensions_at p ts >>= λ x. Ok (record { opens = opened.Entry ∷ opens; expects = expects.Attribute; next = x.next; rest = x.rest })
+description_walk opens p ts =
+    dimensions_at p ts >>= λ x. Ok (record {
+      opens = opened.Entry
+          ∷ opens;
+      expects = expects.Attribute;
+      next = x.next;
+      rest = x.rest;
+    })
 
 -- behind `ENTRY(`: `)`, or a description
 abbrev pub parameters_walk : List Open → ℕ → Tokens → Option Tokens → Result Walk Fault
-parameters_walk opens p us (Some vs) = Ok (record { opens = opens; expects = expects.More; next = p + 1; rest = vs })
-parameters_walk opens p us None = if begins_description us then description_walk opens p us else expected ParenthesisExpected p us
+parameters_walk opens p us (Some vs) =
+    Ok (record { opens = opens; expects = expects.More; next = p + 1; rest = vs })
+parameters_walk opens p us None =
+    if begins_description us then description_walk opens p us else expected ParenthesisExpected p us
 
 -- behind ENTRY
 abbrev pub entry_walk : List Open → ℕ → Tokens → Option Tokens → Result Walk Fault
@@ -173,14 +203,28 @@ entry_walk opens p ts (Some us) = parameters_walk opens (p + 1) us (behind is_cl
 
 -- behind the keyword of an attribute
 unfoldable pub word_walk : List Open → AttributeWord → ℕ → Tokens → Result Walk Fault
-word_walk opens (attribute.Simple w) p ts = simple_of w p ts >>= λ x. Ok (record { opens = opens; expects = expects.More; next = x.next; rest = x.rest })
+word_walk opens (attribute.Simple w) p ts =
+    simple_of w p ts >>= λ x. Ok (record {
+      opens = opens;
+      expects = expects.More;
+      next = x.next;
+      rest = x.rest;
+    })
 word_walk opens attribute.Entry p ts = entry_walk opens p ts (behind is_open ts)
 word_walk opens attribute.Returns p ts =
-    taken is_open ParenthesisExpected p ts >>= λ us. Ok (record { opens = opened.Returns ∷ opens; expects = expects.Attribute; next = p + 1; rest = us })
+    taken is_open ParenthesisExpected p ts >>= λ us. Ok (record {
+      opens = opened.Returns
+          ∷ opens;
+      expects = expects.Attribute;
+      next = p + 1;
+      rest = us;
+    })
 
--- behind an attribute where no other begins: the innermost parenthesis closes, or in an ENTRY another description follows
+-- behind an attribute where no other begins: the innermost parenthesis closes, or in an ENTRY another
+-- description follows
 abbrev pub closed_walk : List Open → ℕ → Tokens → Option Tokens → Result Walk Fault
-closed_walk opens p ts (Some us) = Ok (record { opens = opens; expects = expects.More; next = p + 1; rest = us })
+closed_walk opens p ts (Some us) =
+    Ok (record { opens = opens; expects = expects.More; next = p + 1; rest = us })
 closed_walk opens p ts None = expected ParenthesisExpected p ts
 
 -- behind a comma another parameter description begins; else the parenthesis closes
@@ -214,21 +258,24 @@ is_over opens expects.Attribute = false
 is_over opens expects.More = nat_eq (length opens) 0
 
 -- the walk goes on until an attribute has ended and no parenthesis is open
-abbrev pub walked_after : (more : List Open → Expects → ℕ → Tokens → Result (Front (Unit {0})) Fault) → List Open → Expects → ℕ → Tokens → Result (Front (Unit {0})) Fault
+abbrev pub walked_after : (more : List Open → Expects → ℕ → Tokens → Result (Front (Unit {0})) Fault)
+    → List Open → Expects → ℕ → Tokens → Result (Front (Unit {0})) Fault
 walked_after more [] expects.More p ts = read_as tt p ts
 walked_after more opens what p ts = more opens what p ts
 
 -- each step takes one of the bound, which is more than the number of tokens
 unfoldable pub walked : (bound : ℕ) → List Open → Expects → ℕ → Tokens → Result (Front (Unit {0})) Fault
 walked zero opens what p ts = at_fault EndMissing p
-walked (suc bound) opens what p ts = step_at opens what p ts >>= λ w. walked_after (walked bound) w.opens w.expects w.next w.rest
+walked (suc bound) opens what p ts =
+    step_at opens what p ts >>= λ w. walked_after (walked bound) w.opens w.expects w.next w.rest
 
 -- an attribute, nothing of which is kept
 unfoldable pub nest_at : ℕ → Tokens → Result (Front (Unit {0})) Fault
 nest_at p ts = walked (length ts + 1) [] expects.Attribute p ts
 
 -- an attribute of a description
-abbrev pub described_from : ℕ → Tokens → Option (AttributeWord × Tokens) → Result (Front tree.DescribedAttribute) Fault
+abbrev pub described_from : ℕ → Tokens → Option (AttributeWord × Tokens)
+    → Result (Front tree.DescribedAttribute) Fault
 described_from p ts None = expected BadAttribute p ts
 described_from p ts (Some (attribute.Simple w, us)) = mapped tree.Plain (simple_of w (p + 1) us)
 described_from p ts (Some (attribute.Entry, us)) = mapped (λ nothing. tree.AnyEntry) (nest_at p ts)
@@ -243,19 +290,26 @@ unfoldable pub parameter_at : ℕ → Tokens → Result (Front tree.ParameterDes
 parameter_at p ts = do
   dimensions ← dimensions_at p ts
   attributes ← list_at Nothing described_at dimensions.next dimensions.rest
-  read_as (record { dimensions = dimensions.value; attributes = attributes.value }) attributes.next attributes.rest
+  read_as (record {
+    dimensions = dimensions.value;
+    attributes = attributes.value;
+  }) attributes.next attributes.rest
 
 -- behind `ENTRY(`: `)`, or descriptions and `)`
-abbrev pub parameters_from : ℕ → Tokens → Option Tokens → Result (Front (List tree.ParameterDescription)) Fault
+abbrev pub parameters_from : ℕ → Tokens → Option Tokens
+    → Result (Front (List tree.ParameterDescription)) Fault
 parameters_from p us (Some vs) = read_as [] (p + 1) vs
-parameters_from p us None = if begins_description us then enclosed (list_at Commas parameter_at p us) else expected ParenthesisExpected p us
+parameters_from p us None =
+    if begins_description us then enclosed (list_at Commas parameter_at p us)
+    else expected ParenthesisExpected p us
 
 -- the parameter descriptions of ENTRY up to its parenthesis
 unfoldable pub parameters_at : ℕ → Tokens → Result (Front (List tree.ParameterDescription)) Fault
 parameters_at p us = parameters_from p us (behind is_close us)
 
 -- behind ENTRY
-abbrev pub entry_from : ℕ → Tokens → Option Tokens → Result (Front (Option (List tree.ParameterDescription))) Fault
+abbrev pub entry_from : ℕ → Tokens → Option Tokens
+    → Result (Front (Option (List tree.ParameterDescription))) Fault
 entry_from p ts None = read_as None p ts
 entry_from p ts (Some us) = mapped Some (parameters_at (p + 1) us)
 
@@ -265,7 +319,8 @@ entry_at p ts = entry_from p ts (behind is_open ts)
 
 -- behind RETURNS: attributes in parentheses
 unfoldable pub returned_at : ℕ → Tokens → Result (Front (List tree.DescribedAttribute)) Fault
-returned_at p ts = taken is_open ParenthesisExpected p ts >>= λ us. enclosed (list_at Nothing described_at (p + 1) us)
+returned_at p ts =
+    taken is_open ParenthesisExpected p ts >>= λ us. enclosed (list_at Nothing described_at (p + 1) us)
 
 -- an attribute of an item
 abbrev pub attribute_from : ℕ → Tokens → Option (AttributeWord × Tokens) → Result (Front tree.Attribute) Fault
@@ -308,7 +363,12 @@ item_at p ts = do
   names ← names_at (level_at p ts).next (level_at p ts).rest
   dimensions ← dimensions_at names.next names.rest
   attributes ← attributes_at dimensions.next dimensions.rest
-  read_as (record { level = (level_at p ts).value; names = names.value; dimensions = dimensions.value; attributes = attributes.value }) attributes.next attributes.rest
+  read_as (record {
+    level = (level_at p ts).value;
+    names = names.value;
+    dimensions = dimensions.value;
+    attributes = attributes.value;
+  }) attributes.next attributes.rest
 
 -- behind DECLARE, up to what neither continues an item nor is a comma
 abbrev pub items_at : ℕ → Tokens → Result (Front (List tree.Item)) Fault
@@ -316,4 +376,6 @@ items_at p ts = list_at Commas item_at p ts
 
 -- behind DECLARE, with the `;`
 unfoldable pub declaration_at : ℕ → Tokens → Result (Front (List tree.Item)) Fault
-declaration_at p ts = items_at p ts >>= λ x. taken is_semicolon SemicolonExpected x.next x.rest >>= λ rest. read_as x.value (x.next + 1) rest
+declaration_at p ts =
+    items_at p ts >>= λ x. taken is_semicolon SemicolonExpected x.next x.rest >>= λ rest. read_as x.value
+    (x.next + 1) rest

@@ -1,12 +1,17 @@
 -- The keywords of attributes, and tests of tokens.
-use Rattle.std.specs.Prelude.{Bool, true, false, ◌||◌, ◌&&◌, is_some, nat_eq, [], ◌∷◌, codes, Option, Some, None, if◌then◌else◌}
+use Rattle.std.specs.Prelude.{Bool, true, false, ◌||◌, ◌&&◌, is_some, nat_eq, [], ◌∷◌, codes, Option, Some}
+use Rattle.std.specs.Prelude.{None, if◌then◌else◌}
 use Rattle.pli_base.specs.Name.{Name}
 use Rattle.pli_base.specs.Words.{Tokens, same_name, is_open, behind}
 use Rattle.pli_base.specs.declared.token.TokenText.{TokenText}
 use Rattle.pli_base.specs.declared.token.Sign.TheVariants.{Colon, Period}
 use Rattle.pli_base.specs.declared.token.TokenText.TheVariants.{Word, Decimal, Sign}
 use Rattle.pli_parse_declaration.specs.declared.word.SimpleWord.{SimpleWord}
-use Rattle.pli_parse_declaration.specs.declared.word.SimpleWord.TheVariants.{Fixed, Binary, Character, Bit, Varying, Pointer, Offset, Area, Based, Controlled, Static, Automatic, External, Internal, Builtin, Initial}
+use Rattle.pli_parse_declaration.specs.declared.word.SimpleWord.TheVariants.{Fixed, Binary, Character, Bit}
+use Rattle.pli_parse_declaration.specs.declared.word.SimpleWord.TheVariants.{Varying, Pointer, Offset, Area}
+use Rattle.pli_parse_declaration.specs.declared.word.SimpleWord.TheVariants.{Based, Controlled, Static}
+use Rattle.pli_parse_declaration.specs.declared.word.SimpleWord.TheVariants.{Automatic, External, Internal}
+use Rattle.pli_parse_declaration.specs.declared.word.SimpleWord.TheVariants.{Builtin, Initial}
 use Rattle.pli_parse_declaration.specs.declared.word.AttributeWord.{AttributeWord}
 use Rattle.pli_parse_declaration.specs.declared.word.AttributeWord.TheVariants as words
 
@@ -42,7 +47,9 @@ storage_word n =
 
 -- ENTRY, RETURNS or none
 unfoldable pub nesting_word : Name → Option AttributeWord
-nesting_word n = if same_name n (codes "ENTRY") then Some words.Entry else if same_name n (codes "RETURNS") then Some words.Returns else None
+nesting_word n =
+    if same_name n (codes "ENTRY") then Some words.Entry else if same_name n (codes "RETURNS")
+    then Some words.Returns else None
 
 -- the first of two words that is there
 abbrev pub word_or : Option SimpleWord → Option AttributeWord → Option AttributeWord

@@ -5,7 +5,8 @@ use Rattle.pli_parse_declaration.specs.DeclarationWords.{with_attribute}
 use Rattle.pli_parse_declaration.specs.declared.list.Separator.{Separator}
 use Rattle.pli_parse_declaration.specs.declared.list.Separator.TheVariants.{Commas, Periods, Nothing}
 
--- the tokens of what comes next in a list, if it goes on: behind a comma, behind a period, or at an attribute's keyword
+-- the tokens of what comes next in a list, if it goes on: behind a comma, behind a period, or at an
+-- attribute's keyword
 abbrev pub separated : Separator → Tokens → Option Tokens
 separated Commas ts = behind is_comma ts
 separated Periods ts = behind is_period ts

@@ -1,8 +1,8 @@
 //! Descriptions of parameters and of results.
 ghost use Rattle.std.specs.Prelude.{◌≡◌, ◌≤◌, ◌+◌, length, map, IfOk};
-ghost use Rattle.pli_base.specs.DeclarationView.{described_view, parameter_view};
+ghost use Rattle.pli_base.specs.views.DeclarationView.{described_view, parameter_view};
 ghost use Rattle.pli_parse_declaration.specs.DeclarationReading.{list_at, described_at, parameter_at, parameters_at, returned_at};
-ghost use Rattle.pli_base.specs.ReadingAnswers.{Gives, Advances, front_view};
+ghost use Rattle.pli_base.specs.answers.ReadingAnswers.{Gives, Advances, front_view};
 ghost use Rattle.pli_parse_declaration.specs.declared.list.Separator.TheVariants.{Commas, Nothing};
 ghost use Rattle.std.proofs.Common.{refl};
 ghost use Rattle.pli_base.specs.Declarations as tree;

@@ -1,7 +1,7 @@
 //! Dimensions, lengths and precisions.
 ghost use Rattle.std.specs.Prelude.{◌≡◌, ◌≤◌, ◌+◌, length, IfOk};
 ghost use Rattle.pli_parse_declaration.specs.DeclarationReading.{list_at, integer_at, bounds_at, dimensions_at, length_at, scaled_at, precision_at};
-ghost use Rattle.pli_base.specs.ReadingAnswers.{Gives, Advances, Continues, front_view};
+ghost use Rattle.pli_base.specs.answers.ReadingAnswers.{Gives, Advances, Continues, front_view};
 ghost use Rattle.pli_parse_declaration.specs.declared.list.Separator.TheVariants.{Commas};
 ghost use Rattle.pli_base.specs.declared.declaration.Bounds as bounds;
 ghost use Rattle.std.proofs.Common.{sym};

@@ -1,10 +1,10 @@
 //! The items of DECLARE.
 ghost use Rattle.std.specs.Prelude.{◌≡◌, ◌≤◌, ◌+◌, length, map, IfOk};
 ghost use Rattle.pli_base.specs.Declarations as tree;
-ghost use Rattle.pli_base.specs.DeclarationView.{attribute_view, item_view};
+ghost use Rattle.pli_base.specs.views.DeclarationView.{attribute_view, item_view};
 ghost use Rattle.pli_parse_declaration.specs.DeclarationReading.{list_at, entry_at, attribute_at, attributes_at, identifier_at, names_at, item_at, declaration_at};
 ghost use Rattle.pli_base.specs.Reading.{mapped};
-ghost use Rattle.pli_base.specs.ReadingAnswers.{Gives, Advances, Continues, front_view};
+ghost use Rattle.pli_base.specs.answers.ReadingAnswers.{Gives, Advances, Continues, front_view};
 ghost use Rattle.pli_parse_declaration.specs.declared.list.Separator.TheVariants.{Commas, Nothing};
 ghost use Rattle.pli_base.specs.declared.syntax.Identifier as syntax;
 ghost use Rattle.std.proofs.Common.{refl, sym};

@@ -9,7 +9,7 @@ ghost use Rattle.pli_base.specs.declared.token.Fault.{Fault};
 ghost use Rattle.pli_parse_declaration.specs.DeclarationReading.{items_at, declaration_at, returned_at};
 ghost use Rattle.pli_parse_declaration.specs.DeclarationGrammar.{SpellsFront, SpellsItems, SpellsDeclaration, SpellsReturned, Anywhere, EndsItems};
 ghost use Rattle.pli_parse_declaration.specs.ItemEnds.{ItemsEnd};
-ghost use Rattle.pli_parse_declaration.specs.DeclarationExamples.{NameThatIsKeyword, Levels, Nest, Values, WrongWord, NoLevelInParentheses, NoScaleButZero, NoFactorOfString, NoDescription, NoDescriptionBehindComma, NoAttributeInNest, TextEnds};
+ghost use Rattle.pli_parse_declaration.specs.examples.DeclarationExamples.{NameThatIsKeyword, Levels, Nest, Values, WrongWord, NoLevelInParentheses, NoScaleButZero, NoFactorOfString, NoDescription, NoDescriptionBehindComma, NoAttributeInNest, TextEnds};
 
 /// Worked examples of what is read behind DECLARE, and of faults.
 pub fn worked_examples()

@@ -3,8 +3,8 @@
 ghost use Rattle.std.specs.Prelude.{◌≡◌, ◌≤◌, ◌+◌, ◌<◌, [], ◌∷◌, List, Some, length, nat_eq, IfOk, MatchOption};
 ghost use Rattle.pli_base.specs.Words.{is_close, behind};
 ghost use Rattle.pli_parse_declaration.specs.DeclarationReading.{description_walk, parameters_walk, word_walk, closed_walk, behind_walk, step_at, is_over, nest_at};
-ghost use Rattle.pli_parse_declaration.specs.DeclarationAnswers.{walk_view};
-ghost use Rattle.pli_base.specs.ReadingAnswers.{Gives, Advances, Continues, front_view};
+ghost use Rattle.pli_parse_declaration.specs.answers.DeclarationAnswers.{walk_view};
+ghost use Rattle.pli_base.specs.answers.ReadingAnswers.{Gives, Advances, Continues, front_view};
 
 use crate::extent::dimensions_at;
 use crate::front::{attribute_first, begins_description};

@@ -1,11 +1,11 @@
 //! Attributes other than ENTRY and RETURNS, behind their keywords.
 ghost use Rattle.std.specs.Prelude.{◌≡◌, ◌≤◌, ◌+◌, length, IfOk};
 ghost use Rattle.pli_base.specs.Declarations as tree;
-ghost use Rattle.pli_base.specs.DeclarationView.{simple_view};
+ghost use Rattle.pli_base.specs.views.DeclarationView.{simple_view};
 ghost use Rattle.pli_parse_declaration.specs.DeclarationReading.{list_at, name_at, area_at, locator_at, repeated_at, null_from, value_at, values_at, simple_of};
 ghost use Rattle.pli_base.specs.Words.{is_open, behind};
 ghost use Rattle.pli_base.specs.Reading.{mapped};
-ghost use Rattle.pli_base.specs.ReadingAnswers.{Gives, Advances, Continues, front_view};
+ghost use Rattle.pli_base.specs.answers.ReadingAnswers.{Gives, Advances, Continues, front_view};
 ghost use Rattle.pli_parse_declaration.specs.declared.list.Separator.TheVariants.{Commas, Periods};
 ghost use Rattle.pli_base.specs.Name as spelling;
 ghost use Rattle.pli_base.specs.declared.declaration.InitialValue as initial;

@@ -6,7 +6,7 @@ use Rattle.pli_parse_expression.specs.Assignments as test
 use Rattle.pli_parse_expression.specs.Assignments.{accepts, moved, move, kind_of, may_end}
 use Rattle.pli_parse_expression.specs.declared.assignment.Frame.{Frame}
 use Rattle.pli_parse_expression.specs.declared.assignment.State.{State}
-use Rattle.pli_parse_expression.specs.Tests.{state_view, frame_view, onto, answered}
+use Rattle.pli_parse_expression.specs.answers.Tests.{state_view, frame_view, onto, answered}
 use Rattle.pli_base.specs.Words.{Tokens}
 
 pub onto_push : (around : List Frame) (f : Frame) (fs : List test.Frame) → onto (around ++ f ∷ []) fs ≡ frame_view f ∷ onto around fs

@@ -3,7 +3,7 @@ use Rattle.std.proofs.Common.{◌≡◌, ◌+◌, ◌<◌, ◌≤◌, ℕ, suc, 
 use Rattle.std.proofs.lemmas.Bool.{le-ltb, lt-ltb}
 use Rattle.pli_base.specs.Name.{Name}
 use Rattle.pli_base.specs.Syntax.{Expression, Infix, Named, JoinedParts, Alone, Joined, Arguments, Expressions, Empty, Listed}
-use Rattle.pli_base.specs.SyntaxView.{expression_view}
+use Rattle.pli_base.specs.views.SyntaxView.{expression_view}
 use Rattle.pli_base.specs.declared.code.Code.TheVariants.{NestedTooDeep, NameExpected, ParenthesisExpected}
 use Rattle.pli_base.specs.declared.syntax.Expression as made
 use Rattle.pli_base.specs.declared.syntax.JoinedPart.{JoinedPart}
@@ -13,11 +13,11 @@ use Rattle.pli_base.specs.declared.token.Fault.{Fault}
 use Rattle.pli_parse_expression.specs.Operators.{operator_limit, level_of, operator_at, joining_at}
 use Rattle.pli_parse_expression.specs.Reading.{Front, Reader, limited, operand_then, grouped, infix_from, closed, listed_behind, further_from, listed_at, arguments_at, part_behind, parts_behind, joined_from, reference_behind, reference_of}
 use Rattle.pli_base.specs.declared.reading.ParseError.TheVariants as errors
-use Rattle.pli_base.specs.SyntaxView.{expressions_view, arguments_view, joined_view}
+use Rattle.pli_base.specs.views.SyntaxView.{expressions_view, arguments_view, joined_view}
 use Rattle.pli_base.specs.Words.{Tokens, name_first, behind, is_comma, is_close}
 use Rattle.pli_base.specs.Reading.{◌>>=◌, at_fault, misfit, taken}
 use Rattle.pli_base.specs.declared.reading.ParseError.{ParseError}
-use Rattle.pli_base.specs.ReadingAnswers.{Fails}
+use Rattle.pli_base.specs.answers.ReadingAnswers.{Fails}
 
 -- the operators that are left go on with the expression so far, for a bound that is great enough
 abbrev pub OperatorsLeft : Reader → (min count : ℕ) → Expression → ℕ → Tokens → Result (Front Expression) Fault → Type 0

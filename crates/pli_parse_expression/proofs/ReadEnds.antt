@@ -2,7 +2,7 @@
 use Rattle.std.proofs.Common.{◌≡◌, ◌≤◌, ◌+◌, ℕ, suc, zero, nat_lt, Bool, true, false, cond, [], ◌∷◌, ◌++◌, Option, Some, None, Result, Ok, option_map, length, refl, ap, ◌∙◌, sym, subst, arith}
 use Rattle.std.proofs.lemmas.Bool.{ltb-true}
 use Rattle.std.proofs.lemmas.List.{append-nil}
-use Rattle.pli_base.specs.FrontLaws.{no_longer}
+use Rattle.pli_base.specs.laws.FrontLaws.{no_longer}
 use Rattle.pli_base.specs.Name.{Name}
 use Rattle.pli_base.specs.Syntax.{Expression, Referred, Constant, Parenthesized, Prefix, Infix, Reference, JoinedParts, Arguments, Absent, Given}
 use Rattle.pli_base.specs.declared.code.Code.TheVariants.{ExpressionExpected, NameExpected}

@@ -3,7 +3,7 @@ use Rattle.std.proofs.Common.{◌≡◌, ◌<◌, ◌≤◌, ◌+◌, ℕ, suc, 
 use Rattle.pli_base.specs.Name.{Name}
 use Rattle.pli_base.specs.Syntax.{Expression, Referred, Parenthesized, Prefix, Infix, Reference, Named, JoinedParts, Joined, Arguments, Given, Expressions, Empty, Listed}
 use Rattle.pli_base.specs.FaultPlaces.{FaultStands, Passes}
-use Rattle.pli_base.specs.FaultPlaceLaws.{passes_none, passes_one, passes_on, fault_first, fault_ended, fault_behind}
+use Rattle.pli_base.specs.laws.FaultPlaceLaws.{passes_none, passes_one, passes_on, fault_first, fault_ended, fault_behind}
 use Rattle.pli_base.specs.declared.code.Code.{Code}
 use Rattle.pli_base.specs.declared.code.Code.TheVariants.{ExpressionExpected, ParenthesisExpected, NameExpected, NestedTooDeep}
 use Rattle.pli_base.specs.declared.syntax.PrefixOperator.{PrefixOperator}

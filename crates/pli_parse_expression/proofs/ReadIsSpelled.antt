@@ -16,7 +16,7 @@ use Rattle.pli_base.specs.declared.token.TokenText.TheVariants.{Word, Decimal, B
 use Rattle.pli_parse_expression.specs.Operators.{operator_limit, operand_level, level, level_of, prefix_sign, infix_sign, joining_sign, constant_token, operator_at, joining_at, begins_expression}
 use Rattle.pli_parse_expression.specs.Expressions.{SpellsExpression, SpellsReference, SpellsJoined, SpellsArguments, SpellsListed, SpellsFurther, operators, reference_operators, joined_operators, listed_operators, Deeper, NestsWithin, ReferenceNests, JoinedNest, ArgumentsNest, ListNests, OutermostFits, SpellsOutermost, Every, GivenFits, JoinedFits, ReferenceFits, SpellsReferenceAlone}
 use Rattle.pli_parse_expression.specs.Reading.{Front, Reader, opened, closed, operand_then, grouped, infix_from, expression_of, listed_behind, further_from, listed_at, list_at, arguments_at, part_behind, parts_behind, joined_from, reference_behind, reference_of, prefix_of, parenthesis_of, constant_at, operand_of, inside, operand_at, expression_at, outermost, argument_of, reference_at}
-use Rattle.pli_parse_expression.specs.Laws.{FrontSpells}
+use Rattle.pli_parse_expression.specs.laws.Laws.{FrontSpells}
 use Rattle.pli_parse_expression.proofs.ReadingTools.{same_ok, bind_ok, limited_ok, wanted_none, closed_ok, operator_ok, operator_below, level_small, none_above, joining_ok, name_ok, comma_ok}
 use Rattle.pli_base.specs.Words.{Tokens, name_first, behind, is_comma}
 use Rattle.pli_base.specs.Reading.{◌>>=◌}

@@ -2,7 +2,7 @@
 use Rattle.std.proofs.Common.{◌≡◌, ◌+◌, ℕ, [], ◌∷◌, Ok, length, ap, arith, length-append}
 use Rattle.pli_base.specs.Syntax.{Expression, Referred, Constant, Parenthesized, Prefix, Infix, Reference, Named, JoinedParts, Alone, Joined, Arguments, Absent, Given, Expressions, Empty, Listed}
 use Rattle.pli_base.specs.TreeTokens.{Rises, expression_tokens, reference_tokens, joined_tokens, argument_tokens, listed_tokens}
-use Rattle.pli_base.specs.TreeTokenLaws.{rises_within, rises_on}
+use Rattle.pli_base.specs.laws.TreeTokenLaws.{rises_within, rises_on}
 use Rattle.pli_base.specs.declared.token.Sign.TheVariants.{CloseParenthesis}
 use Rattle.pli_base.specs.declared.token.TokenText.TheVariants.{Sign}
 use Rattle.pli_parse_expression.specs.Operators.{infix_sign}

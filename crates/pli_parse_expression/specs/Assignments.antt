@@ -1,4 +1,5 @@
--- The kind of a statement: it is an assignment exactly where its tokens are a reference, `=` and one expression. The test knows no limits.
+-- The kind of a statement: it is an assignment exactly where its tokens are a reference, `=` and one
+-- expression. The test knows no limits.
 use Rattle.std.specs.Prelude.{◌≡◌, ℕ, ◌+◌, Bool, true, false, List, [], ◌∷◌, ◌++◌, length}
 use Rattle.pli_base.specs.Syntax.{Expression, Reference}
 use Rattle.pli_base.specs.declared.token.Sign.TheVariants as signs
@@ -10,7 +11,8 @@ use Rattle.pli_base.specs.Words.{Tokens}
 -- the tokens are a reference, `=` and one expression; no word is reserved
 abbrev pub IsAssignment : ℕ → Tokens → Type 0
 IsAssignment p ts =
-    (ls : Tokens) × (rs : Tokens) × (target : Reference) × (value : Expression) × (ts ≡ ls ++ tokens.Sign signs.Equals ∷ rs)
+    (ls : Tokens) × (rs : Tokens) × (target : Reference) × (value : Expression)
+    × (ts ≡ ls ++ tokens.Sign signs.Equals ∷ rs)
     × SpellsReference p ls target × SpellsExpression (p + length ls + 1) rs value
 
 -- what a token can be in an expression
@@ -27,7 +29,8 @@ pub data Kind : Type 0 where
   Operates : Kind
   Foreign : Kind
 
--- a constant is a value; `+` and `-` are signs, prefix or infix; `^` negates; the other infix operators operate
+-- a constant is a value; `+` and `-` are signs, prefix or infix; `^` negates; the other infix operators
+-- operate
 abbrev pub kind_of : TokenText → Kind
 kind_of (tokens.Word n) = Name
 kind_of (tokens.Sign signs.OpenParenthesis) = Opens
@@ -51,7 +54,8 @@ kind_of (tokens.Sign signs.Times) = Operates
 kind_of (tokens.Sign s) = Foreign
 kind_of t = Value
 
--- where the test stands: a name must come; an operand must; an operand or `)` must, right behind the `(` of a list;
+-- where the test stands: a name must come; an operand must; an operand or `)` must, right behind the `(` of a
+-- list;
 -- or it is behind a name, behind a list of arguments, or behind another operand
 pub data State : Type 0 where
   NameWanted : State
@@ -61,14 +65,16 @@ pub data State : Type 0 where
   BehindList : State
   BehindOperand : State
 
--- what it stands in: the target, the expression behind `=`, the parentheses of an expression, or those of a list
+-- what it stands in: the target, the expression behind `=`, the parentheses of an expression, or those of a
+-- list
 pub data Frame : Type 0 where
   Target : Frame
   Whole : Frame
   Group : Frame
   Arguments : Frame
 
--- what a token does: it cannot stand there; the test goes on; parentheses begin; they end; or the expression begins
+-- what a token does: it cannot stand there; the test goes on; parentheses begin; they end; or the expression
+-- begins
 pub data Move : Type 0 where
   Stops : Move
   Goes : (state : State) → Move

@@ -1,24 +1,32 @@
--- Expressions and references: which tokens spell which tree. Tokens are counted from 0, and p is the place of the first.
+-- Expressions and references: which tokens spell which tree. Tokens are counted from 0, and p is the place of
+-- the first.
 use Rattle.std.specs.Prelude.{◌≡◌, ℕ, zero, suc, ◌+◌, ◌≤◌, ◌<◌, false, None, [], ◌∷◌, ◌++◌, length}
-use Rattle.pli_base.specs.Syntax.{Expression, Referred, Constant, Parenthesized, Prefix, Infix, Reference, Named, JoinedParts, Alone, Joined, Arguments, Absent, Given, Expressions, Empty, Listed}
+use Rattle.pli_base.specs.Syntax.{Expression, Referred, Constant, Parenthesized, Prefix, Infix, Reference}
+use Rattle.pli_base.specs.Syntax.{Named, JoinedParts, Alone, Joined, Arguments, Absent, Given, Expressions}
+use Rattle.pli_base.specs.Syntax.{Empty, Listed}
 use Rattle.pli_base.specs.declared.token.Sign.TheVariants.{OpenParenthesis, CloseParenthesis, Comma}
 use Rattle.pli_base.specs.declared.token.TokenText.TheVariants.{Word, Sign}
-use Rattle.pli_parse_expression.specs.Operators.{operator_limit, operand_level, level, level_of, prefix_sign, infix_sign, joining_sign, constant_token, infix_of, continues_reference}
+use Rattle.pli_parse_expression.specs.Operators.{operator_limit, operand_level, level, level_of, prefix_sign}
+use Rattle.pli_parse_expression.specs.Operators.{infix_sign, joining_sign, constant_token, infix_of}
+use Rattle.pli_parse_expression.specs.Operators.{continues_reference}
 use Rattle.pli_base.specs.Words.{Tokens}
 
 -- e1 = e2 {"|" e2}                     e2 = e3 {"&" e3}             e3 = e4 {comparison e4}
 -- e4 = e5 {"||" e5}                    e5 = e6 {("+" | "-") e6}     e6 = e7 {"*" e7}
 -- e7 = ("+" | "-" | "^") e7 | constant | "(" e1 ")" | reference
 -- reference = name [arguments] {("." | "->") name [arguments]}      arguments = "(" [e1 {"," e1}] ")"
--- Infix operators of one level associate to the left: the left operand of one may be of its level, the right one is above it (X3.74).
+-- Infix operators of one level associate to the left: the left operand of one may be of its level, the right
+-- one is above it (X3.74).
 abbrev mutual
   pub SpellsExpression : ℕ → Tokens → Expression → Type 0
   SpellsExpression p ts (Referred reference) = SpellsReference p ts reference
   SpellsExpression p ts (Constant at value) = (ts ≡ constant_token value ∷ []) × (at ≡ p)
   SpellsExpression p ts (Parenthesized at inner) =
-      (us : Tokens) × (ts ≡ Sign OpenParenthesis ∷ us ++ Sign CloseParenthesis ∷ []) × (at ≡ p) × SpellsExpression (p + 1) us inner
+      (us : Tokens) × (ts ≡ Sign OpenParenthesis ∷ us ++ Sign CloseParenthesis ∷ []) × (at ≡ p)
+      × SpellsExpression (p + 1) us inner
   SpellsExpression p ts (Prefix operator at operand) =
-      (us : Tokens) × (ts ≡ Sign (prefix_sign operator) ∷ us) × (at ≡ p) × (level operand ≡ operand_level) × SpellsExpression (p + 1) us operand
+      (us : Tokens) × (ts ≡ Sign (prefix_sign operator) ∷ us) × (at ≡ p) × (level operand ≡ operand_level)
+      × SpellsExpression (p + 1) us operand
   SpellsExpression p ts (Infix operator at left right) =
       (ls : Tokens) × (rs : Tokens) × (ts ≡ ls ++ Sign (infix_sign operator) ∷ rs) × (at ≡ p + length ls)
       × SpellsExpression p ls left × (level_of operator ≤ level left)
@@ -32,18 +40,22 @@ abbrev mutual
   pub SpellsJoined : ℕ → Tokens → JoinedParts → Type 0
   SpellsJoined p ts Alone = ts ≡ []
   SpellsJoined p ts (Joined joining name arguments more) =
-      (front : Tokens) × (rest : Tokens) × (ts ≡ Sign (joining_sign joining) ∷ Word name.name ∷ front ++ rest) × (name.at ≡ p + 1)
+      (front : Tokens) × (rest : Tokens) × (ts ≡ Sign (joining_sign joining) ∷ Word name.name ∷ front ++ rest)
+      × (name.at ≡ p + 1)
       × SpellsArguments (p + 2) front arguments × SpellsJoined (p + 2 + length front) rest more
 
   pub SpellsArguments : ℕ → Tokens → Arguments → Type 0
   SpellsArguments p ts Absent = ts ≡ []
-  SpellsArguments p ts (Given list) = (us : Tokens) × (ts ≡ Sign OpenParenthesis ∷ us ++ Sign CloseParenthesis ∷ []) × SpellsListed (p + 1) us list
+  SpellsArguments p ts (Given list) =
+      (us : Tokens) × (ts ≡ Sign OpenParenthesis ∷ us ++ Sign CloseParenthesis ∷ [])
+      × SpellsListed (p + 1) us list
 
   -- none, or several with commas between
   pub SpellsListed : ℕ → Tokens → Expressions → Type 0
   SpellsListed p ts Empty = ts ≡ []
   SpellsListed p ts (Listed e more) =
-      (front : Tokens) × (rest : Tokens) × (ts ≡ front ++ rest) × SpellsExpression p front e × SpellsFurther (p + length front) rest more
+      (front : Tokens) × (rest : Tokens) × (ts ≡ front ++ rest) × SpellsExpression p front e
+      × SpellsFurther (p + length front) rest more
 
   -- each behind a comma
   pub SpellsFurther : ℕ → Tokens → Expressions → Type 0
@@ -81,7 +93,8 @@ abbrev pub Deeper : (ℕ → Type 0) → ℕ → Type 0
 Deeper Fits zero = ⊥
 Deeper Fits (suc levels) = Fits levels
 
--- parentheses and prefix operators open so many levels at most, one within another; those of argument lists too
+-- parentheses and prefix operators open so many levels at most, one within another; those of argument lists
+-- too
 abbrev mutual
   pub NestsWithin : ℕ → Expression → Type 0
   NestsWithin n (Referred reference) = ReferenceNests n reference
@@ -134,7 +147,9 @@ ReferenceFits Fits (Named name arguments more) = GivenFits Fits arguments × Joi
 
 -- a reference that is no part of an expression: each of its arguments is an outermost expression
 abbrev pub SpellsReferenceAlone : (levels p : ℕ) → Tokens → Reference → Type 0
-SpellsReferenceAlone levels p ts reference = SpellsReference p ts reference × ReferenceFits (λ list. Deeper (λ m. Every (OutermostFits m) list) levels) reference
+SpellsReferenceAlone levels p ts reference =
+    SpellsReference p ts reference
+    × ReferenceFits (λ list. Deeper (λ m. Every (OutermostFits m) list) levels) reference
 
 -- the tokens do not continue a reference that ends before them
 abbrev pub EndsReference : Tokens → Type 0

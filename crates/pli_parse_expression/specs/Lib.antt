@@ -1,9 +1,8 @@
-pub mod Examples
 pub mod Operators
 pub mod Expressions
 pub mod Reading
 pub mod Ends
-pub mod Laws
 pub mod Assignments
-pub mod Answers
-pub mod Tests
+pub mod answers
+pub mod examples
+pub mod laws

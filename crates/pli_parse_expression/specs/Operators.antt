@@ -7,7 +7,9 @@ use Rattle.pli_base.specs.declared.syntax.ConstantValue.TheVariants as constants
 use Rattle.pli_base.specs.declared.syntax.PrefixOperator.{PrefixOperator}
 use Rattle.pli_base.specs.declared.syntax.PrefixOperator.TheVariants as prefixes
 use Rattle.pli_base.specs.declared.syntax.InfixOperator.{InfixOperator}
-use Rattle.pli_base.specs.declared.syntax.InfixOperator.TheVariants.{Or, And, Equal, NotEqual, Less, LessOrEqual, Greater, GreaterOrEqual, Concatenate, Add, Subtract, Multiply}
+use Rattle.pli_base.specs.declared.syntax.InfixOperator.TheVariants.{Or, And, Equal, NotEqual, Less}
+use Rattle.pli_base.specs.declared.syntax.InfixOperator.TheVariants.{LessOrEqual, Greater, GreaterOrEqual}
+use Rattle.pli_base.specs.declared.syntax.InfixOperator.TheVariants.{Concatenate, Add, Subtract, Multiply}
 use Rattle.pli_base.specs.declared.syntax.Joining.{Joining}
 use Rattle.pli_base.specs.declared.syntax.Joining.TheVariants.{Member, Located}
 use Rattle.pli_base.specs.declared.token.Sign.{Sign}

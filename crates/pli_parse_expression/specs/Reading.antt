@@ -1,22 +1,30 @@
--- Reading expressions and references at the front of tokens: the tree, the place behind it and the rest, or the one fault. Tokens are counted from 0, and p is the place of the first.
-use Rattle.std.specs.Prelude.{ℕ, zero, suc, ◌+◌, ◌-◌, nat_lt, Bool, true, false, Option, Some, None, Result, Ok, Err, [], ◌∷◌, length, option_map, if◌then◌else◌}
+-- Reading expressions and references at the front of tokens: the tree, the place behind it and the rest, or
+-- the one fault. Tokens are counted from 0, and p is the place of the first.
+use Rattle.std.specs.Prelude.{ℕ, zero, suc, ◌+◌, ◌-◌, nat_lt, Bool, true, false, Option, Some, None, Result}
+use Rattle.std.specs.Prelude.{Ok, Err, [], ◌∷◌, length, option_map, if◌then◌else◌}
 use Rattle.pli_base.specs.Name.{Name}
-use Rattle.pli_base.specs.Syntax.{Expression, Referred, Constant, Parenthesized, Prefix, Infix, Reference, Named, JoinedParts, Alone, Joined, Arguments, Absent, Given, Expressions, Empty, Listed}
+use Rattle.pli_base.specs.Syntax.{Expression, Referred, Constant, Parenthesized, Prefix, Infix, Reference}
+use Rattle.pli_base.specs.Syntax.{Named, JoinedParts, Alone, Joined, Arguments, Absent, Given, Expressions}
+use Rattle.pli_base.specs.Syntax.{Empty, Listed}
 use Rattle.pli_base.specs.declared.syntax.ConstantValue.TheVariants as constants
 use Rattle.pli_base.specs.declared.syntax.PrefixOperator.{PrefixOperator}
 use Rattle.pli_base.specs.declared.syntax.PrefixOperator.TheVariants as prefixes
 use Rattle.pli_base.specs.declared.syntax.InfixOperator.{InfixOperator}
 use Rattle.pli_base.specs.declared.syntax.Joining.{Joining}
 use Rattle.pli_base.specs.declared.code.Code.{Code}
-use Rattle.pli_base.specs.declared.code.Code.TheVariants.{ExpressionExpected, ParenthesisExpected, NameExpected, EndMissing, NestedTooDeep}
+use Rattle.pli_base.specs.declared.code.Code.TheVariants.{ExpressionExpected, ParenthesisExpected}
+use Rattle.pli_base.specs.declared.code.Code.TheVariants.{NameExpected, EndMissing, NestedTooDeep}
 use Rattle.pli_base.specs.declared.token.Fault.{Fault}
-use Rattle.pli_base.specs.declared.token.Sign.TheVariants.{OpenParenthesis, CloseParenthesis, Plus, Minus, Not}
+use Rattle.pli_base.specs.declared.token.Sign.TheVariants.{OpenParenthesis, CloseParenthesis, Plus, Minus}
+use Rattle.pli_base.specs.declared.token.Sign.TheVariants.{Not}
 use Rattle.pli_base.specs.declared.token.TokenText.TheVariants.{Word, Decimal, Binary, Characters, Bits, Sign}
-use Rattle.pli_parse_expression.specs.Operators.{operator_limit, level_of, operator_at, joining_at, begins_expression}
+use Rattle.pli_parse_expression.specs.Operators.{operator_limit, level_of, operator_at, joining_at}
+use Rattle.pli_parse_expression.specs.Operators.{begins_expression}
 use Rattle.pli_base.specs.Words.{Tokens, name_first, behind, is_comma, is_close}
 use Rattle.pli_base.specs.Reading.{◌>>=◌, at_fault, expected, taken}
 
--- what was read, how many operators the outermost expression has so far, the place behind it and the tokens from there
+-- what was read, how many operators the outermost expression has so far, the place behind it and the tokens
+-- from there
 pub record Front (A : Type 0) : Type 0 where
   pub value : A
   pub count : ℕ
@@ -38,42 +46,69 @@ opened (Some inside) p read = read inside
 
 -- behind a value: its closing parenthesis
 abbrev pub closed : {A : Type 0} → A → (count p : ℕ) → Tokens → Result (Front A) Fault
-closed value count p ts = taken is_close ParenthesisExpected p ts >>= λ us. Ok (record { value = value; count = count; next = p + 1; rest = us })
+closed value count p ts =
+    taken is_close ParenthesisExpected p ts >>= λ us. Ok (record {
+      value = value;
+      count = count;
+      next = p
+          + 1;
+      rest = us;
+    })
 
 -- an operand, and then what more makes of it
-abbrev pub operand_then : Reader → (more : (min count : ℕ) → Expression → ℕ → Tokens → Result (Front Expression) Fault) → (min : ℕ) → Reader
+abbrev pub operand_then : Reader
+    → (more : (min count : ℕ) → Expression → ℕ → Tokens → Result (Front Expression) Fault) → (min : ℕ)
+    → Reader
 operand_then operand more min count p ts = operand count p ts >>= λ x. more min x.count x.value x.next x.rest
 
--- behind a left operand: an infix operator, its right operand, which takes all that binds tighter, and so on; or the end
-abbrev pub grouped : Reader → (more : (min count : ℕ) → Expression → ℕ → Tokens → Result (Front Expression) Fault) → (min count : ℕ) → Expression → ℕ → Tokens → Option (InfixOperator × Tokens) → Result (Front Expression) Fault
-grouped operand more min count left p ts None = Ok (record { value = left; count = count; next = p; rest = ts })
+-- behind a left operand: an infix operator, its right operand, which takes all that binds tighter, and so on;
+-- or the end
+abbrev pub grouped : Reader
+    → (more : (min count : ℕ) → Expression → ℕ → Tokens → Result (Front Expression) Fault) → (min count : ℕ)
+    → Expression → ℕ → Tokens → Option (InfixOperator × Tokens) → Result (Front Expression) Fault
+grouped operand more min count left p ts None =
+    Ok (record { value = left; count = count; next = p; rest = ts })
 grouped operand more min count left p ts (Some x) =
-    limited count p (operand_then operand more (level_of x.0 + 1) (count + 1) (p + 1) x.1 >>= λ y. more min y.count (Infix x.0 p left y.value) y.next y.rest)
+    limited count p (operand_then operand more (level_of x.0 + 1) (count + 1) (p
+    + 1) x.1 >>= λ y. more min y.count (Infix x.0 p left y.value) y.next y.rest)
 
--- goes on as long as infix operators of level min or more come; each takes one of the bound, which is more than the number of tokens
-unfoldable pub infix_from : Reader → (bound min count : ℕ) → Expression → ℕ → Tokens → Result (Front Expression) Fault
+-- goes on as long as infix operators of level min or more come; each takes one of the bound, which is more
+-- than the number of tokens
+unfoldable pub infix_from : Reader → (bound min count : ℕ) → Expression → ℕ → Tokens
+    → Result (Front Expression) Fault
 infix_from operand zero min count left p ts = expected ExpressionExpected p ts
-infix_from operand (suc bound) min count left p ts = grouped operand (infix_from operand bound) min count left p ts (operator_at min ts)
+infix_from operand (suc bound) min count left p ts =
+    grouped operand (infix_from operand bound) min count left p ts (operator_at min ts)
 
 -- the longest expression of such operands
 unfoldable pub expression_of : Reader → Reader
 expression_of operand count p ts = operand_then operand (infix_from operand (length ts + 1)) 0 count p ts
 
 -- an expression behind a comma, and then what more reads; or the end
-abbrev pub listed_behind : Reader → (more : (count p : ℕ) → Tokens → Result (Front Expressions) Fault) → (count p : ℕ) → Tokens → Option Tokens → Result (Front Expressions) Fault
+abbrev pub listed_behind : Reader → (more : (count p : ℕ) → Tokens → Result (Front Expressions) Fault)
+    → (count p : ℕ) → Tokens → Option Tokens → Result (Front Expressions) Fault
 listed_behind one more count p ts None = Ok (record { value = Empty; count = count; next = p; rest = ts })
 listed_behind one more count p ts (Some us) =
-    one count (p + 1) us >>= λ x. more x.count x.next x.rest >>= λ y. Ok (record { value = Listed x.value y.value; count = y.count; next = y.next; rest = y.rest })
+    one count (p
+    + 1) us >>= λ x. more x.count x.next x.rest >>= λ y. Ok (record {
+      value = Listed x.value y.value;
+      count = y.count;
+      next = y.next;
+      rest = y.rest;
+    })
 
--- expressions, each behind a comma, as long as commas come; each takes one of the bound, which is more than the number of tokens
+-- expressions, each behind a comma, as long as commas come; each takes one of the bound, which is more than
+-- the number of tokens
 unfoldable pub further_from : Reader → (bound count p : ℕ) → Tokens → Result (Front Expressions) Fault
 further_from one zero count p ts = expected ExpressionExpected p ts
-further_from one (suc bound) count p ts = listed_behind one (further_from one bound) count p ts (behind is_comma ts)
+further_from one (suc bound) count p ts =
+    listed_behind one (further_from one bound) count p ts (behind is_comma ts)
 
 -- one expression or more, with commas between, and the closing parenthesis
 unfoldable pub listed_at : Reader → (count p : ℕ) → Tokens → Result (Front Expressions) Fault
 listed_at one count p ts =
-    one count p ts >>= λ x. further_from one (length x.rest + 1) x.count x.next x.rest >>= λ y. closed (Listed x.value y.value) y.count y.next y.rest
+    one count p ts >>= λ x. further_from one (length x.rest
+    + 1) x.count x.next x.rest >>= λ y. closed (Listed x.value y.value) y.count y.next y.rest
 
 -- behind `(`: expressions and `)`, or `)` alone
 unfoldable pub list_at : Reader → (count p : ℕ) → Tokens → Result (Front Expressions) Fault
@@ -82,18 +117,26 @@ list_at one count p ts = if begins_expression ts then listed_at one count p ts e
 -- what stands in parentheses behind a name, if there are some
 unfoldable pub arguments_at : Option Reader → (count p : ℕ) → Tokens → Result (Front Arguments) Fault
 arguments_at one count p (Sign OpenParenthesis ∷ ts) =
-    opened one p (λ one. list_at one count (p + 1) ts >>= λ x. Ok (record { value = Given x.value; count = x.count; next = x.next; rest = x.rest }))
+    opened one p (λ one. list_at one count (p
+    + 1) ts >>= λ x. Ok (record { value = Given x.value; count = x.count; next = x.next; rest = x.rest }))
 arguments_at one count p ts = Ok (record { value = Absent; count = count; next = p; rest = ts })
 
 -- a part that is joined, from its name on, and then what more reads
-abbrev pub part_behind : Option Reader → (more : (count p : ℕ) → Tokens → Result (Front JoinedParts) Fault) → Joining → (count p : ℕ) → Tokens → Option (Name × Tokens) → Result (Front JoinedParts) Fault
+abbrev pub part_behind : Option Reader → (more : (count p : ℕ) → Tokens → Result (Front JoinedParts) Fault)
+    → Joining → (count p : ℕ) → Tokens → Option (Name × Tokens) → Result (Front JoinedParts) Fault
 part_behind one more joining count p ts None = expected NameExpected p ts
 part_behind one more joining count p ts (Some n) =
     arguments_at one count (p + 1) n.1 >>= λ x. more x.count x.next x.rest
-    >>= λ y. Ok (record { value = Joined joining (record { name = n.0; at = p }) x.value y.value; count = y.count; next = y.next; rest = y.rest })
+    >>= λ y. Ok (record {
+      value = Joined joining (record { name = n.0; at = p }) x.value y.value;
+      count = y.count;
+      next = y.next;
+      rest = y.rest;
+    })
 
 -- the further names of a reference, if a sign joins one
-abbrev pub parts_behind : Option Reader → (more : (count p : ℕ) → Tokens → Result (Front JoinedParts) Fault) → (count p : ℕ) → Tokens → Option (Joining × Tokens) → Result (Front JoinedParts) Fault
+abbrev pub parts_behind : Option Reader → (more : (count p : ℕ) → Tokens → Result (Front JoinedParts) Fault)
+    → (count p : ℕ) → Tokens → Option (Joining × Tokens) → Result (Front JoinedParts) Fault
 parts_behind one more count p ts None = Ok (record { value = Alone; count = count; next = p; rest = ts })
 parts_behind one more count p ts (Some x) = part_behind one more x.0 count (p + 1) x.1 (name_first x.1)
 
@@ -103,38 +146,57 @@ joined_from one zero count p ts = expected NameExpected p ts
 joined_from one (suc bound) count p ts = parts_behind one (joined_from one bound) count p ts (joining_at ts)
 
 -- a reference from its first name on
-abbrev pub reference_behind : Option Reader → (count p : ℕ) → Tokens → Option (Name × Tokens) → Result (Front Reference) Fault
+abbrev pub reference_behind : Option Reader → (count p : ℕ) → Tokens → Option (Name × Tokens)
+    → Result (Front Reference) Fault
 reference_behind one count p ts None = expected NameExpected p ts
 reference_behind one count p ts (Some n) =
     arguments_at one count (p + 1) n.1 >>= λ x. joined_from one (length x.rest + 1) x.count x.next x.rest
-    >>= λ y. Ok (record { value = Named (record { name = n.0; at = p }) x.value y.value; count = y.count; next = y.next; rest = y.rest })
+    >>= λ y. Ok (record {
+      value = Named (record { name = n.0; at = p }) x.value y.value;
+      count = y.count;
+      next = y.next;
+      rest = y.rest;
+    })
 
 -- a reference, whose arguments are read by one
 unfoldable pub reference_of : Option Reader → (count p : ℕ) → Tokens → Result (Front Reference) Fault
 reference_of one count p ts = reference_behind one count p ts (name_first ts)
 
 -- a prefix operator, which opens a level, and its operand
-unfoldable pub prefix_of : Option Reader → PrefixOperator → (count p : ℕ) → Tokens → Result (Front Expression) Fault
+unfoldable pub prefix_of : Option Reader → PrefixOperator → (count p : ℕ) → Tokens
+    → Result (Front Expression) Fault
 prefix_of inside operator count p ts =
-    limited count p (opened inside p (λ operand. operand (count + 1) (p + 1) ts >>= λ x. Ok (record { value = Prefix operator p x.value; count = x.count; next = x.next; rest = x.rest })))
+    limited count p (opened inside p (λ operand. operand (count + 1) (p
+    + 1) ts >>= λ x. Ok (record {
+      value = Prefix operator p x.value;
+      count = x.count;
+      next = x.next;
+      rest = x.rest;
+    })))
 
 -- behind `(`, which opens a level: an expression and `)`
 unfoldable pub parenthesis_of : Option Reader → (count p : ℕ) → Tokens → Result (Front Expression) Fault
 parenthesis_of inside count p ts =
-    opened inside p (λ operand. expression_of operand count (p + 1) ts >>= λ x. closed (Parenthesized p x.value) x.count x.next x.rest)
+    opened inside p (λ operand. expression_of operand count (p
+    + 1) ts >>= λ x. closed (Parenthesized p x.value) x.count x.next x.rest)
 
 -- a constant
 unfoldable pub constant_at : Reader
-constant_at count p (Decimal v d ∷ ts) = Ok (record { value = Constant p (constants.Decimal v d); count = count; next = p + 1; rest = ts })
-constant_at count p (Binary v d ∷ ts) = Ok (record { value = Constant p (constants.Binary v d); count = count; next = p + 1; rest = ts })
-constant_at count p (Characters s ∷ ts) = Ok (record { value = Constant p (constants.Characters s); count = count; next = p + 1; rest = ts })
-constant_at count p (Bits s ∷ ts) = Ok (record { value = Constant p (constants.Bits s); count = count; next = p + 1; rest = ts })
+constant_at count p (Decimal v d ∷ ts) =
+    Ok (record { value = Constant p (constants.Decimal v d); count = count; next = p + 1; rest = ts })
+constant_at count p (Binary v d ∷ ts) =
+    Ok (record { value = Constant p (constants.Binary v d); count = count; next = p + 1; rest = ts })
+constant_at count p (Characters s ∷ ts) =
+    Ok (record { value = Constant p (constants.Characters s); count = count; next = p + 1; rest = ts })
+constant_at count p (Bits s ∷ ts) =
+    Ok (record { value = Constant p (constants.Bits s); count = count; next = p + 1; rest = ts })
 constant_at count p ts = expected ExpressionExpected p ts
 
 -- an operand, whose inside is made of such operands
 unfoldable pub operand_of : Option Reader → Reader
 operand_of inside count p (Word n ∷ ts) =
-    reference_of (option_map expression_of inside) count p (Word n ∷ ts) >>= λ x. Ok (record { value = Referred x.value; count = x.count; next = x.next; rest = x.rest })
+    reference_of (option_map expression_of inside) count p (Word n
+    ∷ ts) >>= λ x. Ok (record { value = Referred x.value; count = x.count; next = x.next; rest = x.rest })
 operand_of inside count p (Sign OpenParenthesis ∷ ts) = parenthesis_of inside count p ts
 operand_of inside count p (Sign Plus ∷ ts) = prefix_of inside prefixes.Plus count p ts
 operand_of inside count p (Sign Minus ∷ ts) = prefix_of inside prefixes.Minus count p ts
@@ -156,7 +218,8 @@ expression_at levels = expression_of (operand_at levels)
 
 -- an expression that is outermost: its operators are counted from 0, and are not counted outside
 abbrev pub outermost : Reader → Reader
-outermost reader count p ts = reader 0 p ts >>= λ x. Ok (record { value = x.value; count = count; next = x.next; rest = x.rest })
+outermost reader count p ts =
+    reader 0 p ts >>= λ x. Ok (record { value = x.value; count = count; next = x.next; rest = x.rest })
 
 -- what reads an argument: an outermost expression, or a part of one
 abbrev pub argument_of : (is_outermost : Bool) → Reader → Reader

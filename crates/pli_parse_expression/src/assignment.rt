@@ -3,7 +3,7 @@
 ghost use Rattle.std.specs.Prelude.{◌≡◌, IfOk, List, [], Bool};
 ghost use Rattle.pli_parse_expression.specs.Assignments.{kind_of, move, operand_move, behind_move, behind_frame, may_end, moved, is_assignment};
 ghost use Rattle.pli_parse_expression.specs.Assignments as test;
-ghost use Rattle.pli_parse_expression.specs.Tests.{kind_view, state_view, frame_view, move_view, onto, answered};
+ghost use Rattle.pli_parse_expression.specs.answers.Tests.{kind_view, state_view, frame_view, move_view, onto, answered};
 
 use pli_base::{Sign, TokenText};
 use std::alloc::{AllocError, AllocFailed, Global};

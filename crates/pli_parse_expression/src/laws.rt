@@ -7,9 +7,9 @@ ghost use Rattle.pli_base.specs.declared.token.Fault.{Fault};
 ghost use Rattle.pli_parse_expression.specs.Expressions.{operators, SpellsOutermost, SpellsReferenceAlone, EndsExpression, EndsReference};
 ghost use Rattle.pli_parse_expression.specs.Ends.{ExpressionEnds, ReferenceEnds};
 ghost use Rattle.pli_parse_expression.specs.Reading.{Front, expression_at, reference_at};
-ghost use Rattle.pli_parse_expression.specs.Laws.{FrontSpells};
+ghost use Rattle.pli_parse_expression.specs.laws.Laws.{FrontSpells};
 ghost use Rattle.pli_parse_expression.specs.Assignments.{IsAssignment, is_assignment};
-ghost use Rattle.pli_parse_expression.specs.Examples.{SignAndSum, Differences, AllLevels, Comparisons, Alternatives, LocatedMember, NoArguments, InParentheses, TwoLists, TextEnds, NoOperand, NotClosed, NoListThere, NothingBehindComma, NoMember, NothingLocated, DeepestList, TooDeepList, TooDeepSign, LastOperator, TooManyOperators, Target};
+ghost use Rattle.pli_parse_expression.specs.examples.Examples.{SignAndSum, Differences, AllLevels, Comparisons, Alternatives, LocatedMember, NoArguments, InParentheses, TwoLists, TextEnds, NoOperand, NotClosed, NoListThere, NothingBehindComma, NoMember, NothingLocated, DeepestList, TooDeepList, TooDeepSign, LastOperator, TooManyOperators, Target};
 ghost use Rattle.pli_base.specs.Words.{Tokens};
 
 /// Worked examples: what is read at the front of tokens, and the faults.

@@ -8,9 +8,9 @@ use Rattle.pli_parse_declaration.specs.DeclarationReading.{returned_at}
 use Rattle.pli_parse_declaration.proofs.DeclarationLists.{with_done}
 use Rattle.pli_base.specs.Statements.{ProcedureOption}
 use Rattle.pli_parse_statement.specs.StatementReading.{OptionWord, OptionsWord, ReturnsWord, RecursiveWord, option_first, options_by, options_from}
-use Rattle.pli_parse_statement.specs.StatementAnswers.{option_of}
+use Rattle.pli_parse_statement.specs.answers.StatementAnswers.{option_of}
 use Rattle.pli_base.specs.declared.reading.ParseError.{ParseError}
-use Rattle.pli_base.specs.ReadingAnswers.{Fails}
+use Rattle.pli_base.specs.answers.ReadingAnswers.{Fails}
 
 -- with what was read before, the options that are left are all of them
 abbrev pub OptionsLeft : List ProcedureOption → ℕ → Tokens → Result (Front (List ProcedureOption)) Fault → Type 0

@@ -1,4 +1,4 @@
-pub mod StatementAnswers
 pub mod StatementGrammar
 pub mod StatementReading
 pub mod StatementWords
+pub mod answers

@@ -1,13 +1,21 @@
--- Reading statements, blocks, groups and the unit: the tree, or the one fault. Tokens are counted from 0, and p is the place of the first;
--- statements are numbered from 1, and k is the number of the next. A part that need not stand is passed over, so a fault is about what must stand next.
-use Rattle.std.specs.Prelude.{ℕ, zero, suc, ◌+◌, ◌-◌, Bool, true, false, ◌||◌, Option, Some, None, Result, Ok, Err, List, [], ◌∷◌, length, option_map, codes, if◌then◌else◌}
+-- Reading statements, blocks, groups and the unit: the tree, or the one fault. Tokens are counted from 0, and
+-- p is the place of the first;
+-- statements are numbered from 1, and k is the number of the next. A part that need not stand is passed over,
+-- so a fault is about what must stand next.
+use Rattle.std.specs.Prelude.{ℕ, zero, suc, ◌+◌, ◌-◌, Bool, true, false, ◌||◌, Option, Some, None, Result, Ok}
+use Rattle.std.specs.Prelude.{Err, List, [], ◌∷◌, length, option_map, codes, if◌then◌else◌}
 use Rattle.pli_base.specs.Name.{Name}
 use Rattle.pli_base.specs.Words.{Tokens, same_name, is_word, is_open, is_semicolon, behind}
-use Rattle.pli_base.specs.Reading.{◌>>=◌, at_fault, Front, misplaced, expected, read_as, mapped, taken, enclosed, if_open, or_none}
+use Rattle.pli_base.specs.Reading.{◌>>=◌, at_fault, Front, misplaced, expected, read_as, mapped, taken}
+use Rattle.pli_base.specs.Reading.{enclosed, if_open, or_none}
 use Rattle.pli_base.specs.Syntax.{Expression, Reference}
 use Rattle.pli_base.specs.declared.syntax.Identifier.{Identifier}
 use Rattle.pli_base.specs.declared.code.Code.{Code}
-use Rattle.pli_base.specs.declared.code.Code.TheVariants.{NoProcedure, NotAStatement, ParenthesisExpected, SemicolonExpected, NameExpected, ThenExpected, WrongEndName, EndMissing, TextAfterEnd, BadDo, BadLabel, BadCondition, NestedTooDeep, MisplacedStatement, BadOption}
+use Rattle.pli_base.specs.declared.code.Code.TheVariants.{NoProcedure, NotAStatement, ParenthesisExpected}
+use Rattle.pli_base.specs.declared.code.Code.TheVariants.{SemicolonExpected, NameExpected, ThenExpected}
+use Rattle.pli_base.specs.declared.code.Code.TheVariants.{WrongEndName, EndMissing, TextAfterEnd, BadDo}
+use Rattle.pli_base.specs.declared.code.Code.TheVariants.{BadLabel, BadCondition, NestedTooDeep}
+use Rattle.pli_base.specs.declared.code.Code.TheVariants.{MisplacedStatement, BadOption}
 use Rattle.pli_base.specs.declared.token.Fault.{Fault}
 use Rattle.pli_base.specs.declared.token.Sign.TheVariants.{Colon, OpenParenthesis, Equals}
 use Rattle.pli_base.specs.declared.token.TokenText.{TokenText}
@@ -15,14 +23,24 @@ use Rattle.pli_base.specs.declared.token.TokenText.TheVariants.{Word, Sign}
 use Rattle.pli_parse_expression.specs.Operators.{nesting_limit}
 use Rattle.pli_parse_expression.specs.Reading.{expression_at, reference_at, arguments_at, argument_of}
 use Rattle.pli_parse_expression.specs.Reading as expressions
-use Rattle.pli_parse_declaration.specs.DeclarationReading.{list_at, declaration_at, returned_at, identifier_at}
-use Rattle.pli_base.specs.Statements.{ProcedureOption, Main, Returns, Recursive, Heading, Range, To, By, Repeat, Control, While, Iterate, Allocation, Statement, Numbered, Body, Statements, Ended, Before, Alternative, NoElse, Else, ExternalProcedure, count}
+use Rattle.pli_parse_declaration.specs.DeclarationReading.{list_at, declaration_at, returned_at}
+use Rattle.pli_parse_declaration.specs.DeclarationReading.{identifier_at}
+use Rattle.pli_base.specs.Statements.{ProcedureOption, Main, Returns, Recursive, Heading, Range, To, By}
+use Rattle.pli_base.specs.Statements.{Repeat, Control, While, Iterate, Allocation, Statement, Numbered, Body}
+use Rattle.pli_base.specs.Statements.{Statements, Ended, Before, Alternative, NoElse, Else, ExternalProcedure}
+use Rattle.pli_base.specs.Statements.{count}
 use Rattle.pli_base.specs.Statements as body
-use Rattle.pli_parse_statement.specs.StatementWords.{Context, standing, the_unit, a_procedure, condition_of, behind_word, begins_assignment, Kind, Assigns, Empty, Keyed, Unknown, kind_of}
+use Rattle.pli_parse_statement.specs.StatementWords.{Context, standing, the_unit, a_procedure, condition_of}
+use Rattle.pli_parse_statement.specs.StatementWords.{behind_word, begins_assignment, Kind, Assigns, Empty}
+use Rattle.pli_parse_statement.specs.StatementWords.{Keyed, Unknown, kind_of}
 use Rattle.pli_parse_statement.specs.declared.keyword.Keyword.{Keyword}
-use Rattle.pli_parse_statement.specs.declared.keyword.Keyword.TheVariants.{Procedure, Declare, End, Begin, Do, If, On, Revert, Signal, Stop, Allocate, Free, Call, Goto, GoTo, Return, Put}
+use Rattle.pli_parse_statement.specs.declared.keyword.Keyword.TheVariants.{Procedure, Declare, End, Begin, Do}
+use Rattle.pli_parse_statement.specs.declared.keyword.Keyword.TheVariants.{If, On, Revert, Signal, Stop}
+use Rattle.pli_parse_statement.specs.declared.keyword.Keyword.TheVariants.{Allocate, Free, Call, Goto, GoTo}
+use Rattle.pli_parse_statement.specs.declared.keyword.Keyword.TheVariants.{Return, Put}
 use Rattle.pli_parse_statement.specs.declared.keyword.Standing.{Standing}
-use Rattle.pli_parse_statement.specs.declared.keyword.Standing.TheVariants.{InBlock, InGroup, AsClause, AsUnit}
+use Rattle.pli_parse_statement.specs.declared.keyword.Standing.TheVariants.{InBlock, InGroup, AsClause}
+use Rattle.pli_parse_statement.specs.declared.keyword.Standing.TheVariants.{AsUnit}
 use Rattle.pli_base.specs.declared.statement.Condition.{Condition}
 use Rattle.pli_parse_declaration.specs.declared.list.Separator.TheVariants.{Commas}
 
@@ -50,7 +68,8 @@ abbrev pub closing : {A B : Type 0} → (A → B) → Result (Front A) Fault →
 closing f read = read >>= λ x. stopped (f x.value) x.next x.rest
 
 -- in parentheses
-unfoldable pub parenthesized : {A : Type 0} → (ℕ → Tokens → Result (Front A) Fault) → ℕ → Tokens → Result (Front A) Fault
+unfoldable pub parenthesized : {A : Type 0} → (ℕ → Tokens → Result (Front A) Fault) → ℕ → Tokens
+    → Result (Front A) Fault
 parenthesized read p ts = taken is_open ParenthesisExpected p ts >>= λ us. enclosed (read (p + 1) us)
 
 -- the sign `=`
@@ -77,12 +96,14 @@ condition_at p (Word n ∷ us) = condition_from p us (condition_of n)
 condition_at p ts = expected BadCondition p ts
 
 -- what is read behind a word, if the word stands there
-abbrev pub if_word : {A : Type 0} → (ℕ → Tokens → Result (Front A) Fault) → ℕ → Tokens → Option Tokens → Result (Front (Option A)) Fault
+abbrev pub if_word : {A : Type 0} → (ℕ → Tokens → Result (Front A) Fault) → ℕ → Tokens → Option Tokens
+    → Result (Front (Option A)) Fault
 if_word read p ts None = read_as None p ts
 if_word read p ts (Some us) = mapped Some (read (p + 1) us)
 
 -- a part that a word begins, or none
-unfoldable pub optional_at : {A : Type 0} → Name → (ℕ → Tokens → Result (Front A) Fault) → ℕ → Tokens → Result (Front (Option A)) Fault
+unfoldable pub optional_at : {A : Type 0} → Name → (ℕ → Tokens → Result (Front A) Fault) → ℕ → Tokens
+    → Result (Front (Option A)) Fault
 optional_at word read p ts = if_word read p ts (behind_word word ts)
 
 -- a word and what stands behind it
@@ -108,7 +129,8 @@ range_first (Word n ∷ us) = paired us (range_word n)
 range_first ts = None
 
 -- TO with or without BY, BY with or without TO, REPEAT, or none of them
-abbrev pub range_from : (levels p : ℕ) → Tokens → Option (RangeWord × Tokens) → Result (Front (Option Range)) Fault
+abbrev pub range_from : (levels p : ℕ) → Tokens → Option (RangeWord × Tokens)
+    → Result (Front (Option Range)) Fault
 range_from levels p ts None = read_as None p ts
 range_from levels p ts (Some (ToWord, us)) = do
   to ← expression_in levels (p + 1) us
@@ -118,7 +140,8 @@ range_from levels p ts (Some (ByWord, us)) = do
   by ← expression_in levels (p + 1) us
   to ← optional_at (codes "TO") (expression_in levels) by.next by.rest
   read_as (Some (By by.value to.value)) to.next to.rest
-range_from levels p ts (Some (RepeatWord, us)) = mapped (λ next. Some (Repeat next)) (expression_in levels (p + 1) us)
+range_from levels p ts (Some (RepeatWord, us)) =
+    mapped (λ next. Some (Repeat next)) (expression_in levels (p + 1) us)
 
 -- the range of an iterated DO, or none
 unfoldable pub range_at : (levels p : ℕ) → Tokens → Result (Front (Option Range)) Fault
@@ -132,21 +155,24 @@ pub data Specified : Type 0 where
 
 -- what stands behind DO: WHILE and a parenthesis, a name, or nothing of either
 unfoldable pub specified : Tokens → Specified
-specified (Word n ∷ Sign OpenParenthesis ∷ us) = if same_name n (codes "WHILE") then Conditioned (Sign OpenParenthesis ∷ us) else Iterated
+specified (Word n ∷ Sign OpenParenthesis ∷ us) =
+    if same_name n (codes "WHILE") then Conditioned (Sign OpenParenthesis ∷ us) else Iterated
 specified (Word n ∷ us) = Iterated
 specified ts = Unspecified
 
 -- the control of a group: none, WHILE, or an iteration
 abbrev pub control_from : (levels p : ℕ) → Tokens → Specified → Result (Front (Option Control)) Fault
 control_from levels p ts Unspecified = read_as None p ts
-control_from levels p ts (Conditioned us) = mapped (λ c. Some (While c)) (parenthesized (expression_in levels) (p + 1) us)
+control_from levels p ts (Conditioned us) =
+    mapped (λ c. Some (While c)) (parenthesized (expression_in levels) (p + 1) us)
 control_from levels p ts Iterated = do
   variable ← reference_in levels p ts
   us ← taken is_equals BadDo variable.next variable.rest
   first ← expression_in levels (variable.next + 1) us
   range ← range_at levels first.next first.rest
   condition ← optional_at (codes "WHILE") (parenthesized (expression_in levels)) range.next range.rest
-  read_as (Some (Iterate variable.value variable.next first.value range.value condition.value)) condition.next condition.rest
+  read_as (Some (Iterate variable.value variable.next first.value range.value condition.value)) condition.next
+      condition.rest
 
 -- behind DO
 unfoldable pub control_at : (levels p : ℕ) → Tokens → Result (Front (Option Control)) Fault
@@ -158,7 +184,8 @@ pub data PlaceWord : Type 0 where
 
 -- the word that a name is
 unfoldable pub place_word : Name → Option PlaceWord
-place_word n = if same_name n (codes "IN") then Some InWord else if same_name n (codes "SET") then Some SetWord else None
+place_word n =
+    if same_name n (codes "IN") then Some InWord else if same_name n (codes "SET") then Some SetWord else None
 
 -- such a word in front
 unfoldable pub place_first : Tokens → Option (PlaceWord × Tokens)
@@ -166,22 +193,32 @@ place_first (Word n ∷ us) = paired us (place_word n)
 place_first ts = None
 
 -- IN and SET stand once
-abbrev pub placed_by : (levels : ℕ) → (more : Allocation → ℕ → Tokens → Result (Front Allocation) Fault) → Allocation → ℕ → Tokens → Option (PlaceWord × Tokens) → (area target : Option Reference) → Result (Front Allocation) Fault
+abbrev pub placed_by : (levels : ℕ) → (more : Allocation → ℕ → Tokens → Result (Front Allocation) Fault)
+    → Allocation → ℕ → Tokens → Option (PlaceWord × Tokens) → (area target : Option Reference)
+    → Result (Front Allocation) Fault
 placed_by levels more x p ts None area target = read_as x p ts
 placed_by levels more x p ts (Some (InWord, us)) None target =
-    parenthesized (reference_in levels) (p + 1) us >>= λ r. more (record { name = x.name; area = Some r.value; target = target }) r.next r.rest
+    parenthesized (reference_in levels) (p
+    + 1) us >>= λ r. more (record { name = x.name; area = Some r.value; target = target }) r.next r.rest
 placed_by levels more x p ts (Some (SetWord, us)) area None =
-    parenthesized (reference_in levels) (p + 1) us >>= λ r. more (record { name = x.name; area = area; target = Some r.value }) r.next r.rest
+    parenthesized (reference_in levels) (p
+    + 1) us >>= λ r. more (record { name = x.name; area = area; target = Some r.value }) r.next r.rest
 placed_by levels more x p ts second area target = at_fault BadOption p
 
 -- each takes one of the bound
 unfoldable pub places_from : (levels bound : ℕ) → Allocation → ℕ → Tokens → Result (Front Allocation) Fault
 places_from levels zero x p ts = at_fault BadOption p
-places_from levels (suc bound) x p ts = placed_by levels (places_from levels bound) x p ts (place_first ts) x.area x.target
+places_from levels (suc bound) x p ts =
+    placed_by levels (places_from levels bound) x p ts (place_first ts) x.area x.target
 
 -- one item of ALLOCATE: a name, then IN and SET, each at most once
 unfoldable pub allocation_at : (levels p : ℕ) → Tokens → Result (Front Allocation) Fault
-allocation_at levels p ts = identifier_at p ts >>= λ n. places_from levels 3 (record { name = n.value; area = None; target = None }) n.next n.rest
+allocation_at levels p ts =
+    identifier_at p ts >>= λ n. places_from levels 3 (record {
+      name = n.value;
+      area = None;
+      target = None;
+    }) n.next n.rest
 
 -- the words that begin a part of PUT
 pub data PutWord : Type 0 where
@@ -189,7 +226,9 @@ pub data PutWord : Type 0 where
 
 -- the word that a name is
 unfoldable pub put_word : Name → Option PutWord
-put_word n = if same_name n (codes "SKIP") then Some SkipWord else if same_name n (codes "LIST") then Some ListWord else None
+put_word n =
+    if same_name n (codes "SKIP") then Some SkipWord else if same_name n (codes "LIST") then Some ListWord
+    else None
 
 -- such a word in front
 unfoldable pub put_first : Tokens → Option (PutWord × Tokens)
@@ -197,7 +236,8 @@ put_first (Word n ∷ us) = paired us (put_word n)
 put_first ts = None
 
 -- SKIP and LIST stand once
-abbrev pub put_by : (levels : ℕ) → (more : Bool → List Expression → ℕ → Tokens → Result (Front Body) Fault) → Bool → List Expression → ℕ → Tokens → Option (PutWord × Tokens) → Result (Front Body) Fault
+abbrev pub put_by : (levels : ℕ) → (more : Bool → List Expression → ℕ → Tokens → Result (Front Body) Fault)
+    → Bool → List Expression → ℕ → Tokens → Option (PutWord × Tokens) → Result (Front Body) Fault
 put_by levels more skip items p ts None = read_as (body.Put skip items) p ts
 put_by levels more false items p ts (Some (SkipWord, us)) = more true items (p + 1) us
 put_by levels more skip [] p ts (Some (ListWord, us)) =
@@ -207,7 +247,8 @@ put_by levels more skip items p ts (Some second) = at_fault BadOption p
 -- the parts of PUT that are left, SKIP and LIST each at most once; each part takes one of the bound
 unfoldable pub put_from : (levels bound : ℕ) → Bool → List Expression → ℕ → Tokens → Result (Front Body) Fault
 put_from levels zero skip items p ts = at_fault BadOption p
-put_from levels (suc bound) skip items p ts = put_by levels (put_from levels bound) skip items p ts (put_first ts)
+put_from levels (suc bound) skip items p ts =
+    put_by levels (put_from levels bound) skip items p ts (put_first ts)
 
 -- behind PUT, where one of them must stand
 abbrev pub put_begun : (levels p : ℕ) → Tokens → Option (PutWord × Tokens) → Result (Front Body) Fault
@@ -222,7 +263,8 @@ put_at levels p ts = put_begun levels p ts (put_first ts)
 unfoldable pub call_at : (levels p : ℕ) → Tokens → Result (Front Body) Fault
 call_at levels p ts = do
   name ← identifier_at p ts
-  arguments ← uncounted (arguments_at (option_map (argument_of true) (expressions.inside levels)) 0 name.next name.rest)
+  arguments ← uncounted
+      (arguments_at (option_map (argument_of true) (expressions.inside levels)) 0 name.next name.rest)
   read_as (body.Call name.value arguments.value) arguments.next arguments.rest
 
 -- the words that begin an option of PROCEDURE
@@ -244,13 +286,18 @@ option_first ts = None
 
 -- behind OPTIONS
 unfoldable pub main_at : ℕ → Tokens → Result (Front ProcedureOption) Fault
-main_at p ts = parenthesized (λ p ts. taken (is_word (codes "MAIN")) BadOption p ts >>= λ us. read_as Main (p + 1) us) p ts
+main_at p ts =
+    parenthesized (λ p ts. taken (is_word (codes "MAIN")) BadOption p ts >>= λ us. read_as Main (p
+    + 1) us) p ts
 
 -- options as long as they come
-abbrev pub options_by : (more : ℕ → Tokens → Result (Front (List ProcedureOption)) Fault) → ℕ → Tokens → Option (OptionWord × Tokens) → Result (Front (List ProcedureOption)) Fault
+abbrev pub options_by : (more : ℕ → Tokens → Result (Front (List ProcedureOption)) Fault) → ℕ → Tokens
+    → Option (OptionWord × Tokens) → Result (Front (List ProcedureOption)) Fault
 options_by more p ts None = read_as [] p ts
-options_by more p ts (Some (OptionsWord, us)) = main_at (p + 1) us >>= λ x. mapped (λ xs. x.value ∷ xs) (more x.next x.rest)
-options_by more p ts (Some (ReturnsWord, us)) = returned_at (p + 1) us >>= λ x. mapped (λ xs. Returns x.value ∷ xs) (more x.next x.rest)
+options_by more p ts (Some (OptionsWord, us)) =
+    main_at (p + 1) us >>= λ x. mapped (λ xs. x.value ∷ xs) (more x.next x.rest)
+options_by more p ts (Some (ReturnsWord, us)) =
+    returned_at (p + 1) us >>= λ x. mapped (λ xs. Returns x.value ∷ xs) (more x.next x.rest)
 options_by more p ts (Some (RecursiveWord, us)) = mapped (λ xs. Recursive ∷ xs) (more (p + 1) us)
 
 -- the options up to the `;`; each takes one of the bound
@@ -263,7 +310,12 @@ unfoldable pub heading_at : Identifier → (number p : ℕ) → Tokens → Resul
 heading_at name number p ts = do
   parameters ← if_open (list_at Commas identifier_at) p ts (behind is_open ts)
   options ← options_from (length parameters.rest + 1) parameters.next parameters.rest
-  stopped (record { name = name; number = number; parameters = or_none parameters.value; options = options.value }) options.next options.rest
+  stopped (record {
+    name = name;
+    number = number;
+    parameters = or_none parameters.value;
+    options = options.value;
+  }) options.next options.rest
 
 -- statements
 
@@ -288,7 +340,8 @@ has_semicolon (t ∷ ts) = is_semicolon t || has_semicolon ts
 
 -- a name followed by `:`
 unfoldable pub label_at : ℕ → Tokens → Front (Option Identifier)
-label_at p (Word n ∷ Sign Colon ∷ us) = record { value = Some (record { name = n; at = p }); next = p + 2; rest = us }
+label_at p (Word n ∷ Sign Colon ∷ us) =
+    record { value = Some (record { name = n; at = p }); next = p + 2; rest = us }
 label_at p ts = record { value = None; next = p; rest = ts }
 
 -- whether there is a label
@@ -388,17 +441,24 @@ abbrev pub before : Statement → Front Listing → Result (Front Listing) Fault
 before s y = read_as (record { statements = Before s y.value.statements; end = y.value.end }) y.next y.rest
 
 -- a list: END closes it, or a statement and the rest of the list
-abbrev pub list_by : StatementReader → Context → (label : Option Identifier) → (more : (p k : ℕ) → Tokens → Result (Front Listing) Fault) → (p k : ℕ) → Tokens → Next → Result (Front Listing) Fault
-list_by one c label more p k ts (EndsHere us) = mapped (λ nothing. record { statements = Ended; end = k }) (ending_at label (p + 1) us)
-list_by one c label more p k ts Another = one c p k ts >>= λ x. more x.next (k + count x.value) x.rest >>= before x.value
+abbrev pub list_by : StatementReader → Context → (label : Option Identifier)
+    → (more : (p k : ℕ) → Tokens → Result (Front Listing) Fault) → (p k : ℕ) → Tokens → Next
+    → Result (Front Listing) Fault
+list_by one c label more p k ts (EndsHere us) =
+    mapped (λ nothing. record { statements = Ended; end = k }) (ending_at label (p + 1) us)
+list_by one c label more p k ts Another =
+    one c p k ts >>= λ x. more x.next (k + count x.value) x.rest >>= before x.value
 
 -- statements up to an END, and that END; each takes one of the bound, which is more than the number of tokens
-unfoldable pub list_from : StatementReader → Context → (label : Option Identifier) → (bound p k : ℕ) → Tokens → Result (Front Listing) Fault
+unfoldable pub list_from : StatementReader → Context → (label : Option Identifier) → (bound p k : ℕ) → Tokens
+    → Result (Front Listing) Fault
 list_from one c label zero p k ts = at_fault EndMissing p
-list_from one c label (suc bound) p k ts = list_by one c label (list_from one c label bound) p k ts (next_of ts)
+list_from one c label (suc bound) p k ts =
+    list_by one c label (list_from one c label bound) p k ts (next_of ts)
 
 -- the statements up to END, inside a construct
-abbrev pub list_in : Inside → Context → (label : Option Identifier) → (p k : ℕ) → Tokens → Result (Front Listing) Fault
+abbrev pub list_in : Inside → Context → (label : Option Identifier) → (p k : ℕ) → Tokens
+    → Result (Front Listing) Fault
 list_in i c label p k ts = list_from i.statement c label (length ts + 1) p k ts
 
 -- ELSE, where neither a label nor an assignment begins with it: what stands behind it
@@ -408,10 +468,12 @@ else_by l a behind = None
 
 -- what is behind ELSE, if an ELSE part begins here
 unfoldable pub else_first : Tokens → Option Tokens
-else_first ts = else_by (is_labelled (label_at 0 ts).value) (begins_assignment ts) (behind_word (codes "ELSE") ts)
+else_first ts =
+    else_by (is_labelled (label_at 0 ts).value) (begins_assignment ts) (behind_word (codes "ELSE") ts)
 
 -- an ELSE belongs to the nearest IF that has none
-abbrev pub alternative_from : Inside → Context → (p k : ℕ) → Tokens → Option Tokens → Result (Front Alternative) Fault
+abbrev pub alternative_from : Inside → Context → (p k : ℕ) → Tokens → Option Tokens
+    → Result (Front Alternative) Fault
 alternative_from i c p k ts None = read_as NoElse p ts
 alternative_from i c p k ts (Some us) = mapped Else (i.statement (standing AsClause c) (p + 1) k us)
 
@@ -421,7 +483,8 @@ if_at i c p k ts = do
   condition ← expression_in i.levels p ts
   us ← taken (is_word (codes "THEN")) ThenExpected condition.next condition.rest
   consequence ← i.statement (standing AsClause c) (condition.next + 1) k us
-  alternative ← alternative_from i c consequence.next (k + count consequence.value) consequence.rest (else_first consequence.rest)
+  alternative ← alternative_from i c consequence.next (k
+      + count consequence.value) consequence.rest (else_first consequence.rest)
   read_as (body.If condition.value consequence.value alternative.value) alternative.next alternative.rest
 
 -- what stands behind ON: a condition and an ON-unit
@@ -432,7 +495,8 @@ on_at i p k ts = do
   read_as (body.On condition.value unit.value) unit.next unit.rest
 
 -- what stands behind DO: the control, `;`, the statements and END
-unfoldable pub do_at : Inside → Context → (label : Option Identifier) → (p k : ℕ) → Tokens → Result (Front Body) Fault
+unfoldable pub do_at : Inside → Context → (label : Option Identifier) → (p k : ℕ) → Tokens
+    → Result (Front Body) Fault
 do_at i c label p k ts = do
   control ← control_at i.levels p ts
   us ← taken is_semicolon SemicolonExpected control.next control.rest
@@ -440,7 +504,8 @@ do_at i c label p k ts = do
   read_as (body.Do control.value list.value.statements list.value.end) list.next list.rest
 
 -- what stands behind BEGIN: `;`, the statements and END
-unfoldable pub begin_at : Inside → Context → (label : Option Identifier) → (p k : ℕ) → Tokens → Result (Front Body) Fault
+unfoldable pub begin_at : Inside → Context → (label : Option Identifier) → (p k : ℕ) → Tokens
+    → Result (Front Body) Fault
 begin_at i c label p k ts = do
   us ← taken is_semicolon SemicolonExpected p ts
   list ← list_in i (standing InBlock c) label (p + 1) k us
@@ -451,7 +516,8 @@ abbrev pub inner_list : Inside → Identifier → (p k : ℕ) → Tokens → Res
 inner_list i name p k ts = list_in i a_procedure (Some name) p k ts
 
 -- what stands behind PROCEDURE, which has a label
-unfoldable pub procedure_at : Inside → (label : Option Identifier) → (number p : ℕ) → Tokens → Result (Front Body) Fault
+unfoldable pub procedure_at : Inside → (label : Option Identifier) → (number p : ℕ) → Tokens
+    → Result (Front Body) Fault
 procedure_at i None number p ts = at_fault BadLabel p
 procedure_at i (Some name) number p ts = do
   heading ← heading_at name number p ts
@@ -459,7 +525,8 @@ procedure_at i (Some name) number p ts = do
   read_as (body.Procedure heading.value list.value.statements list.value.end) list.next list.rest
 
 -- behind a keyword at p, which begins the statement of number k
-abbrev pub keyed_at : (levels : ℕ) → Option Inside → Context → (label : Option Identifier) → (p k : ℕ) → Tokens → Keyword → Result (Front Body) Fault
+abbrev pub keyed_at : (levels : ℕ) → Option Inside → Context → (label : Option Identifier) → (p k : ℕ)
+    → Tokens → Keyword → Result (Front Body) Fault
 keyed_at levels inside c label p k us Procedure = deeper inside p (λ i. procedure_at i label k (p + 1) us)
 keyed_at levels inside c label p k us Declare = mapped body.Declare (declaration_at (p + 1) us)
 keyed_at levels inside c label p k us End = at_fault MisplacedStatement p
@@ -470,37 +537,48 @@ keyed_at levels inside c label p k us On = deeper inside p (λ i. on_at i (p + 1
 keyed_at levels inside c label p k us Revert = closing body.Revert (condition_at (p + 1) us)
 keyed_at levels inside c label p k us Signal = closing body.Signal (condition_at (p + 1) us)
 keyed_at levels inside c label p k us Stop = stopped body.Stop (p + 1) us
-keyed_at levels inside c label p k us Allocate = closing body.Allocate (list_at Commas (allocation_at levels) (p + 1) us)
-keyed_at levels inside c label p k us Free = closing body.Free (list_at Commas (reference_in levels) (p + 1) us)
+keyed_at levels inside c label p k us Allocate =
+    closing body.Allocate (list_at Commas (allocation_at levels) (p + 1) us)
+keyed_at levels inside c label p k us Free =
+    closing body.Free (list_at Commas (reference_in levels) (p + 1) us)
 keyed_at levels inside c label p k us Call = closing (λ x. x) (call_at levels (p + 1) us)
 keyed_at levels inside c label p k us Goto = closing body.Goto (identifier_at (p + 1) us)
 keyed_at levels inside c label p k us GoTo = closing body.Goto (identifier_at (p + 2) us)
-keyed_at levels inside c label p k us Return = closing body.Return (if_open (expression_in levels) (p + 1) us (behind is_open us))
+keyed_at levels inside c label p k us Return =
+    closing body.Return (if_open (expression_in levels) (p + 1) us (behind is_open us))
 keyed_at levels inside c label p k us Put = closing (λ x. x) (put_at levels (p + 1) us)
 
 -- the statement of a keyword, unless it may not stand here
-abbrev pub unless_misplaced : (levels : ℕ) → Option Inside → Context → (label : Option Identifier) → (p k : ℕ) → Tokens → Keyword → Option Misplacement → Result (Front Body) Fault
+abbrev pub unless_misplaced : (levels : ℕ) → Option Inside → Context → (label : Option Identifier) → (p k : ℕ)
+    → Tokens → Keyword → Option Misplacement → Result (Front Body) Fault
 unless_misplaced levels inside c label p k us keyword (Some (AtLabel code)) = at_label code p label
 unless_misplaced levels inside c label p k us keyword (Some (AtStatement code)) = at_fault code p
 unless_misplaced levels inside c label p k us keyword None = keyed_at levels inside c label p k us keyword
 
 -- a statement behind its label
-abbrev pub body_from : (levels : ℕ) → Option Inside → Context → (label : Option Identifier) → (p k : ℕ) → Tokens → Kind → Result (Front Body) Fault
+abbrev pub body_from : (levels : ℕ) → Option Inside → Context → (label : Option Identifier) → (p k : ℕ)
+    → Tokens → Kind → Result (Front Body) Fault
 body_from levels inside c label p k ts Assigns = assignment_at levels p ts
 body_from levels inside c label p k ts (Empty us) = read_as body.Null (p + 1) us
 body_from levels inside c label p k ts (Keyed keyword us) =
-    unless_misplaced levels inside c label p k us keyword (misplacement c keyword (is_labelled label) c.in_unit)
+    unless_misplaced levels inside c label p k us keyword
+    (misplacement c keyword (is_labelled label) c.in_unit)
 body_from levels inside c label p k ts Unknown = at_fault NotAStatement p
 
 -- the statement behind its label, unless the label may not stand here
-abbrev pub behind_label : (levels : ℕ) → Option Inside → Context → (k : ℕ) → Front (Option Identifier) → Option ℕ → Result (Front Statement) Fault
+abbrev pub behind_label : (levels : ℕ) → Option Inside → Context → (k : ℕ) → Front (Option Identifier)
+    → Option ℕ → Result (Front Statement) Fault
 behind_label levels inside c k x (Some p) = at_fault BadLabel p
-behind_label levels inside c k x None = mapped (Numbered k x.value x.next) (body_from levels inside c x.value x.next k x.rest (kind_of x.rest))
+behind_label levels inside c k x None =
+    mapped (Numbered k x.value x.next) (body_from levels inside c x.value x.next k x.rest (kind_of x.rest))
 
 -- where no `;` is ahead the text has ended
-abbrev pub begun : (levels : ℕ) → Option Inside → Context → (p k : ℕ) → Tokens → (has_semicolon : Bool) → Result (Front Statement) Fault
+abbrev pub begun : (levels : ℕ) → Option Inside → Context → (p k : ℕ) → Tokens → (has_semicolon : Bool)
+    → Result (Front Statement) Fault
 begun levels inside c p k ts false = at_fault EndMissing (p + length ts - 1)
-begun levels inside c p k ts true = behind_label levels inside c k (label_at p ts) (bad_label c.standing (label_at p ts) (label_at p ts).value)
+begun levels inside c p k ts true =
+    behind_label levels inside c k (label_at p ts)
+    (bad_label c.standing (label_at p ts) (label_at p ts).value)
 
 -- a statement with its label, where so many levels may be opened
 unfoldable pub statement_of : (levels : ℕ) → Option Inside → StatementReader
@@ -525,7 +603,11 @@ unfoldable pub external_at : Identifier → Tokens → Result ExternalProcedure 
 external_at name ts = deeper (inside_of nesting_limit) 2 (λ i. do
   heading ← heading_at name 1 3 ts
   list ← inner_list i name heading.next 2 heading.rest
-  finished (record { heading = heading.value; statements = list.value.statements; end = list.value.end }) list.next list.rest)
+  finished (record {
+    heading = heading.value;
+    statements = list.value.statements;
+    end = list.value.end;
+  }) list.next list.rest)
 
 -- a unit: a name, `:`, PROCEDURE and what belongs to it, or the first of P1 and P9
 abbrev pub unit_from : Option ℕ → (has_semicolon : Bool) → Tokens → Result ExternalProcedure Fault

@@ -1,5 +1,6 @@
 -- The keywords of statements, where statements stand, and the test of what makes an assignment.
-use Rattle.std.specs.Prelude.{Bool, true, false, [], ◌∷◌, codes, Option, Some, None, option_map, if◌then◌else◌}
+use Rattle.std.specs.Prelude.{Bool, true, false, [], ◌∷◌, codes, Option, Some, None, option_map}
+use Rattle.std.specs.Prelude.{if◌then◌else◌}
 use Rattle.pli_base.specs.Name.{Name}
 use Rattle.pli_base.specs.Words.{Tokens, same_name}
 use Rattle.pli_base.specs.declared.token.Sign.TheVariants as signs
@@ -7,7 +8,10 @@ use Rattle.pli_base.specs.declared.token.TokenText.TheVariants as tokens
 use Rattle.pli_parse_expression.specs.Assignments.{is_assignment}
 use Rattle.pli_parse_declaration.specs.DeclarationWords.{is_either}
 use Rattle.pli_parse_statement.specs.declared.keyword.Keyword.{Keyword}
-use Rattle.pli_parse_statement.specs.declared.keyword.Keyword.TheVariants.{Procedure, Declare, End, Begin, Do, If, On, Revert, Signal, Stop, Allocate, Free, Call, Goto, GoTo, Return, Put}
+use Rattle.pli_parse_statement.specs.declared.keyword.Keyword.TheVariants.{Procedure, Declare, End, Begin, Do}
+use Rattle.pli_parse_statement.specs.declared.keyword.Keyword.TheVariants.{If, On, Revert, Signal, Stop}
+use Rattle.pli_parse_statement.specs.declared.keyword.Keyword.TheVariants.{Allocate, Free, Call, Goto, GoTo}
+use Rattle.pli_parse_statement.specs.declared.keyword.Keyword.TheVariants.{Return, Put}
 use Rattle.pli_parse_statement.specs.declared.keyword.Standing.{Standing}
 use Rattle.pli_parse_statement.specs.declared.keyword.Standing.TheVariants.{InBlock, AsUnit}
 use Rattle.pli_base.specs.declared.statement.Condition.{Condition}
@@ -75,7 +79,8 @@ abbrev pub is_assigned : Option Tokens → Bool
 is_assigned None = false
 is_assigned (Some us) = is_assignment us
 
--- the tokens up to the first `;` are a reference, `=` and one expression, whatever the words are; no limit counts
+-- the tokens up to the first `;` are a reference, `=` and one expression, whatever the words are; no limit
+-- counts
 unfoldable pub begins_assignment : Tokens → Bool
 begins_assignment ts = is_assigned (up_to_semicolon ts)
 

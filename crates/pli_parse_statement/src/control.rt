@@ -1,12 +1,12 @@
 //! The specification of a DO group.
 ghost use Rattle.std.specs.Prelude.{◌≡◌, ◌≤◌, ◌+◌, length, option_map, codes, IfOk};
-ghost use Rattle.pli_base.specs.SyntaxView.{expression_view};
-ghost use Rattle.pli_base.specs.StatementView.{control_view};
-ghost use Rattle.pli_base.specs.StatementView as views;
+ghost use Rattle.pli_base.specs.views.SyntaxView.{expression_view};
+ghost use Rattle.pli_base.specs.views.StatementView.{control_view};
+ghost use Rattle.pli_base.specs.views.StatementView as views;
 ghost use Rattle.pli_parse_statement.specs.StatementReading.{expression_in, parenthesized, optional_at, range_at, specified, control_from, control_at};
 ghost use Rattle.pli_parse_statement.specs.StatementReading as reading;
-ghost use Rattle.pli_parse_statement.specs.StatementAnswers.{specified_view, BehindWhile};
-ghost use Rattle.pli_base.specs.ReadingAnswers.{Gives, Advances, Continues, front_view};
+ghost use Rattle.pli_parse_statement.specs.answers.StatementAnswers.{specified_view, BehindWhile};
+ghost use Rattle.pli_base.specs.answers.ReadingAnswers.{Gives, Advances, Continues, front_view};
 
 use crate::cursor::{
     behind_word, equals_taken, expression_in, is_name, parenthesized_expression, reference_in,

@@ -2,13 +2,13 @@
 ghost use Rattle.std.specs.Option.{option_copied};
 ghost use Rattle.std.specs.Prelude.{◌≡◌, ◌≤◌, ◌+◌, length, map, option_map, true, IfOk, IfSome};
 ghost use Rattle.pli_base.specs.Words.{same_name};
-ghost use Rattle.pli_base.specs.SyntaxView.{expression_view, reference_view, arguments_view};
+ghost use Rattle.pli_base.specs.views.SyntaxView.{expression_view, reference_view, arguments_view};
 ghost use Rattle.pli_parse_expression.specs.Reading.{arguments_at, argument_of, inside};
 ghost use Rattle.pli_parse_declaration.specs.DeclarationReading.{list_at};
 ghost use Rattle.pli_parse_statement.specs.StatementWords.{behind_word};
 ghost use Rattle.pli_parse_statement.specs.StatementReading.{uncounted, expression_in, reference_in, parenthesized, is_equals};
 ghost use Rattle.pli_base.specs.Reading.{taken};
-ghost use Rattle.pli_base.specs.ReadingAnswers.{Gives, Advances, Continues, front_view};
+ghost use Rattle.pli_base.specs.answers.ReadingAnswers.{Gives, Advances, Continues, front_view};
 ghost use Rattle.pli_parse_declaration.specs.declared.list.Separator.TheVariants.{Commas};
 ghost use Rattle.std.proofs.Common.{refl};
 ghost use Rattle.pli_base.specs.Syntax as syntax;

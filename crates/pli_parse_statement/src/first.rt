@@ -4,8 +4,8 @@ ghost use Rattle.std.specs.Prelude.{◌≡◌, ◌≤◌, ◌+◌, length, posit
 ghost use Rattle.pli_base.specs.Words.{is_semicolon};
 ghost use Rattle.pli_parse_statement.specs.StatementWords.{up_to_semicolon, begins_assignment, keyword_of, word_kind, first_kind, kind_of};
 ghost use Rattle.pli_parse_statement.specs.StatementReading.{has_semicolon, label_at, bad_label, unit_misplaced, standing_misplaced, misplacement, else_first, next_of};
-ghost use Rattle.pli_parse_statement.specs.StatementAnswers.{context_view, kind_view, BehindKind, misplacement_view, next_view, BehindNext};
-ghost use Rattle.pli_base.specs.ReadingAnswers.{Continues, front_view};
+ghost use Rattle.pli_parse_statement.specs.answers.StatementAnswers.{context_view, kind_view, BehindKind, misplacement_view, next_view, BehindNext};
+ghost use Rattle.pli_base.specs.answers.ReadingAnswers.{Continues, front_view};
 
 use crate::cursor::{behind_word, is_name};
 use crate::keyword::{Keyword, Standing, statement_keyword};

@@ -3,11 +3,11 @@ ghost use Rattle.std.specs.Prelude.{◌≡◌, ℕ, ◌≤◌, ◌<◌, ◌+◌,
 ghost use Rattle.pli_base.specs.Words.{is_word, is_open, behind};
 ghost use Rattle.pli_base.specs.declared.syntax.Identifier as identifier;
 ghost use Rattle.pli_parse_declaration.specs.DeclarationReading.{list_at, identifier_at};
-ghost use Rattle.pli_base.specs.StatementView as views;
+ghost use Rattle.pli_base.specs.views.StatementView as views;
 ghost use Rattle.pli_parse_statement.specs.StatementReading.{main_at, options_from, heading_at};
-ghost use Rattle.pli_parse_statement.specs.StatementAnswers.{heading_view, option_view, option_of};
+ghost use Rattle.pli_parse_statement.specs.answers.StatementAnswers.{heading_view, option_view, option_of};
 ghost use Rattle.pli_base.specs.Reading.{taken, mapped, or_none, if_open};
-ghost use Rattle.pli_base.specs.ReadingAnswers.{Gives, Advances, Continues, front_view};
+ghost use Rattle.pli_base.specs.answers.ReadingAnswers.{Gives, Advances, Continues, front_view};
 ghost use Rattle.pli_parse_declaration.specs.declared.list.Separator.TheVariants.{Commas};
 
 use crate::cursor::is_name;

@@ -2,7 +2,7 @@
 ghost use Rattle.std.specs.Prelude.{◌≡◌, IfSome};
 ghost use Rattle.pli_parse_declaration.specs.DeclarationWords.{is_either};
 ghost use Rattle.pli_parse_statement.specs.StatementWords.{keyword_of, condition_of};
-ghost use Rattle.pli_parse_statement.specs.StatementAnswers.{words};
+ghost use Rattle.pli_parse_statement.specs.answers.StatementAnswers.{words};
 
 use pli_base::Name;
 use pli_base::statement::Condition;

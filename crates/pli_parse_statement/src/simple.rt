@@ -2,15 +2,15 @@
 ghost use Rattle.std.specs.Prelude.{◌≡◌, ◌≤◌, ◌+◌, ◌<◌, length, map, is_some, IfOk, None};
 ghost use Rattle.pli_parse_declaration.specs.DeclarationReading.{list_at, declaration_at, identifier_at};
 ghost use Rattle.pli_base.specs.Words.{is_open, behind};
-ghost use Rattle.pli_base.specs.SyntaxView.{expression_view};
+ghost use Rattle.pli_base.specs.views.SyntaxView.{expression_view};
 ghost use Rattle.pli_base.specs.Statements as tree;
 ghost use Rattle.pli_base.specs.Statements.{body_count};
-ghost use Rattle.pli_base.specs.StatementView.{allocation_view, body_view};
-ghost use Rattle.pli_parse_statement.specs.StatementAnswers.{words};
+ghost use Rattle.pli_base.specs.views.StatementView.{allocation_view, body_view};
+ghost use Rattle.pli_parse_statement.specs.answers.StatementAnswers.{words};
 ghost use Rattle.pli_parse_statement.specs.StatementWords.{the_unit};
 ghost use Rattle.pli_parse_statement.specs.StatementReading.{stopped, closing, condition_at, assignment_at, places_from, allocation_at, put_first, put_from, put_at, call_at, keyed_at, expression_in, reference_in};
 ghost use Rattle.pli_base.specs.Reading.{if_open, mapped};
-ghost use Rattle.pli_base.specs.ReadingAnswers.{Gives, Advances, Continues, front_view};
+ghost use Rattle.pli_base.specs.answers.ReadingAnswers.{Gives, Advances, Continues, front_view};
 ghost use Rattle.pli_parse_declaration.specs.declared.list.Separator.TheVariants.{Commas};
 ghost use Rattle.std.proofs.Common.{refl};
 

@@ -1,7 +1,7 @@
 //! Words inside statements. No word is reserved: each is a keyword only where it may stand.
 ghost use Rattle.std.specs.Prelude.{◌≡◌, ◌+◌, length, option_map, IfSome};
 ghost use Rattle.pli_parse_statement.specs.StatementReading.{place_first, range_first, option_first};
-ghost use Rattle.pli_parse_statement.specs.StatementAnswers.{place_view, range_view, option_view};
+ghost use Rattle.pli_parse_statement.specs.answers.StatementAnswers.{place_view, range_view, option_view};
 
 use crate::cursor::is_name;
 use pli_base::TokenText;

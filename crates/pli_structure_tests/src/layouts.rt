@@ -1,7 +1,7 @@
 use Go::{E1, E2, E3, M};
 use Word::{Ar, Bi, Ch, Di, Fb, Of, Pt, St, Va};
 use pli_map::{
-    Bounds, Description, Layout, PlacedPart, PathStep, alignment, areas_are_rounded,
+    Bounds, Description, Layout, PathStep, PlacedPart, alignment, areas_are_rounded,
     elements_are_in_row_major_order, elements_are_within_bounds, four_alignments, measure,
     parts_do_not_meet, parts_lie_within, parts_stand_aligned, place, same_is_equal, size,
     worked_examples,

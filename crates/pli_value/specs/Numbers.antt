@@ -1,6 +1,7 @@
 -- Numbers of FIXED BINARY and the operations on them. A number of p binary digits lies from -(2^p - 1) to
 -- 2^p - 1.
-use Rattle.std.specs.Prelude.{◌≡◌, ℕ, zero, suc, ◌^◌, nat_lt, Bool, ℤ, pos, negsuc, ◌+ℤ◌, ◌*ℤ◌, ◌≤ℤ◌, unsigned_abs, Result, Ok, Err, if◌then◌else◌}
+use Rattle.std.specs.Prelude.{◌≡◌, ℕ, zero, suc, ◌^◌, nat_lt, Bool, ℤ, pos, negsuc, ◌+ℤ◌, ◌*ℤ◌, ◌≤ℤ◌}
+use Rattle.std.specs.Prelude.{unsigned_abs, Result, Ok, Err, if◌then◌else◌}
 use Rattle.std.specs.Prelude.{int_div}
 use Rattle.std.specs.Int.{int_rem_euclid}
 use Rattle.pli_value.specs.declared.number.Raised.{Raised}

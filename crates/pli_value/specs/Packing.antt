@@ -1,5 +1,6 @@
 -- Bit strings packed, eight bits to a byte, the first bit highest.
-use Rattle.std.specs.Prelude.{◌≡◌, ℕ, ◌+◌, ◌-◌, ◌/◌, ◌%◌, ◌≤◌, nat_eq, Bool, false, List, length, map, slice_index}
+use Rattle.std.specs.Prelude.{◌≡◌, ℕ, ◌+◌, ◌-◌, ◌/◌, ◌%◌, ◌≤◌, nat_eq, Bool, false, List, length, map}
+use Rattle.std.specs.Prelude.{slice_index}
 use Rattle.std.specs.Int.{bit_at}
 use Rattle.std.specs.List.{range_with_len}
 

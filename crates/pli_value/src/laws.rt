@@ -1,7 +1,7 @@
 //! Laws and worked examples of the operations on values.
-ghost use Rattle.pli_value.specs.NumberExamples.{GreatestNumbers, Quotients, Remainders};
+ghost use Rattle.pli_value.specs.examples.NumberExamples.{GreatestNumbers, Quotients, Remainders};
 ghost use Rattle.pli_value.specs.Numbers.{RemaindersAreLeast};
-ghost use Rattle.pli_value.specs.StringExamples.{CharacterOrders, BitOrders, Places, Parts, Assigned, BitOperations, Converted};
+ghost use Rattle.pli_value.specs.examples.StringExamples.{CharacterOrders, BitOrders, Places, Parts, Assigned, BitOperations, Converted};
 ghost use Rattle.pli_value.specs.Strings.{IndexIsTheFirstPlace};
 
 /// A law: what MOD gives is the least number from 0 on from which the first operand differs by a multiple of the second.

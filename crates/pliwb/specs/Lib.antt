@@ -1,3 +1,3 @@
 pub mod CommandLine
-pub mod Examples
 pub mod Statuses
+pub mod examples

@@ -1,6 +1,6 @@
 use Rattle.std.proofs.Common.{◌≡◌, ℕ, ◌-◌, List, ◌++◌, length, take, drop, sym, ap, ◌∙◌, append_assoc, take-append-drop}
 use Rattle.std.proofs.lemmas.List.{take_rest}
-use Rattle.pli_base.specs.DeviceLaws.{Appends-then}
+use Rattle.pli_base.specs.laws.DeviceLaws.{Appends-then}
 use Rattle.pli_base.proofs.device.put_all.Goals as goal
 
 -- n more bytes are done

@@ -2,7 +2,7 @@ use Rattle.std.proofs.Common.{◌≡◌, ℕ, ◌+◌, ◌-◌, ◌≤◌, List,
 use Rattle.std.proofs.lemmas.Slice.{take-put_mid_below}
 use Rattle.std.proofs.lemmas.List.{take-append-le}
 use Rattle.std.specs.Io.KnownBytes.{Consumes}
-use Rattle.pli_base.specs.DeviceLaws.{Consumes-then}
+use Rattle.pli_base.specs.laws.DeviceLaws.{Consumes-then}
 use borrow.Rule.Slice.PartMut.{put_mid, post_of}
 use lib.Seq.{take-add}
 use Rattle.pli_base.proofs.device.take_all.Goals as goal

@@ -1,5 +1,5 @@
 use Rattle.std.specs.Prelude.{◌≡◌, ◌++◌, map, drop}
-use Rattle.pli_bench.specs.Answering.{joined}
+use Rattle.pli_bench.specs.answers.Answering.{joined}
 use Rattle.pli_bench.proofs.answer.append_parts.Given as goal
 
 -- what is appended and the parts that are left are all the parts

@@ -1,6 +1,6 @@
 use Rattle.std.specs.Prelude.{◌≡◌, map, take}
 use Rattle.std.specs.Io.KnownBytes.{Appends}
-use Rattle.pli_bench.specs.Answering.{joined}
+use Rattle.pli_bench.specs.answers.Answering.{joined}
 use Rattle.pli_bench.proofs.answer.put_parts.Given as goal
 
 -- the parts so far are written

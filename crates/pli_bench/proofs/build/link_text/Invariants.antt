@@ -1,7 +1,7 @@
 use Rattle.std.specs.Prelude.{◌≡◌, ◌++◌, map, drop}
 use Rattle.std.specs.List.{flat_map}
 use Rattle.pli_meaning.specs.Scratch.{link_line}
-use Rattle.pli_link.specs.Answers.{fault_view}
+use Rattle.pli_link.specs.answers.Answers.{fault_view}
 use Rattle.pli_bench.proofs.build.link_text.Given as goal
 
 -- the lines so far, and those of the faults that are left, are those of all

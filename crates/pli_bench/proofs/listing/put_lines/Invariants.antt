@@ -1,5 +1,5 @@
 use Rattle.std.specs.Prelude.{◌≡◌, ◌+◌, ◌++◌, drop}
-use Rattle.pli_bench.specs.Batches.{HasPut}
+use Rattle.pli_bench.specs.answers.Batches.{HasPut}
 use Rattle.pli_bench.specs.Session.{numbered_lines}
 use Rattle.pli_bench.proofs.listing.put_lines.Given as goal
 

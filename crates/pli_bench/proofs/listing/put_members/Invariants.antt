@@ -1,6 +1,6 @@
 use Rattle.std.specs.Prelude.{◌≡◌, ◌++◌, drop}
 use Rattle.std.specs.List.{flat_map}
-use Rattle.pli_bench.specs.Batches.{HasPut}
+use Rattle.pli_bench.specs.answers.Batches.{HasPut}
 use Rattle.pli_bench.specs.Session.{member_line}
 use Rattle.pli_bench.proofs.listing.put_members.Given as goal
 

@@ -2,7 +2,7 @@ use Rattle.std.proofs.Common.{◌≡◌, ℕ, ◌+◌, ◌<◌, true, false, Lis
 use Rattle.std.proofs.lemmas.List.{take_more, drop_more}
 use Rattle.std.proofs.lemmas.Result.{err_from_is_err_and}
 use Rattle.pli_bench.specs.Lines.{is_line_feed, without_return, complete_from, pending_from}
-use Rattle.pli_bench.specs.Kept.{kept_limit}
+use Rattle.pli_bench.specs.answers.Kept.{kept_limit}
 use Rattle.pli_bench.specs.Runs.{Broken, Answers, QuitsWithin}
 use Rattle.pli_bench.specs.declared.serving.Next.TheVariants.{End}
 use Rattle.pli_bench.proofs.RunLaws.{Going-none, Going-other, Going-line, quit_line, quits_within, broken_line, quits_from, goes_from}

@@ -1,6 +1,6 @@
 use Rattle.std.proofs.Common.{◌≡◌, ℕ, List, take}
-use Rattle.pli_bench.specs.Kept.{kept_limit}
-use Rattle.pli_bench.specs.Going.{Going}
+use Rattle.pli_bench.specs.answers.Kept.{kept_limit}
+use Rattle.pli_bench.specs.answers.Going.{Going}
 use Rattle.pli_bench.proofs.serving.answer_piece.Given as goal
 
 abbrev pub invariant-loop-byte : goal.invariant-loop-byte

@@ -1,6 +1,6 @@
 use Rattle.std.proofs.Common.{◌≡◌, ℕ, ◌*◌, ◌≤◌, List, [], length}
 use Rattle.std.specs.Io.KnownBytes.{Consumes}
-use Rattle.pli_bench.specs.Going.{Going}
+use Rattle.pli_bench.specs.answers.Going.{Going}
 use Rattle.pli_bench.proofs.serving.serve_pieces.Given as goal
 
 abbrev pub invariant-loop-read : goal.invariant-loop-read

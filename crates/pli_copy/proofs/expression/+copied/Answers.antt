@@ -1,10 +1,10 @@
 use Rattle.std.proofs.Common.{map, take_all, ap, ◌∙◌, sym, arith}
 use Rattle.pli_base.specs.Syntax.{Named}
-use Rattle.pli_base.specs.SyntaxView.{expression_view, arguments_view, joined_view}
-use Rattle.pli_base.specs.SyntaxLaws.{reference_joined, reference_out}
+use Rattle.pli_base.specs.views.SyntaxView.{expression_view, arguments_view, joined_view}
+use Rattle.pli_base.specs.laws.SyntaxLaws.{reference_joined, reference_out}
 use Rattle.pli_base.specs.declared.syntax.Reference.{out-Reference}
 use Rattle.pli_copy.proofs.Alike.{expressions_alike, parts_alike}
-use Rattle.pli_copy.specs.PartView.{part_view}
+use Rattle.pli_copy.specs.views.PartView.{part_view}
 use Rattle.pli_copy.proofs.expression.+copied.Goals as goal
 
 pub copied_expressions-returns : goal.copied_expressions-returns

@@ -1,6 +1,6 @@
 use Rattle.std.proofs.Common.{◌≡◌, take, map}
-use Rattle.pli_base.specs.SyntaxView.{expression_view}
-use Rattle.pli_copy.specs.PartView.{part_view}
+use Rattle.pli_base.specs.views.SyntaxView.{expression_view}
+use Rattle.pli_copy.specs.views.PartView.{part_view}
 use Rattle.pli_copy.proofs.expression.+copied.Given as goal
 
 abbrev pub invariant-copied_expressions-loop-expression : goal.invariant-copied_expressions-loop-expression

@@ -2,8 +2,8 @@ use Rattle.std.proofs.Common.{◌≡◌, ℕ, List, map, option_map, take_all, a
 use Rattle.std.proofs.lemmas.Result.{IfOk-weaker}
 use Rattle.pli_base.specs.declared.syntax.Identifier.{Identifier}
 use Rattle.pli_base.specs.Statements as tree
-use Rattle.pli_base.specs.StatementView.{control_view, option_view, body_view, statement_view, statements_view}
-use Rattle.pli_base.specs.StatementLaws.{begin_made, do_made, unit_made, unit_out}
+use Rattle.pli_base.specs.views.StatementView.{control_view, option_view, body_view, statement_view, statements_view}
+use Rattle.pli_base.specs.laws.StatementLaws.{begin_made, do_made, unit_made, unit_out}
 use Rattle.pli_base.specs.declared.statement.Procedure.{out-Procedure}
 use Rattle.pli_copy.proofs.Alike.{statements_alike}
 use Rattle.pli_copy.proofs.statement.+copied.Goals as goal

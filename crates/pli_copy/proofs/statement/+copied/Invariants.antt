@@ -1,5 +1,5 @@
 use Rattle.std.proofs.Common.{◌≡◌, take, map}
-use Rattle.pli_base.specs.StatementView.{statement_view}
+use Rattle.pli_base.specs.views.StatementView.{statement_view}
 use Rattle.pli_copy.proofs.statement.+copied.Given as goal
 
 abbrev pub invariant-copied_statements-loop-statement : goal.invariant-copied_statements-loop-statement

@@ -1,6 +1,6 @@
 use Rattle.std.proofs.Common.{◌≡◌, ◌++◌, drop}
 use Rattle.std.specs.List.{flat_map}
-use Rattle.pli_declare_outline.specs.OutlineView.{outline_view}
+use Rattle.pli_declare_outline.specs.views.OutlineView.{outline_view}
 use Rattle.pli_declare.specs.Resolved.{named_at}
 use Rattle.pli_declare.proofs.attributes.add_uses.Given as goal
 

@@ -1,5 +1,5 @@
 use Rattle.std.proofs.Common.{◌≡◌, ◌++◌, drop}
-use Rattle.pli_declare_outline.specs.OutlineView.{outline_view, marks_view}
+use Rattle.pli_declare_outline.specs.views.OutlineView.{outline_view, marks_view}
 use Rattle.pli_declare.specs.Resolved.{of_marks, locators_at}
 use Rattle.pli_declare.proofs.attributes.locators.Given as goal
 

@@ -1,6 +1,6 @@
 use Rattle.std.proofs.Common.{◌≡◌, drop, map}
 use Rattle.std.specs.List.{list_any}
-use Rattle.pli_base.specs.StatementView.{option_view}
+use Rattle.pli_base.specs.views.StatementView.{option_view}
 use Rattle.pli_declare.specs.Resolution.{is_main}
 use Rattle.pli_declare.proofs.heading.has_main.Given as goal
 

@@ -1,6 +1,6 @@
 use Rattle.std.proofs.Common.{◌≡◌, drop, map}
 use Rattle.std.specs.List.{list_all}
-use Rattle.pli_base.specs.DeclarationView.{described_view}
+use Rattle.pli_base.specs.views.DeclarationView.{described_view}
 use Rattle.pli_declare.specs.Resolution.{names_nothing}
 use Rattle.pli_declare.proofs.heading.name_nothing.Given as goal
 

@@ -1,6 +1,6 @@
 use Rattle.std.proofs.Common.{◌≡◌, drop, map}
 use Rattle.std.specs.List.{list_all}
-use Rattle.pli_base.specs.StatementView.{option_view, unit_view}
+use Rattle.pli_base.specs.views.StatementView.{option_view, unit_view}
 use Rattle.pli_declare.specs.Resolution.{returned_are, names_nothing}
 use Rattle.pli_declare_variables.specs.Declarations.{returned_by}
 use Rattle.pli_declare.proofs.heading.returned_name_nothing.Given as goal

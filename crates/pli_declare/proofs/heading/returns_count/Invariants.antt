@@ -1,5 +1,5 @@
 use Rattle.std.proofs.Common.{◌≡◌, ◌+◌, ◌≤◌, length, drop, map}
-use Rattle.pli_base.specs.StatementView.{option_view}
+use Rattle.pli_base.specs.views.StatementView.{option_view}
 use Rattle.pli_declare_variables.specs.Declarations.{returned_by}
 use Rattle.pli_declare.proofs.heading.returns_count.Given as goal
 

@@ -1,4 +1,4 @@
-use Rattle.pli_declare_outline.specs.OutlineView.{outline_view}
+use Rattle.pli_declare_outline.specs.views.OutlineView.{outline_view}
 use Rattle.pli_declare.proofs.Looks.{IsLeft, rank}
 use Rattle.pli_declare.proofs.look_up.look_up.Given as goal
 

@@ -1,7 +1,7 @@
 use Rattle.std.proofs.Common.{◌≡◌, ◌+◌, ◌++◌, length, drop, map}
 use Rattle.std.specs.List.{flat_map}
-use Rattle.pli_base.specs.DeclarationView.{item_view}
-use Rattle.pli_declare.specs.Walks.{name_faults}
+use Rattle.pli_base.specs.views.DeclarationView.{item_view}
+use Rattle.pli_declare.specs.answers.Walks.{name_faults}
 use Rattle.pli_declare.proofs.marks.tell_items.Given as goal
 
 -- the faults so far in front of those of what is left

@@ -1,10 +1,10 @@
 use Rattle.std.proofs.Common.{◌≡◌, ◌<◌, ◌+◌, ◌++◌, [], ◌∷◌, map, length, set, take, drop, replicate, refl, sym, ap, ◌∙◌, arith, rules}
 use Rattle.std.proofs.lemmas.List.{length-map}
 use Rattle.pli_declare_constructs.specs.Regions.{block_of}
-use Rattle.pli_declare_outline.specs.OutlineView.{outline_view, marks_view, placed_view}
+use Rattle.pli_declare_outline.specs.views.OutlineView.{outline_view, marks_view, placed_view}
 use Rattle.pli_declare_tables.specs.Tables.{entries_in, inner_marks}
 use Rattle.pli_declare.specs.Resolution.{item_code, declared_by, faults_after}
-use Rattle.pli_declare.specs.Walks.{of_blocks, block_codes, declared_names, name_faults}
+use Rattle.pli_declare.specs.answers.Walks.{of_blocks, block_codes, declared_names, name_faults}
 use Rattle.pli_declare.proofs.Numbers.{replicate_numbers, length_of_numbers}
 use Rattle.pli_declare.proofs.Gathered.{marks_more}
 use Rattle.pli_declare.proofs.Walked.{room, marks_told, next_told, block_in, at_block, codes_at, left_marks, all_marks}

@@ -1,7 +1,7 @@
 use Rattle.std.proofs.Common.{◌≡◌, ◌++◌, [], take, drop}
-use Rattle.pli_declare_outline.specs.OutlineView.{outline_view, marks_view}
+use Rattle.pli_declare_outline.specs.views.OutlineView.{outline_view, marks_view}
 use Rattle.pli_declare.specs.Resolution.{declared_by, faults_after}
-use Rattle.pli_declare.specs.Walks.{of_blocks}
+use Rattle.pli_declare.specs.answers.Walks.{of_blocks}
 use Rattle.pli_declare.proofs.marks.tell_marks.Given as goal
 
 -- how many names each block has declared so far, and the faults so far in front of those of what is left

@@ -1,5 +1,5 @@
 use Rattle.std.proofs.Common.{◌≡◌, ◌+◌, ◌++◌, drop}
-use Rattle.pli_declare.specs.Walks.{name_faults}
+use Rattle.pli_declare.specs.answers.Walks.{name_faults}
 use Rattle.pli_declare.proofs.marks.tell_names.Given as goal
 
 -- the faults so far in front of those of what is left

@@ -1,6 +1,6 @@
 use Rattle.std.proofs.Common.{◌≡◌, drop, map}
 use Rattle.std.specs.List.{flat_map}
-use Rattle.pli_base.specs.DeclarationView.{attribute_view}
+use Rattle.pli_base.specs.views.DeclarationView.{attribute_view}
 use Rattle.pli_declare.specs.Resolved.{simple_of, area_in}
 use Rattle.pli_declare.proofs.named.area_of.Given as goal
 

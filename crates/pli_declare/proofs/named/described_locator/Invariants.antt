@@ -1,7 +1,7 @@
 use Rattle.std.proofs.Common.{◌≡◌, ◌++◌, List, drop, map}
 use Rattle.std.specs.List.{flat_map}
 use Rattle.pli_base.specs.Declarations.{SimpleAttribute as Said}
-use Rattle.pli_base.specs.DeclarationView.{described_view}
+use Rattle.pli_base.specs.views.DeclarationView.{described_view}
 use Rattle.pli_declare.specs.Resolved.{plain_of, locator_in}
 use Rattle.pli_declare.proofs.named.described_locator.Given as goal
 

@@ -1,7 +1,7 @@
 use Rattle.std.proofs.Common.{◌≡◌, List, drop, map}
 use Rattle.std.specs.List.{flat_map}
 use Rattle.pli_base.specs.Declarations.{DescribedAttribute}
-use Rattle.pli_base.specs.StatementView.{option_view}
+use Rattle.pli_base.specs.views.StatementView.{option_view}
 use Rattle.pli_declare.specs.Resolved.{plain_of, area_in}
 use Rattle.pli_declare_variables.specs.Declarations.{returned_by}
 use Rattle.pli_declare.proofs.named.returned_area.Given as goal

@@ -3,9 +3,9 @@ use Rattle.std.specs.List.{list_any}
 use Rattle.std.specs.Result.{IfOk}
 use Rattle.pli_base.specs.Words.{same_name}
 use Rattle.pli_base.specs.Name.{Name}
-use Rattle.pli_declare_outline.specs.OutlineView.{outline_view}
+use Rattle.pli_declare_outline.specs.views.OutlineView.{outline_view}
 use Rattle.pli_declare_tables.specs.Tables.{Entry, entries_in}
-use Rattle.pli_declare_tables.specs.TableView.{entries_view}
+use Rattle.pli_declare_tables.specs.views.TableView.{entries_view}
 use Rattle.pli_declare.specs.Resolution.{is_item_named}
 use Rattle.pli_declare.proofs.TableAt.{table_at, none_declared}
 use Rattle.pli_declare.proofs.parameters.block_names.Goals as goal

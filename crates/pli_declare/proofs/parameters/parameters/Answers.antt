@@ -1,9 +1,9 @@
 use Rattle.std.proofs.Common.{◌≡◌, ◌++◌, [], ◌∷◌, ℕ, ◌+◌, ◌<◌, get_or, set, map, replicate, length, take, refl, sym, ap, ◌∙◌, arith}
 use Rattle.std.proofs.lemmas.List.{length-map}
-use Rattle.pli_base.specs.StatementView.{unit_view}
-use Rattle.pli_base.specs.StatementLaws.{unit_out}
+use Rattle.pli_base.specs.views.StatementView.{unit_view}
+use Rattle.pli_base.specs.laws.StatementLaws.{unit_out}
 use Rattle.pli_declare_outline.specs.Outlines.{Entered}
-use Rattle.pli_declare_outline.specs.OutlineView.{regions_view, region_view, marks_view, mark_view, placed_view}
+use Rattle.pli_declare_outline.specs.views.OutlineView.{regions_view, region_view, marks_view, mark_view, placed_view}
 use Rattle.pli_declare_outline.specs.declared.region.Mark as written
 use Rattle.pli_declare_outline.specs.declared.region.Mark.TheVariants as marks
 use Rattle.pli_declare.specs.Resolution.{headed}

@@ -1,8 +1,8 @@
 use Rattle.std.proofs.Common.{◌≡◌, map, take}
 use Rattle.std.specs.List.{flat_map}
-use Rattle.pli_declare_outline.specs.OutlineView.{outline_view, marks_view}
+use Rattle.pli_declare_outline.specs.views.OutlineView.{outline_view, marks_view}
 use Rattle.pli_declare.specs.Resolution.{headed}
-use Rattle.pli_declare.specs.Walks.{of_blocks}
+use Rattle.pli_declare.specs.answers.Walks.{of_blocks}
 use Rattle.pli_declare.proofs.parameters.parameters.Given as goal
 
 -- the parameters by the marks so far

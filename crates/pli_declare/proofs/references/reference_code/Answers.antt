@@ -1,6 +1,6 @@
 use Rattle.std.proofs.Common.{◌≡◌, if◌then◌else◌, None, Some, sym, ap, ◌∙◌}
 use Rattle.pli_base.specs.declared.code.Code.TheVariants.{NotDeclared}
-use Rattle.pli_declare_outline.specs.OutlineView.{outline_view}
+use Rattle.pli_declare_outline.specs.views.OutlineView.{outline_view}
 use Rattle.pli_declare_scopes.specs.Scopes.{meant}
 use Rattle.pli_declare_tables.specs.Tables.{scope_of}
 use Rattle.pli_declare.specs.Resolution.{names_of, reference_code}

@@ -1,5 +1,5 @@
 use Rattle.std.proofs.Common.{◌≡◌, take, map}
-use Rattle.pli_declare.specs.ResolvedView.{block_view}
+use Rattle.pli_declare.specs.views.ResolvedView.{block_view}
 use Rattle.pli_declare.proofs.resolved.copied_blocks.Given as goal
 
 abbrev pub invariant-loop-block : goal.invariant-loop-block

@@ -1,7 +1,7 @@
 use Rattle.std.proofs.Common.{◌∷◌, [], map, ap, ◌∙◌}
 use Rattle.std.proofs.lemmas.List.{map-append}
-use Rattle.pli_declare_outline.specs.OutlineView.{outline_view}
-use Rattle.pli_declare.specs.Walks.{block_codes}
+use Rattle.pli_declare_outline.specs.views.OutlineView.{outline_view}
+use Rattle.pli_declare.specs.answers.Walks.{block_codes}
 use Rattle.pli_declare.proofs.Numbers.{one_more}
 use Rattle.pli_declare.proofs.unit.codes_of_blocks.Goals as goal
 

@@ -1,7 +1,7 @@
 use Rattle.std.proofs.Common.{◌≡◌, map}
-use Rattle.pli_declare_outline.specs.OutlineView.{outline_view}
+use Rattle.pli_declare_outline.specs.views.OutlineView.{outline_view}
 use Rattle.pli_declare_tables.specs.Tables.{numbers_from}
-use Rattle.pli_declare.specs.Walks.{block_codes}
+use Rattle.pli_declare.specs.answers.Walks.{block_codes}
 use Rattle.pli_declare.proofs.unit.codes_of_blocks.Given as goal
 
 -- the codes of the blocks so far

@@ -1,8 +1,8 @@
 use Rattle.std.proofs.Common.{◌≤◌, ◌<◌, ◌∙◌, ap, sym, map, option_map, length, arith}
 use Rattle.std.proofs.lemmas.List.{length-map}
 use Rattle.std.specs.List.{list_any}
-use Rattle.pli_base.specs.DeclarationView.{attribute_view, parameter_view, item_view}
-use Rattle.pli_map.specs.DescriptionView.{description_view}
+use Rattle.pli_base.specs.views.DeclarationView.{attribute_view, parameter_view, item_view}
+use Rattle.pli_map.specs.views.DescriptionView.{description_view}
 use Rattle.pli_declare_attributes.specs.Sets.{set_of, outermost}
 use Rattle.pli_declare_attributes.specs.Completed.{OfEntry, OfVariable}
 use Rattle.pli_declare_attributes.specs.Faults.{parameters_in, returned_in, returned_fault, parameters_fault, parameter_of, described_scalar, is_too_large}

@@ -1,8 +1,8 @@
 use Rattle.std.proofs.Common.{◌≤◌, ◌<◌, ◌∙◌, ap, sym, map, length, arith}
 use Rattle.std.proofs.lemmas.List.{length-map}
 use Rattle.std.specs.List.{list_any}
-use Rattle.pli_base.specs.DeclarationView.{attribute_view, parameter_view, item_view}
-use Rattle.pli_map.specs.DescriptionView.{description_view}
+use Rattle.pli_base.specs.views.DeclarationView.{attribute_view, parameter_view, item_view}
+use Rattle.pli_map.specs.views.DescriptionView.{description_view}
 use Rattle.pli_declare_attributes.specs.Faults.{parameters_in, parameters_fault, is_too_large}
 use Rattle.pli_declare_attributes.proofs.Shapes.{attributes_first, parts_none, entry_too_many, entry_too_large, entry_good}
 use Rattle.pli_declare_attributes.proofs.complete.item_fault.Goals as goal

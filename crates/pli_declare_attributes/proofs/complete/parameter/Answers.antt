@@ -1,7 +1,7 @@
 use Rattle.std.proofs.Common.{◌≡◌, ◌∙◌, ap, map}
 use Rattle.std.proofs.lemmas.Result.{IfOk-weaker}
-use Rattle.pli_map.specs.DescriptionView.{description_view}
-use Rattle.pli_base.specs.DeclarationView.{described_view, parameter_view}
+use Rattle.pli_map.specs.views.DescriptionView.{description_view}
+use Rattle.pli_base.specs.views.DeclarationView.{described_view, parameter_view}
 use Rattle.pli_declare_attributes.specs.Extents.{all_bounds}
 use Rattle.pli_declare_attributes.specs.Types.{number_of, scalar_of}
 use Rattle.pli_declare_attributes.specs.Sets.{set_of}

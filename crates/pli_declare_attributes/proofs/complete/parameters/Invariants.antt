@@ -1,6 +1,6 @@
 use Rattle.std.proofs.Common.{◌≡◌, None, map, take, drop}
-use Rattle.pli_base.specs.DeclarationView.{parameter_view}
-use Rattle.pli_map.specs.DescriptionView.{description_view}
+use Rattle.pli_base.specs.views.DeclarationView.{parameter_view}
+use Rattle.pli_map.specs.views.DescriptionView.{description_view}
 use Rattle.pli_declare_attributes.specs.Faults.{parameter_of, parameters_fault}
 use Rattle.pli_declare_attributes.proofs.complete.parameters.Given as goal
 

@@ -1,5 +1,5 @@
 use Rattle.std.proofs.Common.{◌∙◌, ap, map}
-use Rattle.pli_base.specs.DeclarationView.{attribute_view, item_view}
+use Rattle.pli_base.specs.views.DeclarationView.{attribute_view, item_view}
 use Rattle.pli_declare_attributes.specs.Types.{number_of}
 use Rattle.pli_declare_attributes.specs.Sets.{set_of, outermost}
 use Rattle.pli_declare_attributes.proofs.Shapes.{own_sound, bounds_good, sound_alike}

@@ -1,5 +1,5 @@
 use Rattle.std.proofs.Common.{◌≡◌, drop, map}
-use Rattle.pli_base.specs.DeclarationView.{attribute_view}
+use Rattle.pli_base.specs.views.DeclarationView.{attribute_view}
 use Rattle.pli_declare_attributes.specs.Initials.{values_in}
 use Rattle.pli_declare_attributes.proofs.initials.values_of.Given as goal
 

@@ -1,5 +1,5 @@
 use Rattle.std.proofs.Common.{◌≡◌, drop, map}
-use Rattle.pli_base.specs.DeclarationView.{attribute_view}
+use Rattle.pli_base.specs.views.DeclarationView.{attribute_view}
 use Rattle.pli_declare_attributes.specs.Faults.{parameters_in}
 use Rattle.pli_declare_attributes.proofs.parts.parameters_of.Given as goal
 

@@ -1,6 +1,6 @@
 use Rattle.std.proofs.Common.{◌≡◌, ◌<◌, ◌∷◌, [], Some, None, length, get_or, length-append, sym, ap, ◌∙◌, arith, rules}
 use Rattle.std.proofs.lemmas.List.{length-map, get_or_default, get_or-map}
-use Rattle.pli_declare_outline.specs.OutlineView.{region_view, regions_view}
+use Rattle.pli_declare_outline.specs.views.OutlineView.{region_view, regions_view}
 use Rattle.pli_declare_outline.specs.declared.region.Region.{Region as Written}
 use Rattle.pli_declare_outline.specs.declared.region.RegionKind.TheVariants as kinds
 use Rattle.pli_declare_constructs.specs.Regions.{innermost, outside}

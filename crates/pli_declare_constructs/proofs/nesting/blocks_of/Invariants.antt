@@ -1,5 +1,5 @@
 use Rattle.std.proofs.Common.{◌≡◌, ◌<◌, ℕ, None, length, get_or}
-use Rattle.pli_declare_outline.specs.OutlineView.{regions_view}
+use Rattle.pli_declare_outline.specs.views.OutlineView.{regions_view}
 use Rattle.pli_declare_constructs.specs.Regions.{innermost}
 use Rattle.pli_declare_constructs.proofs.nesting.blocks_of.Given as goal
 

@@ -1,9 +1,9 @@
 use Rattle.std.proofs.Common.{◌++◌, ◌∷◌, ap, ◌∙◌}
 use Rattle.std.proofs.lemmas.Result.{on_ok_weaker}
-use Rattle.pli_base.specs.SyntaxView.{joined_view}
+use Rattle.pli_base.specs.views.SyntaxView.{joined_view}
 use Rattle.pli_base.specs.declared.syntax.Reference.{out-Reference}
 use Rattle.pli_declare_outline.specs.Outlines.{placed, member_names, joined_marks}
-use Rattle.pli_declare_outline.specs.OutlineView.{marks_view}
+use Rattle.pli_declare_outline.specs.views.OutlineView.{marks_view}
 use Rattle.pli_declare_outline.proofs.Marks.{reference_marked}
 use Rattle.pli_declare_outline.proofs.expressions.+marked.Goals as goal
 

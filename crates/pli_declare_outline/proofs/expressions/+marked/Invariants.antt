@@ -1,7 +1,7 @@
 use Rattle.std.proofs.Common.{◌≡◌, ◌++◌, drop}
-use Rattle.pli_base.specs.SyntaxView.{expressions_view, joined_view}
+use Rattle.pli_base.specs.views.SyntaxView.{expressions_view, joined_view}
 use Rattle.pli_declare_outline.specs.Outlines.{placed, joined_marks, list_marks}
-use Rattle.pli_declare_outline.specs.OutlineView.{marks_view}
+use Rattle.pli_declare_outline.specs.views.OutlineView.{marks_view}
 use Rattle.pli_declare_outline.proofs.expressions.+marked.Given as goal
 
 -- the marks so far, and those of what is left

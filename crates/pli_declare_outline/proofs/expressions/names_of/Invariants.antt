@@ -1,5 +1,5 @@
 use Rattle.std.proofs.Common.{◌≡◌, ◌++◌, ◌∷◌, drop}
-use Rattle.pli_base.specs.SyntaxView.{joined_view}
+use Rattle.pli_base.specs.views.SyntaxView.{joined_view}
 use Rattle.pli_declare_outline.specs.Outlines.{member_names}
 use Rattle.pli_declare_outline.proofs.expressions.names_of.Given as goal
 

@@ -1,8 +1,8 @@
 use Rattle.std.proofs.Common.{◌≡◌, ◌++◌, map, drop}
 use Rattle.std.specs.List.{flat_map}
-use Rattle.pli_base.specs.SyntaxView.{reference_view}
+use Rattle.pli_base.specs.views.SyntaxView.{reference_view}
 use Rattle.pli_declare_outline.specs.Outlines.{placed, reference_marks}
-use Rattle.pli_declare_outline.specs.OutlineView.{marks_view}
+use Rattle.pli_declare_outline.specs.views.OutlineView.{marks_view}
 use Rattle.pli_declare_outline.proofs.statements.mark_references.Given as goal
 
 -- the marks so far, and those of what is left

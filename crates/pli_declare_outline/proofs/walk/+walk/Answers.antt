@@ -1,11 +1,11 @@
 use Rattle.std.proofs.Common.{◌≡◌, ◌++◌, ◌∷◌, ◌+◌, length, [], option_map, append_assoc, ap, ◌∙◌, sym}
 use Rattle.std.proofs.lemmas.Result.{on_ok_weaker}
-use Rattle.pli_base.specs.StatementView.{body_view, control_view, statements_view, unit_view}
-use Rattle.pli_base.specs.StatementLaws.{begin_made, do_made}
+use Rattle.pli_base.specs.views.StatementView.{body_view, control_view, statements_view, unit_view}
+use Rattle.pli_base.specs.laws.StatementLaws.{begin_made, do_made}
 use Rattle.pli_declare_outline.specs.Outlines.{Entered, placed, optional_marks, control_marks, regions_of, regions_among, region_in, body_regions, body_marks, statements_regions, statements_marks}
-use Rattle.pli_declare_outline.specs.OutlineView.{regions_view, marks_view}
+use Rattle.pli_declare_outline.specs.views.OutlineView.{regions_view, marks_view}
 use Rattle.pli_declare_outline.specs.declared.region.RegionKind.TheVariants as kinds
-use Rattle.pli_base.specs.StatementLaws.{unit_statements, procedure_body}
+use Rattle.pli_base.specs.laws.StatementLaws.{unit_statements, procedure_body}
 use Rattle.pli_declare_outline.proofs.walk.+walk.Goals as goal
 
 pub walk_body-returns-in-Begin-clause-regions : goal.walk_body-returns-in-Begin-clause-regions

@@ -1,7 +1,7 @@
 use Rattle.std.proofs.Common.{◌≡◌, ◌++◌, ◌+◌, drop, length}
-use Rattle.pli_base.specs.StatementView.{statements_view}
+use Rattle.pli_base.specs.views.StatementView.{statements_view}
 use Rattle.pli_declare_outline.specs.Outlines.{regions_among, statements_regions, statements_marks}
-use Rattle.pli_declare_outline.specs.OutlineView.{regions_view, marks_view}
+use Rattle.pli_declare_outline.specs.views.OutlineView.{regions_view, marks_view}
 use Rattle.pli_declare_outline.proofs.walk.+walk.Given as goal
 
 -- what was put so far, and what the statements that are left put

@@ -1,10 +1,10 @@
 use Rattle.std.proofs.Common.{◌≡◌, ◌++◌, ◌∷◌, ◌+◌, [], None, length, List, ap, ◌∙◌, sym}
-use Rattle.pli_base.specs.StatementView.{statements_view, unit_view}
+use Rattle.pli_base.specs.views.StatementView.{statements_view, unit_view}
 use Rattle.pli_declare_outline.specs.Outlines.{Entered, placed, outline_of, statements_regions, statements_marks}
 use Rattle.pli_declare_outline.specs.Outlines as plain
-use Rattle.pli_declare_outline.specs.OutlineView.{regions_view, marks_view}
+use Rattle.pli_declare_outline.specs.views.OutlineView.{regions_view, marks_view}
 use Rattle.pli_declare_outline.specs.declared.region.RegionKind.TheVariants as kinds
-use Rattle.pli_base.specs.StatementLaws.{unit_statements}
+use Rattle.pli_base.specs.laws.StatementLaws.{unit_statements}
 use Rattle.pli_declare_outline.proofs.walk.outline.Goals as goal
 
 abbrev outlined : List plain.Region → List plain.Placed → plain.Outline

@@ -1,7 +1,7 @@
 use Rattle.std.proofs.Common.{◌≡◌, ◌++◌, map, drop}
-use Rattle.pli_base.specs.DeclarationView.{item_view}
+use Rattle.pli_base.specs.views.DeclarationView.{item_view}
 use Rattle.pli_declare_tables.specs.Tables.{named}
-use Rattle.pli_declare_tables.specs.TableView.{named_view}
+use Rattle.pli_declare_tables.specs.views.TableView.{named_view}
 use Rattle.pli_declare_tables.proofs.entries.add_names.Given as goal
 
 -- the names so far, and those that are left

@@ -1,5 +1,5 @@
 use Rattle.std.proofs.Common.{◌≡◌, ◌++◌, map, drop}
-use Rattle.pli_declare_tables.specs.TableView.{named_view}
+use Rattle.pli_declare_tables.specs.views.TableView.{named_view}
 use Rattle.pli_declare_tables.proofs.entries.levels_of.Given as goal
 
 -- the levels so far, and those of the names that are left

@@ -1,8 +1,8 @@
 use Rattle.std.proofs.Common.{◌≡◌, ◌++◌, map, drop}
 use Rattle.std.specs.List.{flat_map}
-use Rattle.pli_base.specs.DeclarationView.{item_view}
+use Rattle.pli_base.specs.views.DeclarationView.{item_view}
 use Rattle.pli_declare_tables.specs.Tables.{named}
-use Rattle.pli_declare_tables.specs.TableView.{named_view}
+use Rattle.pli_declare_tables.specs.views.TableView.{named_view}
 use Rattle.pli_declare_tables.proofs.entries.names_of.Given as goal
 
 -- the names so far, and those of the items that are left

@@ -4,7 +4,7 @@ use Rattle.std.specs.Iterator.Adapters.{zip_first, zip_second}
 use Rattle.std.specs.Slice.Iter.{iter_rest}
 use Rattle.pli_declare_scopes.specs.Scopes.{Block}
 use Rattle.pli_declare_tables.specs.Tables.{with_verdicts}
-use Rattle.pli_declare_tables.specs.TableView.{entries_view}
+use Rattle.pli_declare_tables.specs.views.TableView.{entries_view}
 use Rattle.pli_declare_tables.specs.declared.entry.Entry.{Entry}
 use Rattle.pli_declare_tables.proofs.Behind.{Behind, owners_behind}
 use Rattle.pli_declare_tables.proofs.Blocks.{none_left}

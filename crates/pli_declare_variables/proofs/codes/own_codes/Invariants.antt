@@ -1,6 +1,6 @@
 use Rattle.std.proofs.Common.{◌≡◌, map}
 use Rattle.pli_declare_tables.specs.Tables.{numbers_from}
-use Rattle.pli_declare_tables.specs.TableView.{entries_view}
+use Rattle.pli_declare_tables.specs.views.TableView.{entries_view}
 use Rattle.pli_declare_variables.specs.Places.{own_code}
 use Rattle.pli_declare_variables.proofs.codes.own_codes.Given as goal
 

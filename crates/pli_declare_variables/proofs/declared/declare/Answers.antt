@@ -1,13 +1,13 @@
 use Rattle.std.proofs.Common.{◌≡◌, List, length, map, option_map, sym, ap, subst, ◌∙◌, arith}
 use Rattle.std.proofs.lemmas.List.{length-map, map_push}
-use Rattle.pli_map.specs.DescriptionView.{description_view}
+use Rattle.pli_map.specs.views.DescriptionView.{description_view}
 use Rattle.pli_declare_attributes.specs.declared.place.Place.{Place}
 use Rattle.pli_declare_tables.specs.Tables as plain
-use Rattle.pli_declare_tables.specs.TableView.{entry_view, entries_view}
+use Rattle.pli_declare_tables.specs.views.TableView.{entry_view, entries_view}
 use Rattle.pli_declare_variables.specs.Places.{place_in}
 use Rattle.pli_declare_variables.specs.Descriptions.{own_codes, ShapesAreSound}
 use Rattle.pli_declare_variables.specs.Declarations.{declaration_at}
-use Rattle.pli_declare_variables.specs.DeclarationView.{kind_view, declaration_view}
+use Rattle.pli_declare_variables.specs.views.DeclarationView.{kind_view, declaration_view}
 use Rattle.pli_declare_variables.specs.declared.declaration.Declaration.{Declaration}
 use Rattle.pli_declare_variables.proofs.Faultless.{all_codes, faultless, whole, kind_at}
 use Rattle.pli_declare_variables.proofs.Levelled.{view_at}

@@ -2,12 +2,12 @@ use Rattle.std.proofs.Common.{◌≡◌, ◌+◌, ◌<◌, Some, None, [], map, 
 use Rattle.std.specs.Global.{Global}
 use Rattle.std.proofs.lemmas.List.{length-map, map_push}
 use Rattle.pli_map.specs.Description as tree
-use Rattle.pli_map.specs.DescriptionView.{description_view, members_view}
+use Rattle.pli_map.specs.views.DescriptionView.{description_view, members_view}
 use Rattle.pli_declare_attributes.specs.Extents.{all_bounds}
 use Rattle.pli_declare_attributes.specs.Faults.{with_bounds, described_scalar}
 use Rattle.pli_declare_attributes.specs.Sets.{outermost}
 use Rattle.pli_declare_tables.specs.Tables as tables
-use Rattle.pli_declare_tables.specs.TableView.{entry_view, entries_view}
+use Rattle.pli_declare_tables.specs.views.TableView.{entry_view, entries_view}
 use Rattle.pli_declare_variables.specs.Places.{members_of, item_in, item_of}
 use Rattle.pli_declare_variables.specs.Descriptions.{described, members_made, inside, scalar_at}
 use Rattle.pli_declare_variables.proofs.Measuring.{inside_some}

@@ -1,6 +1,6 @@
 use Rattle.std.proofs.Common.{◌≡◌, ◌+◌, ◌-◌, ◌*◌, map, drop, length}
-use Rattle.pli_map.specs.DescriptionView.{description_view}
-use Rattle.pli_declare_tables.specs.TableView.{entries_view}
+use Rattle.pli_map.specs.views.DescriptionView.{description_view}
+use Rattle.pli_declare_tables.specs.views.TableView.{entries_view}
 use Rattle.pli_declare_variables.specs.Descriptions.{described, members_made}
 use Rattle.pli_declare_variables.proofs.Describing.{in_front}
 use Rattle.pli_declare_variables.proofs.descriptions.+describe.Given as goal

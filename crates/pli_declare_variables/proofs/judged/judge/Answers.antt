@@ -2,10 +2,10 @@ use Rattle.std.proofs.Common.{◌≡◌, ℕ, Bool, Option, List, length, map, s
 use Rattle.std.proofs.lemmas.List.{length-map}
 use Rattle.pli_base.specs.declared.code.Code.{Code}
 use Rattle.pli_declare_tables.specs.Tables.{numbers_from}
-use Rattle.pli_declare_tables.specs.TableView.{entry_view, entries_view}
+use Rattle.pli_declare_tables.specs.views.TableView.{entry_view, entries_view}
 use Rattle.pli_declare_variables.specs.Places.{own_code}
 use Rattle.pli_declare_variables.specs.Descriptions.{own_codes, is_large_at, ShapesAreSound}
-use Rattle.pli_declare_variables.specs.Walks.{nameable_at}
+use Rattle.pli_declare_variables.specs.answers.Walks.{nameable_at}
 use Rattle.pli_declare_variables.specs.Judging.{judged_at}
 use Rattle.pli_declare_variables.specs.declared.judged.Judged.{Judged}
 use Rattle.pli_declare_variables.specs.declared.locators.Nameable.{Nameable}

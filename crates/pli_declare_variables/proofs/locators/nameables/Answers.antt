@@ -1,7 +1,7 @@
 use Rattle.std.proofs.Common.{List, length, ap, ◌∙◌, arith}
-use Rattle.pli_declare_tables.specs.TableView.{entry_view, entries_view}
+use Rattle.pli_declare_tables.specs.views.TableView.{entry_view, entries_view}
 use Rattle.pli_declare_variables.specs.Places.{item_in}
-use Rattle.pli_declare_variables.specs.Walks.{chain_at, chain_with, nameable_at}
+use Rattle.pli_declare_variables.specs.answers.Walks.{chain_at, chain_with, nameable_at}
 use Rattle.pli_declare_variables.specs.declared.locators.Chain.{Chain}
 use Rattle.pli_declare_variables.proofs.Levelled.{owner_before}
 use Rattle.pli_declare_variables.proofs.Named.{chain_more, nameable_more}

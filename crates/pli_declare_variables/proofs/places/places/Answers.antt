@@ -1,7 +1,7 @@
 use Rattle.std.proofs.Common.{List, Bool, length, ap, ◌∙◌, arith}
-use Rattle.pli_declare_tables.specs.TableView.{entries_view}
+use Rattle.pli_declare_tables.specs.views.TableView.{entries_view}
 use Rattle.pli_declare_variables.specs.Places.{place_in}
-use Rattle.pli_declare_variables.specs.Walks.{has_members_at, above_at}
+use Rattle.pli_declare_variables.specs.answers.Walks.{has_members_at, above_at}
 use Rattle.pli_declare_variables.specs.declared.places.Surroundings.{Surroundings}
 use Rattle.pli_declare_variables.proofs.Numbers.{mapped_more, mapped_length}
 use Rattle.pli_declare_variables.proofs.Placing.{placed_at, element_at}

@@ -6,11 +6,11 @@ use Rattle.pli_map.specs.Sizes.{size_of, alignment_of}
 use Rattle.pli_declare_attributes.specs.Extents.{all_bounds}
 use Rattle.pli_declare_attributes.specs.Faults.{with_bounds, described_scalar}
 use Rattle.pli_declare_attributes.specs.Sets.{outermost}
-use Rattle.pli_declare_tables.specs.TableView.{entry_view}
+use Rattle.pli_declare_tables.specs.views.TableView.{entry_view}
 use Rattle.std.specs.Prelude.{option_map}
 use Rattle.pli_declare_variables.specs.Places.{item_in}
 use Rattle.pli_declare_variables.specs.Descriptions.{inside}
-use Rattle.pli_declare_variables.specs.Measures.{of_layout, IsMeasured}
+use Rattle.pli_declare_variables.specs.answers.Measures.{of_layout, IsMeasured}
 use Rattle.pli_declare_variables.proofs.Measuring.{of_scalar, inside_some}
 use Rattle.pli_declare_variables.proofs.sizes.measure.Goals.{then-is_empty, else-is_empty}
 use Rattle.pli_declare_variables.proofs.sizes.measure.Goals as goal

@@ -5,10 +5,10 @@ use Rattle.pli_declare_attributes.specs.Extents.{all_bounds}
 use Rattle.pli_declare_attributes.specs.Faults.{with_bounds, described_scalar}
 use Rattle.pli_declare_attributes.specs.Sets.{outermost}
 use Rattle.pli_declare_tables.specs.Tables as tables
-use Rattle.pli_declare_tables.specs.TableView.{entry_view, entries_view}
+use Rattle.pli_declare_tables.specs.views.TableView.{entry_view, entries_view}
 use Rattle.pli_declare_variables.specs.Places.{item_in}
 use Rattle.pli_declare_variables.specs.Descriptions.{described, inside}
-use Rattle.pli_declare_variables.specs.Measures.{IsMeasured, AreMeasured}
+use Rattle.pli_declare_variables.specs.answers.Measures.{IsMeasured, AreMeasured}
 use Rattle.pli_declare_variables.specs.declared.sizes.Measured.{Measured}
 use Rattle.pli_declare_variables.specs.declared.sizes.Measured.TheVariants.{Unknown}
 use Rattle.pli_declare_variables.proofs.Describing.{rows, row}

@@ -3,10 +3,10 @@ use Rattle.std.specs.Option.{is_none}
 use Rattle.std.proofs.lemmas.List.{length-map}
 use Rattle.pli_base.specs.declared.code.Code.{Code}
 use Rattle.pli_declare_tables.specs.Tables as tables
-use Rattle.pli_declare_tables.specs.TableView.{entry_view, entries_view}
+use Rattle.pli_declare_tables.specs.views.TableView.{entry_view, entries_view}
 use Rattle.pli_declare_variables.specs.Places.{is_variable}
 use Rattle.pli_declare_variables.specs.Descriptions.{described, is_large, is_large_at}
-use Rattle.pli_declare_variables.specs.Measures.{IsMeasured}
+use Rattle.pli_declare_variables.specs.answers.Measures.{IsMeasured}
 use Rattle.pli_declare_variables.specs.declared.sizes.Measured.{Measured}
 use Rattle.pli_declare_variables.specs.declared.sizes.Measured.TheVariants.{Unknown}
 use Rattle.pli_declare_variables.proofs.NumbersOn.{map_next}

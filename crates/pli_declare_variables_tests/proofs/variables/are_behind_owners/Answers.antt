@@ -2,9 +2,9 @@ use Rattle.std.proofs.Common.{◌≡◌, ℕ, ◌<◌, ◌+◌, [], rules, None,
 use Rattle.std.proofs.lemmas.Bool.{cases_lt}
 use Rattle.std.proofs.lemmas.List.{get_or-map, length-map}
 use Rattle.pli_declare_scopes.specs.declared.repeat.Written.{Written}
-use Rattle.pli_declare_scopes.specs.RepeatLaws.{written_at}
+use Rattle.pli_declare_scopes.specs.laws.RepeatLaws.{written_at}
 use Rattle.pli_declare_tables.specs.Tables.{written, no_entry}
-use Rattle.pli_declare_tables.specs.TableView.{entry_view, entries_view}
+use Rattle.pli_declare_tables.specs.views.TableView.{entry_view, entries_view}
 use Rattle.pli_declare_tables.specs.declared.entry.Entry.{Entry}
 use Rattle.pli_declare_variables.proofs.Levelled.{view_at}
 use Rattle.pli_declare_variables_tests.proofs.variables.are_behind_owners.Goals as goal

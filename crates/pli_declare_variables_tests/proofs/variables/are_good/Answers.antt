@@ -4,10 +4,10 @@ use Rattle.std.proofs.lemmas.List.{length-map}
 use Rattle.pli_base.specs.Name.{Name}
 use Rattle.pli_declare_attributes.specs.Faults.{item_fault}
 use Rattle.pli_declare_tables.specs.Tables.{Entity, AsItem, AsLabel, AsProcedure, Entry, no_entry}
-use Rattle.pli_declare_tables.specs.TableView.{entry_view, entries_view}
+use Rattle.pli_declare_tables.specs.views.TableView.{entry_view, entries_view}
 use Rattle.pli_declare_variables.specs.Places.{item_in, place_in}
 use Rattle.pli_declare_variables.specs.Declarations.{IsGood}
-use Rattle.pli_declare_variables.specs.Declaring.{IsFaultless}
+use Rattle.pli_declare_variables.specs.answers.Declaring.{IsFaultless}
 use Rattle.pli_declare_variables.specs.Judging.{judged_at}
 use Rattle.pli_declare_variables.specs.declared.judged.Judged.{Judged}
 use Rattle.pli_declare_variables.proofs.Levelled.{view_at}

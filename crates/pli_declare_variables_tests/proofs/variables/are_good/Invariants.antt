@@ -1,6 +1,6 @@
 use Rattle.std.proofs.Common.{ℕ, ◌<◌, get_or}
 use Rattle.pli_declare_tables.specs.Tables.{no_entry}
-use Rattle.pli_declare_tables.specs.TableView.{entries_view}
+use Rattle.pli_declare_tables.specs.views.TableView.{entries_view}
 use Rattle.pli_declare_variables.specs.Declarations.{IsGood}
 use Rattle.pli_declare_variables_tests.proofs.variables.are_good.Given as goal
 

@@ -1,5 +1,5 @@
 use Rattle.std.proofs.Common.{drop, map}
-use Rattle.pli_base.specs.StatementView.{option_view}
+use Rattle.pli_base.specs.views.StatementView.{option_view}
 use Rattle.pli_declare_variables.specs.Declarations.{returned_by, AreSound}
 use Rattle.pli_declare_variables_tests.proofs.variables.are_sound.Given as goal
 

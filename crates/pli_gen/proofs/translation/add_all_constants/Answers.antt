@@ -1,5 +1,5 @@
 use Rattle.std.proofs.Common.{◌≡◌, get_or, arith}
-use Rattle.pli_lower.specs.LoweredView.{expression_view}
+use Rattle.pli_lower.specs.views.LoweredView.{expression_view}
 use Rattle.pli_gen.specs.Translation.{numbered, constants_in}
 use Rattle.pli_gen.proofs.TableLemmas.{numbered_more}
 use Rattle.pli_gen.proofs.translation.add_all_constants.Goals as goal

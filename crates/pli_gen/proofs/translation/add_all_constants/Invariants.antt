@@ -1,6 +1,6 @@
 use Rattle.std.proofs.Common.{◌≡◌, map, drop}
 use Rattle.std.specs.List.{flat_map}
-use Rattle.pli_lower.specs.LoweredView.{expression_view}
+use Rattle.pli_lower.specs.views.LoweredView.{expression_view}
 use Rattle.pli_gen.specs.Translation.{numbered, constants_in}
 use Rattle.pli_gen.proofs.translation.add_all_constants.Given as goal
 

@@ -1,5 +1,5 @@
 use Rattle.std.proofs.Common.{arith}
-use Rattle.pli_lower.specs.LoweredView.{unit_view}
+use Rattle.pli_lower.specs.views.LoweredView.{unit_view}
 use Rattle.pli_gen.proofs.TableLemmas.{too_many_names, too_many_values, too_many_instructions, all_tables}
 use Rattle.pli_gen.proofs.translation.generate.Goals as goal
 use Rattle.pli_gen.proofs.translation.generate.Goals.{then-len-gt-TABLE_LIMIT-via-then-len-gt-TABLE_LIMIT, then-len-gt-TABLE_LIMIT-via-else-len-gt-TABLE_LIMIT+then-len-gt-TABLE_LIMIT-2}

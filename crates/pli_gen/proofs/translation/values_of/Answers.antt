@@ -1,5 +1,5 @@
 use Rattle.std.proofs.Common.{◌≡◌, get_or, arith}
-use Rattle.pli_lower.specs.LoweredView.{statement_view}
+use Rattle.pli_lower.specs.views.LoweredView.{statement_view}
 use Rattle.pli_gen.specs.Translation.{numbered, body_constants}
 use Rattle.pli_gen.proofs.TableLemmas.{numbered_more}
 use Rattle.pli_gen.proofs.translation.values_of.Goals as goal

@@ -11,7 +11,7 @@ use Rattle.std.specs.Prelude.{Option, List}
 use Rattle.pli_include.specs.declared.expansion.ExpansionFault.{ExpansionFault}
 use Rattle.pli_include.specs.Expanded.{look_in}
 use Rattle.pli_include.specs.Expansion.{Progress}
-use Rattle.pli_include.specs.Walking.{ended, IsEven}
+use Rattle.pli_include.specs.answers.Walking.{ended, IsEven}
 use Rattle.pli_include.proofs.StepsKeep.{texts_have_origins}
 use Rattle.pli_include.proofs.expander.expansion.Goals as goal
 

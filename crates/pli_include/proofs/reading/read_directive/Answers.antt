@@ -9,7 +9,7 @@ use Rattle.pli_include.specs.declared.reading.Pause.{Pause}
 use Rattle.pli_include.specs.declared.reading.Pause.TheVariants as at
 use Rattle.pli_include.specs.Expansion.{Progress, directed}
 use Rattle.pli_include.specs.Pieces.{is_percent, named_by, directive}
-use Rattle.pli_include.specs.Pausing.{Reads}
+use Rattle.pli_include.specs.answers.Pausing.{Reads}
 use Rattle.pli_include.proofs.PieceIsRead.{rest_is, four_are, reads_misplaced, reads_over, reads_directive, short_is_misplaced, from_place, percent_at, fault_at}
 use Rattle.pli_include.proofs.reading.read_directive.Goals as goal
 

@@ -2,7 +2,7 @@ use Rattle.std.proofs.Common.{◌≡◌, ◌+◌, ◌-◌, ◌<◌, sym, ap, sub
 use Rattle.std.proofs.Common.{drop}
 use Rattle.pli_include.specs.Expansion.{kept, read_pieces}
 use Rattle.pli_include.specs.Pieces.{pieces_of}
-use Rattle.pli_include.specs.Pausing.{Reads}
+use Rattle.pli_include.specs.answers.Pausing.{Reads}
 use Rattle.pli_include.proofs.PieceIsRead.{keeps, reads_then, reads_too_many, reads_end}
 use Rattle.pli_include.proofs.reading.read_tokens.Goals as goal
 

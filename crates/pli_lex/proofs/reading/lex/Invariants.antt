@@ -1,6 +1,6 @@
 use Rattle.std.proofs.Common.{◌≡◌, ◌+◌, drop}
 use Rattle.pli_lex.specs.Characters.{text_of}
-use Rattle.pli_lex.specs.Answers.{reads}
+use Rattle.pli_lex.specs.answers.Answers.{reads}
 use Rattle.pli_lex.specs.Reading.{with_front, lexed}
 use Rattle.pli_lex.proofs.reading.lex.Given as goal
 

@@ -1,6 +1,6 @@
 use Rattle.std.proofs.Common.{◌≡◌, ℕ, List, ◌∷◌, ◌++◌, length}
 use Rattle.pli_lex.specs.Characters.{line_end}
-use Rattle.pli_lex.specs.Answers.{reads}
+use Rattle.pli_lex.specs.answers.Answers.{reads}
 use Rattle.pli_lex.specs.Reading.{with_front}
 use Rattle.pli_lex.proofs.reading.push_line.Given as goal
 

@@ -1,6 +1,6 @@
 use Rattle.std.proofs.Common.{◌≡◌, map, drop}
 use Rattle.pli_code.specs.Link as link
-use Rattle.pli_link.specs.Answers.{place_view}
+use Rattle.pli_link.specs.answers.Answers.{place_view}
 use Rattle.pli_link.proofs.linking.in_order.Given as goal
 
 abbrev pub invariant-loop-place : goal.invariant-loop-place

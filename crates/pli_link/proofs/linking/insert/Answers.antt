@@ -1,7 +1,7 @@
 use Rattle.std.proofs.Common.{◌≡◌, ◌∙◌, ap, not, arith, insert, map}
 use Rattle.std.specs.List.{position_or_len}
 use Rattle.std.proofs.lemmas.List.Sums.{prefix_len-le-length}
-use Rattle.pli_link.specs.Answers.{place_view, is_past}
+use Rattle.pli_link.specs.answers.Answers.{place_view, is_past}
 use Rattle.pli_link.proofs.Positions.{index_or_len}
 use Rattle.pli_link.proofs.Lemmas.{insert_is_inserted}
 use Rattle.pli_link.proofs.linking.insert.Goals as goal

@@ -1,5 +1,5 @@
 use Rattle.std.proofs.Common.{◌≡◌, ◌++◌, map, take}
-use Rattle.pli_lower.specs.LoweredView.{reference_view}
+use Rattle.pli_lower.specs.views.LoweredView.{reference_view}
 use Rattle.pli_lower.specs.Lowering.{variable_named}
 use Rattle.pli_lower.proofs.declaration.add_variables.Given as goal
 

@@ -1,6 +1,6 @@
 use Rattle.std.proofs.Common.{map, ◌∙◌, sym, arith}
-use Rattle.pli_lower.specs.LoweredView.{reference_view}
-use Rattle.pli_base.specs.DeclarationView.{item_view}
+use Rattle.pli_lower.specs.views.LoweredView.{reference_view}
+use Rattle.pli_base.specs.views.DeclarationView.{item_view}
 use Rattle.pli_lower.specs.Lowering.{lowered_items}
 use Rattle.pli_lower.proofs.LoweringLists.{item_fails, items_go_on, items_end}
 use Rattle.pli_lower.proofs.declaration.lower_items.Goals as goal

@@ -1,7 +1,7 @@
 use Rattle.std.proofs.Common.{map, arith}
 use Rattle.std.proofs.lemmas.Result.{err_from_is_err_and}
-use Rattle.pli_base.specs.SyntaxView as syntax
-use Rattle.pli_lower.specs.LoweredView as lowered
+use Rattle.pli_base.specs.views.SyntaxView as syntax
+use Rattle.pli_lower.specs.views.LoweredView as lowered
 use Rattle.pli_lower.specs.Lowering.{lowered_expressions}
 use Rattle.pli_lower.proofs.LoweringLists.{expression_fails, expressions_go_on, expressions_end}
 use Rattle.pli_lower.proofs.expression.lower_expressions.Goals as goal

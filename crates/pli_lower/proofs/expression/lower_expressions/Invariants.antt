@@ -1,6 +1,6 @@
 use Rattle.std.proofs.Common.{◌≡◌, map, drop}
-use Rattle.pli_base.specs.SyntaxView as syntax
-use Rattle.pli_lower.specs.LoweredView as lowered
+use Rattle.pli_base.specs.views.SyntaxView as syntax
+use Rattle.pli_lower.specs.views.LoweredView as lowered
 use Rattle.pli_lower.specs.Lowering.{lowered_expressions}
 use Rattle.pli_lower.proofs.LoweringLists.{in_front}
 use Rattle.pli_lower.proofs.expression.lower_expressions.Given as goal

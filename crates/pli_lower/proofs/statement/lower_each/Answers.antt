@@ -1,7 +1,7 @@
 use Rattle.std.proofs.Common.{[], map, arith}
 use Rattle.std.proofs.lemmas.Result.{err_from_is_err_and}
-use Rattle.pli_base.specs.StatementView.{statements_view}
-use Rattle.pli_lower.specs.LoweredView as lowered
+use Rattle.pli_base.specs.views.StatementView.{statements_view}
+use Rattle.pli_lower.specs.views.LoweredView as lowered
 use Rattle.pli_lower.specs.Lowering.{lowered_statements}
 use Rattle.pli_lower.proofs.LoweringLists.{statement_fails, statements_go_on, statements_end, names_go_on}
 use Rattle.pli_lower.proofs.statement.lower_each.Goals as goal

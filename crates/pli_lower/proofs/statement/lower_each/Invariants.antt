@@ -1,7 +1,7 @@
 use Rattle.std.proofs.Common.{◌≡◌, [], map, drop}
-use Rattle.pli_base.specs.StatementView.{statements_view}
+use Rattle.pli_base.specs.views.StatementView.{statements_view}
 use Rattle.pli_lower.specs.LoweredNames.{names_of}
-use Rattle.pli_lower.specs.LoweredView as lowered
+use Rattle.pli_lower.specs.views.LoweredView as lowered
 use Rattle.pli_lower.specs.Lowering.{lowered_statements}
 use Rattle.pli_lower.proofs.LoweringLists.{with_done}
 use Rattle.pli_lower.proofs.statement.lower_each.Given as goal

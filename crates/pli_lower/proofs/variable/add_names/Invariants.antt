@@ -1,6 +1,6 @@
 use Rattle.std.proofs.Common.{◌≡◌, map, drop}
 use Rattle.indexmap.specs.IndexSet.{insert_all}
-use Rattle.pli_lower.specs.LoweredView.{reference_view}
+use Rattle.pli_lower.specs.views.LoweredView.{reference_view}
 use Rattle.pli_base.specs.Words.{same_name}
 use Rattle.pli_lower.proofs.variable.add_names.Given as goal
 

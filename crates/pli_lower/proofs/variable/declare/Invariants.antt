@@ -1,5 +1,5 @@
 use Rattle.std.proofs.Common.{◌≡◌, ◌++◌, map, drop}
-use Rattle.pli_lower.specs.LoweredView.{reference_view}
+use Rattle.pli_lower.specs.views.LoweredView.{reference_view}
 use Rattle.pli_lower.specs.LoweredNames.{repeats}
 use Rattle.pli_lower.specs.Lowering.{is_faultless}
 use Rattle.pli_lower.proofs.variable.declare.Given as goal

@@ -1,7 +1,7 @@
 use Rattle.std.proofs.Common.{◌≡◌, [], drop}
 use Rattle.indexmap.specs.IndexSet.{insert_all}
 use Rattle.pli_base.specs.Words.{same_name}
-use Rattle.pli_base.specs.StatementView.{statements_view}
+use Rattle.pli_base.specs.views.StatementView.{statements_view}
 use Rattle.pli_lower.specs.Lowering.{variables_of}
 use Rattle.pli_lower.proofs.variable.variables.Given as goal
 

@@ -1,6 +1,6 @@
 use Rattle.std.proofs.Common.{◌∙◌, ap, w32}
 use Rattle.std.proofs.lemmas.Int.{to_z-of_z}
-use Rattle.pli_machine.specs.View.{text_of}
+use Rattle.pli_machine.specs.views.View.{text_of}
 use Rattle.pli_machine.proofs.Worlds.{printed_is}
 use Rattle.pli_machine.proofs.instructions.print.Goals as goal
 

@@ -1,6 +1,6 @@
 use Rattle.std.proofs.Common.{◌≤◌, ◌<◌, length, w32, SFits, rules, arith, sym, ◌∙◌}
 use Rattle.std.proofs.lemmas.Int.{to_z-of_z}
-use Rattle.pli_machine.specs.View.{stack, world_of}
+use Rattle.pli_machine.specs.views.View.{stack, world_of}
 use Rattle.pli_machine.proofs.Worlds.{store_past, store_wide, store_there}
 use Rattle.pli_machine.proofs.instructions.store.Goals as goal
 

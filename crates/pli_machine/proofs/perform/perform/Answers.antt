@@ -1,9 +1,9 @@
 use Rattle.std.proofs.Common.{◌≡◌, Option, sym, subst}
-use Rattle.pli_code.specs.ModuleView.{Code, code_view}
+use Rattle.pli_code.specs.views.ModuleView.{Code, code_view}
 use Rattle.pli_code.specs.declared.instruction.Instruction.{Instruction}
 use Rattle.pli_machine.specs.declared.world.Machine.{Machine}
 use Rattle.pli_machine.specs.declared.world.Stop.{Stop}
-use Rattle.pli_machine.specs.View.{Performs}
+use Rattle.pli_machine.specs.views.View.{Performs}
 use Rattle.pli_machine.proofs.perform.perform.Goals as goal
 
 -- the same instruction

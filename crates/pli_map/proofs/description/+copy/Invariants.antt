@@ -1,5 +1,5 @@
 use Rattle.std.proofs.Common.{◌≡◌, map, take}
-use Rattle.pli_map.specs.DescriptionView.{description_view}
+use Rattle.pli_map.specs.views.DescriptionView.{description_view}
 use Rattle.pli_map.proofs.description.+copy.Given as goal
 
 -- the copies so far say what the members so far say

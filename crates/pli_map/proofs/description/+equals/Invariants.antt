@@ -1,5 +1,5 @@
 use Rattle.std.proofs.Common.{◌≡◌, length, map, take}
-use Rattle.pli_map.specs.DescriptionView.{description_view}
+use Rattle.pli_map.specs.views.DescriptionView.{description_view}
 use Rattle.pli_map.proofs.description.+equals.Given as goal
 
 -- the members so far say the same

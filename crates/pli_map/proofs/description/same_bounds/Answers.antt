@@ -1,5 +1,5 @@
 use Rattle.std.proofs.lemmas.Slice.Eq.{slice_eq-Decides}
-use Rattle.pli_map.specs.SameLaws.{bounds-Decides}
+use Rattle.pli_map.specs.laws.SameLaws.{bounds-Decides}
 use Rattle.pli_map.proofs.description.same_bounds.Goals as goal
 
 pub returns : goal.returns

@@ -1,5 +1,5 @@
 use Rattle.std.proofs.Common.{◌≡◌, ◌*◌, ap, ◌∙◌, arith}
-use Rattle.pli_map.specs.DescriptionView.{description_view}
+use Rattle.pli_map.specs.views.DescriptionView.{description_view}
 use Rattle.pli_map.specs.Sizes.{stride_of}
 use Rattle.pli_map.proofs.Elements.{found, found_part}
 use Rattle.pli_map.proofs.parts.element.Goals as goal

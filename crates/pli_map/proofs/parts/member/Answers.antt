@@ -1,6 +1,6 @@
 use Rattle.std.proofs.Common.{Some, sym, ap, ◌∙◌, arith}
 use Rattle.pli_map.specs.Parts.{PlacedPart}
-use Rattle.pli_map.specs.DescriptionView.{description_view}
+use Rattle.pli_map.specs.views.DescriptionView.{description_view}
 use Rattle.pli_map.proofs.Members.{member_past, member_within, end_of_first}
 use Rattle.pli_map.proofs.parts.member.Goals as goal
 

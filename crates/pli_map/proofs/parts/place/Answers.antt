@@ -1,7 +1,7 @@
 use Rattle.std.proofs.Common.{◌≡◌, ◌+◌, ◌∷◌, map, drop, sym, ap, ◌∙◌, arith}
 use Rattle.std.proofs.lemmas.List.{at_drop_more}
-use Rattle.pli_map.specs.DescriptionView.{description_view}
-use Rattle.pli_map.specs.PartView.{step_view, part_view}
+use Rattle.pli_map.specs.views.DescriptionView.{description_view}
+use Rattle.pli_map.specs.views.PartView.{step_view, part_view}
 use Rattle.pli_map.proofs.Paths.{further}
 use Rattle.pli_map.proofs.Places.{step_inside}
 use Rattle.pli_map.proofs.parts.place.Goals as goal

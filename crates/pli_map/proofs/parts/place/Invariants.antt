@@ -1,8 +1,8 @@
 use Rattle.std.proofs.Common.{◌≡◌, ◌≤◌, ◌+◌, map, drop, option_map}
 use Rattle.pli_map.specs.Sizes.{size_of}
-use Rattle.pli_map.specs.DescriptionView.{description_view}
+use Rattle.pli_map.specs.views.DescriptionView.{description_view}
 use Rattle.pli_map.specs.Parts.{moved, place_of}
-use Rattle.pli_map.specs.PartView.{step_view}
+use Rattle.pli_map.specs.views.PartView.{step_view}
 use Rattle.pli_map.proofs.parts.place.Given as goal
 
 -- the rest of the path leads from the part so far where the path leads from the whole

@@ -1,5 +1,5 @@
 use Rattle.std.proofs.Common.{arith}
-use Rattle.pli_map.specs.DescriptionView.{members_view}
+use Rattle.pli_map.specs.views.DescriptionView.{members_view}
 use Rattle.pli_map.proofs.Alignments.{members_positive}
 use Rattle.pli_map.proofs.sizes.+alignment.Goals as goal
 

@@ -1,6 +1,6 @@
 use Rattle.std.proofs.Common.{◌≡◌, ◌<◌, ◌≤◌, max, drop}
 use Rattle.pli_map.specs.Sizes.{greatest_alignment}
-use Rattle.pli_map.specs.DescriptionView.{members_view}
+use Rattle.pli_map.specs.views.DescriptionView.{members_view}
 use Rattle.pli_map.proofs.sizes.+alignment.Given as goal
 
 -- the greatest so far and that of what is left are the greatest of all

@@ -1,7 +1,7 @@
 use Rattle.std.proofs.Common.{◌≡◌, ◌<◌, ◌+◌, ap, arith}
 use Rattle.std.specs.Int.{next_multiple_of}
 use Rattle.pli_map.specs.Sizes.{size_of, alignment_of, end_behind}
-use Rattle.pli_map.specs.DescriptionView.{description_view, members_view}
+use Rattle.pli_map.specs.views.DescriptionView.{description_view, members_view}
 use Rattle.pli_map.proofs.Alignments.{members_positive}
 use Rattle.pli_map.proofs.Members.{over_by_member, next_member}
 use Rattle.pli_map.proofs.sizes.+measure.Goals as goal

@@ -1,6 +1,6 @@
 use Rattle.std.proofs.Common.{◌≡◌, ◌<◌, ◌≤◌, max, drop}
 use Rattle.pli_map.specs.Sizes.{greatest_alignment, end_behind}
-use Rattle.pli_map.specs.DescriptionView.{members_view}
+use Rattle.pli_map.specs.views.DescriptionView.{members_view}
 use Rattle.pli_map.proofs.sizes.+measure.Given as goal
 
 -- what is left, behind the members so far, ends where all end

@@ -1,14 +1,14 @@
 use Rattle.std.proofs.Common.{◌≡◌, arith, ap, ◌∙◌, sym}
 use Rattle.std.proofs.lemmas.Result.{err_from_is_err_and}
-use Rattle.pli_parse_statement.specs.StatementAnswers.{counted_view, inside_at, context_view, next_view}
-use Rattle.pli_base.specs.StatementLaws.{list_made}
+use Rattle.pli_parse_statement.specs.answers.StatementAnswers.{counted_view, inside_at, context_view, next_view}
+use Rattle.pli_base.specs.laws.StatementLaws.{list_made}
 use Rattle.pli_parse_statement.specs.StatementReading.{begin_at, do_at, list_in, statement_at, next_of, EndsHere, Another}
-use Rattle.pli_base.specs.StatementView.{statement_view}
+use Rattle.pli_base.specs.views.StatementView.{statement_view}
 use Rattle.pli_parse.proofs.StatementClauses.{alternative_fails}
 use Rattle.pli_parse.proofs.StatementRows.{goes_on, statement_fails, end_fails, ends, one_more}
-use Rattle.pli_base.specs.SyntaxView.{expression_view}
+use Rattle.pli_base.specs.views.SyntaxView.{expression_view}
 use Rattle.pli_parse.proofs.reader.+reader.Goals as goal
-use Rattle.pli_base.specs.ReadingAnswers.{front_view}
+use Rattle.pli_base.specs.answers.ReadingAnswers.{front_view}
 
 pub begin_at-returns-clause-value : goal.begin_at-returns-clause-value
 unfolding begin_at

@@ -1,8 +1,8 @@
 use Rattle.std.proofs.Common.{◌≡◌, ◌≤◌, ◌+◌, ◌*◌, length}
 use Rattle.pli_base.specs.Statements.{list_count}
-use Rattle.pli_base.specs.StatementView.{statements_view}
+use Rattle.pli_base.specs.views.StatementView.{statements_view}
 use Rattle.pli_parse_statement.specs.StatementReading.{list_in, statement_at}
-use Rattle.pli_parse_statement.specs.StatementAnswers.{inside_at, context_view}
+use Rattle.pli_parse_statement.specs.answers.StatementAnswers.{inside_at, context_view}
 use Rattle.pli_parse.proofs.StatementRows.{RowsLeft}
 use Rattle.pli_parse.proofs.reader.+reader.Given as goal
 

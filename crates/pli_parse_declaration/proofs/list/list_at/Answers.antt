@@ -1,7 +1,7 @@
 use Rattle.std.proofs.Common.{arith, map, ◌≡◌, ◌++◌, ◌∷◌, []}
 use Rattle.std.proofs.lemmas.Result.{err_from_is_err_and}
 use Rattle.std.proofs.lemmas.List.{map_push}
-use Rattle.pli_base.specs.ReadingAnswers.{front_view}
+use Rattle.pli_base.specs.answers.ReadingAnswers.{front_view}
 use Rattle.pli_parse_declaration.specs.DeclarationReading.{list_at}
 use Rattle.pli_parse_declaration.proofs.DeclarationLists.{fails, goes_on, is_done}
 use Rattle.pli_parse_declaration.proofs.list.list_at.Goals as goal

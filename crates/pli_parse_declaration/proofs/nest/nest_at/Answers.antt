@@ -1,7 +1,7 @@
 use Rattle.std.proofs.Common.{sym, ◌∙◌, arith}
 use Rattle.std.proofs.lemmas.Result.{err_from_is_err_and}
 use Rattle.pli_parse_declaration.specs.DeclarationReading.{nest_at}
-use Rattle.pli_parse_declaration.specs.DeclarationAnswers.{walk_view}
+use Rattle.pli_parse_declaration.specs.answers.DeclarationAnswers.{walk_view}
 use Rattle.pli_parse_declaration.proofs.DeclarationNests.{begins, fails, goes_on, is_done}
 use Rattle.pli_parse_declaration.proofs.nest.nest_at.Goals as goal
 

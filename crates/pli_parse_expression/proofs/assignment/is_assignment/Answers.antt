@@ -1,7 +1,7 @@
 use Rattle.std.proofs.Common.{◌+◌, [], drop, ap, ◌∙◌, sym, arith}
 use Rattle.pli_parse_expression.specs.Assignments as test
 use Rattle.pli_parse_expression.specs.Assignments.{accepts, move, kind_of, is_assignment}
-use Rattle.pli_parse_expression.specs.Tests.{state_view, frame_view, move_view, onto, answered}
+use Rattle.pli_parse_expression.specs.answers.Tests.{state_view, frame_view, move_view, onto, answered}
 use Rattle.pli_parse_expression.proofs.Frames.{step_on, no_token}
 use Rattle.pli_parse_expression.proofs.assignment.is_assignment.Goals as goal
 

@@ -1,6 +1,6 @@
 use Rattle.std.proofs.Common.{◌≡◌, [], drop}
 use Rattle.pli_parse_expression.specs.Assignments.{accepts, is_assignment}
-use Rattle.pli_parse_expression.specs.Tests.{state_view, frame_view, onto}
+use Rattle.pli_parse_expression.specs.answers.Tests.{state_view, frame_view, onto}
 use Rattle.pli_parse_expression.proofs.assignment.is_assignment.Given as goal
 
 -- the pass over what is left says what the test says

@@ -1,5 +1,5 @@
 use Rattle.std.proofs.Common.{ap}
-use Rattle.pli_parse_expression.specs.Tests.{state_view, frame_view, move_view}
+use Rattle.pli_parse_expression.specs.answers.Tests.{state_view, frame_view, move_view}
 use Rattle.pli_parse_expression.proofs.Frames.{entered, left}
 use Rattle.pli_parse_expression.proofs.assignment.moved.Goals as goal
 

@@ -1,12 +1,12 @@
 use Rattle.std.proofs.Common.{◌≡◌, ◌++◌, ◌∷◌, [], ◌+◌, option_map, Ok, Vec, Global, refl, ap, ◌∙◌, sym, arith}
 use Rattle.std.proofs.lemmas.Result.{err_from_is_err_and}
-use Rattle.pli_base.specs.SyntaxView.{expression_view, joined_view}
-use Rattle.pli_base.specs.SyntaxLaws.{reference_made}
+use Rattle.pli_base.specs.views.SyntaxView.{expression_view, joined_view}
+use Rattle.pli_base.specs.laws.SyntaxLaws.{reference_made}
 use Rattle.pli_base.specs.declared.syntax.JoinedPart.{JoinedPart, roll-JoinedPart}
 use Rattle.pli_base.specs.declared.syntax.Part.{roll-Part}
 use Rattle.pli_parse_expression.specs.Reading.{infix_from, operand_at, inside, argument_of, listed_at, joined_from}
-use Rattle.pli_parse_expression.specs.Answers.{front_view}
-use Rattle.pli_base.specs.SyntaxView.{arguments_view}
+use Rattle.pli_parse_expression.specs.answers.Answers.{front_view}
+use Rattle.pli_base.specs.views.SyntaxView.{arguments_view}
 use Rattle.pli_parse_expression.proofs.Loops.{too_many, operand_fails, right_fails, goes_on, operators_end, no_name, arguments_fail, part_goes_on, parts_begin, parts_end, one_fails, list_goes_on, first_fails, list_begins, close_fails, list_ends, reference_done}
 use Rattle.pli_parse_expression.proofs.expression.+expression.Goals as goal
 

@@ -2,11 +2,11 @@ use Rattle.std.proofs.Common.{arith, map, ◌≡◌, ◌+◌, ◌++◌, ◌∷�
 use Rattle.std.proofs.lemmas.Result.{err_from_is_err_and}
 use Rattle.std.proofs.lemmas.List.{map_push}
 use Rattle.pli_parse_statement.specs.StatementReading.{options_from}
-use Rattle.pli_parse_statement.specs.StatementAnswers as answers
-use Rattle.pli_base.specs.StatementView.{option_view}
+use Rattle.pli_parse_statement.specs.answers.StatementAnswers as answers
+use Rattle.pli_base.specs.views.StatementView.{option_view}
 use Rattle.pli_parse_statement.proofs.StatementOptions.{goes_on, fails, is_done}
 use Rattle.pli_parse_statement.proofs.heading.options_from.Goals as goal
-use Rattle.pli_base.specs.ReadingAnswers.{front_view}
+use Rattle.pli_base.specs.answers.ReadingAnswers.{front_view}
 
 pub returns-in_err-read-clause-value : goal.returns-in_err-read-clause-value
 returns-in_err-read-clause-value c =

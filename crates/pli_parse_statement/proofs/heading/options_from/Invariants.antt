@@ -1,6 +1,6 @@
 use Rattle.std.proofs.Common.{◌≡◌, ◌≤◌, ◌+◌, length, map}
 use Rattle.pli_parse_statement.specs.StatementReading.{options_from}
-use Rattle.pli_base.specs.StatementView.{option_view}
+use Rattle.pli_base.specs.views.StatementView.{option_view}
 use Rattle.pli_parse_statement.proofs.StatementOptions.{OptionsLeft}
 use Rattle.pli_parse_statement.proofs.heading.options_from.Given as goal
 

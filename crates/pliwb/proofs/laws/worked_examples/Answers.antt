@@ -1,6 +1,6 @@
 use Rattle.std.proofs.Common.{refl}
 use Rattle.clap.proofs.OnLiterals.{clap_on_literals}
-use Rattle.pliwb.specs.Examples.{NoWords, FiveSteps, StepsAreNoNumber, FileIsNoWord, HelpIsAsked}
+use Rattle.pliwb.specs.examples.Examples.{NoWords, FiveSteps, StepsAreNoNumber, FileIsNoWord, HelpIsAsked}
 use Rattle.pliwb.proofs.laws.worked_examples.Goals as goal
 
 no_words : NoWords

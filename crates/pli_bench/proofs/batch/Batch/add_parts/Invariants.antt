@@ -1,6 +1,6 @@
 use Rattle.std.specs.Prelude.{◌≡◌, ◌++◌, map, drop}
-use Rattle.pli_bench.specs.Answering.{joined}
-use Rattle.pli_bench.specs.Batches.{HasPut}
+use Rattle.pli_bench.specs.answers.Answering.{joined}
+use Rattle.pli_bench.specs.answers.Batches.{HasPut}
 use Rattle.pli_bench.proofs.batch.Batch.add_parts.Given as goal
 
 -- the parts so far are put or wait

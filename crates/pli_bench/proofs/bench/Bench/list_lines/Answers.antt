@@ -2,7 +2,7 @@ use Rattle.std.specs.Prelude.{◌++◌}
 use Rattle.std.proofs.Common.{sym, ap, ◌∙◌}
 use Rattle.std.specs.Option.{option_copied}
 use Rattle.std.proofs.lemmas.Result.{err_from_is_err_and}
-use Rattle.pli_base.specs.DeviceLaws.{AppendsPrefix-more}
+use Rattle.pli_base.specs.laws.DeviceLaws.{AppendsPrefix-more}
 use Rattle.pli_members.specs.declared.refusal.Refusal.TheVariants.{NoSuchMember}
 use Rattle.pli_bench.specs.Session.{okay, refused, numbered_lines}
 use Rattle.pli_bench.proofs.ObeyLaws.{lists_none, lists, writes_then}

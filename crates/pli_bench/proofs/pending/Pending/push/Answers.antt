@@ -1,6 +1,6 @@
 use Rattle.std.proofs.Common.{◌≡◌, ℕ, ◌+◌, ◌<◌, ◌≤◌, List, [], ◌∷◌, ◌++◌, length, take, slice_set, sym, ap, ◌∙◌, arith, take_all, length-take-le}
 use Rattle.std.proofs.lemmas.List.{take_more_set, length_push, take-append-le}
-use Rattle.pli_bench.specs.Kept.{kept_limit}
+use Rattle.pli_bench.specs.answers.Kept.{kept_limit}
 use Rattle.pli_bench.proofs.pending.Pending.push.Goals as goal
 
 -- a byte for which there is room is stored

@@ -1,7 +1,7 @@
 use Rattle.std.proofs.Common.{◌≡◌, drop, map}
 use Rattle.std.specs.List.{list_all}
-use Rattle.pli_base.specs.DeclarationView.{attribute_view}
-use Rattle.pli_declare_outline.specs.OutlineView.{outline_view}
+use Rattle.pli_base.specs.views.DeclarationView.{attribute_view}
+use Rattle.pli_declare_outline.specs.views.OutlineView.{outline_view}
 use Rattle.pli_declare.specs.Resolution.{attribute_is_good}
 use Rattle.pli_declare.proofs.known.Known.attributes_are_good.Given as goal
 

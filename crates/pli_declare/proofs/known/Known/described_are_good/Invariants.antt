@@ -1,7 +1,7 @@
 use Rattle.std.proofs.Common.{◌≡◌, drop, map}
 use Rattle.std.specs.List.{list_all}
-use Rattle.pli_base.specs.DeclarationView.{described_view}
-use Rattle.pli_declare_outline.specs.OutlineView.{outline_view}
+use Rattle.pli_base.specs.views.DeclarationView.{described_view}
+use Rattle.pli_declare_outline.specs.views.OutlineView.{outline_view}
 use Rattle.pli_declare.specs.Resolution.{described_is_good}
 use Rattle.pli_declare.proofs.known.Known.described_are_good.Given as goal
 

@@ -1,8 +1,8 @@
 use Rattle.std.proofs.Common.{◌≡◌, Bool, drop, map}
 use Rattle.std.specs.List.{list_all}
 use Rattle.pli_base.specs.Declarations.{ParameterDescription}
-use Rattle.pli_base.specs.DeclarationView.{parameter_view}
-use Rattle.pli_declare_outline.specs.OutlineView.{outline_view}
+use Rattle.pli_base.specs.views.DeclarationView.{parameter_view}
+use Rattle.pli_declare_outline.specs.views.OutlineView.{outline_view}
 use Rattle.pli_declare.specs.Resolution.{described_is_good}
 use Rattle.pli_declare.proofs.known.Known.descriptions_are_good.Given as goal
 

@@ -1,6 +1,6 @@
 use Rattle.std.proofs.Common.{◌+◌, ◌<◌, length, get_or, ap, sym, ◌∙◌, subst}
 use Rattle.std.proofs.lemmas.List.{length-map}
-use Rattle.pli_declare_outline.specs.OutlineView.{outline_view, region_view}
+use Rattle.pli_declare_outline.specs.views.OutlineView.{outline_view, region_view}
 use Rattle.pli_declare_tables.specs.Tables.{entries_in}
 use Rattle.pli_declare_variables.specs.Judging.{all_judged, judged_at}
 use Rattle.pli_declare.specs.Resolution.{parameters_of}

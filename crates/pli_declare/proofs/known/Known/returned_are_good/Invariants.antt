@@ -1,7 +1,7 @@
 use Rattle.std.proofs.Common.{◌≡◌, drop, map}
 use Rattle.std.specs.List.{list_all}
-use Rattle.pli_base.specs.StatementView.{option_view, unit_view}
-use Rattle.pli_declare_outline.specs.OutlineView.{outline_view}
+use Rattle.pli_base.specs.views.StatementView.{option_view, unit_view}
+use Rattle.pli_declare_outline.specs.views.OutlineView.{outline_view}
 use Rattle.pli_declare.specs.Resolution.{described_is_good, returned_are}
 use Rattle.pli_declare_variables.specs.Declarations.{returned_by}
 use Rattle.pli_declare.proofs.known.Known.returned_are_good.Given as goal

@@ -1,7 +1,7 @@
 use Rattle.std.proofs.Common.{◌≡◌, false}
-use Rattle.pli_declare_outline.specs.OutlineView.{regions_view}
+use Rattle.pli_declare_outline.specs.views.OutlineView.{regions_view}
 use Rattle.pli_declare_constructs.specs.Regions.{round_of}
-use Rattle.pli_declare_constructs.specs.ReachSteps.{reaches_through}
+use Rattle.pli_declare_constructs.specs.answers.ReachSteps.{reaches_through}
 use Rattle.pli_declare_constructs.proofs.nesting.Nesting.reaches.Given as goal
 
 -- from here on outwards it is as from the beginning

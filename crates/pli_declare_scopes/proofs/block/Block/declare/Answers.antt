@@ -3,7 +3,7 @@ use Rattle.indexmap.specs.IndexMap.{get}
 use Rattle.pli_base.specs.Words.{same_name}
 use Rattle.pli_declare_scopes.specs.declared.found.Found.TheVariants.{Nothing}
 use Rattle.pli_declare_scopes.specs.Scopes.{with_number}
-use Rattle.pli_declare_scopes.specs.Indexes.{IsIndexed}
+use Rattle.pli_declare_scopes.specs.answers.Indexes.{IsIndexed}
 use Rattle.pli_declare_scopes.proofs.IndexKept.{indexed_more}
 use Rattle.std.specs.Option.{unwrap_or}
 use Rattle.pli_declare_scopes.proofs.MeantMeans.{same_from}

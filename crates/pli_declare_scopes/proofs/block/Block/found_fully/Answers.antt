@@ -5,7 +5,7 @@ use Rattle.std.proofs.lemmas.List.{get_or_default}
 use Rattle.pli_declare_scopes.specs.declared.path.Step.{Step}
 use Rattle.pli_declare_scopes.specs.declared.found.Found.TheVariants.{Nothing}
 use Rattle.pli_declare_scopes.specs.Scopes.{fits_fully, found_below}
-use Rattle.pli_declare_scopes.specs.Paths.{Spells}
+use Rattle.pli_declare_scopes.specs.answers.Paths.{Spells}
 use Rattle.pli_declare_scopes.proofs.Chains.{backwards, none_is}
 use Rattle.pli_declare_scopes.proofs.PathsKept.{path_within, full_found, none_full, missed_full, found_step, missed_step}
 use Rattle.pli_declare_scopes.proofs.block.Block.found_fully.Goals as goal

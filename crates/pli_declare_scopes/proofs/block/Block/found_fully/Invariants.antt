@@ -1,6 +1,6 @@
 use Rattle.std.proofs.Common.{take}
 use Rattle.std.specs.Prelude.{reverse}
-use Rattle.pli_declare_scopes.specs.Paths.{Spells}
+use Rattle.pli_declare_scopes.specs.answers.Paths.{Spells}
 use Rattle.pli_declare_scopes.proofs.block.Block.found_fully.Given as goal
 
 abbrev pub invariant-loop-name : goal.invariant-loop-name

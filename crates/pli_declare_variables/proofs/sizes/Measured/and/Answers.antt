@@ -1,6 +1,6 @@
 use Rattle.std.proofs.Common.{subst, sym}
 use Rattle.pli_declare_variables.specs.Descriptions.{member_then}
-use Rattle.pli_declare_variables.specs.Measures.{IsMeasured, IsFront}
+use Rattle.pli_declare_variables.specs.answers.Measures.{IsMeasured, IsFront}
 use Rattle.pli_declare_variables.proofs.Measuring.{both_known, over_member}
 use Rattle.pli_declare_variables.proofs.sizes.Measured.and.Goals as goal
 

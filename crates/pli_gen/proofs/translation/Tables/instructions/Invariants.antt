@@ -1,5 +1,5 @@
 use Rattle.std.proofs.Common.{◌≡◌, ◌++◌, map, drop}
-use Rattle.pli_lower.specs.LoweredView.{statement_view}
+use Rattle.pli_lower.specs.views.LoweredView.{statement_view}
 use Rattle.pli_gen.specs.Translation.{statements_code}
 use Rattle.pli_gen.proofs.translation.Tables.instructions.Given as goal
 

@@ -1,6 +1,6 @@
 use Rattle.std.proofs.Common.{◌≡◌, ◌++◌, map, drop}
 use Rattle.std.specs.List.{flat_map}
-use Rattle.pli_lower.specs.LoweredView.{expression_view}
+use Rattle.pli_lower.specs.views.LoweredView.{expression_view}
 use Rattle.pli_gen.specs.Translation.{item_code}
 use Rattle.pli_gen.proofs.translation.Tables.items.Given as goal
 

@@ -1,7 +1,7 @@
 use Rattle.std.proofs.Common.{◌≡◌, List, [], ◌∷◌, ◌++◌, get_or, sym, ap, subst, ◌∙◌, if◌then◌else◌}
 use Rattle.pli_base.specs.declared.token.Token.{Token}
 use Rattle.pli_include.specs.Expanded.{look_in}
-use Rattle.pli_include.specs.Walking.{Finds, going}
+use Rattle.pli_include.specs.answers.Walking.{Finds, going}
 use Rattle.pli_include.proofs.TextsHeld.{held_at}
 use Rattle.pli_include.proofs.WalkGoesOn.{enters_open, enters_none, enters_faulty, enters, under_way_push}
 use Rattle.pli_include.proofs.walk.Walk.enter.Goals as goal

@@ -7,7 +7,7 @@ use Rattle.pli_members.specs.Members.{Store}
 use Rattle.pli_include.specs.declared.walk.Walk.{Walk}
 use Rattle.pli_include.specs.Expanded.{look_in}
 use Rattle.pli_include.specs.Expansion.{Progress, Outcome, ◌then◌}
-use Rattle.pli_include.specs.Walking.{goes_on, ended, include_from, going}
+use Rattle.pli_include.specs.answers.Walking.{goes_on, ended, include_from, going}
 use Rattle.pli_include.proofs.WalkGoesOn.{unit_read}
 use Rattle.pli_include.proofs.walk.Walk.read.Goals as goal
 

@@ -1,7 +1,7 @@
 use Rattle.std.proofs.Common.{◌≡◌, [], sym, ap, ◌∙◌, rules}
 use Rattle.std.proofs.lemmas.List.{nil_from_length}
 use Rattle.pli_include.specs.Expanded.{look_in}
-use Rattle.pli_include.specs.Walking.{going}
+use Rattle.pli_include.specs.answers.Walking.{going}
 use Rattle.pli_include.proofs.WalkGoesOn.{going_none}
 use Rattle.pli_include.proofs.walk.Walk.run.Goals as goal
 

@@ -1,6 +1,6 @@
 use Rattle.std.proofs.Common.{◌≡◌, []}
 use Rattle.pli_include.specs.Expanded.{look_in}
-use Rattle.pli_include.specs.Walking.{IsUnderWay, going, work_left}
+use Rattle.pli_include.specs.answers.Walking.{IsUnderWay, going, work_left}
 use Rattle.pli_include.proofs.walk.Walk.run.Given as goal
 
 -- going on from here is what going on from the start is

@@ -9,8 +9,8 @@ use Rattle.pli_include.specs.declared.expansion.ExpansionFault.{ExpansionFault}
 use Rattle.pli_include.specs.declared.walk.OpenMember.{OpenMember}
 use Rattle.pli_include.specs.Expanded.{look_in}
 use Rattle.pli_include.specs.Expansion.{Look, Progress, Outcome, ◌then◌}
-use Rattle.pli_include.specs.Pausing.{Reads}
-use Rattle.pli_include.specs.Walking.{IsUnderWay, going, goes_on, include_from}
+use Rattle.pli_include.specs.answers.Pausing.{Reads}
+use Rattle.pli_include.specs.answers.Walking.{IsUnderWay, going, goes_on, include_from}
 use Rattle.pli_include.proofs.TextsHeld.{held_at}
 use Rattle.pli_include.proofs.WalkGoesOn.{names_of, names_push, slot_of, steps_end, steps_fault, steps_into, pops, under_way_pop, under_way_on}
 use Rattle.pli_include.proofs.walk.Walk.step.Goals as goal

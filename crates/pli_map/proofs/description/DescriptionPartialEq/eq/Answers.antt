@@ -1,4 +1,4 @@
-use Rattle.pli_map.specs.SameLaws.{same_answer}
+use Rattle.pli_map.specs.laws.SameLaws.{same_answer}
 use Rattle.pli_map.proofs.description.DescriptionPartialEq.eq.Goals as goal
 
 pub returns : goal.returns

@@ -1,9 +1,9 @@
 use Rattle.std.proofs.Common.{◌≡◌, [], ap, ◌∙◌, arith}
 use Rattle.std.specs.List.{insert}
 use Rattle.pli_base.specs.Name.{Name}
-use Rattle.pli_members.specs.Fields.{next_version}
+use Rattle.pli_members.specs.views.Fields.{next_version}
 use Rattle.pli_members.specs.Members.{Store, Member, added, name_order}
-use Rattle.pli_members.specs.Search.{IsGap, IsStep}
+use Rattle.pli_members.specs.answers.Search.{IsGap, IsStep}
 use Rattle.pli_members.proofs.EditsByKey.{length-put}
 use Rattle.pli_members.proofs.StaysKept.{kept_with_member, inserted_is_added}
 use Rattle.pli_members.proofs.members.Members.add.Goals as goal

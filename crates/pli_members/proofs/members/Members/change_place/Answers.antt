@@ -1,6 +1,6 @@
 use Rattle.std.proofs.Common.{◌≡◌, sym, None}
 use Rattle.std.proofs.lemmas.Result.{err_from_is_err_and}
-use Rattle.pli_members.specs.ChangeView.{change_view}
+use Rattle.pli_members.specs.views.ChangeView.{change_view}
 use Rattle.pli_members.specs.Refusals.{refusal_of_lines}
 use Rattle.pli_members.proofs.ChangeDoes.{clear_at_place, refused_exhausted, not_refused}
 use Rattle.pli_members.proofs.members.Members.change_place.Goals as goal

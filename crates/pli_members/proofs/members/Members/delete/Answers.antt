@@ -1,8 +1,8 @@
 use Rattle.std.proofs.Common.{List, ap, ◌∙◌}
 use Rattle.pli_base.specs.Name.{Name}
-use Rattle.pli_members.specs.Fields.{next_version}
+use Rattle.pli_members.specs.views.Fields.{next_version}
 use Rattle.pli_members.specs.Members.{Store, Member}
-use Rattle.pli_members.specs.Search.{IsPlace}
+use Rattle.pli_members.specs.answers.Search.{IsPlace}
 use Rattle.pli_members.proofs.StaysKept.{kept_deleted}
 use Rattle.pli_members.proofs.members.Members.delete.Goals as goal
 

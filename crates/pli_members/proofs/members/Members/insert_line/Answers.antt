@@ -1,8 +1,8 @@
 use Rattle.std.proofs.Common.{set, refl, ap}
 use Rattle.std.specs.List.{insert}
-use Rattle.pli_members.specs.Fields.{next_version}
+use Rattle.pli_members.specs.views.Fields.{next_version}
 use Rattle.pli_members.specs.Members.{Store, Change, Insert}
-use Rattle.pli_members.specs.Search.{CanChange}
+use Rattle.pli_members.specs.answers.Search.{CanChange}
 use Rattle.pli_members.proofs.ChangeDoes.{insertion_from_none, entry_at_place, change_is_with_change, kept_with_change}
 use Rattle.pli_members.proofs.members.Members.insert_line.Goals as goal
 

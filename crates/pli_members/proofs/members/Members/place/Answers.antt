@@ -1,6 +1,6 @@
 use Rattle.std.proofs.Common.{rules}
 use Rattle.std.proofs.lemmas.List.Sorted.{answers_always}
-use Rattle.pli_members.specs.Fields.{next_version}
+use Rattle.pli_members.specs.views.Fields.{next_version}
 use Rattle.pli_members.proofs.SearchFinds.{searched}
 use Rattle.pli_members.proofs.members.Members.place.Goals as goal
 

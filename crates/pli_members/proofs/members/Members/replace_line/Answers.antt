@@ -1,7 +1,7 @@
 use Rattle.std.proofs.Common.{◌-◌, ◌<◌, length, set, refl, ap, arith}
-use Rattle.pli_members.specs.Fields.{next_version}
+use Rattle.pli_members.specs.views.Fields.{next_version}
 use Rattle.pli_members.specs.Members.{Store, Change, Replace}
-use Rattle.pli_members.specs.Search.{CanChange}
+use Rattle.pli_members.specs.answers.Search.{CanChange}
 use Rattle.pli_members.proofs.ChangeDoes.{replacement_from_none, entry_at_place, change_is_with_change, kept_with_change}
 use Rattle.pli_members.proofs.members.Members.replace_line.Goals as goal
 

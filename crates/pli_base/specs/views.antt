@@ -1,0 +1,4 @@
+pub mod NameFields
+pub mod SyntaxView
+pub mod DeclarationView
+pub mod StatementView

@@ -1,7 +1,0 @@
--- What a part of a reference says that is joined to others, as a list of the tree that has it alone.
-use Rattle.pli_base.specs.Syntax.{JoinedParts, Alone, Joined}
-use Rattle.pli_base.specs.SyntaxView.{arguments_view}
-use Rattle.pli_base.specs.declared.syntax.JoinedPart.{JoinedPart}
-
-abbrev pub part_view : JoinedPart → JoinedParts
-part_view x = Joined x.joining x.part.name (arguments_view x.part.arguments) Alone

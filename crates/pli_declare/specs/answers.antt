@@ -1,0 +1,4 @@
+pub mod Answers
+pub mod Looking
+pub mod Walks
+pub mod Targets

@@ -1,0 +1,2 @@
+pub mod ResolutionExamples
+pub mod ResolvedExamples

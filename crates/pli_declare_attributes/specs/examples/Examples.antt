@@ -1,0 +1,254 @@
+-- Worked examples: items with their faults, and what they are completed to.
+use Rattle.std.specs.Prelude.{◌≡◌, ℕ, true, false, pos, Option, Some, None, List, [], ◌∷◌, map}
+use Rattle.pli_base.specs.declared.code.Code.{Code}
+use Rattle.pli_base.specs.declared.code.Code.TheVariants.{AttributesConflict, AttributesMissing, BadPrecision}
+use Rattle.pli_base.specs.declared.code.Code.TheVariants.{BadLength, BadBounds, BadInitial}
+use Rattle.pli_base.specs.declared.code.Code.TheVariants.{AreaNotAllowedHere, GenerationTooLarge}
+use Rattle.pli_base.specs.Declarations.{SimpleAttribute, Fixed, Binary, Character, Bit, Varying, Pointer}
+use Rattle.pli_base.specs.Declarations.{Offset, Area, Based, Controlled, Static, Automatic, External}
+use Rattle.pli_base.specs.Declarations.{Internal, Builtin, Initial, Attribute, Simple, Entry, Returns, Plain}
+use Rattle.pli_base.specs.Declarations.{AnyEntry, Item}
+use Rattle.pli_base.specs.declared.declaration.Bounds.{Bounds}
+use Rattle.pli_base.specs.declared.declaration.InitialValue.{InitialValue}
+use Rattle.pli_base.specs.declared.declaration.InitialValue.TheVariants as initial
+use Rattle.pli_map.specs.Description as type
+use Rattle.pli_declare_attributes.specs.Completed.{Completed, OfVariable, OfEntry, OfBuiltIn, completed_of}
+use Rattle.pli_declare_attributes.specs.Faults.{item_fault, result_fault}
+use Rattle.pli_declare_attributes.specs.declared.place.Place.{Place}
+use Rattle.pli_declare_attributes.specs.declared.place.Position.TheVariants as position
+use Rattle.pli_declare_attributes.specs.declared.completed.Storage.{Storage}
+use Rattle.pli_declare_attributes.specs.declared.completed.Scope.{Scope}
+use Rattle.pli_declare_attributes.specs.declared.completed.Storage.TheVariants as storage
+use Rattle.pli_declare_attributes.specs.declared.completed.Scope.TheVariants as scope
+
+-- at level 1, without members
+abbrev pub alone : Place
+alone =
+    record {
+      position = position.AtLevelOne;
+      has_members = false;
+      in_array = false;
+      elements_above = Some 1;
+      built_in_name = false;
+    }
+
+abbrev pub above_members : Place
+above_members =
+    record {
+      position = position.AtLevelOne;
+      has_members = true;
+      in_array = false;
+      elements_above = Some 1;
+      built_in_name = false;
+    }
+
+abbrev pub member : Place
+member =
+    record {
+      position = position.Member;
+      has_members = false;
+      in_array = false;
+      elements_above = Some 1;
+      built_in_name = false;
+    }
+
+abbrev pub parameter : Place
+parameter =
+    record {
+      position = position.Parameter;
+      has_members = false;
+      in_array = false;
+      elements_above = Some 1;
+      built_in_name = false;
+    }
+
+-- BUILTIN
+abbrev pub built_in : Place
+built_in =
+    record {
+      position = position.AtLevelOne;
+      has_members = false;
+      in_array = false;
+      elements_above = Some 1;
+      built_in_name = true;
+    }
+
+-- an item of these dimensions and attributes
+abbrev pub item : List Bounds → List Attribute → Item
+item dimensions attributes =
+    record { level = None; names = []; dimensions = dimensions; attributes = attributes }
+
+abbrev pub simple : List SimpleAttribute → Item
+simple attributes = item [] (map Simple attributes)
+
+-- from 1 to n
+abbrev pub up_to : ℕ → Bounds
+up_to n = record { low = None; high = record { negative = false; value = n } }
+
+abbrev pub Faulty : Place → Item → Code → Type 0
+Faulty p i code = item_fault p i ≡ Some code
+
+abbrev pub Is : Place → Item → Completed → Type 0
+Is p i completed = (item_fault p i ≡ None) × (completed_of p i ≡ completed)
+
+-- a number n, this often
+abbrev pub times : Option ℕ → ℕ → InitialValue
+times factor n = initial.Integer factor (record { negative = false; value = n })
+
+abbrev pub variable : type.Description → Option Storage → Scope → Completed
+variable d where_from known =
+    OfVariable (record {
+      description = Some d;
+      bounds = [];
+      storage = where_from;
+      scope = known;
+      initial = [];
+    })
+
+-- `BIN(31) FIXED`, `FIXED BIN`, `BIT`, `AREA`, and `CHAR VAR` of a parameter
+abbrev pub Defaults : Type 0
+Defaults =
+    Is alone (simple (Binary (Some 31) ∷ Fixed None
+    ∷ [])) (variable (type.FixedBinary 31) (Some storage.Automatic) scope.Internal)
+    × Is alone (simple (Fixed None ∷ Binary None
+    ∷ [])) (variable (type.FixedBinary 15) (Some storage.Automatic) scope.Internal)
+    × Is alone (simple (Bit None ∷ [])) (variable (type.Bit 1) (Some storage.Automatic) scope.Internal)
+    × Is alone (simple (Area None ∷ [])) (variable (type.Area 1000) (Some storage.Automatic) scope.Internal)
+    × Is parameter (simple (Character None ∷ Varying ∷ [])) (variable (type.Varying 1) None scope.Internal)
+
+-- EXTERNAL implies STATIC unless CONTROLLED stands
+abbrev pub StorageClasses : Type 0
+StorageClasses =
+    Is alone (simple (Pointer ∷ External ∷ [])) (variable type.Pointer (Some storage.Static) scope.External)
+    × Is alone (simple (Pointer ∷ External ∷ Controlled
+    ∷ [])) (variable type.Pointer (Some storage.Controlled) scope.External)
+    × Is alone (simple (Offset None ∷ Based None
+    ∷ [])) (variable type.Offset (Some storage.Based) scope.Internal)
+
+-- `(0:3, 2) FIXED BIN INIT(1, (7) 2)`: eight elements
+abbrev pub Arrays : Type 0
+Arrays =
+    Is alone (item (record {
+      low = Some (record { negative = false; value = 0 });
+      high = record { negative = false; value = 3 };
+    } ∷ up_to 2 ∷ [])
+    (Simple (Fixed None) ∷ Simple (Binary None) ∷ Simple (Initial (times None 1 ∷ times (Some 7) 2 ∷ []))
+    ∷ []))
+    (OfVariable (record {
+      description = Some (type.FixedBinary 15);
+      bounds = record { low = pos 0; high = pos 3 } ∷ record { low = pos 1; high = pos 2 } ∷ [];
+      storage = Some storage.Automatic;
+      scope = scope.Internal;
+      initial = times None 1 ∷ times (Some 7) 2 ∷ [];
+    }))
+
+-- a structure has no type of its own
+abbrev pub Structures : Type 0
+Structures =
+    Is above_members (simple (Static ∷ []))
+    (OfVariable (record {
+      description = None;
+      bounds = [];
+      storage = Some storage.Static;
+      scope = scope.Internal;
+      initial = [];
+    }))
+
+-- `ENTRY((5) BIT, CHAR(3)) RETURNS(PTR)`, `ENTRY EXTERNAL` and `BUILTIN`
+abbrev pub Entries : Type 0
+Entries =
+    Is alone (item [] (Entry (Some (
+    record { dimensions = up_to 5 ∷ []; attributes = Plain (Bit None) ∷ [] }
+    ∷ record { dimensions = []; attributes = Plain (Character (Some 3)) ∷ [] } ∷ []))
+    ∷ Returns (Plain Pointer ∷ []) ∷ []))
+    (OfEntry (type.Array (record { low = pos 1; high = pos 5 } ∷ []) (type.Bit 1) ∷ type.Character 3
+    ∷ []) (Some type.Pointer))
+    × Is alone (item [] (Entry None ∷ Simple External ∷ [])) (OfEntry [] None)
+    × Is built_in (simple (Builtin ∷ [])) OfBuiltIn
+
+-- twice; two types; VARYING without CHARACTER; a precision after both FIXED and BINARY
+abbrev pub TypesConflict : Type 0
+TypesConflict =
+    Faulty alone (simple (Bit None ∷ Bit None ∷ [])) AttributesConflict
+    × Faulty alone (simple (Fixed None ∷ Binary None ∷ Pointer ∷ [])) AttributesConflict
+    × Faulty alone (simple (Varying ∷ [])) AttributesConflict
+    × Faulty alone (simple (Bit None ∷ Varying ∷ [])) AttributesConflict
+    × Faulty alone (simple (Fixed (Some 5) ∷ Binary (Some 5) ∷ [])) AttributesConflict
+
+-- two storage classes; EXTERNAL with BASED and with INTERNAL; storage below level 1 and of a parameter;
+-- INITIAL of a parameter
+abbrev pub StorageConflicts : Type 0
+StorageConflicts =
+    Faulty alone (simple (Bit None ∷ Automatic ∷ Static ∷ [])) AttributesConflict
+    × Faulty alone (simple (Bit None ∷ External ∷ Based None ∷ [])) AttributesConflict
+    × Faulty alone (simple (Bit None ∷ External ∷ Internal ∷ [])) AttributesConflict
+    × Faulty member (simple (Bit None ∷ Static ∷ [])) AttributesConflict
+    × Faulty parameter (simple (Bit None ∷ Static ∷ [])) AttributesConflict
+    × Faulty parameter (simple (Pointer ∷ Initial (initial.Null ∷ []) ∷ [])) AttributesConflict
+
+-- ENTRY with INTERNAL, with dimensions and as a member; BUILTIN beside another attribute and on another name;
+-- a data attribute of a structure
+abbrev pub OtherConflicts : Type 0
+OtherConflicts =
+    Faulty alone (item [] (Entry None ∷ Simple Internal ∷ [])) AttributesConflict
+    × Faulty alone (item (up_to 2 ∷ []) (Entry None ∷ [])) AttributesConflict
+    × Faulty member (item [] (Entry None ∷ [])) AttributesConflict
+    × Faulty built_in (simple (Builtin ∷ Internal ∷ [])) AttributesConflict
+    × Faulty alone (simple (Builtin ∷ [])) AttributesConflict
+    × Faulty above_members (simple (Bit None ∷ [])) AttributesConflict
+
+-- nothing; one of FIXED and BINARY, whatever its precision; RETURNS without ENTRY, which beside a data
+-- attribute or members is a conflict
+abbrev pub Missing : Type 0
+Missing =
+    Faulty alone (simple []) AttributesMissing
+    × Faulty alone (simple (Fixed (Some 99) ∷ [])) AttributesMissing
+    × Faulty alone (simple (Binary None ∷ Static ∷ [])) AttributesMissing
+    × Faulty alone (item [] (Returns (Plain Pointer ∷ []) ∷ [])) AttributesMissing
+    × Faulty alone (item [] (Returns (Plain Pointer ∷ []) ∷ Simple Pointer ∷ [])) AttributesConflict
+    × Faulty above_members (item [] (Returns (Plain Pointer ∷ []) ∷ [])) AttributesConflict
+
+abbrev pub BadNumbers : Type 0
+BadNumbers =
+    Faulty alone (simple (Fixed (Some 32) ∷ Binary None ∷ [])) BadPrecision
+    × Faulty alone (simple (Character (Some 0) ∷ [])) BadLength
+    × Faulty alone (simple (Area (Some 1000001) ∷ [])) BadLength
+    × Faulty alone (item (up_to 0 ∷ []) (Simple Pointer ∷ [])) BadBounds
+    × Faulty alone (item (up_to 32768 ∷ []) (Simple Pointer ∷ [])) BadBounds
+    × Faulty alone (item (up_to 1 ∷ up_to 1 ∷ up_to 1 ∷ up_to 1 ∷ up_to 1 ∷ up_to 1 ∷ up_to 1 ∷ up_to 1
+    ∷ up_to 1 ∷ []) (Simple Pointer ∷ [])) BadBounds
+
+-- a value of another type, out of range and too many; INITIAL of a structure
+abbrev pub BadInitials : Type 0
+BadInitials =
+    Faulty alone (simple (Bit None ∷ Initial (times None 1 ∷ []) ∷ [])) BadInitial
+    × Faulty alone (simple (Fixed (Some 3) ∷ Binary None ∷ Initial (times None 8 ∷ []) ∷ [])) BadInitial
+    × Faulty alone (simple (Fixed (Some 3) ∷ Binary None ∷ Initial (times (Some 2) 7 ∷ []) ∷ [])) BadInitial
+    × (item_fault alone (simple (Fixed (Some 3) ∷ Binary None ∷ Initial (times (Some 0) 7 ∷ times None 7 ∷ [])
+    ∷ [])) ≡ None)
+    × Faulty above_members (simple (Initial (times None 1 ∷ []) ∷ [])) BadInitial
+
+-- an AREA as a member, with dimensions and BASED, and in RETURNS
+abbrev pub BadAreas : Type 0
+BadAreas =
+    Faulty member (simple (Area None ∷ [])) AreaNotAllowedHere
+    × Faulty alone (item (up_to 2 ∷ []) (Simple (Area None) ∷ [])) AreaNotAllowedHere
+    × Faulty alone (simple (Area None ∷ Based None ∷ [])) AreaNotAllowedHere
+    × (result_fault (Plain (Area None) ∷ []) ≡ Some AttributesConflict)
+    × (result_fault (Plain (Bit None) ∷ []) ≡ None)
+
+-- the least fault of all parts of an ENTRY; a parameter of 1,001,000 bytes
+abbrev pub PartsOfEntries : Type 0
+PartsOfEntries =
+    Faulty alone (item [] (Entry (Some (
+    record { dimensions = []; attributes = Plain (Bit (Some 0)) ∷ [] }
+    ∷ record { dimensions = []; attributes = Plain (Fixed (Some 40)) ∷ Plain (Binary None) ∷ [] } ∷ []))
+    ∷ []))
+    BadPrecision
+    × Faulty alone (item [] (Entry (Some (record { dimensions = []; attributes = AnyEntry ∷ [] } ∷ []))
+    ∷ [])) AttributesConflict
+    × Faulty alone (item [] (Entry (Some (record {
+      dimensions = up_to 1000 ∷ up_to 1001
+          ∷ [];
+      attributes = Plain (Character None) ∷ [];
+    } ∷ [])) ∷ [])) GenerationTooLarge

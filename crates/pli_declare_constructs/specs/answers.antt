@@ -1,0 +1,2 @@
+pub mod ReachSteps
+pub mod Kept

@@ -1,0 +1,32 @@
+-- What an outline of the program says, apart from where it lies in memory.
+use Rattle.std.specs.Prelude.{List, map}
+use Rattle.pli_base.specs.views.DeclarationView.{item_view}
+use Rattle.pli_base.specs.views.StatementView.{unit_view}
+use Rattle.pli_declare_outline.specs.Outlines as plain
+use Rattle.pli_declare_outline.specs.declared.region.Region.{Region}
+use Rattle.pli_declare_outline.specs.declared.region.Mark.{Mark}
+use Rattle.pli_declare_outline.specs.declared.region.Mark.TheVariants as marks
+use Rattle.pli_declare_outline.specs.declared.region.Placed.{Placed}
+use Rattle.pli_declare_outline.specs.declared.region.Outline.{Outline}
+
+abbrev pub region_view : Region → plain.Region
+region_view r = record { kind = r.kind; outer = r.outer }
+
+abbrev pub mark_view : Mark → plain.Mark
+mark_view (marks.Declared items) = plain.Declared (map item_view items.now)
+mark_view (marks.Labelled label) = plain.Labelled label
+mark_view (marks.Entered procedure region) = plain.Entered (unit_view procedure.now).heading region
+mark_view (marks.Used names) = plain.Used names.items
+mark_view (marks.Jumped label) = plain.Jumped label
+
+abbrev pub placed_view : Placed → plain.Placed
+placed_view p = record { region = p.region; mark = mark_view p.mark }
+
+abbrev pub regions_view : List Region → List plain.Region
+regions_view rs = map region_view rs
+
+abbrev pub marks_view : List Placed → List plain.Placed
+marks_view ps = map placed_view ps
+
+abbrev pub outline_view : Outline → plain.Outline
+outline_view o = record { regions = regions_view o.regions.items; marks = marks_view o.marks.items }

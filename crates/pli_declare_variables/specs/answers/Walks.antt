@@ -1,0 +1,90 @@
+-- What is known of each item by what is known of the items before it.
+use Rattle.std.specs.Prelude.{ℕ, ◌==◌, ◌||◌, ◌&&◌, not, Bool, true, false, Option, Some, None, List, ◌∷◌, map}
+use Rattle.std.specs.Prelude.{length, get_or}
+use Rattle.std.specs.List.{list_any, list_all}
+use Rattle.pli_base.specs.Name.{Name}
+use Rattle.pli_base.specs.Words.{same_name}
+use Rattle.pli_declare_attributes.specs.Extents.{is_array}
+use Rattle.pli_declare_attributes.specs.Initials.{elements_inside}
+use Rattle.pli_declare_attributes.specs.Sets.{none_of, based, set_of, outermost}
+use Rattle.pli_declare_attributes.specs.declared.place.Place.{Place}
+use Rattle.pli_base.specs.Declarations.{Item}
+use Rattle.pli_declare_tables.specs.Tables.{Entry}
+use Rattle.pli_declare_variables.specs.Places.{owners_of, members_of, item_of, is_bad_level, stands_alone}
+use Rattle.pli_declare_variables.specs.Places.{position_of, elements_through, is_built_in, set_in, is_locator}
+use Rattle.pli_declare_variables.specs.Places.{is_area}
+use Rattle.pli_declare_variables.specs.declared.places.Surroundings.{Surroundings}
+use Rattle.pli_declare_variables.specs.declared.locators.Chain.{Chain}
+use Rattle.pli_declare_variables.specs.declared.locators.Nameable.{Nameable}
+
+abbrev pub has_members_at : List Entry → ℕ → Bool
+has_members_at entries n = not (length (members_of entries n) == 0)
+
+-- what levels make, the nearest first
+abbrev pub made_by : List Entry → List ℕ → Surroundings
+made_by entries ns =
+    record {
+      in_array = list_any (λ k. is_array (item_of entries k).dimensions) ns;
+      elements = elements_through entries ns;
+    }
+
+abbrev pub above_at : List Entry → ℕ → Surroundings
+above_at entries n = made_by entries (owners_of entries n)
+
+abbrev pub nothing_above : Surroundings
+nothing_above = record { in_array = false; elements = Some 1 }
+
+-- what is above a member of this owner, where it is known of each item before
+abbrev pub above_owner : List Surroundings → List Entry → Option ℕ → Surroundings
+above_owner aboves entries None = nothing_above
+above_owner aboves entries (Some o) =
+    let dimensions = (item_of entries o).dimensions in
+    let above = get_or aboves o nothing_above in
+    record {
+      in_array = is_array dimensions
+          || above.in_array;
+      elements = elements_inside above.elements dimensions;
+    }
+
+-- where an item stands
+abbrev pub placed : Entry → (parameters : List Name) → (has_members : Bool) → Surroundings → Place
+placed entry parameters has_members above =
+    record {
+      position =
+          position_of (stands_alone entry) (list_any (same_name entry.identifier.name) parameters)
+          (is_bad_level entry.entity);
+      has_members = has_members;
+      in_array = above.in_array;
+      elements_above = above.elements;
+      built_in_name = is_built_in entry.identifier.name;
+    }
+
+-- what all of these items are
+abbrev pub chain_of : List Entry → List ℕ → Chain
+chain_of entries ns =
+    record {
+      is_unsubscripted = list_all (λ k. not (is_array (item_of entries k).dimensions)) ns;
+      is_not_based = list_all (λ k. none_of (set_in entries k) based) ns;
+    }
+
+-- of an item and those that it is a member of
+abbrev pub chain_at : List Entry → ℕ → Chain
+chain_at entries n = chain_of entries (n ∷ owners_of entries n)
+
+abbrev pub no_chain : Chain
+no_chain = record { is_unsubscripted = true; is_not_based = true }
+
+abbrev pub chain_above : List Chain → Option ℕ → Chain
+chain_above chains None = no_chain
+chain_above chains (Some o) = get_or chains o no_chain
+
+abbrev pub chain_with : Item → Chain → Chain
+chain_with item chain =
+    record {
+      is_unsubscripted = not (is_array item.dimensions) && chain.is_unsubscripted;
+      is_not_based = none_of (set_of (map outermost item.attributes)) based && chain.is_not_based;
+    }
+
+-- whether BASED and OFFSET may name an item
+abbrev pub nameable_at : List Entry → ℕ → Nameable
+nameable_at entries n = record { is_locator = is_locator entries n; is_area = is_area entries n }

@@ -1,0 +1,17 @@
+-- What declarations of the program say, apart from where they lie in memory.
+use Rattle.std.specs.Prelude.{option_map}
+use Rattle.pli_map.specs.views.DescriptionView.{description_view}
+use Rattle.pli_declare_attributes.specs.views.CompletedView.{completed_view}
+use Rattle.pli_declare_variables.specs.Declarations as plain
+use Rattle.pli_declare_variables.specs.declared.declaration.Kind.{Kind}
+use Rattle.pli_declare_variables.specs.declared.declaration.Kind.TheVariants as kinds
+use Rattle.pli_declare_variables.specs.declared.declaration.Declaration.{Declaration}
+
+abbrev pub kind_view : Kind → plain.Kind
+kind_view (kinds.Item completed description) =
+    plain.OfItem (completed_view completed) (option_map description_view description)
+kind_view (kinds.Label region) = plain.OfLabel region
+kind_view (kinds.Procedure returned region) = plain.OfProcedure (option_map description_view returned) region
+
+abbrev pub declaration_view : Declaration → plain.Declaration
+declaration_view d = record { identifier = d.identifier; owner = d.owner; kind = kind_view d.kind }

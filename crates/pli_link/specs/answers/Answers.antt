@@ -1,0 +1,43 @@
+-- What the linker answers, as callers see it.
+use Rattle.std.specs.Prelude.{◌≡◌, Bool, Option, Some, None, Result, Ok, Err, List, [], ◌∷◌, map}
+use Rattle.std.specs.Cmp.Lexicographic.{slice_cmp}
+use Rattle.std.specs.Ordering.{nat_cmp, is_gt}
+use Rattle.pli_base.specs.Name.{Name}
+use Rattle.pli_code.specs.Link as link
+use Rattle.pli_code.specs.views.ModuleView.{Module, code_view, module_view}
+use Rattle.pli_code.specs.declared.instruction.Module as declared_module
+use Rattle.pli_link.specs.declared.linking.Compiled.{Compiled}
+use Rattle.pli_link.specs.declared.linking.Place.{Place}
+use Rattle.pli_link.specs.declared.linking.LinkFault.{LinkFault}
+use Rattle.pli_link.specs.declared.linking.LinkFault.TheVariants.{NoMainProcedure, TwoMainProcedures}
+use Rattle.pli_link.specs.declared.linking.LinkFault.TheVariants.{DefinedTwice}
+use Rattle.pli_link.specs.declared.linking.LinkError.{LinkError}
+use Rattle.pli_link.specs.declared.linking.LinkError.TheVariants.{Faults, OutOfMemory}
+
+-- what units, places and faults say, apart from where they lie in memory
+abbrev pub compiled_view : Compiled → link.Compiled
+compiled_view c =
+    record { unit = c.unit; procedure = c.procedure; is_main = c.is_main; code = code_view c.code }
+
+abbrev pub place_view : Place → link.Place
+place_view p = record { procedure = p.procedure; unit = p.unit }
+
+abbrev pub fault_view : LinkFault → link.LinkFault
+fault_view NoMainProcedure = link.NoMainProcedure
+fault_view (TwoMainProcedures place) = link.TwoMainProcedures (place_view place)
+fault_view (DefinedTwice place) = link.DefinedTwice (place_view place)
+
+-- the module, or all faults, unless memory runs out
+abbrev pub Links : Result declared_module.Module LinkError → Result Module (List link.LinkFault) → Type 0
+Links (Ok m) given = given ≡ Ok (module_view m)
+Links (Err (Faults faults)) given = given ≡ Err (map fault_view faults.items)
+Links (Err OutOfMemory) given = Unit {0}
+
+-- the module of the first of these units
+abbrev pub first_module : List link.Compiled → Option Module
+first_module [] = None
+first_module (c ∷ cs) = Some (record { unit = c.unit; code = c.code })
+
+-- the place's procedure has a greater name
+abbrev pub is_past : Name → Place → Bool
+is_past procedure other = is_gt (slice_cmp nat_cmp other.procedure procedure)

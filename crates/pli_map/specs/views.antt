@@ -1,0 +1,2 @@
+pub mod DescriptionView
+pub mod PartView

@@ -1,0 +1,2 @@
+pub mod ChangeView
+pub mod Fields

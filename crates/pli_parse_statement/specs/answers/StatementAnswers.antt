@@ -1,0 +1,129 @@
+-- What the parser of statements answers.
+use Rattle.std.specs.Prelude.{◌≡◌, ◌+◌, ◌<◌, ◌≤◌, ℕ, Result, length, map}
+use Rattle.pli_base.specs.Words.{Tokens}
+use Rattle.pli_base.specs.Reading.{Front, mapped, read_as}
+use Rattle.pli_base.specs.declared.token.Fault.{Fault}
+use Rattle.pli_base.specs.declared.syntax.Identifier.{Identifier}
+use Rattle.pli_parse_declaration.specs.DeclarationReading.{returned_at}
+use Rattle.pli_base.specs.Statements as tree
+use Rattle.pli_base.specs.views.StatementView as views
+use Rattle.pli_parse_statement.specs.StatementWords.{Context}
+use Rattle.pli_parse_statement.specs.StatementWords as grammar
+use Rattle.pli_parse_statement.specs.declared.first.Context as first
+use Rattle.pli_parse_statement.specs.declared.first.Kind.{Kind}
+use Rattle.pli_parse_statement.specs.declared.first.Kind.TheVariants as kinds
+use Rattle.pli_parse_statement.specs.declared.first.Misplacement.{Misplacement}
+use Rattle.pli_parse_statement.specs.declared.first.Misplacement.TheVariants as misplacements
+use Rattle.pli_parse_statement.specs.declared.first.Next.{Next}
+use Rattle.pli_parse_statement.specs.declared.first.Next.TheVariants as nexts
+use Rattle.pli_parse_statement.specs.declared.heading.Heading.{Heading}
+use Rattle.pli_parse_statement.specs.StatementReading as reading
+use Rattle.pli_parse_statement.specs.declared.keyword.Keyword.{Keyword}
+use Rattle.pli_parse_statement.specs.declared.keyword.Keyword.TheVariants.{GoTo}
+use Rattle.pli_parse_statement.specs.declared.control.Beginning.{Beginning}
+use Rattle.pli_parse_statement.specs.declared.control.Beginning.TheVariants as specifieds
+use Rattle.pli_parse_statement.specs.declared.counted.Counted.{Counted}
+use Rattle.pli_parse_statement.specs.declared.counted.Listing.{Listing}
+use Rattle.pli_parse_statement.specs.declared.word.PlaceWord.{PlaceWord}
+use Rattle.pli_parse_statement.specs.declared.word.PlaceWord.TheVariants as places
+use Rattle.pli_parse_statement.specs.declared.word.RangeWord.{RangeWord}
+use Rattle.pli_parse_statement.specs.declared.word.RangeWord.TheVariants as ranges
+use Rattle.pli_parse_statement.specs.declared.word.OptionWord.{OptionWord}
+use Rattle.pli_parse_statement.specs.declared.word.OptionWord.TheVariants as options
+
+-- how many tokens the keyword has
+abbrev pub words : Keyword → ℕ
+words GoTo = 2
+words keyword = 1
+
+-- the words of the parts of statements, as reading has them
+abbrev pub place_view : PlaceWord → reading.PlaceWord
+place_view places.In = reading.InWord
+place_view places.Set = reading.SetWord
+
+-- the word that the code has for it
+abbrev pub range_view : RangeWord → reading.RangeWord
+range_view ranges.To = reading.ToWord
+range_view ranges.By = reading.ByWord
+range_view ranges.Repeat = reading.RepeatWord
+
+-- the word that the code has for it
+abbrev pub option_view : OptionWord → reading.OptionWord
+option_view options.Options = reading.OptionsWord
+option_view options.Returns = reading.ReturnsWord
+option_view options.Recursive = reading.RecursiveWord
+
+-- how a specification begins
+abbrev pub specified_view : Beginning → reading.Specified
+specified_view specifieds.Unspecified = reading.Unspecified
+specified_view (specifieds.Conditioned behind) = reading.Conditioned behind.now
+specified_view specifieds.Iterated = reading.Iterated
+
+-- behind WHILE there is a token less
+abbrev pub BehindWhile : Tokens → Beginning → Type 0
+BehindWhile ts (specifieds.Conditioned behind) = length behind.now + 1 ≡ length ts
+BehindWhile ts x = Unit {0}
+
+-- an option behind its word
+abbrev pub option_of : reading.OptionWord → ℕ → Tokens → Result (Front tree.ProcedureOption) Fault
+option_of reading.OptionsWord p ts = reading.main_at p ts
+option_of reading.ReturnsWord p ts = mapped tree.Returns (returned_at p ts)
+option_of reading.RecursiveWord p ts = read_as tree.Recursive p ts
+
+-- a heading of this name and number
+abbrev pub heading_view : Identifier → ℕ → Heading → tree.Heading
+heading_view name number h =
+    record {
+      name = name;
+      number = number;
+      parameters = h.parameters.items;
+      options = map views.option_view h.options.items;
+    }
+
+-- where a statement stands
+abbrev pub context_view : first.Context → Context
+context_view c = record { standing = c.standing; in_unit = c.in_unit }
+
+-- what a statement is
+abbrev pub kind_view : Kind → grammar.Kind
+kind_view kinds.Assigns = grammar.Assigns
+kind_view (kinds.Empty rest) = grammar.Empty rest.now
+kind_view (kinds.Keyed keyword rest) = grammar.Keyed keyword rest.now
+kind_view kinds.Unknown = grammar.Unknown
+
+-- of so many tokens those of the keyword, or the `;`, are passed over
+abbrev pub BehindKind : ℕ → Kind → Type 0
+BehindKind n (kinds.Empty rest) = length rest.now + 1 ≡ n
+BehindKind n (kinds.Keyed keyword rest) = length rest.now + words keyword ≡ n
+BehindKind n kind = Unit {0}
+
+-- a statement that may not stand where it does
+abbrev pub misplacement_view : Misplacement → reading.Misplacement
+misplacement_view (misplacements.AtLabel code) = reading.AtLabel code
+misplacement_view (misplacements.AtStatement code) = reading.AtStatement code
+
+-- what comes next in a list
+abbrev pub next_view : Next → reading.Next
+next_view (nexts.EndsHere rest) = reading.EndsHere rest.now
+next_view nexts.Another = reading.Another
+
+-- of so many tokens END is passed over
+abbrev pub BehindNext : ℕ → Next → Type 0
+BehindNext n (nexts.EndsHere rest) = length rest.now + 1 ≡ n
+BehindNext n nexts.Another = Unit {0}
+
+-- what was read, apart from where it lies in memory
+abbrev pub counted_view : {X Y : Type 0} → (X → Y) → Counted X → Front Y
+counted_view view x = record { value = view x.value; next = x.next; rest = x.rest.now }
+
+-- one statement was counted or more, and no more than tokens were passed over; the rest is left
+abbrev pub Counts : {X : Type 0} → (p k : ℕ) → Tokens → Counted X → Type 0
+Counts p k ts x = (k < x.number) × (x.number + p ≤ x.next + k) × (x.next + length x.rest.now ≡ p + length ts)
+
+-- what reads inside one level more, where so many may be opened there
+abbrev pub inside_at : ℕ → reading.Inside
+inside_at levels = record { levels = levels; statement = reading.statement_at levels }
+
+-- the statements of a block or group
+abbrev pub listing_view : Listing → reading.Listing
+listing_view l = record { statements = views.statements_view l.statements.items; end = l.end }
