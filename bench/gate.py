@@ -11,6 +11,7 @@ import resource
 import subprocess
 import sys
 import tempfile
+import textwrap
 import threading
 import time
 
@@ -138,7 +139,8 @@ def table(listed, watch, wall, processors, passed):
             f'The greatest process held {watch.memory / 1e6:.1f} GB.',
             f'The longest chain of proofs took {longest:.1f} minutes: ' + ', '.join(f'`{it}`' for it in names) + '.',
             'Lines of code, definitions and proofs; functions, tests and must-fail edits; processor minutes of the proof, of the tests and of the edits; the minute at which the proof stood.']
-    return '\n'.join([*said[:2], '', said[2], '', *rows])
+    laid = [textwrap.fill(it, 120, break_long_words=False, break_on_hyphens=False) for it in (' '.join(said[:2]), said[2])]
+    return '\n'.join([laid[0], '', laid[1], '', *rows])
 
 
 def main():
