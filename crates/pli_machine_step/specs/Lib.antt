@@ -1,0 +1,4 @@
+pub mod Machine
+pub mod Program
+pub mod Runs
+pub mod views

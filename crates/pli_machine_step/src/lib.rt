@@ -1,0 +1,6 @@
+//! What each instruction of the machine does, and what a run is.
+#![tactic(auto)]
+
+mod laws;
+
+pub use laws::one_outcome;

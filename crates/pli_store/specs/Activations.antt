@@ -1,0 +1,61 @@
+-- Activations: a list, the newest first. An activation is named by its height, which is how many there are
+-- when it is the newest.
+use Rattle.std.specs.Prelude.{ℕ, zero, suc, nat_eq, Bool, ◌&&◌, Option, Some, None, List, [], ◌∷◌, length}
+use Rattle.std.specs.Prelude.{if◌then◌else◌}
+use Rattle.pli_base.specs.Name.{Name}
+use Rattle.pli_base.specs.Words.{same_name}
+use Rattle.pli_store.specs.Storage.{Place}
+
+-- an activation of a block of a unit, at a statement. Outer names mean the activation whose height is the
+-- static link, 0 for none. A slot is a parameter or an AUTOMATIC variable. Pending are the dummy arguments of
+-- calls that are being prepared; owned are the generations that end with it, those of its variables and the
+-- dummy arguments that it received.
+pub record Activation : Type 0 where
+  pub unit : Name
+  pub block : ℕ
+  pub statement : ℕ
+  pub link : ℕ
+  pub slots : List Place
+  pub pending : List ℕ
+  pub owned : List ℕ
+
+-- how many activations there may be (own)
+abbrev pub activation_limit : ℕ
+activation_limit = 1000
+
+-- the activation of a height
+abbrev pub activation_at : List Activation → (height : ℕ) → Option Activation
+activation_at [] height = None
+activation_at (a ∷ older) height =
+    if nat_eq height (suc (length older)) then Some a else activation_at older height
+
+-- the height of the activation so many static links outward from the one of a height
+abbrev pub outward_from : List Activation → (height outward : ℕ) → Option ℕ
+outward_from [] height outward = None
+outward_from (a ∷ older) height zero =
+    if nat_eq height (suc (length older)) then Some height else outward_from older height zero
+outward_from (a ∷ older) height (suc outward) =
+    if nat_eq height (suc (length older)) then outward_from older a.link outward
+    else outward_from older height (suc outward)
+
+-- an activation is one of a block of a unit
+abbrev pub is_of : (unit : Name) (block : ℕ) → Activation → Bool
+is_of unit block a = same_name a.unit unit && nat_eq a.block block
+
+-- the height of the nearest activation of a block, outward from the one of a height along static links
+abbrev pub nearest_of : (unit : Name) (block : ℕ) → List Activation → (height : ℕ) → Option ℕ
+nearest_of unit block [] height = None
+nearest_of unit block (a ∷ older) height =
+    if nat_eq height (suc (length older))
+    then (if is_of unit block a then Some height else nearest_of unit block older a.link)
+    else nearest_of unit block older height
+
+-- the newest changed
+abbrev pub with_newest : (Activation → Activation) → List Activation → List Activation
+with_newest change [] = []
+with_newest change (a ∷ older) = change a ∷ older
+
+-- all but the newest
+abbrev pub without_newest : List Activation → List Activation
+without_newest [] = []
+without_newest (a ∷ older) = older
