@@ -1,4 +1,5 @@
 pub mod Machine
 pub mod Program
 pub mod Runs
+pub mod laws
 pub mod views

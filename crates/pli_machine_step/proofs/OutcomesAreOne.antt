@@ -1,0 +1,19 @@
+-- A program's run gives one outcome, since two ends of one run are one.
+use Rattle.std.proofs.Common.{sym, ap, ◌∙◌}
+use Rattle.pli_code.specs.declared.ending.Ending.TheVariants.{MachineFault}
+use Rattle.pli_machine_step.specs.Machine.{State, At, Over}
+use Rattle.pli_machine_step.specs.Runs.{Outcome, outcome_of, start}
+use Rattle.pli_machine_step.specs.laws.Laws.{OneOutcome}
+use Rattle.pli_machine_step.specs.laws.RunLaws.{one_end}
+
+-- the outcome of a run that is over
+outcome_at : State → Outcome
+outcome_at (At here frames w left) = outcome_of MachineFault w
+outcome_at (Over ending w) = outcome_of ending w
+
+pub one_outcome : OneOutcome
+unfolding outcome_at
+one_outcome p steps one other run again =
+    run.gives
+    ∙ ap outcome_at (one_end p run.count again.count (start p steps) run.ending again.ending run.world again.world run.over again.over)
+    ∙ sym again.gives
