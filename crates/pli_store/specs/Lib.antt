@@ -3,3 +3,4 @@ pub mod Storage
 pub mod Values
 pub mod World
 pub mod examples
+pub mod laws

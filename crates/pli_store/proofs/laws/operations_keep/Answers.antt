@@ -1,0 +1,38 @@
+use Rattle.pli_store.specs.laws.OperationLaws as law
+use Rattle.pli_store.proofs.laws.operations_keep.Goals as goal
+
+pub returns-clause-making : goal.returns-clause-making
+returns-clause-making c = law.making_keeps
+
+pub returns-clause-loading : goal.returns-clause-loading
+returns-clause-loading c = law.loading_keeps
+
+pub returns-clause-storing : goal.returns-clause-storing
+returns-clause-storing c = law.storing_keeps
+
+pub returns-clause-walking : goal.returns-clause-walking
+returns-clause-walking c = law.walking_keeps
+
+pub returns-clause-slot : goal.returns-clause-slot
+returns-clause-slot c = law.slot_keeps
+
+pub returns-clause-dummy : goal.returns-clause-dummy
+returns-clause-dummy c = law.dummy_keeps
+
+pub returns-clause-entering : goal.returns-clause-entering
+returns-clause-entering c = law.entering_adds
+
+pub returns-clause-leaving : goal.returns-clause-leaving
+returns-clause-leaving c = law.leaving_takes
+
+pub returns-clause-clearing : goal.returns-clause-clearing
+returns-clause-clearing c = law.clearing_keeps
+
+pub returns-clause-statement : goal.returns-clause-statement
+returns-clause-statement c = law.statement_keeps
+
+pub returns-clause-printing : goal.returns-clause-printing
+returns-clause-printing c = law.printing_keeps
+
+pub returns-clause-stepping : goal.returns-clause-stepping
+returns-clause-stepping c = law.stepping_counts

@@ -1,0 +1,212 @@
+-- Each operation keeps what it should: a lemma for each.
+use Rattle.std.specs.Prelude.{ℕ, suc, ◌+◌, ◌-◌, nat_le, nat_lt, Bool, true, false, ◌&&◌, Option, Some, None}
+use Rattle.std.specs.Prelude.{List, [], ◌∷◌, ◌++◌, length, slice_get, if◌then◌else◌, refl}
+use Rattle.std.proofs.Common.{◌≡◌, sym, ap, ◌∙◌, subst, arith, append_assoc, append-nil}
+use Rattle.pli_code.specs.Print.{print}
+use Rattle.pli_code.specs.declared.ending.RunError.TheVariants.{StorageLimit}
+use Rattle.pli_map.specs.Sizes.{size_of}
+use Rattle.pli_store.specs.Activations.{Activation, activation_at, outward_from, with_newest, without_newest}
+use Rattle.pli_store.specs.Storage.{Generation, Automatic, Dummy, Place, whole, generation_in, is_whole_of}
+use Rattle.pli_store.specs.Storage.{live_bytes, byte_limit, generation_limit}
+use Rattle.pli_store.specs.Values.{holds}
+use Rattle.pli_store.specs.World.{World, Answer, Yields, Raises, Wrong, further, known, Variable, height}
+use Rattle.pli_store.specs.World.{made_of, held_in, held, stored_in, stored, made_all, in_newest, with_slot}
+use Rattle.pli_store.specs.World.{begun_in, without_handed, entered, left_by, cleared, at_statement, stepped}
+use Rattle.pli_store.specs.World.{height_of, slot_in, slot_place, dummy_of, printed}
+use Rattle.pli_store.specs.laws.Operations.{IsPrefix, Follows, AnswerFollows, MakingKeeps, LoadingKeeps}
+use Rattle.pli_store.specs.laws.Operations.{StoringKeeps, WalkingKeeps, SlotKeeps, DummyKeeps, EnteringAdds}
+use Rattle.pli_store.specs.laws.Operations.{LeavingTakes, ClearingKeeps, StatementKeeps, PrintingKeeps}
+use Rattle.pli_store.specs.laws.Operations.{SteppingCounts}
+
+-- prefixes
+
+pub prefix_same : (out : List ℕ) → IsPrefix out out
+prefix_same out = record { rest = []; whole = sym (append-nil out) }
+
+pub prefix_then : (a b c : List ℕ) → IsPrefix a b → IsPrefix b c → IsPrefix a c
+prefix_then a b c p q =
+    record {
+      rest = p.rest ++ q.rest;
+      whole = q.whole ∙ ap (λ l. l ++ q.rest) p.whole ∙ append_assoc a p.rest q.rest;
+    }
+
+-- one world after another
+
+pub follows_same : (w : World) → Follows (height w) w w
+follows_same w = record { steps = refl; heights = refl; output = prefix_same w.output }
+
+pub follows_then : (n m : ℕ) (u v w : World) → Follows m u v → Follows n v w → Follows n u w
+follows_then n m u v w f g =
+    record {
+      steps = g.steps ∙ f.steps;
+      heights = g.heights;
+      output = prefix_then u.output v.output w.output f.output g.output;
+    }
+
+pub answer_then : {A : Type 0} (n m : ℕ) (u v : World) (a : Answer A) → Follows m u v → AnswerFollows n v a
+    → AnswerFollows n u a
+answer_then n m u v (Yields x w) f g = follows_then n m u v w f g
+answer_then n m u v (Raises e w) f g = follows_then n m u v w f g
+answer_then n m u v Wrong f g = tt
+
+pub further_follows : {A B : Type 0} (n m : ℕ) (w : World) (a : Answer A) (go : A → World → Answer B)
+    → AnswerFollows m w a → m ≡ n → ((x : A) (v : World) → Follows m w v → AnswerFollows n w (go x v))
+    → AnswerFollows n w (further a go)
+further_follows n m w (Yields x v) go f e next = next x v f
+further_follows n m w (Raises r v) go f e next = subst (λ k. Follows k w v) e f
+further_follows n m w Wrong go f e next = tt
+
+pub known_follows : {A : Type 0} (o : Option A) (w : World) → AnswerFollows (height w) w (known o w)
+known_follows (Some x) w = follows_same w
+known_follows None w = tt
+
+-- storage
+
+pub making_keeps : MakingKeeps
+unfolding made_of
+making_keeps d how v w =
+    by _ (nat_lt w.made generation_limit && nat_le (live_bytes w.storage + size_of d) byte_limit)
+    (record { steps = refl; heights = refl; output = prefix_same w.output })
+  where
+    by : (new : World) (room : Bool) → Follows (height w) w new
+        → AnswerFollows (height w) w (if room then Yields (whole w.made d) new else Raises StorageLimit w)
+    by new true f = f
+    by new false f = follows_same w
+
+pub loading_keeps : LoadingKeeps
+unfolding held
+loading_keeps p w = found (generation_in w.storage p.generation)
+  where
+    by : (g : Generation) (fits : Bool)
+        → AnswerFollows (height w) w (if fits then Yields g.value w else Wrong)
+    by g true = follows_same w
+    by g false = tt
+
+    found : (o : Option Generation) → AnswerFollows (height w) w (held_in o p w)
+    found None = follows_same w
+    found (Some g) = by g (is_whole_of g p)
+
+pub storing_keeps : StoringKeeps
+unfolding stored
+storing_keeps p v w = found (generation_in w.storage p.generation)
+  where
+    by : (new : World) (fits : Bool) → Follows (height w) w new
+        → AnswerFollows {A = Unit} (height w) w (if fits then Yields tt new else Wrong)
+    by new true f = f
+    by new false f = tt
+
+    found : (o : Option Generation) → AnswerFollows (height w) w (stored_in o p v w)
+    found None = follows_same w
+    found (Some g) =
+        by _ (is_whole_of g p && holds p.description v)
+        (record { steps = refl; heights = refl; output = prefix_same w.output })
+
+-- activations
+
+pub newest_stays : (change : Activation → Activation) (stack : List Activation)
+    → length (with_newest change stack) ≡ length stack
+newest_stays change [] = refl
+newest_stays change (a ∷ older) = refl
+
+pub newest_follows : (change : Activation → Activation) (w : World)
+    → Follows (height w) w (in_newest change w)
+newest_follows change w =
+    record { steps = refl; heights = newest_stays change w.activations; output = prefix_same w.output }
+
+-- a change of the newest behind another operation
+newest_behind : (n : ℕ) (change : Activation → Activation) (u v : World) → Follows n u v
+    → Follows n u (in_newest change v)
+newest_behind n change u v f =
+    record {
+      steps = f.steps;
+      heights = newest_stays change v.activations ∙ f.heights;
+      output = f.output;
+    }
+
+making_all_keeps : (vs : List Variable) (w : World) → AnswerFollows (height w) w (made_all vs w)
+making_all_keeps [] w = follows_same w
+making_all_keeps (v ∷ vs) w =
+    further_follows (height w) (height w) w (made_of v.description Automatic v.initial w) _
+    (making_keeps v.description Automatic v.initial w) refl
+    (λ p u f. let slotted = in_newest (with_slot p) u in
+    behind slotted (newest_behind (height w) (with_slot p) w u f) (making_all_keeps vs slotted))
+  where
+    behind : (u : World) → Follows (height w) w u → AnswerFollows (height u) u (made_all vs u)
+        → AnswerFollows (height w) w (made_all vs u)
+    behind u f answer =
+        answer_then (height w) (height w) w u (made_all vs u) f
+        (subst (λ k. AnswerFollows k u (made_all vs u)) f.heights answer)
+
+pub entering_adds : EnteringAdds
+unfolding entered
+entering_adds head link given w =
+    let begun = begun_in head link given w in
+    let change = without_handed given in
+    let more : height begun ≡ suc (height w) = ap (λ k. suc k) (newest_stays change w.activations) in
+    answer_then (suc (height w)) (suc (height w)) w begun (made_all head.variables begun)
+    (record { steps = refl; heights = more; output = prefix_same w.output })
+    (subst (λ k. AnswerFollows k begun (made_all head.variables begun)) more
+    (making_all_keeps head.variables begun))
+
+pub leaving_takes : LeavingTakes
+unfolding left_by
+leaving_takes w =
+    record { steps = refl; heights = one_less w.activations; output = prefix_same w.output }
+  where
+    one_less : (stack : List Activation) → length (without_newest stack) ≡ length stack - 1
+    one_less [] = refl
+    one_less (a ∷ older) = omega arith
+
+pub clearing_keeps : ClearingKeeps
+unfolding cleared
+clearing_keeps w =
+    record { steps = refl; heights = newest_stays _ w.activations; output = prefix_same w.output }
+
+pub statement_keeps : StatementKeeps
+unfolding at_statement
+statement_keeps s w = newest_follows (λ a. record a { statement = s }) w
+
+pub stepping_counts : SteppingCounts
+unfolding stepped
+stepping_counts w = record { steps = refl; heights = refl; output = refl }
+
+pub walking_keeps : WalkingKeeps
+unfolding height_of
+walking_keeps outward w = known_follows (outward_from w.activations (height w) outward) w
+
+pub slot_keeps : SlotKeeps
+unfolding height_of slot_place
+slot_keeps outward slot w = walked (outward_from w.activations (height w) outward)
+  where
+    in_slot : (o : Option Activation) → AnswerFollows (height w) w (slot_in o slot w)
+    in_slot None = tt
+    in_slot (Some a) = known_follows (slice_get a.slots slot) w
+
+    walked : (o : Option ℕ)
+        → AnswerFollows (height w) w
+        (further (known o w) (λ h w. slot_in (activation_at w.activations h) slot w))
+    walked None = tt
+    walked (Some h) = in_slot (activation_at w.activations h)
+
+pub dummy_keeps : DummyKeeps
+unfolding dummy_of
+dummy_keeps d v w =
+    by _ (holds d v)
+    (further_follows (height w) (height w) w (made_of d Dummy v w) _ (making_keeps d Dummy v w) refl
+    (λ p u f. newest_behind (height w) _ w u f))
+  where
+    by : (answer : Answer Place) (fits : Bool) → AnswerFollows (height w) w answer
+        → AnswerFollows (height w) w (if fits then answer else Wrong)
+    by answer true f = f
+    by answer false f = tt
+
+-- output
+
+pub printing_keeps : PrintingKeeps
+unfolding printed
+printing_keeps item w =
+    record {
+      steps = refl;
+      heights = refl;
+      output = record { rest = (print w.column item).bytes; whole = refl };
+    }

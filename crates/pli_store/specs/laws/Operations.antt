@@ -1,0 +1,77 @@
+-- What every operation on the world keeps: it takes no step, adds to the output, and leaves as many
+-- activations as it should.
+use Rattle.std.specs.Prelude.{◌≡◌, ℕ, suc, ◌-◌, List, ◌++◌}
+use Rattle.pli_map.specs.Description.{Description}
+use Rattle.pli_value.specs.Value.{Value}
+use Rattle.pli_store.specs.Storage.{Made, Place}
+use Rattle.pli_store.specs.World.{World, Answer, Yields, Raises, Wrong, Head, height, made_of, held, stored}
+use Rattle.pli_store.specs.World.{entered, left_by, cleared, at_statement, stepped, height_of, slot_place}
+use Rattle.pli_store.specs.World.{dummy_of, printed}
+
+-- a list begins another
+pub record IsPrefix (short long : List ℕ) : Type 0 where
+  pub rest : List ℕ
+  pub whole : long ≡ short ++ rest
+
+-- one world after another, with so many activations: no step was taken since, and what was printed is still
+-- there, before what was printed since
+pub record Follows (activations : ℕ) (before after : World) : Type 0 where
+  pub steps : after.steps ≡ before.steps
+  pub heights : height after ≡ activations
+  pub output : IsPrefix before.output after.output
+
+-- in whatever world an operation ends, also where it raises an error
+abbrev pub AnswerFollows : {A : Type 0} → (activations : ℕ) (before : World) → Answer A → Type 0
+AnswerFollows activations before (Yields x w) = Follows activations before w
+AnswerFollows activations before (Raises e w) = Follows activations before w
+AnswerFollows activations before Wrong = Unit {0}
+
+-- an operation that leaves the activations as many as they are
+abbrev pub Keeps : {A : Type 0} → (World → Answer A) → Type 0
+Keeps operation = (w : World) → AnswerFollows (height w) w (operation w)
+
+abbrev pub MakingKeeps : Type 0
+MakingKeeps = (d : Description) (how : Made) (v : Value) → Keeps (made_of d how v)
+
+abbrev pub LoadingKeeps : Type 0
+LoadingKeeps = (p : Place) → Keeps (held p)
+
+abbrev pub StoringKeeps : Type 0
+StoringKeeps = (p : Place) (v : Value) → Keeps (stored p v)
+
+abbrev pub WalkingKeeps : Type 0
+WalkingKeeps = (outward : ℕ) → Keeps (height_of outward)
+
+abbrev pub SlotKeeps : Type 0
+SlotKeeps = (outward slot : ℕ) → Keeps (slot_place outward slot)
+
+abbrev pub DummyKeeps : Type 0
+DummyKeeps = (d : Description) (v : Value) → Keeps (dummy_of d v)
+
+-- entering a block adds an activation, also where there is no room for its variables
+abbrev pub EnteringAdds : Type 0
+EnteringAdds =
+    (head : Head) (link : ℕ) (given : List Place) (w : World)
+    → AnswerFollows (suc (height w)) w (entered head link given w)
+
+-- leaving one takes it away
+abbrev pub LeavingTakes : Type 0
+LeavingTakes = (w : World) → Follows (height w - 1) w (left_by w)
+
+abbrev pub ClearingKeeps : Type 0
+ClearingKeeps = (w : World) → Follows (height w) w (cleared w)
+
+abbrev pub StatementKeeps : Type 0
+StatementKeeps = (statement : ℕ) (w : World) → Follows (height w) w (at_statement statement w)
+
+abbrev pub PrintingKeeps : Type 0
+PrintingKeeps = (item : List ℕ) (w : World) → Follows (height w) w (printed item w)
+
+-- a step is one step, and nothing else
+pub record TakesStep (before after : World) : Type 0 where
+  pub steps : after.steps ≡ suc before.steps
+  pub heights : height after ≡ height before
+  pub output : after.output ≡ before.output
+
+abbrev pub SteppingCounts : Type 0
+SteppingCounts = (w : World) → TakesStep w (stepped w)
