@@ -1,1 +1,2 @@
 pub mod OutcomesAreOne
+pub mod RunsGrow

@@ -1,2 +1,4 @@
 pub mod Laws
+pub mod MoveLaws
+pub mod Moves
 pub mod RunLaws
