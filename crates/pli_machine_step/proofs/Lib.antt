@@ -1,2 +1,3 @@
 pub mod OutcomesAreOne
 pub mod RunsGrow
+pub mod RunsEnd

@@ -1,5 +1,5 @@
 //! Laws of runs: they hold of every program, also of one that no compiler makes.
-ghost use Rattle.pli_machine_step.specs.laws.Laws.{OneOutcome, RunsGoOn, OneFrameEach};
+ghost use Rattle.pli_machine_step.specs.laws.Laws.{EveryRunEnds, OneFrameEach, OneOutcome, RunsGoOn};
 
 /// A law: a program's run gives one outcome.
 pub fn one_outcome()
@@ -14,4 +14,9 @@ pub fn runs_go_on()
 /// A law: all along a run there is one frame for each activation.
 pub fn one_frame_each()
     ensures { OneFrameEach }
+{}
+
+/// A law: every run of every program gives an outcome.
+pub fn every_run_ends()
+    ensures { EveryRunEnds }
 {}

@@ -3,4 +3,4 @@
 
 mod laws;
 
-pub use laws::{one_frame_each, one_outcome, runs_go_on};
+pub use laws::{every_run_ends, one_frame_each, one_outcome, runs_go_on};
