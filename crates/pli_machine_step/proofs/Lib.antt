@@ -1,3 +1,4 @@
 pub mod OutcomesAreOne
 pub mod RunsGrow
 pub mod RunsEnd
+pub mod ExamplesRun

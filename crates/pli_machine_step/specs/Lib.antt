@@ -1,5 +1,6 @@
 pub mod Machine
 pub mod Program
 pub mod Runs
+pub mod examples
 pub mod laws
 pub mod views

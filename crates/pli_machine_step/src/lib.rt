@@ -1,6 +1,8 @@
 //! What each instruction of the machine does, and what a run is.
 #![tactic(auto)]
 
+mod examples;
 mod laws;
 
+pub use examples::worked_examples;
 pub use laws::{every_run_ends, one_frame_each, one_outcome, runs_go_on};

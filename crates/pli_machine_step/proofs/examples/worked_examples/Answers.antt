@@ -1,0 +1,35 @@
+use Rattle.pli_machine_step.proofs.ExamplesRun as run
+use Rattle.pli_machine_step.proofs.examples.worked_examples.Goals as goal
+
+pub returns-clause-smallest_stops : goal.returns-clause-smallest_stops
+returns-clause-smallest_stops c = run.smallest_stops
+
+pub returns-clause-smallest_ends : goal.returns-clause-smallest_ends
+returns-clause-smallest_ends c = run.smallest_ends
+
+pub returns-clause-goto_leaves : goal.returns-clause-goto_leaves
+returns-clause-goto_leaves c = run.goto_leaves
+
+pub returns-clause-goto_stops : goal.returns-clause-goto_stops
+returns-clause-goto_stops c = run.goto_stops
+
+pub returns-clause-call_stops : goal.returns-clause-call_stops
+returns-clause-call_stops c = run.call_stops
+
+pub returns-clause-jumps_go_on : goal.returns-clause-jumps_go_on
+returns-clause-jumps_go_on c = run.jumps_go_on
+
+pub returns-clause-jumps_fault : goal.returns-clause-jumps_fault
+returns-clause-jumps_fault c = run.jumps_fault
+
+pub returns-clause-turns_stop : goal.returns-clause-turns_stop
+returns-clause-turns_stop c = run.turns_stop
+
+pub returns-clause-too_many : goal.returns-clause-too_many
+returns-clause-too_many c = run.too_many
+
+pub returns-clause-many_stop : goal.returns-clause-many_stop
+returns-clause-many_stop c = run.many_stop
+
+pub returns-clause-end_faults : goal.returns-clause-end_faults
+returns-clause-end_faults c = run.end_faults

@@ -1,0 +1,19 @@
+//! Worked examples of the definitions.
+ghost use Rattle.pli_machine_step.specs.examples.MachineExamples.{SmallestStops, SmallestEnds, GotoLeaves};
+ghost use Rattle.pli_machine_step.specs.examples.MachineExamples.{GotoStops, CallStops, JumpsGoOn, JumpsFault};
+ghost use Rattle.pli_machine_step.specs.examples.MachineExamples.{TurnsStop, TooMany, ManyStop, EndFaults};
+
+/// Worked examples: steps, a GOTO out of a call, jumps without a step, the limit of activations, the code's end.
+pub fn worked_examples()
+    ensures smallest_stops { SmallestStops }
+    ensures smallest_ends { SmallestEnds }
+    ensures goto_leaves { GotoLeaves }
+    ensures goto_stops { GotoStops }
+    ensures call_stops { CallStops }
+    ensures jumps_go_on { JumpsGoOn }
+    ensures jumps_fault { JumpsFault }
+    ensures turns_stop { TurnsStop }
+    ensures too_many { TooMany }
+    ensures many_stop { ManyStop }
+    ensures end_faults { EndFaults }
+{}
