@@ -1,7 +1,7 @@
 -- The worked examples, each by computing it.
 use Rattle.std.specs.Prelude.{refl}
 use Rattle.pli_store.specs.World.{nothing, entered, left_by, cleared, at_statement, stepped, height_of, printed, error_at}
-use Rattle.pli_machine_step.specs.examples.MachineExamples.{SmallestStops, SmallestEnds, GotoLeaves, GotoStops, CallStops, JumpsGoOn, JumpsFault, TurnsStop, TooMany, ManyStop, EndFaults}
+use Rattle.pli_machine_step.specs.examples.MachineExamples.{SmallestStops, SmallestEnds, GotoLeaves, GotoStops, CallStops, JumpsGoOn, JumpsFault, TurnsStop, TooMany, ManyStop, EndFaults, BeginEnds, BeginFaults, CallFaults}
 
 pub smallest_stops : SmallestStops
 unfolding nothing entered stepped
@@ -34,6 +34,18 @@ jumps_fault = refl
 pub turns_stop : TurnsStop
 unfolding nothing entered stepped at_statement
 turns_stop = refl
+
+pub begin_ends : BeginEnds
+unfolding nothing entered stepped left_by
+begin_ends = refl
+
+pub begin_faults : BeginFaults
+unfolding nothing entered stepped
+begin_faults = refl
+
+pub call_faults : CallFaults
+unfolding nothing entered stepped
+call_faults = refl
 
 pub end_faults : EndFaults
 unfolding nothing entered stepped at_statement

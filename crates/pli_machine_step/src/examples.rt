@@ -2,8 +2,10 @@
 ghost use Rattle.pli_machine_step.specs.examples.MachineExamples.{SmallestStops, SmallestEnds, GotoLeaves};
 ghost use Rattle.pli_machine_step.specs.examples.MachineExamples.{GotoStops, CallStops, JumpsGoOn, JumpsFault};
 ghost use Rattle.pli_machine_step.specs.examples.MachineExamples.{TurnsStop, TooMany, ManyStop, EndFaults};
+ghost use Rattle.pli_machine_step.specs.examples.MachineExamples.{BeginEnds, BeginFaults, CallFaults};
 
-/// Worked examples: steps, a GOTO out of a call, jumps without a step, the limit of activations, the code's end.
+/// Worked examples: steps, a GOTO out of a call, jumps without a step, the limit of activations, the
+/// kinds of blocks, the code's end.
 pub fn worked_examples()
     ensures smallest_stops { SmallestStops }
     ensures smallest_ends { SmallestEnds }
@@ -15,5 +17,8 @@ pub fn worked_examples()
     ensures turns_stop { TurnsStop }
     ensures too_many { TooMany }
     ensures many_stop { ManyStop }
+    ensures begin_ends { BeginEnds }
+    ensures begin_faults { BeginFaults }
+    ensures call_faults { CallFaults }
     ensures end_faults { EndFaults }
 {}

@@ -6,8 +6,8 @@ use Rattle.pli_code.specs.declared.ending.RunError.TheVariants.{TooManyActivatio
 use Rattle.pli_code.specs.declared.instruction.Instruction.TheVariants.{Step, Constant, Put, Return}
 use Rattle.pli_code.specs.views.ModuleView.{Module}
 use Rattle.pli_value.specs.Value.{Value, Characters}
-use Rattle.pli_machine_step.specs.Program.{Instruction, Basic, Line, Jump, Goto, Call, BlockKind}
-use Rattle.pli_machine_step.specs.Program.{Procedure, Block, Program}
+use Rattle.pli_machine_step.specs.Program.{Instruction, Basic, Line, Jump, Goto, Call, Begin}
+use Rattle.pli_machine_step.specs.Program.{BlockKind, Procedure, BeginBlock, Block, Program}
 use Rattle.pli_machine_step.specs.Machine.{State, At, Over, iterate}
 use Rattle.pli_machine_step.specs.Runs.{Outcome, outcome_of, start}
 use Rattle.pli_machine_step.specs.views.ModuleProgram.{RunsTo}
@@ -101,8 +101,8 @@ stepping = program [] [] (Basic (Step 2) ∷ Jump 0 ∷ [])
 abbrev pub TurnsStop : Type 0
 TurnsStop = after stepping 101 201 ≡ Some (gives [] OutOfSteps 1)
 
--- a procedure that calls itself: the call of the activation that would be one too many is an error, also where
--- no step is left for it
+-- a procedure that calls itself: the call of the activation that would be one too many is an error, also
+-- where no step is left for it
 abbrev pub recursive : Program
 recursive = program [] [] (Call 0 0 ∷ [])
 
@@ -111,6 +111,20 @@ TooMany = after recursive 1000 1000 ≡ Some (gives [] (Error TooManyActivations
 
 abbrev pub ManyStop : Type 0
 ManyStop = after recursive 999 999 ≡ Some (gives [] OutOfSteps 1)
+
+-- a block is entered by an instruction of its kind: a BEGIN block by BEGIN, which is no step
+abbrev pub entering : BlockKind → Instruction → Program
+entering kind instruction =
+    program [] (block kind (Some 0) 2 3 ∷ []) (instruction ∷ Basic (Return 0) ∷ Basic (Return 0) ∷ [])
+
+abbrev pub BeginEnds : Type 0
+BeginEnds = after (entering BeginBlock (Begin 1)) 1 3 ≡ Some (gives [] Ended 1)
+
+abbrev pub BeginFaults : Type 0
+BeginFaults = after (entering Procedure (Begin 1)) 1 1 ≡ Some (gives [] MachineFault 1)
+
+abbrev pub CallFaults : Type 0
+CallFaults = after (entering BeginBlock (Call 1 0)) 1 1 ≡ Some (gives [] MachineFault 1)
 
 -- the code's end is a fault
 abbrev pub EndFaults : Type 0

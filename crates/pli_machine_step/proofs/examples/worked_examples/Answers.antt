@@ -33,3 +33,12 @@ returns-clause-many_stop c = run.many_stop
 
 pub returns-clause-end_faults : goal.returns-clause-end_faults
 returns-clause-end_faults c = run.end_faults
+
+pub returns-clause-begin_ends : goal.returns-clause-begin_ends
+returns-clause-begin_ends c = run.begin_ends
+
+pub returns-clause-begin_faults : goal.returns-clause-begin_faults
+returns-clause-begin_faults c = run.begin_faults
+
+pub returns-clause-call_faults : goal.returns-clause-call_faults
+returns-clause-call_faults c = run.call_faults
