@@ -9,7 +9,8 @@ use Rattle.pli_code.specs.Print.{print}
 use Rattle.pli_code.specs.declared.ending.Ending.{Ending}
 use Rattle.pli_code.specs.declared.ending.Ending.TheVariants.{Error, MachineFault}
 use Rattle.pli_code.specs.declared.ending.RunError.{RunError}
-use Rattle.pli_code.specs.declared.ending.RunError.TheVariants.{DeadLocator, FixedOverflow, StorageLimit, ZeroDivide}
+use Rattle.pli_code.specs.declared.ending.RunError.TheVariants.{DeadLocator, FixedOverflow, StorageLimit}
+use Rattle.pli_code.specs.declared.ending.RunError.TheVariants.{ZeroDivide}
 use Rattle.pli_map.specs.Description.{Description}
 use Rattle.pli_map.specs.Sizes.{size_of}
 use Rattle.pli_value.specs.Value.{Value}
@@ -17,7 +18,8 @@ use Rattle.pli_value.specs.declared.number.Raised.{Raised}
 use Rattle.pli_value.specs.declared.number.Raised.TheVariants as raised
 use Rattle.pli_store.specs.Activations.{Activation, outward_from, with_newest, without_newest}
 use Rattle.pli_store.specs.Activations.{activation_at}
-use Rattle.pli_store.specs.Storage.{Generation, Made, Automatic, Dummy, Place, whole, generation_in, is_whole_of}
+use Rattle.pli_store.specs.Storage.{Generation, Made, Automatic, Dummy, Place, whole, generation_in}
+use Rattle.pli_store.specs.Storage.{is_whole_of}
 use Rattle.pli_store.specs.Storage.{with_value, without, live_bytes, byte_limit, generation_limit}
 use Rattle.pli_store.specs.Values.{holds}
 
