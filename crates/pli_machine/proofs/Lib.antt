@@ -1,8 +1,10 @@
 pub mod Digits
-pub mod Ends
+pub mod Entering
 pub mod Grows
 pub mod Outcome
+pub mod Performed
 pub mod PrintLemmas
 pub mod RunLemmas
 pub mod Stack
+pub mod Stores
 pub mod Worlds

@@ -1,7 +1,9 @@
 //! The machine's operands: the newest is the last of a `Vec`.
 ghost use Rattle.std.specs.Prelude.{◌≡◌, ◌∷◌, IfOk, MatchOption, ℕ};
-ghost use Rattle.pli_code.specs.Machine.{Number, Characters, Place};
-ghost use Rattle.pli_machine.specs.views.View.{stack, operand_of, text_of, NoNumber, NoPlace, NoCharacters};
+ghost use Rattle.pli_value.specs.Conversions.{number_characters};
+ghost use Rattle.pli_value.specs.Value.{Number, Characters};
+ghost use Rattle.pli_machine_step.specs.Machine.{OfValue, AtPlace};
+ghost use Rattle.pli_machine.specs.views.View.{stack, operand_of, place_of_generation, IsValue, NoNumber, NoPlace, NoValue, NoCharacters};
 
 use crate::world::{Operand, Stop};
 use std::alloc::AllocError;
@@ -9,13 +11,26 @@ use std::alloc::AllocError;
 /// Takes the newest operand, where it is a number.
 #[tactic(auto, using(crate::proofs::Stack::stack_push))]
 #[inline]
-pub fn pop_number(operands: &mut Vec<Operand>) -> Option<i32>
+pub fn pop_number(operands: &mut Vec<Operand>) -> Option<i64>
     ensures { MatchOption result (NoNumber (stack operands.old.items))
-        (λ x. stack operands.old.items ≡ Number x ∷ stack operands.new.items) }
+        (λ x. stack operands.old.items ≡ OfValue (Number x) ∷ stack operands.new.items) }
 {
     match operands.pop() {
         Some(Operand::Number(value)) => Some(value),
         _ => None,
+    }
+}
+
+/// Takes the newest operand, where it is a value.
+#[tactic(auto, using(crate::proofs::Stack::stack_push))]
+#[inline]
+pub fn pop_value(operands: &mut Vec<Operand>) -> Option<Operand>
+    ensures { MatchOption result (NoValue (stack operands.old.items))
+        (λ o. IsValue o × (stack operands.old.items ≡ operand_of o ∷ stack operands.new.items)) }
+{
+    match operands.pop() {
+        Some(Operand::Place(_)) => None,
+        operand => operand,
     }
 }
 
@@ -24,7 +39,7 @@ pub fn pop_number(operands: &mut Vec<Operand>) -> Option<i32>
 #[inline]
 pub fn pop_place(operands: &mut Vec<Operand>) -> Option<u32>
     ensures { MatchOption result (NoPlace (stack operands.old.items))
-        (λ g. stack operands.old.items ≡ Place g ∷ stack operands.new.items) }
+        (λ g. stack operands.old.items ≡ AtPlace (place_of_generation g) ∷ stack operands.new.items) }
 {
     match operands.pop() {
         Some(Operand::Place(generation)) => Some(generation),
@@ -35,9 +50,9 @@ pub fn pop_place(operands: &mut Vec<Operand>) -> Option<u32>
 /// Takes the newest operand, where it is characters, and answers their number and how many they are.
 #[tactic(auto, using(crate::proofs::Stack::stack_push))]
 #[inline]
-pub fn pop_characters(operands: &mut Vec<Operand>) -> Option<(i32, u16)>
+pub fn pop_characters(operands: &mut Vec<Operand>) -> Option<(i64, u16)>
     ensures { MatchOption result (NoCharacters (stack operands.old.items))
-        (λ c. stack operands.old.items ≡ Characters (text_of c.0 c.1) ∷ stack operands.new.items) }
+        (λ c. stack operands.old.items ≡ OfValue (Characters (number_characters c.1 c.0)) ∷ stack operands.new.items) }
 {
     match operands.pop() {
         Some(Operand::Characters { number, width }) => Some((number, width)),

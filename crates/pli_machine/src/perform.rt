@@ -8,7 +8,7 @@ ghost use Rattle.pli_machine.specs.views.View.{Performs};
 use crate::instructions::{
     add, description_at, fit, load, place_of, put_characters, store, to_characters,
 };
-use crate::numbers::number_at;
+use crate::numbers::constant_at;
 use crate::operands::push;
 use crate::world::{Machine, Operand, Stop};
 use pli_code::{Code, Instruction};
@@ -20,10 +20,10 @@ use std::alloc::AllocError;
 fn step(machine: &mut Machine, statement: u32) -> Option<Stop>
     ensures { (code : view.Code) → Performs code (Step statement) machine.old machine.new result }
 {
-    let Some(left) = machine.left.checked_sub(1) else {
+    if machine.world.steps >= machine.limit {
         return Some(Stop::OutOfSteps);
-    };
-    machine.left = left;
+    }
+    machine.world.steps += 1;
     machine.world.statement = statement;
     None
 }
@@ -43,7 +43,7 @@ pub fn perform(
             Some(generation) => push(&mut machine.operands, Operand::Place(generation)),
             None => Ok(Some(Stop::Fault)),
         },
-        Instruction::Constant { value } => match number_at(&code.values, value as usize) {
+        Instruction::Constant { value } => match constant_at(&code.values, value as usize) {
             Some(number) => push(&mut machine.operands, Operand::Number(number)),
             None => Ok(Some(Stop::Fault)),
         },

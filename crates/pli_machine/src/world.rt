@@ -7,8 +7,8 @@ use pli_code::RunError;
 /// An operand: a number, the characters of a number at the right of so many columns, or the place of a generation.
 #[derive(Clone, Copy)]
 pub enum Operand {
-    Number(i32),
-    Characters { number: i32, width: u16 },
+    Number(i64),
+    Characters { number: i64, width: u16 },
     Place(u32),
 }
 
@@ -31,9 +31,11 @@ pub struct World {
     /// How many variables the activation has; their generations are numbered from 0.
     pub slots: u16,
     /// What each generation holds.
-    pub storage: Vec<i32>,
+    pub storage: Vec<i64>,
     /// The next column, from 1 to 121.
     pub column: u32,
+    /// How many steps were taken.
+    pub steps: u64,
     /// What is printed and not yet put.
     pub output: Vec<u8>,
     /// Room for the characters of an item.
@@ -47,6 +49,6 @@ pub struct Machine {
     /// The newest operand is the last.
     pub operands: Vec<Operand>,
     pub world: World,
-    /// How many steps are left.
-    pub left: u64,
+    /// How many steps may be taken.
+    pub limit: u64,
 }
