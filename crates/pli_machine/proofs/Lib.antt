@@ -1,6 +1,5 @@
 pub mod Digits
 pub mod Entering
-pub mod Grows
 pub mod Outcome
 pub mod Performed
 pub mod PrintLemmas
