@@ -3,7 +3,7 @@ ghost use Rattle.std.specs.Prelude.{◌≡◌, ◌∷◌, IfOk, MatchOption, ℕ
 ghost use Rattle.pli_value.specs.Conversions.{number_characters};
 ghost use Rattle.pli_value.specs.Value.{Number, Characters};
 ghost use Rattle.pli_machine_step.specs.Machine.{OfValue, AtPlace};
-ghost use Rattle.pli_machine.specs.views.View.{stack, operand_of, place_of_generation, IsValue, NoNumber, NoPlace, NoValue, NoCharacters};
+ghost use Rattle.pli_machine.specs.views.View.{stack, operand_of, place_of_generation, IsValue, NoNumber, NoPlace, NoNewestValue, NoCharacters};
 
 use crate::world::{Operand, Stop};
 use std::alloc::AllocError;
@@ -25,7 +25,7 @@ pub fn pop_number(operands: &mut Vec<Operand>) -> Option<i64>
 #[tactic(auto, using(crate::proofs::Stack::stack_push))]
 #[inline]
 pub fn pop_value(operands: &mut Vec<Operand>) -> Option<Operand>
-    ensures { MatchOption result (NoValue (stack operands.old.items))
+    ensures { MatchOption result (NoNewestValue (stack operands.old.items))
         (λ o. IsValue o × (stack operands.old.items ≡ operand_of o ∷ stack operands.new.items)) }
 {
     match operands.pop() {
