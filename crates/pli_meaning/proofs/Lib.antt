@@ -4,10 +4,10 @@ pub mod MachineReachesMeaning
 pub mod MembersDoAsMeant
 pub mod MembersHaveOneProgram
 pub mod NothingIsLost
+pub mod ProceduresGrow
 pub mod ProceduresSimulate
 pub mod ReachesLemmas
 pub mod ReadyLemmas
-pub mod RunsGrow
 pub mod WhereCodeStands
 pub mod UsesHaveSlots
 pub mod ValueTableLemmas

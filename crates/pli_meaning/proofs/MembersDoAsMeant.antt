@@ -1,5 +1,5 @@
 -- The laws, of members.
-use Rattle.std.specs.Prelude.{◌≡◌, ℕ, ◌+◌, Result, Ok, Err, List, [], ◌∷◌, refl}
+use Rattle.std.specs.Prelude.{◌≡◌, ℕ, ◌+◌, Some, Result, Ok, Err, List, [], ◌∷◌, refl}
 use Rattle.std.proofs.Common.{sym, ◌∙◌, ap, subst}
 use Rattle.pli_base.specs.Name.{Name}
 use Rattle.pli_lower.specs.LoweredTree.{LoweredUnit}
@@ -8,14 +8,14 @@ use Rattle.pli_base.specs.declared.token.Origin.{Origin}
 use Rattle.pli_include.specs.Expanded.{outcome_of}
 use Rattle.pli_include.specs.Expansion.{Outcome as Expansion}
 use Rattle.pli_members.specs.Members.{Member}
-use Rattle.pli_code.specs.Machine.{Outcome, RunsTo}
-use Rattle.pli_meaning.specs.laws.Laws.{GoesOn}
-use Rattle.pli_meaning.specs.Meaning.{whole_run}
+use Rattle.pli_machine_step.specs.Runs.{Outcome}
+use Rattle.pli_machine_step.specs.views.ModuleProgram.{RunsTo}
+use Rattle.pli_meaning.specs.Meaning.{alone, whole_run}
 use Rattle.pli_meaning.specs.Members.{MembersSimulate, OneMeaning, MembersGrow}
 use Rattle.pli_meaning.specs.Scratch.{Diagnostic, read_or_fault, lowered_unless, program_from, Parsed, program_of, parsed_as, parsed_from, parsed_of, main_units, Means}
 use Rattle.pli_meaning.specs.Sound.{IsSound}
-use Rattle.pli_meaning.proofs.RunsGrow.{growth}
-use Rattle.pli_meaning.proofs.ProceduresSimulate.{simulation}
+use Rattle.pli_meaning.proofs.ProceduresGrow.{growth}
+use Rattle.pli_meaning.proofs.ProceduresSimulate.{some_is, simulation}
 use Rattle.pli_lower.specs.Lowering.{lowered}
 use Rattle.pli_parse_statement.specs.StatementReading.{unit_of}
 use Rattle.pli_base.specs.Statements.{ExternalProcedure}
@@ -64,12 +64,12 @@ sound_of entries unit p h = sound_from unit (outcome_of entries unit) p h
 pub members_simulate : MembersSimulate
 members_simulate entries m e n =
     let program = program_made entries m e in
-    let runs = simulation program.unit program.parsed.tree program.faultless (sound_of entries program.unit program.parsed program.spelled) n in
+    let s = simulation program.unit program.parsed.tree program.faultless (sound_of entries program.unit program.parsed program.spelled) n in
     record {
-      outcome = whole_run program.unit program.parsed.tree n;
-      means = record { unit = program.unit; parsed = program.parsed; only = program.only; spelled = program.spelled; run = refl };
-      runs = subst (λ x. RunsTo x n (whole_run program.unit program.parsed.tree n)) (sym program.module_is) runs.runs;
-      no_fault = runs.no_fault;
+      outcome = s.outcome;
+      means = record { unit = program.unit; parsed = program.parsed; only = program.only; spelled = program.spelled; run = s.means };
+      runs = subst (λ x. RunsTo x n s.outcome) (sym program.module_is) s.runs;
+      no_fault = s.no_fault;
     }
 
 unit_is : (a b : Name) → a ∷ [] ≡ b ∷ [] → a ≡ b
@@ -77,19 +77,18 @@ unit_is a b e = cc
 
 -- what they mean is of one unit and one tree
 means_of : (entries : List (Name × Member)) (n : ℕ) (o : Outcome) (unit : Name) (parsed : Parsed) → main_units entries ≡ unit ∷ [] → parsed_of entries unit ≡ Ok parsed
-    → Means entries n o → o ≡ whole_run unit parsed.tree n
+    → Means entries n o → whole_run (alone unit parsed.tree) n ≡ Some o
 means_of entries n o unit parsed only spelled m =
     let same : m.unit ≡ unit = unit_is _ _ (sym m.only ∙ only) in
     let tree : m.parsed ≡ parsed = read_is _ _ (sym m.spelled ∙ ap (λ u. parsed_of entries u) same ∙ spelled) in
-    m.run ∙ ap (λ u. whole_run u m.parsed.tree n) same ∙ ap (λ p. whole_run unit p.tree n) tree
+    sym (ap (λ u. whole_run (alone u m.parsed.tree) n) same ∙ ap (λ p. whole_run (alone unit p.tree) n) tree) ∙ m.run
 
 pub one_meaning : OneMeaning
-one_meaning entries n o p a b = means_of entries n o b.unit b.parsed b.only b.spelled a ∙ sym b.run
+one_meaning entries n o p a b = some_is o p (sym (means_of entries n o b.unit b.parsed b.only b.spelled a) ∙ b.run)
 
 pub members_grow : MembersGrow
 members_grow entries m e n o p a b =
     let program = program_made entries m e in
-    let goes = growth program.unit program.parsed.tree program.faultless (sound_of entries program.unit program.parsed program.spelled) n in
-    let first = means_of entries n o program.unit program.parsed program.only program.spelled a in
-    let second = means_of entries (n + 1) p program.unit program.parsed program.only program.spelled b in
-    subst (λ x. GoesOn o x) (sym second) (subst (λ x. GoesOn x (whole_run program.unit program.parsed.tree (n + 1))) (sym first) goes)
+    growth program.unit program.parsed.tree program.faultless (sound_of entries program.unit program.parsed program.spelled) n o p
+    (means_of entries n o program.unit program.parsed program.only program.spelled a)
+    (means_of entries (n + 1) p program.unit program.parsed program.only program.spelled b)

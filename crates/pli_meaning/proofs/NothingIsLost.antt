@@ -1,117 +1,201 @@
 -- What a sound procedure does has a meaning: no effect is lost, and none is short of a level. A lemma for each combinator, and a clause for each form of the tree.
-use Rattle.std.specs.Prelude.{◌≡◌, ◌≢◌, ℕ, zero, suc, ◌<◌, ◌^◌, ℤ, nat_abs, Option, Some, None, List, [], ◌∷◌, length, refl}
-use Rattle.std.proofs.Common.{sym, subst}
+use Rattle.std.specs.Prelude.{◌≡◌, ◌≢◌, ℕ, zero, suc, ◌<◌, ◌+ℤ◌, ℤ, unsigned_abs, ◌^◌, Some, None, List, [], ◌∷◌, length, refl}
+use Rattle.std.proofs.Common.{ap, sym, subst}
 use Rattle.pli_base.specs.Name.{Name}
 use Rattle.pli_lower.specs.LoweredTree.{LoweredReference, LoweredExpression, Variable, Constant, Sum, LoweredBody, Null, Declare, Assign, Put, LoweredStatement}
 use Rattle.pli_lower.specs.LoweredNames.{slot_of}
 use Rattle.pli_lower.specs.LoweredTypes.{width}
-use Rattle.pli_code.specs.World.{World, place_of, held, stored, begun, fitted, sum_of, number_text}
 use Rattle.pli_code.specs.declared.ending.Ending.TheVariants.{MachineFault}
-use Rattle.pli_code.specs.declared.ending.RunError.TheVariants.{FixedOverflow}
-use Rattle.pli_meaning.specs.Effects.{Effect, Gives, Jumps, Fails, Spent, Lost, Short, Flow, Next, Returned, Doing, and_then, followed, as_statement, found, or_overflow, changed}
-use Rattle.pli_meaning.specs.Meaning.{place_at, value_of, assigns, puts, puts_all, does, does_all}
+use Rattle.pli_map.specs.Description.{FixedBinary}
+use Rattle.pli_value.specs.Numbers.{within}
+use Rattle.pli_value.specs.Value.{Value, Number}
+use Rattle.pli_store.specs.Storage.{Place, whole}
+use Rattle.pli_store.specs.World.{World, Answer, Yields, Raises, Wrong, known as there_is, or_raised, slot_place, held, stored, printed, stepped, at_statement}
+use Rattle.pli_machine_step.specs.Machine.{characters_of}
+use Rattle.pli_meaning.specs.Effects.{Effect, Gives, Jumps, Fails, Spent, Lost, Short, Flow, Next, Returned, Doing, and_then, after_flow, followed, answered, as_statement}
+use Rattle.pli_meaning.specs.Meaning.{Calls, number_of, place_at, value_of, assigns, puts, puts_all, does, does_all}
 use Rattle.pli_meaning.specs.Sound.{IsSoundExpression, AreSoundItems, IsSoundBody, AreSoundStatements}
 use Rattle.pli_meaning.proofs.UsesHaveSlots.{IsKnown, Knows, KnowsItems, KnowsBody, KnowsAll, slot_there}
-use Rattle.pli_meaning.proofs.ReadyLemmas.{IsReady, begun_ready, printed_ready, place_there, held_there, stored_there, error_is, fitted_is, sum_of_is}
+use Rattle.pli_meaning.proofs.ReadyLemmas.{IsReady, Lives, Answers, stepped_ready, at_statement_ready, printed_ready, place_there, held_there, stored_there, within_answers}
 use Rattle.pli_meaning.proofs.WidthLemmas.{IsOf, constant_is, variable_is, sum_is, text_there}
 
-module _ (count size : ℕ) where
-  -- an effect has a meaning: a result is as it should be, in ready storage, and an error names a statement
-  abbrev pub Means : {A : Type 0} → (A → Type 0) → Effect A → Type 0
-  Means P (Gives x w left) = P x × IsReady count size w
-  Means P (Jumps h k w left) = ⊥
-  Means P (Fails e w) = e ≢ MachineFault
-  Means P (Spent w) = Unit {0}
-  Means P Lost = ⊥
-  Means P Short = ⊥
+-- what lived lives on
+abbrev pub Later : World → World → Type 0
+Later v w = (g : ℕ) → Lives v.storage g → Lives w.storage g
 
-  abbrev pub Anything : {A : Type 0} → A → Type 0
-  Anything x = Unit {0}
+pub no_later : (w : World) → Later w w
+no_later w g l = l
 
-  then_means : {A B : Type 0} (P : A → Type 0) (Q : B → Type 0) (o : Effect A) (go : A → Doing B) → Means P o
-      → ((x : A) → P x → (w : World) (left : ℕ) → IsReady count size w → Means Q (go x w left)) → Means Q (and_then o go)
-  then_means P Q (Gives x w left) go h f = f x h.0 w left h.1
-  then_means P Q (Jumps l k w left) go h f = h
-  then_means P Q (Fails e w) go h f = h
-  then_means P Q (Spent w) go h f = h
-  then_means P Q Lost go h f = h
-  then_means P Q Short go h f = h
+module _ (count : ℕ) where
+  -- from a world on an effect has a meaning: a result is as it should be, in ready storage where what lived lives on, and an error names a statement
+  abbrev pub Means : {A : Type 0} → World → (A → World → Type 0) → Effect A → Type 0
+  Means u P (Gives x w left) = P x w × IsReady count w × Later u w
+  Means u P (Jumps h k w left) = ⊥
+  Means u P (Fails e w) = e ≢ MachineFault
+  Means u P (Spent w) = Unit {0}
+  Means u P Lost = ⊥
+  Means u P Short = ⊥
 
-  next_means : (o : Effect Flow) (go : Doing Flow) → Means Anything o
-      → ((w : World) (left : ℕ) → IsReady count size w → Means Anything (go w left)) → Means Anything (followed o go)
-  next_means (Gives Next w left) go h f = f w left h.1
-  next_means (Gives Returned w left) go h f = h
-  next_means (Jumps l k w left) go h f = h
-  next_means (Fails e w) go h f = h
-  next_means (Spent w) go h f = h
-  next_means Lost go h f = h
-  next_means Short go h f = h
+  abbrev pub Anything : {A : Type 0} → A → World → Type 0
+  Anything x w = Unit {0}
 
-  statement_means : (s : ℕ) (go : Doing Flow) → ((w : World) (left : ℕ) → IsReady count size w → Means Anything (go w left))
-      → (w : World) (left : ℕ) → IsReady count size w → Means Anything (as_statement s go w left)
+  means_from : {A : Type 0} (P : A → World → Type 0) (u v : World) (o : Effect A) → Later u v → Means v P o → Means u P o
+  means_from P u v (Gives x w left) later h = (h.0, h.1, λ g l. h.2 g (later g l))
+  means_from P u v (Jumps l k w left) later h = h
+  means_from P u v (Fails e w) later h = h
+  means_from P u v (Spent w) later h = h
+  means_from P u v Lost later h = h
+  means_from P u v Short later h = h
+
+  then_means : {A B : Type 0} (P : A → World → Type 0) (Q : B → World → Type 0) (u : World) (o : Effect A) (go : A → Doing B) → Means u P o
+      → ((x : A) (w : World) (left : ℕ) → P x w → IsReady count w → Later u w → Means w Q (go x w left)) → Means u Q (and_then o go)
+  then_means P Q u (Gives x w left) go h f = means_from Q u w (go x w left) h.2 (f x w left h.0 h.1 h.2)
+  then_means P Q u (Jumps l k w left) go h f = h
+  then_means P Q u (Fails e w) go h f = h
+  then_means P Q u (Spent w) go h f = h
+  then_means P Q u Lost go h f = h
+  then_means P Q u Short go h f = h
+
+  next_means : (u : World) (o : Effect Flow) (go : Doing Flow) → Means u Anything o
+      → ((w : World) (left : ℕ) → IsReady count w → Means w Anything (go w left)) → Means u Anything (followed o go)
+  next_means u o go h f = then_means Anything Anything u o (after_flow go) h by_flow
+    where
+      by_flow : (x : Flow) (w : World) (left : ℕ) → Unit {0} → IsReady count w → Later u w → Means w Anything (after_flow go x w left)
+      by_flow Next w left any ready later = f w left ready
+      by_flow (Returned v) w left any ready later = (tt, ready, no_later w)
+
+  statement_later : (s : ℕ) (w : World) → Later w (at_statement s (stepped w))
+  unfolding at_statement stepped
+  statement_later s w g l = l
+
+  statement_means : (s : ℕ) (go : Doing Flow) → ((w : World) (left : ℕ) → IsReady count w → Means w Anything (go w left))
+      → (w : World) (left : ℕ) → IsReady count w → Means w Anything (as_statement s go w left)
   statement_means s go f w zero ready = tt
-  statement_means s go f w (suc left) ready = f (begun s w) left (begun_ready count size s w ready)
+  statement_means s go f w (suc left) ready =
+      let v = at_statement s (stepped w) in
+      means_from Anything w v (go v left) (statement_later s w) (f v left (at_statement_ready count s (stepped w) (stepped_ready count w ready)))
 
-  found_means : {A : Type 0} (P : A → Type 0) (o : Option A) (x : A) → o ≡ Some x → P x → (w : World) (left : ℕ) → IsReady count size w → Means P (found o w left)
-  found_means P o x e h w left ready = subst (λ o. Means P (found o w left)) (sym e) (h, ready)
+  answer_means : {A : Type 0} (u : World) (P : A → World → Type 0) (o : Answer A) (left : ℕ) → Answers (λ x w. P x w × IsReady count w × Later u w) o → Means u P (answered o left)
+  answer_means u P (Yields x w) left h = h
+  answer_means u P (Raises e w) left h = h
+  answer_means u P Wrong left h = h
 
-  overflow_means : (P : ℤ → Type 0) (o : Option ℤ) → ((x : ℤ) → o ≡ Some x → P x) → (w : World) (left : ℕ) → IsReady count size w → Means P (or_overflow o w left)
-  overflow_means P (Some x) h w left ready = (h x refl, ready)
-  overflow_means P None h w left ready = error_is count size FixedOverflow w ready
+  yields_mean : {A : Type 0} (P : A → World → Type 0) (o : Answer A) (x : A) (w : World) (left : ℕ) → o ≡ Yields x w → P x w → IsReady count w → Means w P (answered o left)
+  yields_mean P o x w left e h ready = subst (λ a. Means w P (answered a left)) (sym e) (h, ready, no_later w)
 
-  changed_means : (o : Option World) (new : World) → o ≡ Some new → IsReady count size new → (w : World) (left : ℕ) → Means Anything (changed o w left)
-  changed_means o new e ready w left = subst (λ o. Means Anything (changed o w left)) (sym e) (tt, ready)
+-- a place that lives, of FIXED BINARY(31)
+abbrev IsPlace : Place → World → Type 0
+IsPlace p w = (g : ℕ) × (p ≡ whole g (FixedBinary 31)) × Lives w.storage g
 
-module _ (names : List Name) (level size : ℕ) where
+place_later : (p : Place) (v w : World) → Later v w → IsPlace p v → IsPlace p w
+place_later p v w later is = (is.0, is.1, later is.0 is.2)
+
+-- a number that an expression may have
+abbrev IsValueOf : LoweredExpression → ℤ → World → Type 0
+IsValueOf e x w = IsOf e x
+
+-- a value that is a number of 31 digits
+abbrev IsSmallNumber : Value → World → Type 0
+IsSmallNumber v w = (x : ℤ) × (v ≡ Number x) × (unsigned_abs x < 2 ^ 31)
+
+abbrev IsSmall : ℤ → World → Type 0
+IsSmall x w = unsigned_abs x < 2 ^ 31
+
+module _ (call : Calls) (names : List Name) (level : ℕ) where
   abbrev count : ℕ
   count = length names
 
-  place_means : (r : LoweredReference) → IsKnown names r → (w : World) (left : ℕ) → IsReady count size w → Means count size (λ g. g < size) (place_at names level r w left)
+  place_means : (r : LoweredReference) → IsKnown names r → (w : World) (left : ℕ) → IsReady count w → Means count w IsPlace (place_at call names level r w left)
   place_means r known w left ready =
-      let p = place_there count size (slot_of names r.name) w ready (slot_there names r.name known) in
-      found_means count size (λ g. g < size) (place_of 0 (slot_of names r.name) w) p.0 p.1 p.2 w left ready
+      let p = place_there count (slot_of names r.name) w ready (slot_there names r.name known) in
+      yields_mean count IsPlace (slot_place 0 (slot_of names r.name) w) (whole p.0 (FixedBinary 31)) w left p.1 (p.0, refl, p.2) ready
 
-  value_means : (e : LoweredExpression) → Knows names e → IsSoundExpression e → (w : World) (left : ℕ) → IsReady count size w → Means count size (IsOf e) (value_of names level e w left)
+  -- what a living place holds is a number of 31 digits
+  held_means : (p : Place) (w : World) (left : ℕ) → IsPlace p w → IsReady count w → Means count w IsSmallNumber (answered (held p w) left)
+  held_means p w left is ready =
+      let h = held_there count is.0 w ready is.2 in
+      subst (λ q. Means count w IsSmallNumber (answered (held q w) left)) (sym is.1)
+      (yields_mean count IsSmallNumber (held (whole is.0 (FixedBinary 31)) w) (Number h.0) w left h.1 (h.0, refl, h.2) ready)
+
+  number_means : (r : LoweredReference) (v : Value) (w : World) (left : ℕ) → IsSmallNumber v w → IsReady count w → Means count w (IsValueOf (Variable r)) (answered (number_of v w) left)
+  number_means r v w left is ready =
+      yields_mean count (IsValueOf (Variable r)) (number_of v w) is.0 w left (ap (λ v. number_of v w) is.1) (variable_is (Variable r) refl is.0 is.2) ready
+
+  sum_means : (l r : LoweredExpression) (x y : ℤ) (w : World) (left : ℕ) → IsOf l x → IsOf r y → IsReady count w
+      → Means count w (IsValueOf (Sum l r)) (answered (or_raised (within 31 (x +ℤ y)) w) left)
+  sum_means l r x y w left hx hy ready = answer_means count w (IsValueOf (Sum l r)) o left (by o (within_answers count (x +ℤ y) w ready))
+    where
+      o : Answer ℤ
+      o = or_raised (within 31 (x +ℤ y)) w
+      by : (o : Answer ℤ) → Answers (λ z v. (x +ℤ y ≡ z) × (unsigned_abs (x +ℤ y) < 2 ^ 31) × (v ≡ w)) o → Answers (λ z v. IsOf (Sum l r) z × IsReady count v × Later w v) o
+      by (Yields z v) h = (subst (IsOf (Sum l r)) h.0 (sum_is l r x y hx hy h.1), subst (IsReady count) (sym h.2) ready, subst (Later w) (sym h.2) (no_later w))
+      by (Raises e v) h = h
+      by Wrong h = h
+
+  fit_means : (x : ℤ) (w : World) (left : ℕ) → IsReady count w → Means count w IsSmall (answered (or_raised (within 31 x) w) left)
+  fit_means x w left ready = answer_means count w IsSmall o left (by o (within_answers count x w ready))
+    where
+      o : Answer ℤ
+      o = or_raised (within 31 x) w
+      by : (o : Answer ℤ) → Answers (λ z v. (x ≡ z) × (unsigned_abs x < 2 ^ 31) × (v ≡ w)) o → Answers (λ z v. (unsigned_abs z < 2 ^ 31) × IsReady count v × Later w v) o
+      by (Yields z v) h = (subst (λ y. unsigned_abs y < 2 ^ 31) h.0 h.1, subst (IsReady count) (sym h.2) ready, subst (Later w) (sym h.2) (no_later w))
+      by (Raises e v) h = h
+      by Wrong h = h
+
+  value_means : (e : LoweredExpression) → Knows names e → IsSoundExpression e → (w : World) (left : ℕ) → IsReady count w → Means count w (IsValueOf e) (value_of call names level e w left)
   value_means (Variable r) known sound w left ready =
-      then_means count size (λ g. g < size) (IsOf (Variable r)) (place_at names level r w left) _ (place_means r known w left ready)
-      (λ g lt w left ready. let v = held_there count size g w ready lt in
-      found_means count size (IsOf (Variable r)) (held w g) v.0 v.1 (variable_is (Variable r) refl v.0 v.2) w left ready)
-  value_means (Constant v d) known sound w left ready = (constant_is v d sound.0 sound.1, ready)
+      then_means count IsPlace (IsValueOf (Variable r)) w (place_at call names level r w left) _ (place_means r known w left ready)
+      (λ p w left is ready later. then_means count IsSmallNumber (IsValueOf (Variable r)) w (answered (held p w) left) _
+      (held_means p w left is ready) (λ v w left is ready later. number_means r v w left is ready))
+  value_means (Constant v d) known sound w left ready = (constant_is v d sound.0 sound.1, ready, no_later w)
   value_means (Sum l r) known sound w left ready =
-      then_means count size (IsOf l) (IsOf (Sum l r)) (value_of names level l w left) _ (value_means l known.0 sound.0 w left ready)
-      (λ x hx w left ready. then_means count size (IsOf r) (IsOf (Sum l r)) (value_of names level r w left) _ (value_means r known.1 sound.1 w left ready)
-      (λ y hy w left ready. overflow_means count size (IsOf (Sum l r)) (sum_of x y)
-      (λ z e. let s = sum_of_is x y z e in subst (IsOf (Sum l r)) s.0 (sum_is l r x y hx hy s.1)) w left ready))
+      then_means count (IsValueOf l) (IsValueOf (Sum l r)) w (value_of call names level l w left) _ (value_means l known.0 sound.0 w left ready)
+      (λ x w left hx ready later. then_means count (IsValueOf r) (IsValueOf (Sum l r)) w (value_of call names level r w left) _ (value_means r known.1 sound.1 w left ready)
+      (λ y w left hy ready later. sum_means l r x y w left hx hy ready))
+
+  -- a number stored where a place lives
+  store_means : (p : Place) (x : ℤ) (w : World) (left : ℕ) → IsPlace p w → unsigned_abs x < 2 ^ 31 → IsReady count w → Means count w (Anything count) (answered (stored p (Number x) w) left)
+  store_means p x w left is small ready =
+      let n = stored_there count is.0 x w ready is.2 small in
+      subst (λ q. Means count w (Anything count) (answered (stored q (Number x) w) left)) (sym is.1)
+      (subst (λ a. Means count w (Anything count) (answered a left)) (sym n.1) (tt, n.2, n.3))
 
   assign_means : (target : LoweredReference) (e : LoweredExpression) → IsKnown names target → Knows names e → IsSoundExpression e
-      → (w : World) (left : ℕ) → IsReady count size w → Means count size (Anything count size) (assigns names level target e w left)
+      → (w : World) (left : ℕ) → IsReady count w → Means count w (Anything count) (assigns call names level target e w left)
   assign_means target e known knows sound w left ready =
-      then_means count size (λ g. g < size) (Anything count size) (place_at names level target w left) _ (place_means target known w left ready)
-      (λ g lt w left ready. then_means count size (IsOf e) (Anything count size) (value_of names level e w left) _ (value_means e knows sound w left ready)
-      (λ x hx w left ready. then_means count size (λ y. nat_abs y < 2 ^ 31) (Anything count size) (or_overflow (fitted 31 x) w left) _
-      (overflow_means count size (λ y. nat_abs y < 2 ^ 31) (fitted 31 x) (λ y e. let f = fitted_is x y e in subst (λ z. nat_abs z < 2 ^ 31) f.0 f.1) w left ready)
-      (λ y small w left ready. let n = stored_there count size g y w ready lt small in changed_means count size (stored w g y) n.0 n.1 n.2 w left)))
+      then_means count IsPlace (Anything count) w (place_at call names level target w left) _ (place_means target known w left ready)
+      (λ p v left is ready later. then_means count (IsValueOf e) (Anything count) v (value_of call names level e v left) _ (value_means e knows sound v left ready)
+      (λ x u left hx ready later. let is2 = place_later p v u later is in
+      then_means count IsSmall (Anything count) u (answered (or_raised (within 31 x) u) left) _ (fit_means x u left ready)
+      (λ y t left small ready later. let is3 = place_later p u t later is2 in
+      then_means count (Anything count) (Anything count) t (answered (stored p (Number y) t) left) _ (store_means p y t left is3 small ready)
+      (λ _ w left any ready later. (tt, ready, no_later w)))))
 
-  put_means : (e : LoweredExpression) → Knows names e → IsSoundExpression e → (w : World) (left : ℕ) → IsReady count size w → Means count size (Anything count size) (puts names level e w left)
+  printed_later : (text : List ℕ) (w : World) → Later w (printed text w)
+  unfolding printed
+  printed_later text w g l = l
+
+  put_means : (e : LoweredExpression) → Knows names e → IsSoundExpression e → (w : World) (left : ℕ) → IsReady count w → Means count w (Anything count) (puts call names level e w left)
   put_means e knows sound w left ready =
-      then_means count size (IsOf e) (Anything count size) (value_of names level e w left) _ (value_means e knows sound w left ready)
-      (λ x hx w left ready. let t = text_there e x hx in
-      then_means count size (Anything count size) (Anything count size) (found (number_text (width e) x) w left) _ (found_means count size (Anything count size) (number_text (width e) x) t.0 t.1 tt w left ready)
-      (λ text h w left ready. (tt, printed_ready count size text w ready)))
+      then_means count (IsValueOf e) (Anything count) w (value_of call names level e w left) _ (value_means e knows sound w left ready)
+      (λ x w left hx ready later. let t = text_there e x hx in
+      then_means count (Anything count) (Anything count) w (answered (there_is (characters_of (width e) x) w) left) _
+      (yields_mean count (Anything count) (there_is (characters_of (width e) x) w) t.0 w left (ap (λ o. there_is o w) t.1) tt ready)
+      (λ text w left any ready later. (tt, printed_ready count text w ready, printed_later text w)))
 
-  puts_mean : (es : List LoweredExpression) → KnowsItems names es → AreSoundItems es → (w : World) (left : ℕ) → IsReady count size w → Means count size (Anything count size) (puts_all names level es w left)
-  puts_mean [] knows sound w left ready = (tt, ready)
+  puts_mean : (es : List LoweredExpression) → KnowsItems names es → AreSoundItems es → (w : World) (left : ℕ) → IsReady count w → Means count w (Anything count) (puts_all call names level es w left)
+  puts_mean [] knows sound w left ready = (tt, ready, no_later w)
   puts_mean (e ∷ es) knows sound w left ready =
-      next_means count size (puts names level e w left) _ (put_means e knows.0 sound.0 w left ready) (λ w left ready. puts_mean es knows.1 sound.1 w left ready)
+      next_means count w (puts call names level e w left) _ (put_means e knows.0 sound.0 w left ready) (λ w left ready. puts_mean es knows.1 sound.1 w left ready)
 
-  does_means : (s : ℕ) (b : LoweredBody) → KnowsBody names b → IsSoundBody b → (w : World) (left : ℕ) → IsReady count size w → Means count size (Anything count size) (does names level s b w left)
-  does_means s Null knows sound w left ready = statement_means count size s (λ w left. Gives Next w left) (λ w left ready. (tt, ready)) w left ready
-  does_means s (Declare items) knows sound w left ready = (tt, ready)
-  does_means s (Assign target e) knows sound w left ready = statement_means count size s _ (λ w left ready. assign_means target e knows.0 knows.1 sound w left ready) w left ready
-  does_means s (Put items) knows sound w left ready = statement_means count size s _ (λ w left ready. puts_mean items knows sound w left ready) w left ready
+  does_means : (s : ℕ) (b : LoweredBody) → KnowsBody names b → IsSoundBody b → (w : World) (left : ℕ) → IsReady count w → Means count w (Anything count) (does call names level s b w left)
+  does_means s Null knows sound w left ready = statement_means count s (λ w left. Gives Next w left) (λ w left ready. (tt, ready, no_later w)) w left ready
+  does_means s (Declare items) knows sound w left ready = (tt, ready, no_later w)
+  does_means s (Assign target e) knows sound w left ready = statement_means count s _ (λ w left ready. assign_means target e knows.0 knows.1 sound w left ready) w left ready
+  does_means s (Put items) knows sound w left ready = statement_means count s _ (λ w left ready. puts_mean items knows sound w left ready) w left ready
 
-  pub does_all_mean : (ss : List LoweredStatement) → KnowsAll names ss → AreSoundStatements ss → (w : World) (left : ℕ) → IsReady count size w
-      → Means count size (Anything count size) (does_all names level ss w left)
-  does_all_mean [] knows sound w left ready = (tt, ready)
+  pub does_all_mean : (ss : List LoweredStatement) → KnowsAll names ss → AreSoundStatements ss → (w : World) (left : ℕ) → IsReady count w
+      → Means count w (Anything count) (does_all call names level ss w left)
+  does_all_mean [] knows sound w left ready = (tt, ready, no_later w)
   does_all_mean (s ∷ ss) knows sound w left ready =
-      next_means count size (does names level s.number s.body w left) _ (does_means s.number s.body knows.0 sound.0 w left ready) (λ w left ready. does_all_mean ss knows.1 sound.1 w left ready)
+      next_means count w (does call names level s.number s.body w left) _ (does_means s.number s.body knows.0 sound.0 w left ready) (λ w left ready. does_all_mean ss knows.1 sound.1 w left ready)

@@ -1,55 +1,166 @@
 -- The simulation: the module's run gives what the source means.
-use Rattle.std.specs.Prelude.{◌≢◌, ℕ, zero, suc, ◌+◌, List, [], length, refl}
-use Rattle.std.proofs.lemmas.List.Elements.{All-nil}
+use Rattle.std.specs.Prelude.{◌≡◌, ◌≢◌, ℕ, zero, suc, nat_eq, nat_lt, Bool, true, false, Option, Some, None, option_map, List, [], ◌∷◌, length, replicate, slice_get, if◌then◌else◌, refl}
+use Rattle.std.proofs.Common.{ap, ◌∙◌, sym, subst, arith}
 use Rattle.pli_base.specs.Name.{Name}
 use Rattle.pli_lower.specs.LoweredTree.{LoweredUnit}
-use Rattle.pli_lower.specs.LoweredNames.{declared_names}
+use Rattle.pli_lower.specs.LoweredNames.{declared_names, declaration_faults}
 use Rattle.pli_gen.specs.Translation.{code_of}
-use Rattle.pli_code.specs.World.{nothing, entered}
-use Rattle.pli_code.specs.Machine.{Operand, RunsTo, start}
-use Rattle.pli_code.specs.declared.ending.Ending.TheVariants.{Ended, OutOfSteps, MachineFault}
-use Rattle.pli_meaning.specs.Effects.{Effect, Gives, Jumps, Fails, Spent, Lost, Short, Flow, leaving}
-use Rattle.pli_meaning.specs.Meaning.{does_all, ran}
-use Rattle.pli_meaning.specs.laws.Laws.{module_of, IsMeant, Simulation}
-use Rattle.pli_meaning.proofs.ReachesLemmas.{Reach, returns, leaves}
+use Rattle.pli_code.specs.declared.instruction.Instruction.TheVariants as op
+use Rattle.pli_code.specs.declared.ending.Ending.{Ending}
+use Rattle.pli_code.specs.declared.ending.Ending.TheVariants.{Ended, OutOfSteps, Error, MachineFault}
+use Rattle.pli_value.specs.Value.{Value}
+use Rattle.pli_store.specs.World.{World, Answer, Yields, Raises, Wrong, Variable, Head, nothing, entered, stepped, left_by, height, error_at}
+use Rattle.pli_machine_step.specs.Program.{Basic, UnitCode, Program, variables_in, head_of}
+use Rattle.pli_machine_step.specs.Machine.{Locals, Frame, State, At, Over, Goes, given, enters, fresh, resume, iterate}
+use Rattle.pli_machine_step.specs.Runs.{Outcome, outcome_of, start}
+use Rattle.pli_machine_step.specs.views.ModuleProgram.{procedure_of, unit_code, program_of, RunsTo}
+use Rattle.pli_meaning.specs.Effects.{Effect, Gives, Jumps, Fails, Spent, Lost, Short, Flow, Next, Returned, and_then, answered, leaving, procedure_end}
+use Rattle.pli_meaning.specs.Meaning as meaning
+use Rattle.pli_meaning.specs.Meaning.{Calls, SourceUnit, alone, calls, does_all, variable, ended_as, ran, run_effect, whole_run}
+use Rattle.pli_meaning.specs.laws.Laws.{module_of, Simulates, Simulation}
+use Rattle.pli_meaning.specs.Sound.{IsSound}
+use Rattle.pli_meaning.proofs.ReachesLemmas.{Is, Then, Context, Fine, Comes, stays, from, frame, flows, Reaches, goes}
 use Rattle.pli_meaning.proofs.UsesHaveSlots.{knows_all}
 use Rattle.pli_meaning.proofs.NothingIsLost.{Means, Anything, does_all_mean}
 use Rattle.pli_meaning.proofs.CodeStandsAsTranslated.{stands}
-use Rattle.pli_meaning.proofs.ReadyLemmas.{IsReady, HasDigits, entered_ready}
+use Rattle.pli_meaning.proofs.ReadyLemmas.{IsReady, Numbers, Answers, entered_ready}
 use Rattle.pli_meaning.proofs.MachineReachesMeaning.{does_all_run}
 
+-- the end to which a whole run leads
+module _ (p : Program) where
+  abbrev Ends : State → Effect (Option Value) → Type 0
+  Ends s (Gives v w left) = Comes p s (Over Ended w)
+  Ends s (Jumps h k w left) = Unit {0}
+  Ends s (Fails e w) = Comes p s (Over e w)
+  Ends s (Spent w) = Comes p s (Over OutOfSteps w)
+  Ends s Lost = Unit {0}
+  Ends s Short = Unit {0}
+
+  ends_lost : (s : State) (h k left : ℕ) (w : World) (b : Bool) → Ends s (if b then Lost else Jumps h k w left)
+  ends_lost s h k left w true = tt
+  ends_lost s h k left w false = tt
+
+  module _ (number : ℕ) (u : UnitCode) (there : slice_get p.units number ≡ Some u) (at : ℕ → ℕ) where
+    -- the end of the main procedure
+    main_leaves : {c : Context} {s : State} {l : Locals} {a b : ℕ} (o : Effect Flow) → Is u (Basic (op.Return 0)) a b
+        → Reaches p number u at c s l (flows p number u a []) [] o → Ends s (leaving o procedure_end)
+    main_leaves {a} (Gives Next w left) is r = from p r.by.comes (goes p number u at there {ops = []} {l = r.by.locals} {fs = []} {w = w} {left = left} {t = Over Ended (left_by w)} is refl)
+    main_leaves (Gives (Returned v) w left) is r = r.by.comes
+    main_leaves {s = s} (Jumps h k w left) is r = ends_lost s h k left (left_by w) (nat_eq h (height w))
+    main_leaves (Fails e w) is r = r.by
+    main_leaves (Spent w) is r = r.by
+    main_leaves Lost is r = tt
+    main_leaves Short is r = tt
+
+-- the variables of a procedure, from its only template
+variables_there : (v : Variable) (count : ℕ) → variables_in (v ∷ []) (replicate count 0) ≡ Some (replicate count v)
+variables_there v zero = refl
+variables_there v (suc count) = ap (λ o. option_map (λ vs. v ∷ vs) o) (variables_there v count)
+
 -- the effect of an activation, from that of its statements
-leaving_means : (count size : ℕ) (o : Effect Flow) → Means count size (Anything count size) o → IsMeant (leaving o) × ((ran (leaving o)).ending ≢ MachineFault)
-leaving_means count size (Gives flow w left) h = (tt, λ e. absurd (cc))
-leaving_means count size (Jumps l k w left) h = absurd h
-leaving_means count size (Fails e w) h = (tt, h)
-leaving_means count size (Spent w) h = (tt, λ e. absurd (cc))
-leaving_means count size Lost h = absurd h
-leaving_means count size Short h = absurd h
+leaving_means : (count : ℕ) (u : World) (o : Effect Flow) → Means count u (Anything count) o → (outcome : Outcome) × (ran (leaving o procedure_end) ≡ Some outcome) × (outcome.ending ≢ MachineFault)
+leaving_means count u (Gives Next w left) h = (_, refl, λ e. absurd (cc))
+leaving_means count u (Gives (Returned v) w left) h = (_, refl, λ e. absurd (cc))
+leaving_means count u (Jumps l k w left) h = absurd h
+leaving_means count u (Fails Ended w) h = (_, refl, h)
+leaving_means count u (Fails OutOfSteps w) h = (_, refl, h)
+leaving_means count u (Fails (Error e unit s) w) h = (_, refl, h)
+leaving_means count u (Fails MachineFault w) h = absurd (h refl)
+leaving_means count u (Spent w) h = (_, refl, λ e. absurd (cc))
+leaving_means count u Lost h = absurd h
+leaving_means count u Short h = absurd h
 
--- from 'the machine does what this effect says' to a run
-runs_from : (unit : Name) (u : LoweredUnit) (n : ℕ) (ts : List Operand) (o : Effect Flow) → IsMeant o
-    → Reach (code_of u) (start (module_of unit u) n) (returns [] ts) [] o → RunsTo (module_of unit u) n (ran o)
-runs_from unit u n ts (Gives flow w left) meant r = record { count = (r.by 0).0; ending = Ended; world = w; over = (r.by 0).1; gives = refl }
-runs_from unit u n ts (Jumps l k w left) meant r = absurd meant
-runs_from unit u n ts (Fails e w) meant r = record { count = (r.by 0).0; ending = e; world = w; over = (r.by 0).1; gives = refl }
-runs_from unit u n ts (Spent w) meant r = record { count = (r.by 0).0; ending = OutOfSteps; world = w; over = (r.by 0).1; gives = refl }
-runs_from unit u n ts Lost meant r = absurd meant
-runs_from unit u n ts Short meant r = absurd meant
+-- from the end to which a run leads
+abbrev ReachesOutcome : Program → State → Outcome → Type 0
+ReachesOutcome p s outcome = (count : ℕ) × (ending : Ending) × (w : World) × (iterate p count s ≡ Over ending w) × (outcome ≡ outcome_of ending w)
 
--- before a run no generation holds anything
-none_held : (count : ℕ) (unit : Name) → IsReady count (length nothing.storage + count) (entered unit count nothing)
-unfolding nothing
-none_held count unit = entered_ready unit count nothing (All-nil HasDigits)
+outcome_from : (p : Program) (s : State) (e : Ending) (w : World) (outcome : Outcome) → Comes p s (Over e w) → outcome_of e w ≡ outcome → ReachesOutcome p s outcome
+outcome_from p s e w outcome c same = ((c.by 0).0, e, w, (c.by 0).1, sym same)
+
+pub some_is : (a b : Outcome) → Some a ≡ Some b → a ≡ b
+some_is a b e = cc
+
+runs_from : (p : Program) (s : State) (o : Effect (Option Value)) (outcome : Outcome) → ran o ≡ Some outcome → Ends p s o → ReachesOutcome p s outcome
+runs_from p s (Gives v w left) outcome e r = outcome_from p s Ended w outcome r (some_is _ _ e)
+runs_from p s (Jumps h k w left) outcome e r = absurd (cc)
+runs_from p s (Fails Ended w) outcome e r = outcome_from p s Ended w outcome r (some_is _ _ e)
+runs_from p s (Fails OutOfSteps w) outcome e r = outcome_from p s OutOfSteps w outcome r (some_is _ _ e)
+runs_from p s (Fails (Error x unit k) w) outcome e r = outcome_from p s (Error x unit k) w outcome r (some_is _ _ e)
+runs_from p s (Fails MachineFault w) outcome e r = absurd (cc)
+runs_from p s (Spent w) outcome e r = outcome_from p s OutOfSteps w outcome r (some_is _ _ e)
+runs_from p s Lost outcome e r = absurd (cc)
+runs_from p s Short outcome e r = absurd (cc)
+
+-- the main procedure of a unit, from the world in which its step was taken
+module _ (unit : Name) (u : LoweredUnit) (none : declaration_faults u ≡ []) (sound : IsSound u) (n : ℕ) where
+  abbrev p : Program
+  p = program_of (module_of unit u)
+
+  abbrev c : UnitCode
+  c = unit_code unit (code_of u)
+
+  abbrev names : List Name
+  names = declared_names u
+
+  abbrev head : Head
+  head = meaning.head_of (record { name = unit; tree = u })
+
+  abbrev call : Calls
+  call = calls (record { name = unit; tree = u } ∷ []) (suc n)
+
+  at : ℕ → ℕ
+  at k = k
+
+  abbrev first : Frame
+  first = record { unit = 0; next = 0; operands = []; locals = fresh 0 }
+
+  -- what the meaning does behind the step
+  abbrev effect : Answer (Unit {0}) → Effect (Option Value)
+  effect o = and_then (answered o n) (λ _ w left. leaving (does_all call names (suc n) u.statements w left) procedure_end)
+
+  -- and where the machine is
+  abbrev state : Answer (Unit {0}) → State
+  state o = resume (given (stepped nothing) o (λ _ w. Goes first [] w)) n
+
+  head_there : head_of c 0 (procedure_of (length names)) ≡ Some head
+  head_there = ap (λ o. option_map (λ vs. record { unit = unit; block = 0; statement = 1; variables = vs }) o) (variables_there variable (length names))
+
+  main_run : (o : Answer (Unit {0})) → Answers (λ _ w. IsReady (length names) w) o
+      → (outcome : Outcome) × (ran (effect o) ≡ Some outcome) × (outcome.ending ≢ MachineFault) × ReachesOutcome p (state o) outcome
+  main_run (Yields x w) ready =
+      let o = does_all call names (suc n) u.statements w n in
+      let is = stands unit u none in
+      let m = leaving_means (length names) w o (does_all_mean call names (suc n) u.statements (knows_all u none) sound w n ready) in
+      let fine : Fine (record { size = 0; depth = 0; bound = 1 }) (fresh 0) = record { room = refl; few = omega arith; some = omega arith } in
+      let r = does_all_run p 0 c refl refl at call names (suc n) (record { size = 0; depth = 0; bound = 1 }) u.statements is.fst (fresh 0) fine [] w n in
+      (m.0, m.1, m.2, runs_from p (state (Yields x w)) (leaving o procedure_end) m.0 m.1 (main_leaves p 0 c refl at o is.snd r))
+  main_run (Raises e w) ready = by (error_at e w) ready
+    where
+      by : (f : Ending) → f ≢ MachineFault → (outcome : Outcome) × (ran (Fails f w) ≡ Some outcome) × (outcome.ending ≢ MachineFault) × ReachesOutcome p (Over f w) outcome
+      by Ended h = (_, refl, h, (0, Ended, w, refl, refl))
+      by OutOfSteps h = (_, refl, h, (0, OutOfSteps, w, refl, refl))
+      by (Error x unit k) h = (_, refl, h, (0, Error x unit k, w, refl, refl))
+      by MachineFault h = absurd (h refl)
+  main_run Wrong ready = absurd ready
+
+-- before a run nothing lives
+none_held : Numbers (stepped nothing).storage
+unfolding nothing stepped
+none_held = tt
 
 pub simulation : Simulation
+unfolding nothing
 simulation unit u none sound zero =
-    record { meant = tt; runs = record { count = 0; ending = OutOfSteps; world = nothing; over = refl; gives = refl }; no_fault = λ e. absurd (cc) }
+    record {
+      outcome = outcome_of OutOfSteps nothing;
+      means = refl;
+      runs = record { count = 0; ending = OutOfSteps; world = nothing; over = refl; gives = refl };
+      no_fault = λ e. absurd (cc);
+    }
 simulation unit u none sound (suc n) =
-    let names = declared_names u in
-    let w = entered unit (length names) nothing in
-    let o = does_all names (suc n) u.statements w n in
-    let m = leaving_means (length names) _ o (does_all_mean names (suc n) _ u.statements (knows_all u none) sound w n (none_held (length names) unit)) in
-    let is = stands u none in
-    let r = leaves (code_of u) 0 {outer = []} o is.snd (does_all_run (code_of u) names (suc n) 0 u.statements is.fst [] [] w n) in
-    record { meant = m.0; runs = runs_from unit u (suc n) r.temporaries (leaving o) m.0 r.by; no_fault = m.1 }
+    let count = length (declared_names u) in
+    let o = entered (head unit u none sound n) 0 [] (stepped nothing) in
+    let r = main_run unit u none sound n o (entered_ready (head unit u none sound n) count (stepped nothing) refl none_held) in
+    let run : ReachesOutcome (program_of (module_of unit u)) (state unit u none sound n o) r.0 = r.3 in
+    let there = ap (λ h. iterate (program_of (module_of unit u)) run.0 (resume (enters h 0 (procedure_of count) 0 [] [] (stepped nothing)) n)) (head_there unit u none sound n) in
+    record { outcome = r.0; means = r.1; runs = record { count = run.0; ending = run.1; world = run.2; over = there ∙ run.3; gives = run.4 }; no_fault = r.2 }

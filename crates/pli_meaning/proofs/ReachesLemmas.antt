@@ -1,15 +1,14 @@
 -- The machine comes from here to there; these instructions stand at this place; what an effect says of the machine. One lemma for each
 -- combinator of the meaning, over variables: no form of the tree is mentioned.
-use Rattle.std.specs.Prelude.{◌≡◌, ℕ, ℤ, zero, suc, ◌+◌, ◌<◌, Option, Some, None, List, [], ◌∷◌, slice_get, refl}
-use Rattle.std.proofs.Common.{ap, ◌∙◌, subst}
-use Rattle.pli_code.specs.views.ModuleView.{Code}
-use Rattle.pli_code.specs.World.{World, begun, left_by, error_at}
-use Rattle.pli_code.specs.Machine.{Operand, Number, Frame, State, At, Over, act, after, resume, resumed, pushed_if, pushed_or_raised, changed as put_into, iterate}
-use Rattle.pli_code.specs.declared.ending.Ending.TheVariants.{OutOfSteps}
-use Rattle.pli_code.specs.declared.ending.RunError.TheVariants.{FixedOverflow}
-use Rattle.pli_code.specs.declared.instruction.Instruction.{Instruction}
+use Rattle.std.specs.Prelude.{◌≡◌, ℕ, zero, suc, ◌+◌, ◌<◌, ◌≤◌, nat_eq, nat_lt, Bool, true, false, Option, Some, None, List, [], ◌∷◌, length, slice_get, if◌then◌else◌, refl}
+use Rattle.std.proofs.Common.{ap, ◌∙◌, subst, sym, arith}
+use Rattle.pli_code.specs.declared.ending.Ending.TheVariants.{Ended, OutOfSteps, MachineFault}
 use Rattle.pli_code.specs.declared.instruction.Instruction.TheVariants as op
-use Rattle.pli_meaning.specs.Effects.{Effect, Gives, Jumps, Fails, Spent, Lost, Short, Flow, Next, Returned, Doing, and_then, followed, as_statement, found, or_overflow, changed, leaving}
+use Rattle.pli_value.specs.Value.{Value}
+use Rattle.pli_store.specs.World.{World, Answer, Yields, Raises, Wrong, height, at_statement, stepped, left_by, cleared, error_at}
+use Rattle.pli_machine_step.specs.Program.{Instruction, Basic, UnitCode, Program}
+use Rattle.pli_machine_step.specs.Machine.{Operand, Locals, Frame, State, At, Over, Move, Goes, given, calm, lands, returned, resumed, act, act_in, ahead, resume, next_of, iterate}
+use Rattle.pli_meaning.specs.Effects.{Effect, Gives, Jumps, Fails, Spent, Lost, Short, Flow, Next, Returned, Doing, and_then, after_flow, followed, answered, as_statement, leaving, procedure_end}
 
 -- what stands from a place up to a place
 abbrev pub Span : Type 1
@@ -21,42 +20,41 @@ pub record Then (A B : Span) (p q : ℕ) : Type 0 where
   pub fst : A p middle
   pub snd : B middle q
 
--- the temporaries below a depth are the same
-abbrev pub Agree : (depth : ℕ) → List Operand → List Operand → Type 0
-Agree depth ts us = (k : ℕ) → k < depth → slice_get us k ≡ slice_get ts k
+-- in a block: how many temporaries it has, how many of them are in use, and how many backward jumps may have been made since the last step
+pub record Context : Type 0 where
+  pub size : ℕ
+  pub depth : ℕ
+  pub bound : ℕ
 
-pub same : (depth : ℕ) (ts : List Operand) → Agree depth ts ts
-same depth ts k lt = refl
+-- a frame's temporaries are those of the block, and it has made no more backward jumps than may be
+pub record Fine (c : Context) (l : Locals) : Type 0 where
+  pub room : length l.temporaries ≡ c.size
+  pub few : l.jumps ≤ c.bound
+  pub some : 1 ≤ c.bound
 
-pub agreed : (depth : ℕ) (ts us vs : List Operand) → Agree depth ts us → Agree depth us vs → Agree depth ts vs
-agreed depth ts us vs h g k lt = g k lt ∙ h k lt
+-- the temporaries in use are as before
+pub record Kept (c : Context) (l m : Locals) : Type 0 where
+  pub agree : (k : ℕ) → k < c.depth → slice_get m.temporaries k ≡ slice_get l.temporaries k
+  pub fine : Fine c m
 
--- the state to which a result leads, from the temporaries at the end
+pub kept_same : (c : Context) (l : Locals) → Fine c l → Kept c l l
+kept_same c l fine = record { agree = λ k lt. refl; fine = fine }
+
+pub kept_on : (c : Context) (l m n : Locals) → Kept c l m → Kept c m n → Kept c l n
+kept_on c l m n h g = record { agree = λ k lt. g.agree k lt ∙ h.agree k lt; fine = g.fine }
+
+-- a step makes the count of jumps nothing
+pub calm_fine : (c : Context) (l : Locals) → Fine c l → Fine c (calm l)
+calm_fine c l fine = record { room = fine.room; few = omega arith; some = fine.some }
+
+-- the state to which a result leads, from the frame's own part at the end
 abbrev pub Target : Type 0 → Type 0
-Target A = List Operand → A → World → (left : ℕ) → State
+Target A = Locals → A → World → (left : ℕ) → State
 
--- to the next place, with the result as an operand
-abbrev pub pushes : {A : Type 0} → (A → Operand) → (place : ℕ) (ops : List Operand) (frames : List Frame) → Target A
-pushes f q ops fs ts x w left = At q (f x ∷ ops) ts fs w left
-
--- to the next place, or out of the procedure; a statement begins and ends with no operand
-abbrev pub flows : (place : ℕ) (frames : List Frame) → Target Flow
-flows q fs ts Next w left = At q [] ts fs w left
-flows q fs ts Returned w left = resume (resumed fs (left_by w)) left
-
--- to where the caller goes on; the activation is left already
-abbrev pub returns : (frames : List Frame) → Target Flow
-returns fs ts flow w left = resume (resumed fs w) left
-
-module _ (code : Code) where
-  -- this instruction stands here
-  pub record Is (i : Instruction) (p q : ℕ) : Type 0 where
-    pub here : slice_get code.instructions p ≡ Some i
-    pub ends : p + 1 ≡ q
-
+module _ (p : Program) where
   -- a run from a goes through b: however far one goes from b, some count of instructions leads there from a
   pub record Comes (a b : State) : Type 0 where
-    pub by : (k : ℕ) → (j : ℕ) × (iterate code j a ≡ iterate code k b)
+    pub by : (k : ℕ) → (j : ℕ) × (iterate p j a ≡ iterate p k b)
 
   pub stays : (a : State) → Comes a a
   stays a = record { by = λ k. (k, refl) }
@@ -64,115 +62,136 @@ module _ (code : Code) where
   pub from : {a b c : State} → Comes a b → Comes b c → Comes a c
   from ab bc = record { by = λ k. let y = bc.by k in let x = ab.by y.0 in (x.0, x.1 ∙ y.1) }
 
-  -- one instruction; callers give the state behind it as a function of the next place
-  pub goes : {i : Instruction} {p q : ℕ} {ops ts : List Operand} {fs : List Frame} {w : World} {left : ℕ}
-      → Is i p q → (f : ℕ → State) → ((m : ℕ) → after (Some i) (act code (Some i) m ops ts fs w) w left ≡ f (m + 1)) → Comes (At p ops ts fs w left) (f q)
-  goes {i} {p} {q} {ops} {ts} {fs} {w} {left} is f h =
-      record { by = λ k. (suc k, ap (λ j. iterate code k (after j (act code j p ops ts fs w) w left)) is.here ∙ ap (iterate code k) (h p) ∙ ap (λ m. iterate code k (f m)) is.ends) }
+  -- and with a frame's own part that keeps what is in use
+  pub record Arrives (c : Context) (s : State) (l : Locals) (to : Locals → State) : Type 0 where
+    pub locals : Locals
+    pub kept : Kept c l locals
+    pub comes : Comes s (to locals)
 
-  -- the machine does from a state on what an effect says. No form jumps yet, so a jump is said of none
-  abbrev pub Reach : {A : Type 0} → State → (A → World → ℕ → State) → List Frame → Effect A → Type 0
-  Reach s to fs (Gives x w left) = Comes s (to x w left)
-  Reach s to fs (Jumps h k w left) = ⊥
-  Reach s to fs (Fails e w) = Comes s (Over e w)
-  Reach s to fs (Spent w) = Comes s (Over OutOfSteps w)
-  Reach s to fs Lost = Unit {0}
-  Reach s to fs Short = Unit {0}
+  pub arrives_from : {c : Context} {s t : State} {l : Locals} {to : Locals → State} → Comes s t → Arrives c t l to → Arrives c s l to
+  arrives_from c a = record { locals = a.locals; kept = a.kept; comes = from c a.comes }
 
-  -- and at its end the temporaries below the depth are as they were
-  pub record Reaches {A : Type 0} (s : State) (depth : ℕ) (ts : List Operand) (to : Target A) (fs : List Frame) (o : Effect A) : Type 0 where
-    pub temporaries : List Operand
-    pub agree : Agree depth ts temporaries
-    pub by : Reach s (to temporaries) fs o
+module _ (u : UnitCode) where
+  -- this instruction stands here
+  pub record Is (i : Instruction) (a b : ℕ) : Type 0 where
+    pub here : slice_get u.instructions a ≡ Some i
+    pub ends : suc a ≡ b
 
-  module _ (depth : ℕ) where
-    pub gives : {A : Type 0} {s : State} {ts : List Operand} {to : Target A} {fs : List Frame} (x : A) (w : World) (left : ℕ)
-        → Comes s (to ts x w left) → Reaches s depth ts to fs (Gives x w left)
-    gives {ts} x w left c = record { temporaries = ts; agree = same depth ts; by = c }
+module _ (p : Program) (number : ℕ) (u : UnitCode) where
+  -- a frame of the unit
+  abbrev pub frame : (next : ℕ) → List Operand → Locals → Frame
+  frame next ops l = record { unit = number; next = next; operands = ops; locals = l }
+
+  -- to the next place, with the result as an operand
+  abbrev pub pushes : {A : Type 0} → (A → Operand) → (place : ℕ) (ops : List Operand) (frames : List Frame) → Target A
+  pushes f b ops fs l x w left = At (frame b (f x ∷ ops) l) fs w left
+
+  -- to the next place, or out of the procedure; a statement begins and ends with no operand. No form returns yet
+  abbrev pub flows : (place : ℕ) (frames : List Frame) → Target Flow
+  flows b fs l Next w left = At (frame b [] l) fs w left
+  flows b fs l (Returned v) w left = resume (resumed fs (left_by w)) left
+
+  module _ (at : ℕ → ℕ) where
+    -- a jump to a label of the newest activation, or of one that waits
+    abbrev pub landed : (height label : ℕ) → Locals → List Frame → World → (left : ℕ) → State
+    landed h k l fs w left =
+        if nat_eq h (height w) then At (frame (at k) [] l) fs (cleared w) left else resume (lands h (at k) fs (left_by w)) left
+
+    -- the machine does from a state on what an effect says
+    abbrev pub Reach : {A : Type 0} → Context → State → Locals → Target A → List Frame → Effect A → Type 0
+    Reach c s l to fs (Gives x w left) = Arrives p c s l (λ m. to m x w left)
+    Reach c s l to fs (Jumps h k w left) = Arrives p c s l (λ m. landed h k m fs w left)
+    Reach c s l to fs (Fails e w) = Comes p s (Over e w)
+    Reach c s l to fs (Spent w) = Comes p s (Over OutOfSteps w)
+    Reach c s l to fs Lost = Unit {0}
+    Reach c s l to fs Short = Unit {0}
+
+    pub record Reaches {A : Type 0} (c : Context) (s : State) (l : Locals) (to : Target A) (fs : List Frame) (o : Effect A) : Type 0 where
+      pub by : Reach c s l to fs o
+
+    pub gives : {A : Type 0} {c : Context} {s : State} {l : Locals} {to : Target A} {fs : List Frame} (x : A) (w : World) (left : ℕ) → Fine c l
+        → Comes p s (to l x w left) → Reaches c s l to fs (Gives x w left)
+    gives {c} {l} x w left fine h = record { by = record { locals = l; kept = kept_same c l fine; comes = h } }
 
     -- where nothing stands
-    pub passes : {p q : ℕ} {ts : List Operand} {fs : List Frame} → p ≡ q → (w : World) (left : ℕ)
-        → Reaches (At p [] ts fs w left) depth ts (flows q fs) fs (Gives Next w left)
-    passes {p} {ts} {fs} e w left = gives Next w left (subst (λ m. Comes (At p [] ts fs w left) (At m [] ts fs w left)) e (stays (At p [] ts fs w left)))
-
-    reach_from : {A : Type 0} {s t : State} (to : A → World → ℕ → State) (fs : List Frame) (o : Effect A) → Comes s t → Reach t to fs o → Reach s to fs o
-    reach_from to fs (Gives x w left) c r = from c r
-    reach_from to fs (Jumps h k w left) c r = r
-    reach_from to fs (Fails e w) c r = from c r
-    reach_from to fs (Spent w) c r = from c r
-    reach_from to fs Lost c r = r
-    reach_from to fs Short c r = r
+    pub passes : {c : Context} {a b : ℕ} {l : Locals} {fs : List Frame} → a ≡ b → Fine c l → (w : World) (left : ℕ)
+        → Reaches c (At (frame a [] l) fs w left) l (flows b fs) fs (Gives Next w left)
+    passes {a} {l} {fs} e fine w left =
+        gives Next w left fine (subst (λ m. Comes p (At (frame a [] l) fs w left) (At (frame m [] l) fs w left)) e (stays p (At (frame a [] l) fs w left)))
 
     -- after some instructions
-    pub then_reaches : {A : Type 0} {s t : State} {ts : List Operand} {to : Target A} {fs : List Frame} {o : Effect A} → Comes s t → Reaches t depth ts to fs o → Reaches s depth ts to fs o
-    then_reaches {to} {fs} {o} c r = record { temporaries = r.temporaries; agree = r.agree; by = reach_from (to r.temporaries) fs o c r.by }
+    pub reach_from : {A : Type 0} (c : Context) {s t : State} (l : Locals) (to : Target A) (fs : List Frame) (o : Effect A) → Comes p s t → Reach c t l to fs o → Reach c s l to fs o
+    reach_from c l to fs (Gives x w left) h r = arrives_from p h r
+    reach_from c l to fs (Jumps g k w left) h r = arrives_from p h r
+    reach_from c l to fs (Fails e w) h r = from p h r
+    reach_from c l to fs (Spent w) h r = from p h r
+    reach_from c l to fs Lost h r = r
+    reach_from c l to fs Short h r = r
 
-    pub bound : {A B : Type 0} {s : State} {ts : List Operand} {to : Target A} {to2 : Target B} {fs : List Frame} (o : Effect A) (go : A → Doing B)
-        → Reaches s depth ts to fs o
-        → ((us : List Operand) → Agree depth ts us → (x : A) (w : World) (left : ℕ) → Reaches (to us x w left) depth us to2 fs (go x w left))
-        → Reaches s depth ts to2 fs (and_then o go)
-    bound {ts} {to2} {fs} (Gives x w left) go r f =
-        let n = f r.temporaries r.agree x w left in
-        record { temporaries = n.temporaries; agree = agreed depth ts r.temporaries n.temporaries r.agree n.agree; by = reach_from (to2 n.temporaries) fs (go x w left) r.by n.by }
-    bound (Jumps h k w left) go r f = absurd r.by
-    bound (Fails e w) go r f = record { temporaries = r.temporaries; agree = r.agree; by = r.by }
-    bound (Spent w) go r f = record { temporaries = r.temporaries; agree = r.agree; by = r.by }
-    bound Lost go r f = record { temporaries = r.temporaries; agree = r.agree; by = tt }
-    bound Short go r f = record { temporaries = r.temporaries; agree = r.agree; by = tt }
+    pub then_reaches : {A : Type 0} {c : Context} {s t : State} {l : Locals} {to : Target A} {fs : List Frame} {o : Effect A} → Comes p s t → Reaches c t l to fs o → Reaches c s l to fs o
+    then_reaches {c} {l} {to} {fs} {o} h r = record { by = reach_from c l to fs o h r.by }
 
-    pub goes_on : {s : State} {ts : List Operand} {p q : ℕ} {fs : List Frame} (o : Effect Flow) (go : Doing Flow)
-        → Reaches s depth ts (flows p fs) fs o
-        → ((us : List Operand) → Agree depth ts us → (w : World) (left : ℕ) → Reaches (At p [] us fs w left) depth us (flows q fs) fs (go w left))
-        → Reaches s depth ts (flows q fs) fs (followed o go)
-    goes_on {ts} {q} {fs} (Gives Next w left) go r f =
-        let n = f r.temporaries r.agree w left in
-        record { temporaries = n.temporaries; agree = agreed depth ts r.temporaries n.temporaries r.agree n.agree; by = reach_from (flows q fs n.temporaries) fs (go w left) r.by n.by }
-    goes_on (Gives Returned w left) go r f = record { temporaries = r.temporaries; agree = r.agree; by = r.by }
-    goes_on (Jumps h k w left) go r f = absurd r.by
-    goes_on (Fails e w) go r f = record { temporaries = r.temporaries; agree = r.agree; by = r.by }
-    goes_on (Spent w) go r f = record { temporaries = r.temporaries; agree = r.agree; by = r.by }
-    goes_on Lost go r f = record { temporaries = r.temporaries; agree = r.agree; by = tt }
-    goes_on Short go r f = record { temporaries = r.temporaries; agree = r.agree; by = tt }
+    -- from a frame's own part that keeps what is in use
+    pub reach_kept : {A : Type 0} (c : Context) (s : State) (l m : Locals) (to : Target A) (fs : List Frame) (o : Effect A) → Kept c l m → Reach c s m to fs o → Reach c s l to fs o
+    reach_kept c s l m to fs (Gives x w left) k r = record { locals = r.locals; kept = kept_on c l m r.locals k r.kept; comes = r.comes }
+    reach_kept c s l m to fs (Jumps g i w left) k r = record { locals = r.locals; kept = kept_on c l m r.locals k r.kept; comes = r.comes }
+    reach_kept c s l m to fs (Fails e w) k r = r
+    reach_kept c s l m to fs (Spent w) k r = r
+    reach_kept c s l m to fs Lost k r = r
+    reach_kept c s l m to fs Short k r = r
 
-    -- a statement is begun by the instruction that takes its step
-    pub begins : {A : Type 0} {s p q : ℕ} {ops ts : List Operand} {fs outer : List Frame} {to : Target A} (go : Doing A) → Is (op.Step s) p q
-        → ((w : World) (left : ℕ) → Reaches (At q ops ts fs w left) depth ts to outer (go w left))
-        → (w : World) (left : ℕ) → Reaches (At p ops ts fs w left) depth ts to outer (as_statement s go w left)
-    begins {ts} go is f w zero = record { temporaries = ts; agree = same depth ts; by = goes is (λ m. Over OutOfSteps w) (λ m. refl) }
-    begins {s} {ops} {ts} {fs} go is f w (suc left) = then_reaches (goes is (λ m. At m ops ts fs (begun s w) left) (λ m. refl)) (f (begun s w) left)
+    pub bound : {A B : Type 0} {c : Context} {s : State} {l : Locals} {to : Target A} {to2 : Target B} {fs : List Frame} (o : Effect A) (go : A → Doing B)
+        → Reaches c s l to fs o
+        → ((m : Locals) → Kept c l m → (x : A) (w : World) (left : ℕ) → Reaches c (to m x w left) m to2 fs (go x w left))
+        → Reaches c s l to2 fs (and_then o go)
+    bound {c} {l} {to} {to2} {fs} (Gives x w left) go r f =
+        let a = r.by in
+        let n = f a.locals a.kept x w left in
+        record { by = reach_from c l to2 fs (go x w left) a.comes (reach_kept c (to a.locals x w left) l a.locals to2 fs (go x w left) a.kept n.by) }
+    bound (Jumps h k w left) go r f = record { by = r.by }
+    bound (Fails e w) go r f = record { by = r.by }
+    bound (Spent w) go r f = record { by = r.by }
+    bound Lost go r f = record { by = tt }
+    bound Short go r f = record { by = tt }
 
-    -- an instruction that pushes what is there
-    pub finds : {A : Type 0} {i : Instruction} {p q : ℕ} {old ops ts : List Operand} {fs : List Frame} (f : A → Operand) (o : Option A) → Is i p q
-        → (w : World) (left : ℕ)
-        → ((m : ℕ) → after (Some i) (act code (Some i) m old ts fs w) w left ≡ resume (pushed_if f m ops ts fs w o) left)
-        → Reaches (At p old ts fs w left) depth ts (pushes f q ops fs) fs (found o w left)
-    finds {ops} {ts} {fs} f (Some x) is w left h = gives x w left (goes is (λ m. At m (f x ∷ ops) ts fs w left) h)
-    finds {ts} f None is w left h = record { temporaries = ts; agree = same depth ts; by = tt }
+    -- the next statement
+    pub goes_on : {c : Context} {s : State} {l : Locals} {a b : ℕ} {fs : List Frame} (o : Effect Flow) (go : Doing Flow)
+        → Reaches c s l (flows a fs) fs o
+        → ((m : Locals) → Kept c l m → (w : World) (left : ℕ) → Reaches c (At (frame a [] m) fs w left) m (flows b fs) fs (go w left))
+        → Reaches c s l (flows b fs) fs (followed o go)
+    goes_on {c} {l} {a} {b} {fs} o go r f = bound {to = flows a fs} {to2 = flows b fs} o (after_flow go) r by_flow
+      where
+        by_flow : (m : Locals) → Kept c l m → (x : Flow) (w : World) (left : ℕ) → Reaches c (flows a fs m x w left) m (flows b fs) fs (after_flow go x w left)
+        by_flow m kept Next w left = f m kept w left
+        by_flow m kept (Returned v) w left = gives (Returned v) w left kept.fine (stays p (flows a fs m (Returned v) w left))
 
-    -- an instruction that pushes a number, or raises FIXEDOVERFLOW
-    pub raises : {i : Instruction} {p q : ℕ} {old ops ts : List Operand} {fs : List Frame} (o : Option ℤ) → Is i p q
-        → (w : World) (left : ℕ)
-        → ((m : ℕ) → after (Some i) (act code (Some i) m old ts fs w) w left ≡ resume (pushed_or_raised m ops ts fs w o) left)
-        → Reaches (At p old ts fs w left) depth ts (pushes Number q ops fs) fs (or_overflow o w left)
-    raises {ops} {ts} {fs} (Some x) is w left h = gives x w left (goes is (λ m. At m (Number x ∷ ops) ts fs w left) h)
-    raises {ts} None is w left h = record { temporaries = ts; agree = same depth ts; by = goes is (λ m. Over (error_at FixedOverflow w) w) h }
+    module _ (there : slice_get p.units number ≡ Some u) where
+      -- one instruction
+      pub goes : {i : Instruction} {a b : ℕ} {ops : List Operand} {l : Locals} {fs : List Frame} {w : World} {left : ℕ} {t : State}
+          → Is u i a b → resume (act p.greatest u (Some i) (frame b ops l) fs w) left ≡ t → Comes p (At (frame a ops l) fs w left) t
+      goes {i} {a} {b} {ops} {l} {fs} {w} {left} {t} is h =
+          record {
+            by = λ k. (suc k,
+            ap (λ v. iterate p k (resume (act_in p.greatest v (frame a ops l) fs w) left)) there
+            ∙ ap (λ j. iterate p k (resume (act p.greatest u j (frame (suc a) ops l) fs w) left)) is.here
+            ∙ ap (λ m. iterate p k (resume (act p.greatest u (Some i) (frame m ops l) fs w) left)) is.ends ∙ ap (iterate p k) h);
+          }
 
-    -- an instruction that changes the world, the last of a statement
-    pub changes : {i : Instruction} {p q : ℕ} {old ts : List Operand} {fs : List Frame} (o : Option World) → Is i p q
-        → (w : World) (left : ℕ)
-        → ((m : ℕ) → after (Some i) (act code (Some i) m old ts fs w) w left ≡ resume (put_into m [] ts fs w o) left)
-        → Reaches (At p old ts fs w left) depth ts (flows q fs) fs (changed o w left)
-    changes {ts} {fs} (Some new) is w left h = gives Next new left (goes is (λ m. At m [] ts fs new left) h)
-    changes {ts} None is w left h = record { temporaries = ts; agree = same depth ts; by = tt }
+      -- a statement is begun by the instruction that takes its step
+      pub begins : {A : Type 0} {c : Context} {s a b : ℕ} {ops : List Operand} {l : Locals} {fs : List Frame} {to : Target A} (go : Doing A) → Is u (Basic (op.Step s)) a b → Fine c l
+          → ((m : Locals) → Fine c m → (w : World) (left : ℕ) → Reaches c (At (frame b ops m) fs w left) m to fs (go w left))
+          → (w : World) (left : ℕ) → Reaches c (At (frame a ops l) fs w left) l to fs (as_statement s go w left)
+      begins go is fine f w zero = record { by = goes is refl }
+      begins {c} {s} {ops} {l} {fs} {to} go is fine f w (suc left) =
+          let v = at_statement s (stepped w) in
+          let r = f (calm l) (calm_fine c l fine) v left in
+          then_reaches (goes is refl) (record { by = reach_kept c _ l (calm l) to fs (go v left) (record { agree = λ k lt. refl; fine = calm_fine c l fine }) r.by })
 
-    -- the end of an activation
-    pub leaves : {s : State} {ts : List Operand} {p q : ℕ} {fs outer : List Frame} (o : Effect Flow) → Is (op.Return 0) p q
-        → Reaches s depth ts (flows p fs) fs o → Reaches s depth ts (returns fs) outer (leaving o)
-    leaves {fs} (Gives Next w left) is r =
-        record { temporaries = r.temporaries; agree = r.agree; by = from r.by (goes is (λ m. resume (resumed fs (left_by w)) left) (λ m. refl)) }
-    leaves (Gives Returned w left) is r = record { temporaries = r.temporaries; agree = r.agree; by = r.by }
-    leaves (Jumps h k w left) is r = absurd r.by
-    leaves (Fails e w) is r = record { temporaries = r.temporaries; agree = r.agree; by = r.by }
-    leaves (Spent w) is r = record { temporaries = r.temporaries; agree = r.agree; by = r.by }
-    leaves Lost is r = record { temporaries = r.temporaries; agree = r.agree; by = tt }
-    leaves Short is r = record { temporaries = r.temporaries; agree = r.agree; by = tt }
+      -- an instruction that asks for an operation
+      pub answers : {A : Type 0} {c : Context} {i : Instruction} {a b : ℕ} {old : List Operand} {l : Locals} {fs : List Frame} (f : A → List Operand) (o : Answer A) → Is u i a b → Fine c l
+          → (w : World) (left : ℕ)
+          → act p.greatest u (Some i) (frame b old l) fs w ≡ given w o (λ x v. Goes (frame b (f x) l) fs v)
+          → Reaches c (At (frame a old l) fs w left) l (λ m x w left. At (frame b (f x) m) fs w left) fs (answered o left)
+      answers f (Yields x v) is fine w left h = gives x v left fine (goes is (ap (λ m. resume m left) h))
+      answers f (Raises e v) is fine w left h = record { by = goes is (ap (λ m. resume m left) h) }
+      answers f Wrong is fine w left h = record { by = tt }

@@ -1,15 +1,16 @@
 -- What doing something comes to, and how one thing is done after another. A level bounds the recursion of a
--- definition; the steps left are
--- what the language counts, and go from one thing to the next.
-use Rattle.std.specs.Prelude.{ℕ, zero, suc, nat_eq, length, Option, Some, None, if◌then◌else◌}
-use Rattle.pli_code.specs.World.{World, begun, left_by, error_at}
+-- definition; the steps left are what the language counts, and go from one thing to the next.
+use Rattle.std.specs.Prelude.{ℕ, zero, suc, nat_eq, nat_lt, Option, Some, None, if◌then◌else◌}
 use Rattle.pli_code.specs.declared.ending.Ending.{Ending}
-use Rattle.pli_code.specs.declared.ending.RunError.TheVariants.{FixedOverflow}
+use Rattle.pli_code.specs.declared.ending.RunError.TheVariants.{TooManyActivations}
+use Rattle.pli_store.specs.Activations.{activation_limit}
+use Rattle.pli_store.specs.World.{World, Answer, Yields, Raises, Wrong, height, at_statement, stepped, left_by}
+use Rattle.pli_store.specs.World.{error_at}
+use Rattle.pli_value.specs.Value.{Value}
 
--- it gives a result and leaves so many steps; it jumps to a label of an activation, which is named by how
--- many there are when it is the newest;
--- it ends the run; it has spent the steps; it has no meaning; or the level was too low for it, which never
--- comes
+-- it gives a result and leaves so many steps; it jumps to a label of an activation, which is named by its
+-- height; it ends the run; it has spent the steps; it has no meaning; or the level was too low for it, which
+-- never comes
 pub data Effect (A : Type 0) : Type 0 where
   Gives : (result : A) (world : World) (left : ℕ) → Effect A
   Jumps : (activation label : ℕ) (world : World) (left : ℕ) → Effect A
@@ -18,10 +19,10 @@ pub data Effect (A : Type 0) : Type 0 where
   Lost : Effect A
   Short : Effect A
 
--- how a statement goes on: to the next one, or out of its procedure
+-- how a statement goes on: to the next one, or out of its procedure, with a value if it is a function
 pub data Flow : Type 0 where
   Next : Flow
-  Returned : Flow
+  Returned : (value : Option Value) → Flow
 
 -- what is done from a world with so many steps left
 abbrev pub Doing : Type 0 → Type 0
@@ -37,45 +38,45 @@ and_then Lost go = Lost
 and_then Short go = Short
 
 -- goes on with the next statement, unless the procedure was left
+abbrev pub after_flow : Doing Flow → Flow → Doing Flow
+after_flow go Next w left = go w left
+after_flow go (Returned v) w left = Gives (Returned v) w left
+
 abbrev pub followed : Effect Flow → Doing Flow → Effect Flow
-followed (Gives Next w left) go = go w left
-followed (Gives Returned w left) go = Gives Returned w left
-followed (Jumps h k w left) go = Jumps h k w left
-followed (Fails e w) go = Fails e w
-followed (Spent w) go = Spent w
-followed Lost go = Lost
-followed Short go = Short
+followed o go = and_then o (after_flow go)
+
+-- what an operation gives; to what is wrong the language gives no meaning; no unit takes a condition yet, so
+-- each ends the run
+abbrev pub answered : {A : Type 0} → Answer A → (left : ℕ) → Effect A
+answered (Yields x w) left = Gives x w left
+answered (Raises e w) left = Fails (error_at e w) w
+answered Wrong left = Lost
 
 -- takes a step, if one is left
 abbrev pub as_step : {A : Type 0} → Doing A → Doing A
 as_step go w zero = Spent w
-as_step go w (suc left) = go w left
+as_step go w (suc left) = go (stepped w) left
 
 -- begins a statement, which is a step
 abbrev pub as_statement : {A : Type 0} → (number : ℕ) → Doing A → Doing A
-as_statement s go = as_step (λ w left. go (begun s w) left)
+as_statement s go = as_step (λ w left. go (at_statement s w) left)
 
--- what is there; to what is not there the language gives no meaning
-abbrev pub found : {A : Type 0} → Option A → Doing A
-found (Some x) w left = Gives x w left
-found None w left = Lost
+-- unless there are as many activations as there may be
+abbrev pub unless_full : {A : Type 0} → Doing A → Doing A
+unless_full go w left =
+    if nat_lt (height w) activation_limit then go w left else Fails (error_at TooManyActivations w) w
 
--- a value, or FIXEDOVERFLOW where there is none; as no unit takes the condition, it ends the run
-abbrev pub or_overflow : {A : Type 0} → Option A → Doing A
-or_overflow (Some x) w left = Gives x w left
-or_overflow None w left = Fails (error_at FixedOverflow w) w
-
--- goes on in a changed world, if there is one
-abbrev pub changed : Option World → Doing Flow
-changed (Some new) w left = Gives Next new left
-changed None w left = Lost
-
--- leaves the newest activation; a jump to a label of it is lost, as none of its lists has held it, and any
+-- the newest activation is left; a jump to a label of it is lost, as none of its lists has held it, and any
 -- other goes on outside
-abbrev pub leaving : Effect Flow → Effect Flow
-leaving (Gives flow w left) = Gives Next (left_by w) left
-leaving (Jumps h k w left) = if nat_eq h (length w.activations) then Lost else Jumps h k (left_by w) left
-leaving (Fails e w) = Fails e w
-leaving (Spent w) = Spent w
-leaving Lost = Lost
-leaving Short = Short
+abbrev pub leaving : {A B : Type 0} → Effect A → (A → Doing B) → Effect B
+leaving (Gives x w left) go = go x w left
+leaving (Jumps h k w left) go = if nat_eq h (height w) then Lost else Jumps h k (left_by w) left
+leaving (Fails e w) go = Fails e w
+leaving (Spent w) go = Spent w
+leaving Lost go = Lost
+leaving Short go = Short
+
+-- a procedure ends behind its last statement, and gives no value, or by RETURN
+abbrev pub procedure_end : Flow → Doing (Option Value)
+procedure_end Next w left = Gives None (left_by w) left
+procedure_end (Returned v) w left = Gives v (left_by w) left

@@ -1,47 +1,83 @@
--- Meaning: what a procedure does, by recursion on its tree (own). No instruction is mentioned.
-use Rattle.std.specs.Prelude.{ℕ, zero, suc, ℤ, pos, List, [], ◌∷◌, length}
+-- Meaning: what a program does, by recursion on its trees (own). No instruction is mentioned.
+use Rattle.std.specs.Prelude.{ℕ, zero, suc, ℤ, pos, ◌+ℤ◌, Bool, Option, Some, None, List, [], ◌∷◌, length, replicate}
+use Rattle.std.specs.Prelude.{slice_get, if◌then◌else◌}
 use Rattle.pli_base.specs.Name.{Name}
 use Rattle.pli_lower.specs.LoweredTree.{LoweredReference, LoweredExpression, Variable, Constant, Sum}
 use Rattle.pli_lower.specs.LoweredTree.{LoweredBody, Null, Declare, Assign, Put, LoweredStatement}
 use Rattle.pli_lower.specs.LoweredTree.{LoweredUnit}
 use Rattle.pli_lower.specs.LoweredNames.{declared_names, slot_of}
-use Rattle.pli_lower.specs.LoweredTypes.{width}
-use Rattle.pli_code.specs.World.{nothing, entered, place_of, held, stored, printed, fitted, sum_of}
-use Rattle.pli_code.specs.World.{number_text}
-use Rattle.pli_code.specs.Machine.{Outcome, outcome_of}
-use Rattle.pli_code.specs.declared.ending.Ending.TheVariants.{Ended, OutOfSteps, MachineFault}
+use Rattle.pli_lower.specs.LoweredTypes.{greatest_precision, width}
+use Rattle.pli_code.specs.declared.ending.Ending.{Ending}
+use Rattle.pli_code.specs.declared.ending.Ending.TheVariants.{Ended, OutOfSteps, Error, MachineFault}
+use Rattle.pli_map.specs.Description.{FixedBinary}
+use Rattle.pli_value.specs.Numbers.{within}
+use Rattle.pli_value.specs.Value.{Value, Number, Characters, Bits}
+use Rattle.pli_store.specs.Storage.{Place}
+use Rattle.pli_store.specs.World as world
+use Rattle.pli_store.specs.World.{World, Answer, Yields, Wrong, known, or_raised, nothing, Head, entered, slot_place}
+use Rattle.pli_store.specs.World.{held, stored, printed}
+use Rattle.pli_machine_step.specs.Machine.{characters_of}
+use Rattle.pli_machine_step.specs.Runs.{Outcome, outcome_of}
 use Rattle.pli_meaning.specs.Effects.{Effect, Gives, Jumps, Fails, Spent, Lost, Short, Flow, Next, Doing}
-use Rattle.pli_meaning.specs.Effects.{and_then, followed, as_step, as_statement, found, or_overflow, changed}
-use Rattle.pli_meaning.specs.Effects.{leaving}
+use Rattle.pli_meaning.specs.Effects.{and_then, followed, answered, as_step, as_statement, unless_full, leaving}
+use Rattle.pli_meaning.specs.Effects.{procedure_end}
 
--- in a procedure that declares these names, at a level: what an activation, a turn or a repetition inside may
+-- a unit: the name of its member, and its tree
+pub record SourceUnit : Type 0 where
+  pub name : Name
+  pub tree : LoweredUnit
+
+-- a program: its units, and which of them is the main one
+pub record SourceProgram : Type 0 where
+  pub units : List SourceUnit
+  pub main : ℕ
+
+-- the program of one unit
+abbrev pub alone : (unit : Name) → LoweredUnit → SourceProgram
+alone unit u = record { units = record { name = unit; tree = u } ∷ []; main = 0 }
+
+-- what calls do: a procedure, by its unit and its block, runs with a static link and its arguments, and gives
+-- a value if it is a function
+abbrev pub Calls : Type 0
+Calls = (unit block link : ℕ) → List Place → Doing (Option Value)
+
+-- the number that a value is
+abbrev pub number_of : Value → World → Answer ℤ
+number_of (Number x) w = Yields x w
+number_of (Characters text) w = Wrong
+number_of (Bits bits) w = Wrong
+
+-- in a block that declares these names, where calls do so, at a level: what a turn or a repetition inside may
 -- do is the level below
-module _ (names : List Name) (level : ℕ) where
-  -- the place of a variable, in the newest activation
-  abbrev pub place_at : LoweredReference → Doing ℕ
-  place_at r w left = found (place_of 0 (slot_of names r.name) w) w left
+module _ (call : Calls) (names : List Name) (level : ℕ) where
+  -- the place of a variable of the newest activation
+  abbrev pub place_at : LoweredReference → Doing Place
+  place_at r w left = answered (slot_place 0 (slot_of names r.name) w) left
 
   -- the value of an expression; the operands of a sum from left to right
   abbrev pub value_of : LoweredExpression → Doing ℤ
-  value_of (Variable r) w left = and_then (place_at r w left) (λ g w left. found (held w g) w left)
+  value_of (Variable r) w left =
+      and_then (place_at r w left)
+      (λ p w left. and_then (answered (held p w) left) (λ v w left. answered (number_of v w) left))
   value_of (Constant v d) w left = Gives (pos v) w left
   value_of (Sum l r) w left =
       and_then (value_of l w left)
-      (λ x w left. and_then (value_of r w left) (λ y w left. or_overflow (sum_of x y) w left))
+      (λ x w left. and_then (value_of r w left)
+      (λ y w left. answered (or_raised (within greatest_precision (x +ℤ y)) w) left))
 
   -- an assignment: the target's place, then the value, then its conversion, then the store
   abbrev pub assigns : LoweredReference → LoweredExpression → Doing Flow
   assigns target e w left =
       and_then (place_at target w left)
-      (λ g w left. and_then (value_of e w left)
-      (λ x w left. and_then (or_overflow (fitted 31 x) w left)
-      (λ y w left. changed (stored w g y) w left)))
+      (λ p w left. and_then (value_of e w left)
+      (λ x w left. and_then (answered (or_raised (within greatest_precision x) w) left)
+      (λ y w left. and_then (answered (stored p (Number y) w) left) (λ _ w left. Gives Next w left))))
 
   -- an item of PUT LIST: its value, its characters, and the print of them
   abbrev pub puts : LoweredExpression → Doing Flow
   puts e w left =
       and_then (value_of e w left)
-      (λ x w left. and_then (found (number_text (width e) x) w left)
+      (λ x w left. and_then (answered (known (characters_of (width e) x) w) left)
       (λ text w left. Gives Next (printed text w) left))
 
   -- items one after another: each is written before the next is evaluated
@@ -61,28 +97,64 @@ module _ (names : List Name) (level : ℕ) where
   does_all [] w left = Gives Next w left
   does_all (s ∷ ss) w left = followed (does s.number s.body w left) (does_all ss)
 
--- an activation of a procedure of a unit: its step, its variables, its statements up to END, and its end
-abbrev pub activated : (unit : Name) → LoweredUnit → (level : ℕ) → Doing Flow
-activated unit u zero w left = Short
-activated unit u (suc level) w left =
-    as_step
-    (λ w left. leaving
-    (does_all (declared_names u) level u.statements (entered unit (length (declared_names u)) w) left)) w
-    left
+-- what an activation of a unit's procedure begins with: its variables are FIXED BINARY of the greatest
+-- precision, and begin as zero
+abbrev pub variable : world.Variable
+variable = record { description = FixedBinary greatest_precision; initial = Number (pos 0) }
 
--- how a run has ended; what has no meaning counts as a fault of the machine, and never comes
-abbrev pub ran : Effect Flow → Outcome
-ran (Gives flow w left) = outcome_of Ended w
-ran (Jumps h k w left) = outcome_of MachineFault w
-ran (Fails e w) = outcome_of e w
-ran (Spent w) = outcome_of OutOfSteps w
-ran Lost = outcome_of MachineFault nothing
-ran Short = outcome_of MachineFault nothing
+abbrev pub head_of : SourceUnit → Head
+head_of u = record {
+  unit = u.name;
+  block = 0;
+  statement = 1;
+  variables = replicate (length (declared_names u.tree)) variable;
+}
 
--- what the main procedure of a unit does with so many steps, at one level more than steps
-abbrev pub run_effect : (unit : Name) → LoweredUnit → (steps : ℕ) → Effect Flow
-run_effect unit u n = activated unit u (suc n) nothing n
+-- a procedure is activated: unless there are too many activations, its step, its variables, its statements up
+-- to END, and its end
+abbrev pub activates : Calls → (level : ℕ) → SourceUnit → (link : ℕ) → List Place → Doing (Option Value)
+activates call level u link places =
+    unless_full
+    (as_step
+    (λ w left. and_then (answered (entered (head_of u) link places w) left)
+    (λ _ w left. leaving (does_all call (declared_names u.tree) level u.tree.statements w left) procedure_end)))
+
+-- block 0 of a unit is its external procedure; no other is there yet
+abbrev pub procedure_in : List SourceUnit → (unit block : ℕ) → Option SourceUnit
+procedure_in us unit zero = slice_get us unit
+procedure_in us unit (suc block) = None
+
+abbrev pub activates_if : Calls → (level : ℕ) → Option SourceUnit → (link : ℕ) → List Place → Doing (Option Value)
+activates_if call level None link places w left = Lost
+activates_if call level (Some u) link places w left = activates call level u link places w left
+
+-- the calls of a program, at a level: what is called inside may do is the level below
+abbrev pub calls : List SourceUnit → (level : ℕ) → Calls
+calls us zero unit block link places w left = Short
+calls us (suc level) unit block link places w left =
+    activates_if (calls us level) level (procedure_in us unit block) link places w left
+
+-- what the main procedure of a program does with so many steps, at one level more than steps
+abbrev pub run_effect : SourceProgram → (steps : ℕ) → Effect (Option Value)
+run_effect p n = calls p.units (suc n) p.main 0 0 [] nothing n
+
+-- an end that a program may come to: not the machine's fault
+abbrev pub ended_as : Ending → World → Option Outcome
+ended_as (Error e unit s) w = Some (outcome_of (Error e unit s) w)
+ended_as Ended w = Some (outcome_of Ended w)
+ended_as OutOfSteps w = Some (outcome_of OutOfSteps w)
+ended_as MachineFault w = None
+
+-- how a run has ended, if it has a meaning: it does not jump out of the program, it is not lost, and the
+-- level was high enough
+abbrev pub ran : Effect (Option Value) → Option Outcome
+ran (Gives v w left) = Some (outcome_of Ended w)
+ran (Jumps h k w left) = None
+ran (Fails e w) = ended_as e w
+ran (Spent w) = Some (outcome_of OutOfSteps w)
+ran Lost = None
+ran Short = None
 
 -- Whole run: the output, the ending and the next column
-abbrev pub whole_run : (unit : Name) → LoweredUnit → (steps : ℕ) → Outcome
-whole_run unit u n = ran (run_effect unit u n)
+abbrev pub whole_run : SourceProgram → (steps : ℕ) → Option Outcome
+whole_run p n = ran (run_effect p n)

@@ -2,10 +2,11 @@
 use Rattle.std.specs.Prelude.{◌≡◌, ◌≢◌, ℕ, ◌+◌, List}
 use Rattle.pli_base.specs.Name.{Name}
 use Rattle.pli_members.specs.Members.{Member}
-use Rattle.pli_code.specs.Machine.{Outcome, RunsTo}
+use Rattle.pli_machine_step.specs.Runs.{Outcome}
+use Rattle.pli_machine_step.specs.views.ModuleProgram.{RunsTo}
 use Rattle.pli_code.specs.views.ModuleView.{Module}
 use Rattle.pli_code.specs.declared.ending.Ending.TheVariants.{MachineFault}
-use Rattle.pli_meaning.specs.laws.Laws.{GoesOn}
+use Rattle.pli_machine_step.specs.laws.Laws.{GoesOn}
 use Rattle.pli_meaning.specs.Scratch.{Made, scratch, Means}
 
 -- with so many steps the members mean something, which the module's run gives, and which is no fault of the

@@ -21,10 +21,10 @@ use Rattle.pli_base.specs.Statements.{ExternalProcedure}
 use Rattle.pli_declare.specs.Resolution.{resolution_faults}
 use Rattle.pli_code.specs.Link.{Compiled, Place, LinkFault, NoMainProcedure, TwoMainProcedures, DefinedTwice}
 use Rattle.pli_code.specs.Link.{link_of}
-use Rattle.pli_code.specs.Machine.{Outcome}
+use Rattle.pli_machine_step.specs.Runs.{Outcome}
 use Rattle.pli_code.specs.views.ModuleView.{Module}
 use Rattle.pli_gen.specs.Translation.{code_of, is_too_long}
-use Rattle.pli_meaning.specs.Meaning.{whole_run}
+use Rattle.pli_meaning.specs.Meaning.{alone, whole_run}
 
 -- a diagnostic, at a line of a member
 pub record Diagnostic : Type 0 where
@@ -186,11 +186,11 @@ has_main (Err diagnostics) = false
 abbrev pub main_units : List (Name × Member) → List Name
 main_units entries = filter (λ unit. has_main (parsed_of entries unit)) (sources entries)
 
--- what the members' program does with so many steps: just one source member is a main unit, and this is its
--- whole run
+-- what the members' program does with so many steps: just one source member is a main unit, and its whole run
+-- has this meaning
 pub record Means (entries : List (Name × Member)) (steps : ℕ) (outcome : Outcome) : Type 0 where
   pub unit : Name
   pub parsed : Parsed
   pub only : main_units entries ≡ unit ∷ []
   pub spelled : parsed_of entries unit ≡ Ok parsed
-  pub run : outcome ≡ whole_run unit parsed.tree steps
+  pub run : whole_run (alone unit parsed.tree) steps ≡ Some outcome

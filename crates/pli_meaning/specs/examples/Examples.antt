@@ -1,6 +1,6 @@
 -- Worked examples of the meaning, in a unit M whose statement 1 is PROCEDURE and whose statement 2 declares
 -- X.
-use Rattle.std.specs.Prelude.{◌≡◌, ℕ, true, List, [], ◌∷◌, ◌++◌, replicate, codes}
+use Rattle.std.specs.Prelude.{◌≡◌, ℕ, true, Some, List, [], ◌∷◌, ◌++◌, replicate, codes}
 use Rattle.pli_lower.specs.LoweredTree.{LoweredReference, LoweredExpression, Variable, Constant, Sum}
 use Rattle.pli_lower.specs.LoweredTree.{LoweredBody, Null, Declare, Assign, Put, LoweredStatement}
 use Rattle.pli_lower.specs.LoweredTree.{LoweredUnit}
@@ -9,7 +9,7 @@ use Rattle.pli_code.specs.declared.ending.Ending.{Ending}
 use Rattle.pli_code.specs.declared.ending.Ending.TheVariants.{Ended, OutOfSteps, Error}
 use Rattle.pli_code.specs.declared.ending.RunError.TheVariants.{FixedOverflow}
 use Rattle.pli_meaning.specs.Effects.{Lost}
-use Rattle.pli_meaning.specs.Meaning.{run_effect, whole_run}
+use Rattle.pli_meaning.specs.Meaning.{alone, run_effect, whole_run}
 use Rattle.pli_meaning.specs.Sound.{IsSound}
 
 -- X, at the token p
@@ -44,7 +44,7 @@ next_of_x = Sum (Variable (x_at 25)) (Constant 1 1)
 -- what so many steps of M give
 abbrev pub Gives : LoweredUnit → (steps : ℕ) → List ℕ → Ending → (column : ℕ) → Type 0
 Gives u steps output ending column =
-    whole_run (codes "M") u steps ≡ record { output = output; ending = ending; column = column }
+    whole_run (alone (codes "M") u) steps ≡ Some (record { output = output; ending = ending; column = column })
 
 -- the procedure of the first run
 abbrev pub first_procedure : LoweredUnit
@@ -85,8 +85,8 @@ NullIsAStep =
 -- a name that is declared nowhere has no meaning
 abbrev pub UndeclaredIsLost : Type 0
 UndeclaredIsLost =
-    run_effect (codes "M") (record {
+    run_effect (alone (codes "M") (record {
       name = codes "M";
       is_main = true;
       statements = numbered 2 (Put (Variable (x_at 9) ∷ [])) ∷ [];
-    }) 2 ≡ Lost
+    })) 2 ≡ Lost

@@ -1,4 +1,4 @@
-use Rattle.pli_meaning.proofs.RunsGrow.{growth}
+use Rattle.pli_meaning.proofs.ProceduresGrow.{growth}
 use Rattle.pli_meaning.proofs.MembersDoAsMeant.{members_grow}
 use Rattle.pli_meaning.proofs.laws.grows.Goals as goal
 
