@@ -12,3 +12,4 @@ pub mod WhereCodeStands
 pub mod UsesHaveSlots
 pub mod ValueTableLemmas
 pub mod WidthLemmas
+pub mod ScratchExamplesHold

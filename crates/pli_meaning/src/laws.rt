@@ -2,6 +2,7 @@
 ghost use Rattle.pli_meaning.specs.laws.Laws.{Simulation, Growth};
 ghost use Rattle.pli_meaning.specs.Members.{MembersSimulate, MembersGrow, OneMeaning};
 ghost use Rattle.pli_meaning.specs.examples.Examples.{FirstIsSound, FirstRunEnds, TwoStepsStop, NoStepStops, SumOverflows, ItemBeforeIsWritten, NullIsAStep, UndeclaredIsLost};
+ghost use Rattle.pli_meaning.specs.examples.ScratchExamples.{FirstIsMade, RunsWithThree, RunsWithTwo};
 
 /// For members that have a module and every number of steps, the module's run gives the output, the ending and the next
 /// column that the source means. The source has a meaning, which no run ends in a fault of the machine and no bound of the
@@ -23,7 +24,8 @@ pub fn one_meaning()
     ensures { OneMeaning }
 {}
 
-/// Worked examples of what a procedure does with so many steps.
+/// Worked examples of what a procedure does with so many steps, and one of the whole way: the members of a first session,
+/// their module, and its runs.
 pub fn worked_examples()
     ensures premises { FirstIsSound }
     ensures first_run { FirstRunEnds }
@@ -33,4 +35,7 @@ pub fn worked_examples()
     ensures item_before { ItemBeforeIsWritten }
     ensures null { NullIsAStep }
     ensures undeclared { UndeclaredIsLost }
+    ensures made { FirstIsMade }
+    ensures three_steps_run { RunsWithThree }
+    ensures two_steps_run { RunsWithTwo }
 {}

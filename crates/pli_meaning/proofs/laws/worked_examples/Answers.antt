@@ -1,4 +1,5 @@
 use Rattle.pli_meaning.proofs.ExampleLemmas.{first_is_sound, first_run, two_steps, no_step, sum, item_before, null, undeclared}
+use Rattle.pli_meaning.proofs.ScratchExamplesHold.{first_is_made, runs_with_three, runs_with_two}
 use Rattle.pli_meaning.proofs.laws.worked_examples.Goals as goal
 
 pub returns-clause-first_run : goal.returns-clause-first_run
@@ -24,3 +25,12 @@ returns-clause-undeclared c = undeclared
 
 pub returns-clause-premises : goal.returns-clause-premises
 returns-clause-premises c = first_is_sound
+
+pub returns-clause-made : goal.returns-clause-made
+returns-clause-made c = first_is_made
+
+pub returns-clause-three_steps_run : goal.returns-clause-three_steps_run
+returns-clause-three_steps_run c = runs_with_three
+
+pub returns-clause-two_steps_run : goal.returns-clause-two_steps_run
+returns-clause-two_steps_run c = runs_with_two

@@ -1,0 +1,53 @@
+-- A worked example of the whole way: the members of a first session, the module that a build from scratch makes
+-- of them, and what its runs give.
+use Rattle.std.specs.Prelude.{◌≡◌, ℕ, pos, List, [], ◌∷◌, ◌++◌, replicate, codes}
+use Rattle.pli_base.specs.Name.{Name}
+use Rattle.pli_members.specs.Members.{Member}
+use Rattle.pli_members.specs.declared.kind.Kind.TheVariants.{Source}
+use Rattle.pli_code.specs.views.ModuleView.{Module}
+use Rattle.pli_code.specs.declared.instruction.Description.TheVariants.{FixedBinary}
+use Rattle.pli_code.specs.declared.instruction.Instruction.TheVariants as op
+use Rattle.pli_code.specs.declared.ending.Ending.TheVariants.{Ended, OutOfSteps}
+use Rattle.pli_machine_step.specs.views.ModuleProgram.{RunsTo}
+use Rattle.pli_meaning.specs.Scratch.{Made, scratch}
+
+-- one member, of five lines
+abbrev pub first_members : List (Name × Member)
+first_members =
+    (codes "M", record {
+      kind = Source;
+      lines =
+          codes "M: PROC OPTIONS(MAIN);"
+          ∷ codes "DCL X FIXED BIN(31);"
+          ∷ codes "X = 2 + 3;"
+          ∷ codes "PUT LIST(X);"
+          ∷ codes "END M;" ∷ [];
+      version = 5;
+    }) ∷ []
+
+-- its module
+abbrev pub first_module : Module
+first_module = record {
+  unit = codes "M";
+  code =
+      record {
+        slots = 1;
+        descriptions = FixedBinary 31 ∷ [];
+        values = pos 2 ∷ pos 3 ∷ [];
+        instructions =
+            op.Step 3 ∷ op.Local 0 0 ∷ op.Constant 0 ∷ op.Constant 1 ∷ op.Add ∷ op.Fit 0 ∷ op.Store
+            ∷ op.Step 4 ∷ op.Local 0 0 ∷ op.Load ∷ op.ToCharacters 14 ∷ op.Put ∷ op.Return 0 ∷ [];
+      };
+}
+
+abbrev pub FirstIsMade : Type 0
+FirstIsMade = scratch first_members ≡ Made first_module
+
+-- with three steps, the activation, the assignment and PUT, it prints the 5 in 14 columns and a blank, and ends
+abbrev pub RunsWithThree : Type 0
+RunsWithThree =
+    RunsTo first_module 3 (record { output = replicate 13 32 ++ codes "5 "; ending = Ended; column = 16 })
+
+-- with two it prints nothing
+abbrev pub RunsWithTwo : Type 0
+RunsWithTwo = RunsTo first_module 2 (record { output = []; ending = OutOfSteps; column = 1 })
