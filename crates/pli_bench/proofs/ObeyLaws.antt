@@ -24,7 +24,8 @@ use Rattle.pli_bench.specs.Commands.{Command, command_of}
 use Rattle.pli_bench.specs.Runs.{AnsweredOne, next_after}
 use Rattle.pli_bench.specs.declared.serving.Next.{Next}
 use Rattle.pli_bench.specs.declared.serving.WriteFailed.{WriteFailed}
-use Rattle.pli_machine.proofs.Outcome.{one_outcome}
+use Rattle.pli_machine_step.proofs.OutcomesAreOne.{one_outcome}
+use Rattle.pli_machine_step.specs.views.ModuleProgram.{program_of}
 use Rattle.pli_bench.specs.Session.{State, Lists, numbered_lines, EditsInMemory, Edits, ending_line, refused, okay, no_memory, not_built, Builds, is_made, Runs, run_answer, build_answer, Breaks, Obeys, Step, quits, is_quit}
 
 abbrev pub state : Store → Bool → ℕ → State
@@ -98,7 +99,7 @@ module _ (s : State) (n : ℕ) (m : Module) (stands : s.stands ≡ true) (built 
   pub run_done : {A E : Type 0} (a b c : Option (List ℕ)) (ran : Ran) (r : Result A E) → RanTo m n ran a b → Writes b c (end_answer ran.column ran.ending) r
       → (x : List ℕ) × Runs s.stands n s x s × Writes a c x r
   run_done a b c ran r h w =
-      let same : h.outcome ≡ means_at.outcome = one_outcome m n h.outcome means_at.outcome h.runs means_at.runs in
+      let same : h.outcome ≡ means_at.outcome = one_outcome (program_of m) n h.outcome means_at.outcome h.runs means_at.runs in
       let text : h.outcome.output ++ end_answer ran.column ran.ending ≡ run_answer means_at.outcome =
       ap (λ k. h.outcome.output ++ end_answer k ran.ending) h.column ∙ ap (λ k. h.outcome.output ++ end_answer h.outcome.column k) h.ending
       ∙ sym (append_assoc h.outcome.output _ _) ∙ ap run_answer same in

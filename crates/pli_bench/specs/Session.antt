@@ -12,7 +12,7 @@ use Rattle.pli_members.specs.declared.refusal.Refusal.TheVariants.{NoSuchMember}
 use Rattle.pli_members.specs.declared.kind.Kind.{Kind}
 use Rattle.pli_members.specs.declared.kind.Kind.TheVariants.{Source, Include}
 use Rattle.pli_code.specs.Errors.{error_label, error_text}
-use Rattle.pli_code.specs.Machine.{Outcome}
+use Rattle.pli_machine_step.specs.Runs.{Outcome}
 use Rattle.pli_code.specs.declared.ending.Ending.{Ending}
 use Rattle.pli_code.specs.declared.ending.Ending.TheVariants.{Ended, OutOfSteps, Error, MachineFault}
 use Rattle.pli_meaning.specs.Scratch.{Built, Diagnosed, Made, scratch, Means}
