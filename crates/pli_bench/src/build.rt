@@ -10,7 +10,7 @@ use crate::compile::compile;
 use pli_base::Code;
 use pli_code::Module;
 use pli_include::Expander;
-use pli_link::{Compiled, LinkError, LinkFault, Place, link};
+use pli_link::{Compiled, LinkError, LinkFault, LinkedProcedure, link};
 use pli_members::{Kind, Members, NamedMember};
 use std::alloc::{AllocError, Global};
 
@@ -62,7 +62,7 @@ fn compile_all(
 }
 
 /// Appends `code text procedure unit`.
-fn write_place(text: &mut Vec<u8>, code: Code, place: Place) -> Result<(), AllocError>
+fn write_place(text: &mut Vec<u8>, code: Code, place: LinkedProcedure) -> Result<(), AllocError>
     ensures { OnOk result (text.new.items ≡ text.old.items ++ place_line code (place_view place)) }
 {
     append_parts(

@@ -13,16 +13,16 @@ use Rattle.pli_code.specs.Link as link
 use Rattle.pli_code.specs.views.ModuleView.{Module, code_view}
 use Rattle.pli_link.specs.answers.Answers.{compiled_view, place_view, is_past, first_module}
 use Rattle.pli_link.specs.declared.linking.Compiled.{Compiled}
-use Rattle.pli_link.specs.declared.linking.Place.{Place}
+use Rattle.pli_link.specs.declared.linking.LinkedProcedure.{LinkedProcedure}
 
 one_more : (k : ℕ) → 1 + k ≡ suc k
 one_more k = omega arith
 
-insert_past : (x y : Place) (ys : List Place) (k : ℕ) → insert (y ∷ ys) (1 + k) x ≡ y ∷ insert ys k x
+insert_past : (x y : LinkedProcedure) (ys : List LinkedProcedure) (k : ℕ) → insert (y ∷ ys) (1 + k) x ≡ y ∷ insert ys k x
 insert_past x y ys k = ap (λ n. insert (y ∷ ys) n x) (one_more k)
 
 -- a place is inserted where the first greater one stands
-pub insert_is_inserted : (x : Place) (xs : List Place) → map place_view (insert xs (position_or_len (is_past x.procedure) xs) x) ≡ link.inserted (place_view x) (map place_view xs)
+pub insert_is_inserted : (x : LinkedProcedure) (xs : List LinkedProcedure) → map place_view (insert xs (position_or_len (is_past x.procedure) xs) x) ≡ link.inserted (place_view x) (map place_view xs)
 insert_is_inserted x [] = refl
 insert_is_inserted x (y ∷ ys) = by (is_past x.procedure y) (insert_is_inserted x ys)
   where
@@ -38,13 +38,13 @@ among_turns n [] = refl
 among_turns n (m ∷ ms) = ap (λ b. b || list_any (λ k. same_name k n) ms) (nat_list_eq_equiv.symm m n) ∙ ap (λ b. same_name n m || b) (among_turns n ms)
 
 -- one more place sorted
-pub sorted_more : (xs : List Place) (i : ℕ) (x : Place) (sorted next whole : List link.Place) → i < length xs → x ≡ get_or xs i x
+pub sorted_more : (xs : List LinkedProcedure) (i : ℕ) (x : LinkedProcedure) (sorted next whole : List link.Place) → i < length xs → x ≡ get_or xs i x
     → next ≡ link.inserted (place_view x) sorted
     → link.in_order_after sorted (map place_view (drop i xs)) ≡ whole → link.in_order_after next (map place_view (drop (i + 1) xs)) ≡ whole
 sorted_more xs i x sorted next whole lt read stepped all =
     ap (λ ps. link.in_order_after ps (map place_view (drop (i + 1) xs))) stepped
     ∙ sym (at_drop_more (λ ys. link.in_order_after sorted (map place_view ys)) xs i x lt
-    ∙ ap (λ (y : Place). link.in_order_after sorted (place_view y ∷ map place_view (drop (i + 1) xs))) (sym read)) ∙ all
+    ∙ ap (λ (y : LinkedProcedure). link.in_order_after sorted (place_view y ∷ map place_view (drop (i + 1) xs))) (sym read)) ∙ all
 
 -- one more unit, which is defined again where its name is among those before
 pub again_more : (xs : List Compiled) (i : ℕ) (x : Compiled) (before : List Name) (places next whole : List link.Place) → i < length xs → x ≡ get_or xs i x

@@ -1,2 +1,3 @@
 pub mod Lemmas
+pub mod PlacesSorted
 pub mod Positions

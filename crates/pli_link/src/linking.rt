@@ -21,7 +21,7 @@ pub struct Compiled {
 
 /// An external procedure and its unit.
 #[derive(Clone, Copy)]
-pub struct Place {
+pub struct LinkedProcedure {
     pub procedure: Name,
     pub unit: Name,
 }
@@ -32,9 +32,9 @@ pub enum LinkFault {
     /// N1, where there is no main procedure.
     NoMainProcedure,
     /// N2, for each main procedure after the first.
-    TwoMainProcedures(Place),
+    TwoMainProcedures(LinkedProcedure),
     /// N4, for each procedure that has the name of an earlier one.
-    DefinedTwice(Place),
+    DefinedTwice(LinkedProcedure),
 }
 
 /// Why units are not linked.
@@ -62,25 +62,36 @@ impl<T: Drop> From<AllocFailed<T>> for LinkError {
     }
 }
 
+/// The module of units, which come in the order of their names, at most 999; or all faults.
+pub fn link(alloc: Global, units: Vec<Compiled>) -> Result<Module, LinkError>
+    ensures { Links result (link.link_of (map compiled_view units.items)) }
+{
+    let faults = faults_of(alloc, &units)?;
+    if !faults.is_empty() {
+        return Err(LinkError::Faults(faults));
+    }
+    main_module(units).ok_or(LinkError::Faults(faults))
+}
+
 /// The procedure of a unit.
-fn place_of(unit: &Compiled) -> Place
+fn place_of(unit: &Compiled) -> LinkedProcedure
     ensures { place_view result ≡ link.place_of_unit (compiled_view unit.now) }
 {
-    Place {
+    LinkedProcedure {
         procedure: unit.procedure,
         unit: unit.unit,
     }
 }
 
 /// Where the first place stands whose procedure has a greater name.
-fn place_after(places: &[Place], procedure: &Name) -> Option<usize>
+fn place_after(places: &[LinkedProcedure], procedure: &Name) -> Option<usize>
     ensures { result ≡ position (is_past procedure.now) places.now }
 {
     places.iter().position(|other| other.procedure > *procedure)
 }
 
 /// Puts a place before the first one whose procedure has a greater name.
-fn insert(places: &mut Vec<Place>, place: Place) -> Result<(), AllocError>
+fn insert(places: &mut Vec<LinkedProcedure>, place: LinkedProcedure) -> Result<(), AllocError>
     ensures { OnOk result (map place_view places.new.items ≡ link.inserted (place_view place) (map place_view places.old.items)) }
 {
     let at = place_after(places.as_slice(), &place.procedure).unwrap_or(places.len());
@@ -89,7 +100,7 @@ fn insert(places: &mut Vec<Place>, place: Place) -> Result<(), AllocError>
 }
 
 /// Places by the names of their procedures; those of one procedure stay as they stand.
-fn in_order(alloc: Global, places: &[Place]) -> Result<Vec<Place>, AllocError>
+fn in_order(alloc: Global, places: &[LinkedProcedure]) -> Result<Vec<LinkedProcedure>, AllocError>
     ensures { IfOk result (λ sorted. map place_view sorted.items ≡ link.in_order (map place_view places.now)) }
 {
     let mut sorted = Vec::new(alloc);
@@ -100,7 +111,7 @@ fn in_order(alloc: Global, places: &[Place]) -> Result<Vec<Place>, AllocError>
 }
 
 /// The main procedures, in the order of their units.
-fn main_places(alloc: Global, units: &[Compiled]) -> Result<Vec<Place>, AllocError>
+fn main_places(alloc: Global, units: &[Compiled]) -> Result<Vec<LinkedProcedure>, AllocError>
     ensures { IfOk result (λ places. map place_view places.items ≡ map link.place_of_unit (link.mains (map compiled_view units.now))) }
 {
     let mut places = Vec::new(alloc);
@@ -113,7 +124,7 @@ fn main_places(alloc: Global, units: &[Compiled]) -> Result<Vec<Place>, AllocErr
 }
 
 /// The procedures that have the name of an earlier one, in the order of their units.
-fn repeated_places(alloc: Global, units: &[Compiled]) -> Result<Vec<Place>, AllocError>
+fn repeated_places(alloc: Global, units: &[Compiled]) -> Result<Vec<LinkedProcedure>, AllocError>
     ensures { IfOk result (λ places. map place_view places.items ≡ link.defined_again [] (map compiled_view units.now)) }
 {
     let mut before = Vec::new(alloc);
@@ -128,7 +139,7 @@ fn repeated_places(alloc: Global, units: &[Compiled]) -> Result<Vec<Place>, Allo
 }
 
 /// Appends N2 for each place.
-fn add_mains(faults: &mut Vec<LinkFault>, places: &[Place]) -> Result<(), AllocError>
+fn add_mains(faults: &mut Vec<LinkFault>, places: &[LinkedProcedure]) -> Result<(), AllocError>
     ensures { OnOk result (map fault_view faults.new.items ≡ map fault_view faults.old.items ++ map link.TwoMainProcedures (map place_view places.now)) }
 {
     for place in places {
@@ -138,7 +149,7 @@ fn add_mains(faults: &mut Vec<LinkFault>, places: &[Place]) -> Result<(), AllocE
 }
 
 /// Appends N4 for each place.
-fn add_repeated(faults: &mut Vec<LinkFault>, places: &[Place]) -> Result<(), AllocError>
+fn add_repeated(faults: &mut Vec<LinkFault>, places: &[LinkedProcedure]) -> Result<(), AllocError>
     ensures { OnOk result (map fault_view faults.new.items ≡ map fault_view faults.old.items ++ map link.DefinedTwice (map place_view places.now)) }
 {
     for place in places {
@@ -181,15 +192,4 @@ fn main_module(units: Vec<Compiled>) -> Option<Module>
         unit: main.unit,
         code: main.code,
     })
-}
-
-/// The module of units, which come in the order of their names, at most 999; or all faults.
-pub fn link(alloc: Global, units: Vec<Compiled>) -> Result<Module, LinkError>
-    ensures { Links result (link.link_of (map compiled_view units.items)) }
-{
-    let faults = faults_of(alloc, &units)?;
-    if !faults.is_empty() {
-        return Err(LinkError::Faults(faults));
-    }
-    main_module(units).ok_or(LinkError::Faults(faults))
 }

@@ -7,7 +7,7 @@ use Rattle.pli_code.specs.Link as link
 use Rattle.pli_code.specs.views.ModuleView.{Module, code_view, module_view}
 use Rattle.pli_code.specs.declared.instruction.Module as declared_module
 use Rattle.pli_link.specs.declared.linking.Compiled.{Compiled}
-use Rattle.pli_link.specs.declared.linking.Place.{Place}
+use Rattle.pli_link.specs.declared.linking.LinkedProcedure.{LinkedProcedure}
 use Rattle.pli_link.specs.declared.linking.LinkFault.{LinkFault}
 use Rattle.pli_link.specs.declared.linking.LinkFault.TheVariants.{NoMainProcedure, TwoMainProcedures}
 use Rattle.pli_link.specs.declared.linking.LinkFault.TheVariants.{DefinedTwice}
@@ -19,7 +19,7 @@ abbrev pub compiled_view : Compiled → link.Compiled
 compiled_view c =
     record { unit = c.unit; procedure = c.procedure; is_main = c.is_main; code = code_view c.code }
 
-abbrev pub place_view : Place → link.Place
+abbrev pub place_view : LinkedProcedure → link.Place
 place_view p = record { procedure = p.procedure; unit = p.unit }
 
 abbrev pub fault_view : LinkFault → link.LinkFault
@@ -39,5 +39,5 @@ first_module [] = None
 first_module (c ∷ cs) = Some (record { unit = c.unit; code = c.code })
 
 -- the place's procedure has a greater name
-abbrev pub is_past : Name → Place → Bool
+abbrev pub is_past : Name → LinkedProcedure → Bool
 is_past procedure other = is_gt (slice_cmp nat_cmp other.procedure procedure)
