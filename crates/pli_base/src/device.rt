@@ -1,5 +1,5 @@
 //! Where bytes come from and go to, and may fail.
-ghost use Rattle.std.specs.Prelude.{◌≡◌, ◌≤◌, ◌<◌, ℕ, List, Option, Bool, false, length, take, IfOk, MatchResult};
+ghost use Rattle.std.specs.Prelude.{◌≡◌, ◌≤◌, ◌<◌, ◌+◌, ℕ, List, Option, Bool, false, length, take, IfOk, MatchResult};
 ghost use Rattle.std.specs.Io.KnownBytes.{Appends, Consumes, IsAtEnd, ReadConsumes, WriteAppends};
 ghost use Rattle.pli_base.specs.Devices.{Marks, AppendsPrefix, ConsumesPrefix};
 
@@ -20,12 +20,16 @@ pub trait Source {
     /// The mark that an answer `Failed` sets.
     ghost failed: { Self → Bool };
 
+    /// How often bytes were asked for, where a source counts that.
+    ghost takes: { Self → ℕ };
+
     /// Puts the next bytes at the front of `buffer`, and answers how many: none only at the end, or where `buffer` is
     /// empty. `Failed` takes none.
     fn take(&mut self, buffer: &mut [u8]) -> Result<usize, Failed>
         ensures bound { IfOk result (λ n. n ≤ length buffer.new) }
         ensures moved { ReadConsumes (remaining self.old) (remaining self.new) result buffer.new }
-        ensures mark { Marks (failed self.old) (failed self.new) result };
+        ensures mark { Marks (failed self.old) (failed self.new) result }
+        ensures count { takes self.new ≤ takes self.old + 1 };
 }
 
 /// Where bytes go to.
@@ -50,6 +54,8 @@ pub trait Sink {
 pub struct Device<T> {
     inner: T,
     failed: bool,
+    /// How often bytes were asked for; at the greatest number it stays.
+    takes: u64,
 }
 
 impl<T> Device<T> {
@@ -61,6 +67,7 @@ impl<T> Device<T> {
         Device {
             inner,
             failed: false,
+            takes: 0,
         }
     }
 
@@ -77,7 +84,10 @@ impl<T: Read> Source for Device<T> {
 
     ghost failed = { λ d. d.failed };
 
+    ghost takes = { λ d. d.takes };
+
     fn take(&mut self, buffer: &mut [u8]) -> Result<usize, Failed> {
+        self.takes = self.takes.saturating_add(1);
         if self.failed {
             return Err(Failed);
         }

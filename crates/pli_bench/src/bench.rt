@@ -1,5 +1,5 @@
 //! The workbench: members, the module that stands, and the commands on them.
-ghost use Rattle.std.specs.Prelude.{◌≡◌, Err};
+ghost use Rattle.std.specs.Prelude.{◌≡◌, ◌≤◌, ◌+◌, Err};
 ghost use Rattle.pli_bench.specs.declared.serving.ServeFault.TheVariants.{TooManyReads};
 ghost use Rattle.pli_bench.specs.answers.Answering.{Writes};
 ghost use Rattle.pli_bench.specs.Commands as spelt;
@@ -267,7 +267,7 @@ impl Bench {
         }
     }
 
-    /// Answers the commands of `reader` on `writer`, up to QUIT or to the end, with at most `reads` reads.
+    /// Answers the commands of `reader` on `writer`, up to QUIT or to the end. Bytes are asked for at most `reads` times.
     pub fn serve<R: Source, W: Sink>(
         &mut self,
         reader: &mut R,
@@ -278,6 +278,7 @@ impl Bench {
         ensures blamed { Blames result (R.failed reader.new) (W.failed writer.new) }
         ensures few { Takes quits piece_limit reads (R.remaining reader.old) (R.remaining reader.new) result }
         ensures unread { reads ≡ 0 → result ≡ Err TooManyReads }
+        ensures takes { R.takes reader.new ≤ R.takes reader.old + reads }
     {
         serve(self, reader, writer, reads)
     }

@@ -1,5 +1,5 @@
 //! The loop over a stream of command lines.
-ghost use Rattle.std.specs.Prelude.{◌≡◌, ◌*◌, ◌<◌, ℕ, List, Bool, false, length, take, ◌≢◌, Ok, Err};
+ghost use Rattle.std.specs.Prelude.{◌≡◌, ◌+◌, ◌*◌, ◌<◌, ◌≤◌, ℕ, List, Bool, false, length, take, ◌≢◌, Ok, Err};
 ghost use Rattle.pli_bench.specs.Commands.{line_limit};
 ghost use Rattle.pli_bench.specs.answers.Kept.{kept_limit};
 ghost use Rattle.pli_bench.specs.Lines.{without_return, complete_from, pending_from, last_line};
@@ -160,6 +160,7 @@ fn serve_pieces<T: Interpreter, R: Source, W: Sink>(
     ensures few { Takes T.quits (length buffer.old) reads
         (R.remaining reader.old) (R.remaining reader.new) result }
     ensures unread { reads ≡ 0 → result ≡ Err TooManyReads }
+    ensures takes { R.takes reader.new ≤ R.takes reader.old + reads }
 {
     let mut line = Pending::new();
     for _read in 0..reads {
@@ -177,10 +178,10 @@ fn serve_pieces<T: Interpreter, R: Source, W: Sink>(
 }
 
 /// Answers the lines of `reader` on `writer`, up to the first that quits or to the end. A line ends with a line feed, and
-/// a carriage return before it is dropped; a last line without a line feed counts where it is not empty (own). At most
-/// `reads` reads are made: where these do not come to the end, that is `TooManyReads`, which an input of fewer bytes than
-/// `reads` never is. Where the reader failed or was read too often, the lines that ended in what was taken were answered;
-/// where the writer failed, the state is the one behind the command whose answer it failed in.
+/// a carriage return before it is dropped; a last line without a line feed counts where it is not empty (own). Bytes are
+/// asked for at most `reads` times: where that does not come to the end, it is `TooManyReads`, which an input of fewer
+/// bytes than `reads` never is. Where the reader failed or was asked too often, the lines that ended in what was taken
+/// were answered; where the writer failed, the state is the one behind the command whose answer it failed in.
 pub fn serve<T: Interpreter, R: Source, W: Sink>(
     bench: &mut T,
     reader: &mut R,
@@ -192,6 +193,7 @@ pub fn serve<T: Interpreter, R: Source, W: Sink>(
     ensures blamed { Blames result (R.failed reader.new) (W.failed writer.new) }
     ensures few { Takes T.quits piece_limit reads (R.remaining reader.old) (R.remaining reader.new) result }
     ensures unread { reads ≡ 0 → result ≡ Err TooManyReads }
+    ensures takes { R.takes reader.new ≤ R.takes reader.old + reads }
 {
     let mut buffer = [0; PIECE];
     serve_pieces(bench, reader, writer, reads, &mut buffer)

@@ -34,6 +34,8 @@ impl<'a> Source for Pieces<'a> {
 
     ghost failed = { λ p. p.failed };
 
+    ghost takes = { λ _. 0 };
+
     fn take(&mut self, buffer: &mut [u8]) -> Result<usize, Failed> {
         self.failed = self.failed || self.calls == 0;
         if self.failed {
@@ -111,6 +113,8 @@ impl<'a> Source for Asking<'a> {
     ghost remaining = { λ _. None };
 
     ghost failed = { λ a. a.failed };
+
+    ghost takes = { λ _. 0 };
 
     fn take(&mut self, buffer: &mut [u8]) -> Result<usize, Failed> {
         self.failed = self.failed || self.written.get() != self.awaited;

@@ -1,5 +1,5 @@
 //! The program over any reader and writers.
-ghost use Rattle.std.specs.Prelude.{◌≡◌, ◌≢◌, ◌≤◌, ◌<◌, ℕ, drop, map};
+ghost use Rattle.std.specs.Prelude.{◌≡◌, ◌≢◌, ◌≤◌, ◌<◌, ◌+◌, ℕ, drop, map};
 ghost use Rattle.std.specs.String.{string_bytes};
 ghost use Rattle.pliwb.specs.CommandLine.{Gives};
 ghost use Rattle.pliwb.specs.Statuses.{Answers, Breaks, Refused, Tells, status_of, reads_limit};
@@ -34,6 +34,7 @@ pub fn serve<R: Source, W: Sink>(
     ensures broke { result ≡ 1 → Breaks steps reads (R.remaining reader.old) (R.remaining reader.new)
         (W.contents writer.old) (W.contents writer.new) (R.failed reader.new) (W.failed writer.new) }
     ensures range { result ≤ 1 }
+    ensures takes { R.takes reader.new ≤ R.takes reader.old + reads }
 {
     match Bench::new(alloc, steps).serve(reader, writer, reads) {
         Ok(_) => SERVED,
@@ -83,6 +84,7 @@ pub fn go<R: Source, W: Sink, F: Sink>(
     ensures unserved { 1 < result → (reader.new ≡ reader.old) × (writer.new ≡ writer.old) }
     ensures silent { result ≢ 2 → errors.new ≡ errors.old }
     ensures range { result ≤ 3 }
+    ensures takes { R.takes reader.new ≤ R.takes reader.old + reads_limit }
 {
     match read_arguments(alloc, words_behind_name(words)) {
         Ok(arguments) => serve(alloc, arguments.steps, reader, writer, READS),

@@ -96,6 +96,8 @@ impl<'a> Source for Failing<'a> {
 
     ghost failed = { λ d. d.failed };
 
+    ghost takes = { λ _. 0 };
+
     fn take(&mut self, buffer: &mut [u8]) -> Result<usize, Failed> {
         self.failed = self.failed || self.calls == 0;
         if self.failed {

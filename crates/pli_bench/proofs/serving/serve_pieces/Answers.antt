@@ -44,12 +44,13 @@ loop-read-init g c = (
   Going-none g.T.Interpreter.steps g.T.Interpreter.quits c.args.bench.now [] c.new-line.result (g.W.Sink.contents c.args.writer.now) c.new-line.ensures,
   refl,
   omega arith,
+  omega arith,
 )
 
 pub returns-in_err-answer_last-clause-served : goal.returns-in_err-answer_last-clause-served
 returns-in_err-answer_last-clause-served g c =
     let p = err_from_is_err_and c.from_residual.result c.from_residual.ensures.1 in
-    let (taken, before, reads, so_far, sized, few) = c.loop-read.invariant in
+    let (taken, before, reads, so_far, sized, few, asked) = c.loop-read.invariant in
     let none = c.if-count-eq0.true in
     let ended = c.in-Ok.ensures.moved.1 none (omega (arith, sized)) in
     let behind = subst (λ n. Consumes (g.R.Source.remaining c.loop-read.reader) (g.R.Source.remaining c.take.new.self) (take n c.take.new.buffer)) none c.in-Ok.ensures.moved.0 in
@@ -58,7 +59,7 @@ returns-in_err-answer_last-clause-served g c =
 
 pub returns-then-count-eq0-clause-served : goal.returns-then-count-eq0-clause-served
 returns-then-count-eq0-clause-served g c =
-    let (taken, before, reads, so_far, sized, few) = c.loop-read.invariant in
+    let (taken, before, reads, so_far, sized, few, asked) = c.loop-read.invariant in
     let none = c.if-count-eq0.true in
     let ended = c.in-Ok.ensures.moved.1 none (omega (arith, sized)) in
     let behind = subst (λ n. Consumes (g.R.Source.remaining c.loop-read.reader) (g.R.Source.remaining c.take.new.self) (take n c.take.new.buffer)) none c.in-Ok.ensures.moved.0 in
@@ -68,14 +69,14 @@ returns-then-count-eq0-clause-served g c =
 pub returns-in_err-answer_piece-clause-served : goal.returns-in_err-answer_piece-clause-served
 returns-in_err-answer_piece-clause-served g c =
     let p = err_from_is_err_and c.from_residual-in_err-answer_piece.result c.from_residual-in_err-answer_piece.ensures.1 in
-    let (taken, before, reads, so_far, sized, few) = c.loop-read.invariant in
+    let (taken, before, reads, so_far, sized, few, asked) = c.loop-read.invariant in
     let run = c.in_err-answer_piece.ensures.answered (pending_line taken) so_far.kept_is in
     let stays = Broken-more g.T.Interpreter.steps g.T.Interpreter.quits c.args.bench.now c.answer_piece.new.bench in
     rw (p.1, p.2) (served_part g.T.Interpreter.steps g.T.Interpreter.quits c.args.bench.now c.loop-read.bench c.answer_piece.new.bench taken c.loop-read.line (take c.in-Ok.count c.take.new.buffer) _ _ _ _ _ _ (Err c.in_err-answer_piece.field-0.0) (λ xs ys. stays xs ys _ _) so_far before c.in-Ok.ensures.moved.0 run)
 
 pub returns-in-Quit-clause-served : goal.returns-in-Quit-clause-served
 returns-in-Quit-clause-served g c =
-    let (taken, before, reads, so_far, sized, few) = c.loop-read.invariant in
+    let (taken, before, reads, so_far, sized, few, asked) = c.loop-read.invariant in
     let piece = take c.in-Ok.count c.take.new.buffer in
     let run = c.in_ok-answer_piece.ensures.answered (pending_line taken) so_far.kept_is in
     let quit = subst (λ n. Answered g.T.Interpreter.steps g.T.Interpreter.quits c.loop-read.bench (complete_from (pending_line taken) piece) c.answer_piece.new.bench (g.W.Sink.contents c.loop-read.writer) (g.W.Sink.contents c.answer_piece.new.writer) (Ok n)) c.in-Quit.is run in
@@ -84,7 +85,7 @@ returns-in-Quit-clause-served g c =
 
 pub loop-read-preserved : goal.loop-read-preserved
 loop-read-preserved g c =
-    let (taken, before, reads, so_far, sized, few) = c.loop-read.invariant in
+    let (taken, before, reads, so_far, sized, few, asked) = c.loop-read.invariant in
     let piece = take c.in-Ok.count c.take.new.buffer in
     let ended = end_from c.in_ok-answer_piece.field-0 c.in_default-2.not-Quit c.in_ok-answer_piece.ensures.stops in
     let run = c.in_ok-answer_piece.ensures.answered (pending_line taken) so_far.kept_is in
@@ -96,16 +97,17 @@ loop-read-preserved g c =
       Going-then g.T.Interpreter.steps g.T.Interpreter.quits c.args.bench.now c.loop-read.bench c.answer_piece.new.bench [] taken c.loop-read.line piece c.answer_piece.new.line _ _ _ so_far whole kept,
       omega (arith, sized),
       few_more taken c.take.new.buffer c.in-Ok.count c.loop-read._read (length c.args.buffer.now) few c.in-Ok.ensures.bound (omega (arith, sized)),
+      omega (arith, asked, c.in-Ok.ensures.count),
     )
 
 pub returns-clause-served : goal.returns-clause-served
 returns-clause-served g c =
-    let (taken, before, reads, so_far, sized, few) = c.loop-read.invariant in
+    let (taken, before, reads, so_far, sized, few, asked) = c.loop-read.invariant in
     (record { taken = taken; consumed = before; answers = so_far.answers; answered = so_far.answered; written = so_far.written }, omega (arith, reads))
 
 pub returns-in_default-clause-few : goal.returns-in_default-clause-few
 returns-in_default-clause-few g c =
-    let (taken, before, reads, so_far, sized, few) = c.loop-read.invariant in
+    let (taken, before, reads, so_far, sized, few, asked) = c.loop-read.invariant in
     record {
       taken = taken;
       consumed = Consumes-then_Keeps _ _ _ taken before c.in_default.ensures.moved;
@@ -116,24 +118,24 @@ returns-in_default-clause-few g c =
 pub returns-in_err-answer_last-clause-few : goal.returns-in_err-answer_last-clause-few
 returns-in_err-answer_last-clause-few g c =
     let p = err_from_is_err_and c.from_residual.result c.from_residual.ensures.1 in
-    let (taken, before, reads, so_far, sized, few) = c.loop-read.invariant in
+    let (taken, before, reads, so_far, sized, few, asked) = c.loop-read.invariant in
     rw p.1 (takes_piece g.T.Interpreter.quits _ _ _ taken c.take.new.buffer c.in-Ok.count c.loop-read._read c.args.reads (length c.args.buffer.now) (Err p.0) before c.in-Ok.ensures.moved.0 few c.in-Ok.ensures.bound (omega (arith, sized)) (omega arith) tt)
 
 pub returns-then-count-eq0-clause-few : goal.returns-then-count-eq0-clause-few
 returns-then-count-eq0-clause-few g c =
-    let (taken, before, reads, so_far, sized, few) = c.loop-read.invariant in
+    let (taken, before, reads, so_far, sized, few, asked) = c.loop-read.invariant in
     let ended = c.in-Ok.ensures.moved.1 c.if-count-eq0.true (omega (arith, sized)) in
     takes_piece g.T.Interpreter.quits _ _ _ taken c.take.new.buffer c.in-Ok.count c.loop-read._read c.args.reads (length c.args.buffer.now) (Ok c.in_ok-answer_last.field-0) before c.in-Ok.ensures.moved.0 few c.in-Ok.ensures.bound (omega (arith, sized)) (omega arith) (stops_at_end g.T.Interpreter.quits (length c.args.buffer.now) _ _ c.in_ok-answer_last.field-0 ended)
 
 pub returns-in_err-answer_piece-clause-few : goal.returns-in_err-answer_piece-clause-few
 returns-in_err-answer_piece-clause-few g c =
     let p = err_from_is_err_and c.from_residual-in_err-answer_piece.result c.from_residual-in_err-answer_piece.ensures.1 in
-    let (taken, before, reads, so_far, sized, few) = c.loop-read.invariant in
+    let (taken, before, reads, so_far, sized, few, asked) = c.loop-read.invariant in
     rw p.1 (takes_piece g.T.Interpreter.quits _ _ _ taken c.take.new.buffer c.in-Ok.count c.loop-read._read c.args.reads (length c.args.buffer.now) (Err p.0) before c.in-Ok.ensures.moved.0 few c.in-Ok.ensures.bound (omega (arith, sized)) (omega arith) tt)
 
 pub returns-in-Quit-clause-few : goal.returns-in-Quit-clause-few
 returns-in-Quit-clause-few g c =
-    let (taken, before, reads, so_far, sized, few) = c.loop-read.invariant in
+    let (taken, before, reads, so_far, sized, few, asked) = c.loop-read.invariant in
     let piece = take c.in-Ok.count c.take.new.buffer in
     let size = length c.args.buffer.now in
     let fits : length piece ≤ size = omega (arith, sized, length-take-le c.in-Ok.count c.take.new.buffer c.in-Ok.ensures.bound, c.in-Ok.ensures.bound) in
@@ -143,7 +145,7 @@ returns-in-Quit-clause-few g c =
 
 pub returns-clause-few : goal.returns-clause-few
 returns-clause-few g c =
-    let (taken, before, reads, so_far, sized, few) = c.loop-read.invariant in
+    let (taken, before, reads, so_far, sized, few, asked) = c.loop-read.invariant in
     record {
       taken = taken;
       consumed = before;
