@@ -9,3 +9,4 @@ pub mod Loops
 pub mod ReadFaults
 pub mod ReadEnds
 pub mod TokensRise
+pub mod ReadStops

@@ -15,7 +15,7 @@ use Rattle.pli_base.specs.declared.token.Sign.TheVariants as signs
 use Rattle.pli_base.specs.declared.token.TokenText.{TokenText}
 use Rattle.pli_base.specs.declared.token.TokenText.TheVariants.{Word, Decimal, Binary, Characters, Bits, Sign}
 use Rattle.pli_parse_expression.specs.Operators.{operator_limit, level_of, operator_at, joining_at, begins_expression}
-use Rattle.pli_base.specs.Words.{Tokens, name_first, behind, is_comma, is_close}
+use Rattle.pli_base.specs.Words.{Tokens, name_first, behind, is_comma}
 use Rattle.pli_parse_expression.specs.Reading.{Front, Reader, limited, opened, closed, operand_then, grouped, infix_from, expression_of, listed_behind, further_from, listed_at, list_at, arguments_at, part_behind, parts_behind, joined_from, reference_behind, reference_of, prefix_of, parenthesis_of, constant_at, operand_of, inside, operand_at, expression_at, argument_of, reference_at}
 use Rattle.pli_base.specs.Reading.{◌>>=◌, at_fault, misfit, taken}
 use Rattle.pli_parse_expression.proofs.ReadingTools.{operator_ok, joining_ok, name_ok, comma_ok}
@@ -59,7 +59,7 @@ limited_stands {A = A} least count p ts r some h = by (nat_lt count operator_lim
     by true = h
     by false = fault_first NestedTooDeep p ts some
 
-closed_stands : {A : Type 0} (value : A) (count p : ℕ) (ts : Tokens) → Stands 1 p ts (closed value count p ts)
+pub closed_stands : {A : Type 0} (value : A) (count p : ℕ) (ts : Tokens) → Stands 1 p ts (closed value count p ts)
 unfolding taken behind
 closed_stands value count p [] = misfit_stands ParenthesisExpected p []
 closed_stands value count p (Sign signs.CloseParenthesis ∷ ts) = passes_one p (Sign signs.CloseParenthesis ∷ ts) ts (omega arith)
@@ -91,7 +91,7 @@ module _ (operand : Reader) (sound : IsSound operand) where
       limited_stands 0 count p ts (right >>= behind) (omega arith)
       (at_least 2 0 p ts (right >>= behind) (omega arith) (stands_behind 1 1 p (p + 1) ts x.1 (right >>= behind) (passes_one p ts x.1 one) whole))
 
-  loop_stands : (bound : ℕ) → LoopStands bound
+  pub loop_stands : (bound : ℕ) → LoopStands bound
   unfolding infix_from
   loop_stands zero min count left p ts small = absurd (omega arith)
   loop_stands (suc bound) min count left p ts small = step_stands bound (loop_stands bound) min count left p ts small (operator_at min ts) refl
@@ -122,7 +122,7 @@ module _ (one : Reader) (sound : IsSound one) where
   further_stands zero count p ts small = absurd (omega arith)
   further_stands (suc bound) count p ts small = further_step bound (further_stands bound) count p ts small (behind is_comma ts) refl
 
-  listed_stands : (count p : ℕ) (ts : Tokens) → Stands 1 p ts (listed_at one count p ts)
+  pub listed_stands : (count p : ℕ) (ts : Tokens) → Stands 1 p ts (listed_at one count p ts)
   unfolding listed_at
   listed_stands count p ts =
       stands_then 1 0 p ts (one count p ts) (λ x. further_from one (length x.rest + 1) x.count x.next x.rest >>= λ y. closed (Listed x.value y.value) y.count y.next y.rest) (sound count p ts)
@@ -208,7 +208,7 @@ module _ (one : Option Reader) (sound : IsSoundWhere one) where
   unfolding reference_of
   reference_stands count p ts = reference_step count p ts (name_first ts) refl
 
-mapped_sound : (one : Option Reader) → IsSoundWhere one → IsSoundWhere (option_map expression_of one)
+pub mapped_sound : (one : Option Reader) → IsSoundWhere one → IsSoundWhere (option_map expression_of one)
 mapped_sound None sound = tt
 mapped_sound (Some operand) sound = expression_sound operand sound
 
@@ -241,7 +241,7 @@ constant_stands count p (Characters s ∷ ts) = passes_one p (Characters s ∷ t
 constant_stands count p (Bits s ∷ ts) = passes_one p (Bits s ∷ ts) ts (omega arith)
 constant_stands count p (t ∷ ts) = misfit_stands ExpressionExpected p (t ∷ ts)
 
-operand_stands : (one : Option Reader) → IsSoundWhere one → IsSound (operand_of one)
+pub operand_stands : (one : Option Reader) → IsSoundWhere one → IsSound (operand_of one)
 unfolding operand_of
 operand_stands one sound count p [] = constant_stands count p []
 operand_stands one sound count p (Word n ∷ ts) =
@@ -252,7 +252,7 @@ operand_stands one sound count p (Sign signs.Minus ∷ ts) = prefix_stands one s
 operand_stands one sound count p (Sign signs.Not ∷ ts) = prefix_stands one sound prefixes.Not count p (Sign signs.Not) ts
 operand_stands one sound count p (t ∷ ts) = constant_stands count p (t ∷ ts)
 
-inside_sound : (levels : ℕ) → IsSoundWhere (inside levels)
+pub inside_sound : (levels : ℕ) → IsSoundWhere (inside levels)
 unfolding inside
 inside_sound zero = tt
 inside_sound (suc levels) = operand_stands (inside levels) (inside_sound levels)

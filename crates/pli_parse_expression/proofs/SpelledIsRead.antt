@@ -17,7 +17,7 @@ use Rattle.pli_base.specs.declared.token.TokenText.TheVariants.{Word, Sign}
 use Rattle.pli_parse_expression.specs.Operators.{operator_limit, operand_level, level, level_of, prefix_sign, infix_sign, joining_sign, infix_of, not_below, operator_at, joining_at, begins_expression, continues_reference}
 use Rattle.pli_parse_expression.specs.Expressions.{SpellsExpression, SpellsReference, SpellsJoined, SpellsArguments, SpellsListed, SpellsFurther, operators, reference_operators, listed_operators, Deeper, NestsWithin, ReferenceNests, JoinedNest, ArgumentsNest, ListNests, OutermostFits, SpellsOutermost, Every, GivenFits, JoinedFits, ReferenceFits, SpellsReferenceAlone, EndsReference, EndsExpression}
 use Rattle.pli_parse_expression.specs.Reading.{Front, Reader, closed, operand_then, grouped, infix_from, expression_of, further_from, listed_at, list_at, arguments_at, parts_behind, joined_from, reference_of, prefix_of, parenthesis_of, constant_at, operand_of, inside, operand_at, expression_at, outermost, argument_of, reference_at}
-use Rattle.pli_parse_expression.specs.Ends.{goes_on_behind, parts_go_on, NoneGoesOn, ReferenceEnds, NoInfix, ExpressionEnds}
+use Rattle.pli_parse_expression.specs.Ends.{parts_go_on, NoneGoesOn, ReferenceEnds, NoInfix, ExpressionEnds}
 use Rattle.pli_parse_expression.proofs.EndTools.{OperandEnds, operand_any, any_expression, any_reference, NotOpen, ArgumentsEnd, arguments_end, not_joined}
 use Rattle.pli_parse_expression.proofs.ReadingTools.{same_ok, level_small}
 use Rattle.pli_parse_expression.proofs.ReadIsSpelled.{IsOperandOf, total, count_given, count_joined, count_reference, total_is, reference_is, ListFits}
@@ -46,7 +46,7 @@ closing_read value count p rest =
     let q : p + 1 ≡ p + 0 + 1 = omega arith in
     ap (λ n. all_read value n (p + 1) rest) e ∙ ap (λ m. all_read value (count + 0) m rest) q
 
-infix_is_none : (min : ℕ) (ts : Tokens) → NoInfix ts → operator_at min ts ≡ None
+pub infix_is_none : (min : ℕ) (ts : Tokens) → NoInfix ts → operator_at min ts ≡ None
 unfolding operator_at
 infix_is_none min [] h = refl
 infix_is_none min (t ∷ ts) h = ap (λ o. not_below min o ts) h
@@ -79,7 +79,7 @@ infix_is_no_part Add = refl
 infix_is_no_part Subtract = refl
 infix_is_no_part Multiply = refl
 
-operator_there : (min : ℕ) (o : InfixOperator) (ts : Tokens) → min ≤ level_of o → operator_at min (Sign (infix_sign o) ∷ ts) ≡ Some (o, ts)
+pub operator_there : (min : ℕ) (o : InfixOperator) (ts : Tokens) → min ≤ level_of o → operator_at min (Sign (infix_sign o) ∷ ts) ≡ Some (o, ts)
 unfolding operator_at
 operator_there min o ts high = ap (λ p. not_below min p ts) (infix_of_sign o) ∙ ap (λ b. cond b None (Some (o, ts))) (le-ltb (level_of o) min high)
 
@@ -101,7 +101,7 @@ unfolding operator_at
 operator_higher min top [] h high = refl
 operator_higher min top (t ∷ ts) h high = not_below_higher min top (infix_of t) ts h high
 
-infix_ends : (operand : Reader) (bound min count : ℕ) (left : Expression) (p : ℕ) (ts : Tokens) → length ts < bound → operator_at min ts ≡ None → infix_from operand bound min count left p ts ≡ all_read left count p ts
+pub infix_ends : (operand : Reader) (bound min count : ℕ) (left : Expression) (p : ℕ) (ts : Tokens) → length ts < bound → operator_at min ts ≡ None → infix_from operand bound min count left p ts ≡ all_read left count p ts
 unfolding infix_from
 infix_ends operand zero min count left p ts small none = absurd (omega arith)
 infix_ends operand (suc bound) min count left p ts small none = ap (grouped operand (infix_from operand bound) min count left p ts) none
@@ -231,7 +231,7 @@ ListsAgain Fits count_of None = (list : Expressions) → Fits list → ⊥
 ListsAgain Fits count_of (Some one) = (list : Expressions) (count p : ℕ) (ts more : Tokens) → SpellsListed p ts list → Fits list → count + count_of list ≤ operator_limit
     → list_at one count p (ts ++ Sign signs.CloseParenthesis ∷ more) ≡ all_read list (count + count_of list) (p + length ts + 1) more
 
-no_arguments : (one : Option Reader) (count p : ℕ) (ts : Tokens) → NotOpen ts → arguments_at one count p ts ≡ all_read Absent count p ts
+pub no_arguments : (one : Option Reader) (count p : ℕ) (ts : Tokens) → NotOpen ts → arguments_at one count p ts ≡ all_read Absent count p ts
 unfolding arguments_at
 no_arguments one count p [] h = refl
 no_arguments one count p (Sign signs.OpenParenthesis ∷ ts) h = absurd h
@@ -244,7 +244,7 @@ joined_end Absent (Joined Member name arguments m) p ts more spelled stops = sub
 joined_end Absent (Joined Located name arguments m) p ts more spelled stops = subst (λ us. NotOpen (us ++ more)) (sym spelled.2) tt
 joined_end (Given list) (Joined joining name arguments m) p ts more spelled stops = tt
 
-joining_there : (j : Joining) (ts : Tokens) → joining_at (Sign (joining_sign j) ∷ ts) ≡ Some (j, ts)
+pub joining_there : (j : Joining) (ts : Tokens) → joining_at (Sign (joining_sign j) ∷ ts) ≡ Some (j, ts)
 unfolding joining_at
 joining_there Member ts = refl
 joining_there Located ts = refl
@@ -388,7 +388,7 @@ parenthesis_again (suc n) (Some operand) again at e count p ts more (us, shape, 
     ∙ ap (λ q. all_read (Parenthesized q e) (count + operators e) (p + 1 + length us + 1) more) (sym place)
     ∙ ap (λ q. all_read (Parenthesized at e) (count + operators e) q more) behind
 
-prefix_there : (one : Option Reader) (o : PrefixOperator) (count p : ℕ) (ts : Tokens) → operand_of one count p (Sign (prefix_sign o) ∷ ts) ≡ prefix_of one o count p ts
+pub prefix_there : (one : Option Reader) (o : PrefixOperator) (count p : ℕ) (ts : Tokens) → operand_of one count p (Sign (prefix_sign o) ∷ ts) ≡ prefix_of one o count p ts
 unfolding operand_of
 prefix_there one prefixes.Plus count p ts = refl
 prefix_there one prefixes.Minus count p ts = refl

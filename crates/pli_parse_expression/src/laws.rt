@@ -4,6 +4,7 @@ ghost use Rattle.pli_base.specs.FaultPlaces.{FaultStands};
 ghost use Rattle.pli_base.specs.Syntax.{Expression, Reference};
 ghost use Rattle.pli_base.specs.TreeTokens.{Rises, expression_tokens, reference_tokens};
 ghost use Rattle.pli_base.specs.declared.token.Fault.{Fault};
+ghost use Rattle.pli_parse_fault.specs.FirstFaults.{IsFirstFault};
 ghost use Rattle.pli_parse_expression.specs.Expressions.{operators, SpellsOutermost, SpellsReferenceAlone, EndsExpression, EndsReference};
 ghost use Rattle.pli_parse_expression.specs.Ends.{ExpressionEnds, ReferenceEnds};
 ghost use Rattle.pli_parse_expression.specs.Reading.{Front, expression_at, reference_at};
@@ -93,6 +94,20 @@ pub fn assignments_are_recognized()
 pub fn faults_stand_at_tokens()
     ensures expressions { (levels p : ℕ) (ts : Tokens) (f : Fault) → expression_at levels 0 p ts ≡ Err f → FaultStands p ts f }
     ensures references { (levels p : ℕ) (ts : Tokens) (f : Fault) → reference_at levels p ts ≡ Err f → FaultStands p ts f }
+{}
+
+/// A law: a fault of reading is the first fault of the tokens: those before its token can be completed to an expression within
+/// the limits, and with it they cannot; or all can, and they have ended. Tokens have no first fault elsewhere.
+#[tactic(auto, using(crate::proofs::ReadStops::expression_first_fault, crate::proofs::ReadStops::reference_first_fault))]
+pub fn first_faults()
+    ensures expressions { (levels p : ℕ) (ts : Tokens) (f : Fault) →
+        expression_at levels 0 p ts ≡ Err f → IsFirstFault (SpellsOutermost levels) p ts f }
+    ensures references { (levels p : ℕ) (ts : Tokens) (f : Fault) →
+        reference_at levels p ts ≡ Err f → IsFirstFault (SpellsReferenceAlone levels) p ts f }
+    ensures one_place { (levels p : ℕ) (ts : Tokens) (f g : Fault) →
+        IsFirstFault (SpellsOutermost levels) p ts f → IsFirstFault (SpellsOutermost levels) p ts g → f.at ≡ g.at }
+    ensures one_place_of_reference { (levels p : ℕ) (ts : Tokens) (f g : Fault) →
+        IsFirstFault (SpellsReferenceAlone levels) p ts f → IsFirstFault (SpellsReferenceAlone levels) p ts g → f.at ≡ g.at }
 {}
 
 /// A law: the tokens of the tree that is read rise in the order of the text, from the first that is read to the last.

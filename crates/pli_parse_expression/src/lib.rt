@@ -12,7 +12,7 @@ pub use expression::{outermost_arguments_at, outermost_expression_at, reference_
 pub use front::Front;
 pub use laws::{
     assignments_are_recognized, expressions_read_are_spelled, expressions_spelled_are_read,
-    faults_stand_at_tokens, longest_expressions, longest_references, one_expression, one_reference,
-    references_read_are_spelled, references_spelled_are_read, tokens_of_trees_rise,
+    faults_stand_at_tokens, first_faults, longest_expressions, longest_references, one_expression,
+    one_reference, references_read_are_spelled, references_spelled_are_read, tokens_of_trees_rise,
     worked_examples,
 };
