@@ -22,8 +22,12 @@ impl Known<'_> {
         ensures { result ≡ least_of (entity_codes (outline_view self.now.outline.now) block judged.code judged.is_too_large (entity_view entity.entry)) }
     {
         match entity {
-            Entity::Item { item, is_bad_level } => {
-                let are_good = self.attributes_are_good(block, item.attributes.as_slice());
+            Entity::Item {
+                facts,
+                is_bad_level,
+            } => {
+                let attributes = facts.item.attributes.as_slice();
+                let are_good = self.attributes_are_good(block, attributes);
                 least(&[
                     judged.code,
                     code_if(is_bad_level, Code::BadLevel),

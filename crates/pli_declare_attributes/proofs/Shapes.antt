@@ -9,7 +9,7 @@ use Rattle.pli_base.specs.declared.declaration.Bounds.{Bounds}
 use Rattle.pli_declare_attributes.specs.Types.{number_of, is_bad_precision, is_bad_length}
 use Rattle.pli_declare_attributes.specs.Extents.{are_good, are_bad_bounds, is_array}
 use Rattle.pli_declare_attributes.specs.Agreement.{set_agrees, is_missing}
-use Rattle.pli_declare_attributes.specs.Faults.{first_of, shape_fault, description_fault, own_fault, attributes_fault, item_fault, parameters_fault, parameters_in, returned_fault, returned_in, entry_fault, is_too_large, parameter_of, described_scalar}
+use Rattle.pli_declare_attributes.specs.Faults.{first_of, shape_fault, description_fault, own_fault, attributes_fault, item_fault, parameters_fault, parameters_in, returned_fault, returned_in, entry_fault, lesser, is_too_large, parameter_of, described_scalar}
 use Rattle.pli_declare_attributes.specs.Completed.{OfVariable, OfEntry, OfBuiltIn, variable_of, completed_of}
 use Rattle.std.proofs.lemmas.Bool.Decides.{nat_tests}
 use Rattle.pli_declare_attributes.specs.Sets.{set_of, each_once, outermost, has, entry, built_in}
@@ -104,23 +104,35 @@ more n m h = grind (arith, nat_tests, h)
 not_more : (n m : ℕ) → m ≤ n → nat_lt n m ≡ false
 not_more n m h = grind (arith, nat_tests, h)
 
-pub entry_too_many : (p : Place) (i : tree.Item) (ds : List tree.ParameterDescription) → attributes_fault p i ≡ None → ds ≡ parameters_in i.attributes
-    → 64 < length ds → item_fault p i ≡ Some TooManyParameters
-entry_too_many p i ds h same many =
-    entry_left p i h ∙ ap entry_fault (sym same)
-    ∙ (two_faults (nat_lt 64 (length ds)) (list_any is_too_large (map parameter_of ds)) TooManyParameters GenerationTooLarge).0 (more 64 (length ds) many)
+-- the attributes of an item without a fault have none
+pub attributes_none : (p : Place) (i : tree.Item) → item_fault p i ≡ None → attributes_fault p i ≡ None
+unfolding item_fault
+attributes_none p i h = (or_none (attributes_fault p i) (entry_fault (parameters_in i.attributes)) h).0
 
-pub entry_too_large : (p : Place) (i : tree.Item) (ds : List tree.ParameterDescription) → attributes_fault p i ≡ None → ds ≡ parameters_in i.attributes
-    → length ds ≤ 64 → list_any is_too_large (map parameter_of ds) ≡ true → item_fault p i ≡ Some GenerationTooLarge
-entry_too_large p i ds h same few large =
-    entry_left p i h ∙ ap entry_fault (sym same)
-    ∙ (two_faults (nat_lt 64 (length ds)) (list_any is_too_large (map parameter_of ds)) TooManyParameters GenerationTooLarge).1 (not_more 64 (length ds) few) large
+-- the fault of an item whose attributes have none is that of its parameters, which is known where what ENTRY
+-- and RETURNS hold has none
+pub sizes_left : (p : Place) (i : tree.Item) (held sizes : Option Code)
+    → held ≡ lesser (parameters_fault (parameters_in i.attributes)) (returned_fault (returned_in i.attributes))
+    → (held ≡ None → sizes ≡ entry_fault (parameters_in i.attributes)) → attributes_fault p i ≡ None → sizes ≡ item_fault p i
+sizes_left p i held sizes is known h =
+    let parts = parts_none p i h in
+    let none : lesser (parameters_fault (parameters_in i.attributes)) (returned_fault (returned_in i.attributes)) ≡ None =
+    ap (λ f. lesser f (returned_fault (returned_in i.attributes))) parts.1 ∙ parts.2 in
+    known (is ∙ none) ∙ sym (entry_left p i h)
 
-pub entry_good : (p : Place) (i : tree.Item) (ds : List tree.ParameterDescription) → attributes_fault p i ≡ None → ds ≡ parameters_in i.attributes
-    → length ds ≤ 64 → list_any is_too_large (map parameter_of ds) ≡ false → item_fault p i ≡ None
-entry_good p i ds h same few small =
-    entry_left p i h ∙ ap entry_fault (sym same)
-    ∙ (two_faults (nat_lt 64 (length ds)) (list_any is_too_large (map parameter_of ds)) TooManyParameters GenerationTooLarge).2 (not_more 64 (length ds) few) small
+pub too_many_parameters : (ds : List tree.ParameterDescription) → 64 < length ds → entry_fault ds ≡ Some TooManyParameters
+too_many_parameters ds many =
+    (two_faults (nat_lt 64 (length ds)) (list_any is_too_large (map parameter_of ds)) TooManyParameters GenerationTooLarge).0 (more 64 (length ds) many)
+
+pub too_large_parameter : (ds : List tree.ParameterDescription) → length ds ≤ 64 → list_any is_too_large (map parameter_of ds) ≡ true
+    → entry_fault ds ≡ Some GenerationTooLarge
+too_large_parameter ds few large =
+    (two_faults (nat_lt 64 (length ds)) (list_any is_too_large (map parameter_of ds)) TooManyParameters GenerationTooLarge).1 (not_more 64 (length ds) few) large
+
+pub good_parameters : (ds : List tree.ParameterDescription) → length ds ≤ 64 → list_any is_too_large (map parameter_of ds) ≡ false
+    → entry_fault ds ≡ None
+good_parameters ds few small =
+    (two_faults (nat_lt 64 (length ds)) (list_any is_too_large (map parameter_of ds)) TooManyParameters GenerationTooLarge).2 (not_more 64 (length ds) few) small
 
 -- what an item is, by its set
 pub is_entry : (p : Place) (i : tree.Item) (s : ℕ) → s ≡ set_of (map outermost i.attributes) → has s entry ≡ true

@@ -12,7 +12,8 @@ ghost use Rattle.pli_declare_attributes.specs.declared.complete.AttributeError.T
 
 use crate::completed::{Completed, Scope, Storage, Variable};
 use crate::extents::all_described;
-use crate::faults::{attributes_fault, result_fault};
+use crate::facts::ItemFacts;
+use crate::faults::{item_fault, result_fault};
 use crate::initials::values_of;
 use crate::parts::{parameters_of, returned_of};
 use crate::place::{Place, Position};
@@ -20,14 +21,9 @@ use crate::set::AttributeSet;
 use crate::summary::Summary;
 use crate::types::scalar;
 use pli_base::Code;
-use pli_base::declaration::{
-    Attribute, DescribedAttribute, Item, ParameterDescription, copied_values,
-};
+use pli_base::declaration::{Attribute, DescribedAttribute, ParameterDescription, copied_values};
 use pli_map::{Bounds, Description, size};
 use std::alloc::{AllocError, Global};
-
-/// How many parameters an entry may have (own).
-const PARAMETER_LIMIT: usize = 64;
 
 /// Why there is nothing to which an item's attributes are completed.
 #[derive(Debug, Drop)]
@@ -109,7 +105,7 @@ fn parameter(alloc: Global, description: &ParameterDescription) -> Result<Descri
 }
 
 /// What descriptions of parameters say, where they have no fault.
-fn parameters(
+pub(crate) fn parameters(
     alloc: Global,
     descriptions: &[ParameterDescription],
 ) -> Result<Vec<Description>, AllocError>
@@ -124,7 +120,7 @@ fn parameters(
 }
 
 /// Whether one takes more than 1,000,000 bytes.
-fn any_too_large(descriptions: &[Description]) -> bool
+pub(crate) fn any_too_large(descriptions: &[Description]) -> bool
     ensures { result ≡ list_any is_too_large (map description_view descriptions.now) }
 {
     for description in descriptions {
@@ -166,14 +162,13 @@ pub fn completed_result(attributes: &[DescribedAttribute]) -> Result<Description
 
 /// What the attributes of a variable or member say, where they have no fault.
 #[tactic(auto, unfolding(crate::specs::Completed::variable_of))]
-fn variable(alloc: Global, place: Place, item: &Item) -> Result<Variable, AllocError>
-    requires { own_fault place (item_view item.now) ≡ None }
-    ensures { IfOk result (λ v. variable_view v ≡ variable_of place (item_view item.now)) }
+fn variable(alloc: Global, place: Place, facts: &ItemFacts) -> Result<Variable, AllocError>
+    requires { own_fault place (item_view facts.now.item.now) ≡ None }
+    ensures { IfOk result (λ v. variable_view v ≡ variable_of place (item_view facts.now.item.now)) }
 {
-    let attributes = item.attributes.as_slice();
-    let summary = Summary::of_item(attributes);
-    let bounds = all_described(alloc, item.dimensions.as_slice())?;
-    let initial = copied_values(alloc, values_of(attributes))?;
+    let summary = facts.summary;
+    let bounds = all_described(alloc, facts.item.dimensions.as_slice())?;
+    let initial = copied_values(alloc, values_of(facts.item.attributes.as_slice()))?;
     let description = if place.has_members {
         None
     } else {
@@ -188,52 +183,28 @@ fn variable(alloc: Global, place: Place, item: &Item) -> Result<Variable, AllocE
     })
 }
 
-/// The least of A3 to A7, A9 and A13 to A15 that holds of an item, apart from faults of the names and the level that stand in it
-/// (own). Memory is taken only for the parameters of an entry whose attributes have no fault.
-pub fn item_fault(alloc: Global, place: Place, item: &Item) -> Result<Option<Code>, AllocError>
-    ensures { IfOk result (λ fault. fault ≡ spec.item_fault place (item_view item.now)) }
-{
-    if let Some(code) = attributes_fault(place, item) {
-        return Ok(Some(code));
-    }
-    let attributes = item.attributes.as_slice();
-    let descriptions = parameters_of(attributes);
-    if descriptions.len() > PARAMETER_LIMIT {
-        return Ok(Some(Code::TooManyParameters));
-    }
-    let parameters = parameters(alloc, descriptions)?;
-    if any_too_large(parameters.as_slice()) {
-        return Ok(Some(Code::GenerationTooLarge));
-    }
-    Ok(None)
-}
-
 /// What an item is, by its attributes with their defaults; or the least of A3 to A7, A9 and A13 to A15 that holds, apart from
 /// faults of the names and the level that stand in it (own). Memory is taken only where the attributes have no fault.
-pub fn completed_item(alloc: Global, place: Place, item: &Item) -> Result<Completed, AttributeError>
-    ensures { IsCompleted result place (item_view item.now) }
+pub fn completed_item(
+    alloc: Global,
+    place: Place,
+    facts: &ItemFacts,
+) -> Result<Completed, AttributeError>
+    ensures { IsCompleted result place (item_view facts.now.item.now) }
 {
-    if let Some(code) = attributes_fault(place, item) {
+    if let Some(code) = item_fault(place, facts) {
         return Err(AttributeError::Faulty(code));
     }
-    let attributes = item.attributes.as_slice();
-    let descriptions = parameters_of(attributes);
-    if descriptions.len() > PARAMETER_LIMIT {
-        return Err(AttributeError::Faulty(Code::TooManyParameters));
-    }
-    let parameters = parameters(alloc, descriptions)?;
-    if any_too_large(parameters.as_slice()) {
-        return Err(AttributeError::Faulty(Code::GenerationTooLarge));
-    }
-    let set = Summary::of_item(attributes).set;
+    let attributes = facts.item.attributes.as_slice();
+    let set = facts.summary.set;
     if set.has(AttributeSet::ENTRY) {
         Ok(Completed::Entry {
-            parameters,
+            parameters: parameters(alloc, parameters_of(attributes))?,
             result: returned_type(attributes),
         })
     } else if set.has(AttributeSet::BUILTIN) {
         Ok(Completed::BuiltIn)
     } else {
-        Ok(Completed::Variable(variable(alloc, place, item)?))
+        Ok(Completed::Variable(variable(alloc, place, facts)?))
     }
 }

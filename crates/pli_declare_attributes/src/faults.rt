@@ -1,20 +1,20 @@
 //! The least fault of attributes.
 ghost use Rattle.std.specs.Prelude.{◌≡◌, [], false, None, map};
-ghost use Rattle.pli_base.specs.views.DeclarationView.{described_view, parameter_view, attribute_view, item_view};
+ghost use Rattle.pli_base.specs.views.DeclarationView.{described_view, parameter_view, item_view};
 ghost use Rattle.pli_declare_attributes.specs.Types.{is_bad_precision, is_bad_length};
 ghost use Rattle.pli_declare_attributes.specs.Extents.{are_bad_bounds};
-ghost use Rattle.pli_declare_attributes.specs.Initials.{is_bad_initial};
+ghost use Rattle.pli_declare_attributes.specs.Initials.{is_bad_initial, values_in};
 ghost use Rattle.pli_declare_attributes.specs.Faults as spec;
 
 use crate::agreement::{agree, missing};
 use crate::extents::bad_bounds;
-use crate::initials::{all_fit, too_many, values_of};
-use crate::parts::{parameters_of, returned_of};
+use crate::facts::ItemFacts;
+use crate::initials::too_many;
 use crate::place::{Place, Position};
 use crate::set::AttributeSet;
 use crate::summary::Summary;
-use crate::types::{bad_length, bad_precision, scalar};
-use pli_base::declaration::{Bounds, DescribedAttribute, InitialValue, Item, ParameterDescription};
+use crate::types::{bad_length, bad_precision};
+use pli_base::declaration::{Bounds, DescribedAttribute, ParameterDescription};
 use pli_base::{Code, code_order};
 use std::cmp::Ordering;
 
@@ -93,22 +93,19 @@ fn description_fault(
 
 /// Whether INITIAL stands beside members or AREA, has a value that does not fit, or too many.
 #[tactic(auto, using(crate::proofs::Shapes::bounds_good), unfolding(crate::specs::Initials::is_bad_initial))]
-fn bad_initial(
-    place: Place,
-    dimensions: &[Bounds],
-    summary: Summary,
-    values: &[InitialValue],
-) -> bool
-    requires precision { is_bad_precision summary.set.0 summary.number ≡ false }
-    requires length { is_bad_length summary.set.0 summary.number ≡ false }
-    requires bounds { are_bad_bounds dimensions.now ≡ false }
-    ensures { result ≡ is_bad_initial place dimensions.now summary.set.0 summary.number values.now }
+fn bad_initial(place: Place, facts: &ItemFacts) -> bool
+    requires precision { is_bad_precision facts.now.summary.set.0 facts.now.summary.number ≡ false }
+    requires length { is_bad_length facts.now.summary.set.0 facts.now.summary.number ≡ false }
+    requires bounds { are_bad_bounds facts.now.item.now.dimensions.items ≡ false }
+    ensures { let item = item_view facts.now.item.now in
+        result ≡ is_bad_initial place item.dimensions facts.now.summary.set.0 facts.now.summary.number (values_in item.attributes) }
 {
-    summary.set.has(AttributeSet::INITIAL)
+    let set = facts.summary.set;
+    set.has(AttributeSet::INITIAL)
         && (place.has_members
-            || summary.set.has(AttributeSet::AREA)
-            || !all_fit(&scalar(summary), values)
-            || too_many(place, dimensions, values))
+            || set.has(AttributeSet::AREA)
+            || !facts.values_fit
+            || too_many(place, facts.item.dimensions.as_slice(), facts.values_given))
 }
 
 /// What stands around the description of a parameter in ENTRY: nothing.
@@ -148,7 +145,7 @@ fn parameter_fault(description: &ParameterDescription) -> Option<Code>
 }
 
 /// The least fault of descriptions of parameters.
-fn parameters_fault(descriptions: &[ParameterDescription]) -> Option<Code>
+pub(crate) fn parameters_fault(descriptions: &[ParameterDescription]) -> Option<Code>
     ensures { result ≡ spec.parameters_fault (map parameter_view descriptions.now) }
 {
     let mut least = None;
@@ -160,32 +157,35 @@ fn parameters_fault(descriptions: &[ParameterDescription]) -> Option<Code>
 
 /// The fault of an item's attributes, apart from what ENTRY and RETURNS hold.
 #[tactic(auto, using(crate::proofs::Shapes::shape_sound), unfolding(crate::specs::Faults::own_fault))]
-fn own_fault(place: Place, item: &Item) -> Option<Code>
-    ensures { result ≡ spec.own_fault place (item_view item.now) }
+fn own_fault(place: Place, facts: &ItemFacts) -> Option<Code>
+    ensures { result ≡ spec.own_fault place (item_view facts.now.item.now) }
 {
-    let dimensions = item.dimensions.as_slice();
-    let attributes = item.attributes.as_slice();
-    let summary = Summary::of_item(attributes);
-    let shape = shape_fault(place, dimensions, summary);
+    let dimensions = facts.item.dimensions.as_slice();
+    let shape = shape_fault(place, dimensions, facts.summary);
     if shape.is_some() {
         return shape;
     }
-    if bad_initial(place, dimensions, summary, values_of(attributes)) {
+    if bad_initial(place, facts) {
         return Some(Code::BadInitial);
     }
-    area_fault(place, dimensions, summary.set)
+    area_fault(place, dimensions, facts.summary.set)
 }
 
 /// The least fault of an item's attributes, with those that ENTRY and RETURNS hold.
 #[tactic(auto, unfolding(crate::specs::Faults::attributes_fault))]
-pub(crate) fn attributes_fault(place: Place, item: &Item) -> Option<Code>
-    ensures { result ≡ spec.attributes_fault place (item_view item.now) }
+fn attributes_fault(place: Place, facts: &ItemFacts) -> Option<Code>
+    ensures { result ≡ spec.attributes_fault place (item_view facts.now.item.now) }
 {
-    let attributes = item.attributes.as_slice();
-    let parameters = parameters_fault(parameters_of(attributes));
-    let returned = match returned_of(attributes) {
-        Some(returned) => result_fault(returned),
-        None => None,
-    };
-    lesser(own_fault(place, item), lesser(parameters, returned))
+    lesser(own_fault(place, facts), facts.held)
+}
+
+/// The least of A3 to A7, A9 and A13 to A15 that holds of an item at a place, apart from faults of the names and the level that
+/// stand in it (own).
+pub fn item_fault(place: Place, facts: &ItemFacts) -> Option<Code>
+    ensures { result ≡ spec.item_fault place (item_view facts.now.item.now) }
+{
+    match attributes_fault(place, facts) {
+        Some(code) => Some(code),
+        None => facts.sizes,
+    }
 }

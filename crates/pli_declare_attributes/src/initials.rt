@@ -77,7 +77,7 @@ fn factor_of(value: &InitialValue) -> u32
 }
 
 /// How many elements have one of these values.
-fn given(values: &[InitialValue]) -> u128
+pub(crate) fn given(values: &[InitialValue]) -> u128
     ensures value { result ≡ all_given values.now }
     ensures limit { result ≤ 79228162514264337593543950336 }
 {
@@ -101,13 +101,14 @@ pub(crate) fn elements(above: u64, dimensions: &[Bounds]) -> u128
     count
 }
 
-/// Whether there are more values than elements, where the number of elements is known.
-pub(crate) fn too_many(place: Place, dimensions: &[Bounds], values: &[InitialValue]) -> bool
-    requires { list_all are_good dimensions.now ≡ true }
-    ensures { result ≡ is_more_than (elements_of place dimensions.now) (all_given values.now) }
+/// Whether values are for more elements than there are, where the number of elements is known.
+pub(crate) fn too_many(place: Place, dimensions: &[Bounds], given: u128) -> bool
+    requires bounds { list_all are_good dimensions.now ≡ true }
+    requires few { given ≤ 79228162514264337593543950336 }
+    ensures { result ≡ is_more_than (elements_of place dimensions.now) given }
 {
     match place.elements_above {
-        Some(above) => elements(above, dimensions) < given(values),
+        Some(above) => elements(above, dimensions) < given,
         None => false,
     }
 }

@@ -1,11 +1,10 @@
 //! What an item is to BASED and OFFSET, which name others.
 ghost use Rattle.std.specs.Prelude.{◌≡◌, ◌+◌, ◌||◌, map};
-ghost use Rattle.pli_base.specs.views.DeclarationView.{attribute_view};
+ghost use Rattle.pli_base.specs.views.DeclarationView.{item_view};
 ghost use Rattle.pli_declare_attributes.specs.Sets.{has, none_of, set_of, outermost, entry, built_in, based, pointer, offset, area};
 
+use crate::facts::ItemFacts;
 use crate::set::AttributeSet;
-use crate::summary::Summary;
-use pli_base::declaration::Attribute;
 
 /// What attributes make of an item that BASED or OFFSET may name.
 #[derive(Clone, Copy, Debug, PartialEq, Eq)]
@@ -19,14 +18,14 @@ pub struct Named {
 }
 
 impl Named {
-    /// Of the attributes of an item.
-    pub fn of_item(attributes: &[Attribute]) -> Named
-        ensures variable { result.is_variable ≡ none_of (set_of (map outermost (map attribute_view attributes.now))) (entry + built_in) }
-        ensures locator { result.is_locator ≡ (has (set_of (map outermost (map attribute_view attributes.now))) pointer || has (set_of (map outermost (map attribute_view attributes.now))) offset) }
-        ensures area { result.is_area ≡ has (set_of (map outermost (map attribute_view attributes.now))) area }
-        ensures not_based { result.is_not_based ≡ none_of (set_of (map outermost (map attribute_view attributes.now))) based }
+    /// Of an item.
+    pub fn of_item(facts: &ItemFacts) -> Named
+        ensures variable { result.is_variable ≡ none_of (set_of (map outermost (item_view facts.now.item.now).attributes)) (entry + built_in) }
+        ensures locator { result.is_locator ≡ (has (set_of (map outermost (item_view facts.now.item.now).attributes)) pointer || has (set_of (map outermost (item_view facts.now.item.now).attributes)) offset) }
+        ensures area { result.is_area ≡ has (set_of (map outermost (item_view facts.now.item.now).attributes)) area }
+        ensures not_based { result.is_not_based ≡ none_of (set_of (map outermost (item_view facts.now.item.now).attributes)) based }
     {
-        let set = Summary::of_item(attributes).set;
+        let set = facts.summary.set;
         let other = AttributeSet::ENTRY.and(AttributeSet::BUILTIN);
         Named {
             is_variable: set.has_none_of(other),

@@ -10,6 +10,7 @@ ghost use Rattle.pli_declare_tables.specs.answers.Answers.{StandBehindOwners};
 use crate::entry::{Entity, Entry};
 use pli_base::declaration::Item;
 use pli_base::syntax::Identifier;
+use pli_declare_attributes::ItemFacts;
 use pli_declare_outline::Mark;
 use pli_declare_scopes::{Standing, standings};
 use std::alloc::{AllocError, AllocFailed, Global};
@@ -18,17 +19,17 @@ use std::alloc::{AllocError, AllocFailed, Global};
 #[derive(Clone, Copy)]
 struct NamedItem<'a> {
     identifier: Identifier,
-    item: &'a Item,
+    facts: ItemFacts<'a>,
 }
 
 /// The names of an item, behind those of others.
-fn add_names<'a>(names: &mut Vec<NamedItem<'a>>, item: &'a Item) -> Result<(), AllocError>
-    ensures { OnOk result (map named_view names.new.items ≡ map named_view names.old.items ++ named (item_view item.now)) }
+fn add_names<'a>(names: &mut Vec<NamedItem<'a>>, facts: ItemFacts<'a>) -> Result<(), AllocError>
+    ensures { OnOk result (map named_view names.new.items ≡ map named_view names.old.items ++ named (item_view facts.entry.item.now)) }
 {
-    for identifier in item.names.iter() {
+    for identifier in facts.item.names.iter() {
         let named = NamedItem {
             identifier: *identifier,
-            item,
+            facts,
         };
         if names.push(named).is_err() {
             return Err(AllocError);
@@ -43,7 +44,7 @@ fn names_of<'a>(alloc: Global, items: &'a [Item]) -> Result<Vec<NamedItem<'a>>, 
 {
     let mut names = Vec::new(alloc);
     for item in items {
-        add_names(&mut names, item)?;
+        add_names(&mut names, ItemFacts::of(alloc, item)?)?;
     }
     Ok(names)
 }
@@ -54,7 +55,7 @@ fn levels_of(alloc: Global, names: &[NamedItem<'_>]) -> Result<Vec<Option<u32>>,
 {
     let mut levels = Vec::new(alloc);
     for named in names {
-        levels.push(named.item.level)?;
+        levels.push(named.facts.item.level)?;
     }
     Ok(levels)
 }
@@ -97,7 +98,7 @@ fn add_items<'a>(
             Some(owner) => Some(base + owner),
         };
         let entity = Entity::Item {
-            item: named.item,
+            facts: named.facts,
             is_bad_level: standing.is_bad,
         };
         add_entry(entries, named.identifier, owner, entity)?;

@@ -1,14 +1,14 @@
 //! What a name is declared as.
-use pli_base::declaration::Item;
 use pli_base::statement::Procedure;
 use pli_base::syntax::Identifier;
+use pli_declare_attributes::ItemFacts;
 
 /// What a name is declared as.
 #[derive(Clone, Copy)]
 pub enum Entity<'a> {
-    /// An item of a DECLARE, and whether its level is a fault, A8 BAD LEVEL.
+    /// An item of a DECLARE, with what is known of it for all its names, and whether its level is a fault, A8 BAD LEVEL.
     Item {
-        item: &'a Item,
+        facts: ItemFacts<'a>,
         is_bad_level: bool,
     },
     /// A label of a statement in the region of this number.

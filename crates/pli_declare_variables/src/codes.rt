@@ -11,26 +11,21 @@ ghost use Rattle.pli_declare_variables.specs.Places as place;
 use crate::places;
 use pli_base::declaration::Item;
 use pli_base::{Code, Name};
-use pli_declare_attributes::{Place, item_fault};
+use pli_declare_attributes::{ItemFacts, Place, item_fault};
 use pli_declare_tables::{Entity, Entry};
 use std::alloc::{AllocError, Global};
 
 /// The fault of an entry at its place, where a label and a procedure are as an item without anything.
-fn own_code(
-    alloc: Global,
-    place: Place,
-    entry: &Entry,
-    nothing: &Item,
-) -> Result<Option<Code>, AllocError>
-    requires { item_view nothing.now ≡ no_item }
-    ensures { IfOk result (λ code. code ≡ fault.item_fault place (item_in (entry_view entry.now).entity)) }
+fn own_code(place: Place, entry: &Entry, nothing: &ItemFacts) -> Option<Code>
+    requires { item_view nothing.now.item.now ≡ no_item }
+    ensures { result ≡ fault.item_fault place (item_in (entry_view entry.now).entity) }
 {
-    match entry.entity {
+    match &entry.entity {
         Entity::Item {
-            item,
+            facts,
             is_bad_level: _,
-        } => item_fault(alloc, place, item),
-        Entity::Label { .. } | Entity::Procedure { .. } => item_fault(alloc, place, nothing),
+        } => item_fault(place, facts),
+        Entity::Label { .. } | Entity::Procedure { .. } => item_fault(place, nothing),
     }
 }
 
@@ -51,10 +46,10 @@ pub(crate) fn own_codes(
         dimensions: Vec::new(alloc),
         attributes: Vec::new(alloc),
     };
+    let nothing = ItemFacts::of(alloc, &nothing)?;
     let mut codes = Vec::with_capacity(alloc, entries.len())?;
     for number in 0..entries.len() {
-        let code = own_code(alloc, places[number], &entries[number], &nothing)?;
-        codes.push(code)?;
+        codes.push(own_code(places[number], &entries[number], &nothing))?;
     }
     Ok(codes)
 }

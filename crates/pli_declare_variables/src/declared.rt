@@ -21,19 +21,18 @@ use crate::items::is_variable;
 use crate::places;
 use crate::returned::returned;
 use crate::sizes::members_by_owner;
-use pli_base::declaration::Item;
 use pli_base::{Code, Name};
-use pli_declare_attributes::{AttributeError, Completed, Place, completed_item};
+use pli_declare_attributes::{AttributeError, Completed, ItemFacts, Place, completed_item};
 use pli_declare_tables::{Entity, Entry};
 use pli_map::Description;
 use std::alloc::{AllocError, Global};
 
 /// What the attributes of an item are completed to, where it has no fault.
-fn completed(alloc: Global, place: Place, item: &Item) -> Result<Completed, AllocError>
-    requires { item_fault place (item_view item.now) ≡ None }
-    ensures { IfOk result (λ completed. completed_view completed ≡ completed_of place (item_view item.now)) }
+fn completed(alloc: Global, place: Place, facts: &ItemFacts) -> Result<Completed, AllocError>
+    requires { item_fault place (item_view facts.now.item.now) ≡ None }
+    ensures { IfOk result (λ completed. completed_view completed ≡ completed_of place (item_view facts.now.item.now)) }
 {
-    match completed_item(alloc, place, item) {
+    match completed_item(alloc, place, facts) {
         Ok(completed) => Ok(completed),
         Err(AttributeError::OutOfMemory) => Err(AllocError),
         Err(AttributeError::Faulty(_)) => unreachable!(),
@@ -74,10 +73,10 @@ fn kind(
 {
     match entry.entity {
         Entity::Item {
-            item,
+            facts,
             is_bad_level: _,
         } => Ok(Kind::Item {
-            completed: completed(alloc, place, item)?,
+            completed: completed(alloc, place, &facts)?,
             description,
         }),
         Entity::Label { region } => Ok(Kind::Label { region }),

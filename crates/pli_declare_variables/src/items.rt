@@ -15,7 +15,7 @@ pub(crate) fn is_bad_level(entry: &Entry) -> bool
 {
     match entry.entity {
         Entity::Item {
-            item: _,
+            facts: _,
             is_bad_level,
         } => is_bad_level,
         Entity::Label { .. } | Entity::Procedure { .. } => false,
@@ -28,9 +28,9 @@ pub(crate) fn dimensions<'a>(entry: &Entry<'a>) -> &'a [Bounds]
 {
     match entry.entity {
         Entity::Item {
-            item,
+            facts,
             is_bad_level: _,
-        } => item.dimensions.as_slice(),
+        } => facts.item.dimensions.as_slice(),
         Entity::Label { .. } | Entity::Procedure { .. } => &[],
     }
 }
@@ -41,9 +41,9 @@ pub(crate) fn attributes<'a>(entry: &Entry<'a>) -> &'a [Attribute]
 {
     match entry.entity {
         Entity::Item {
-            item,
+            facts,
             is_bad_level: _,
-        } => item.attributes.as_slice(),
+        } => facts.item.attributes.as_slice(),
         Entity::Label { .. } | Entity::Procedure { .. } => &[],
     }
 }
@@ -52,11 +52,11 @@ pub(crate) fn attributes<'a>(entry: &Entry<'a>) -> &'a [Attribute]
 pub(crate) fn is_variable(entry: &Entry) -> bool
     ensures { result ≡ places.is_variable (entry_view entry.now).entity }
 {
-    match entry.entity {
+    match &entry.entity {
         Entity::Item {
-            item,
+            facts,
             is_bad_level: _,
-        } => Named::of_item(item.attributes.as_slice()).is_variable,
+        } => Named::of_item(facts).is_variable,
         Entity::Label { .. } | Entity::Procedure { .. } => false,
     }
 }

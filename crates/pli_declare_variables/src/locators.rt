@@ -34,11 +34,11 @@ fn named(entry: &Entry) -> Named
     ensures area { result.is_area ≡ has (set_of (map outermost (item_in (entry_view entry.now).entity).attributes)) area }
     ensures not_based { result.is_not_based ≡ none_of (set_of (map outermost (item_in (entry_view entry.now).entity).attributes)) based }
 {
-    match entry.entity {
+    match &entry.entity {
         Entity::Item {
-            item,
+            facts,
             is_bad_level: _,
-        } => Named::of_item(item.attributes.as_slice()),
+        } => Named::of_item(facts),
         Entity::Label { .. } | Entity::Procedure { .. } => Named {
             is_variable: false,
             is_locator: false,

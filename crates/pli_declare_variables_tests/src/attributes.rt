@@ -2,9 +2,9 @@ use crate::reading::first_item;
 use pli_base::declaration::{DescribedAttribute, InitialValue, Integer, Item, SimpleAttribute};
 use pli_base::{BitString, CharacterString, Code};
 use pli_declare_attributes::{
-    AttributeError, Completed, Named, Place, Position, Scope, Storage, Variable, array_layout,
-    completed_item, completed_result, elements_within, item_fault, lesser, result_fault,
-    scalar_layout, sets_are_of_what_stands, types_are_within_limits, worked_examples,
+    AttributeError, Completed, ItemFacts, Named, Place, Position, Scope, Storage, Variable,
+    array_layout, completed_item, completed_result, elements_within, item_fault, lesser,
+    result_fault, scalar_layout, sets_are_of_what_stands, types_are_within_limits, worked_examples,
 };
 use pli_map::{Bounds, Description};
 use pli_parse_declaration::returned_at;
@@ -147,7 +147,7 @@ fn show(alloc: Global, completed: &Completed) -> Result<String, AllocError> {
 
 /// What an item is at a place, or its least fault, as `A3`.
 fn completed(alloc: Global, letter: char, item: &Item) -> Result<String, AllocError> {
-    match completed_item(alloc, place_of(letter), item) {
+    match completed_item(alloc, place_of(letter), &ItemFacts::of(alloc, item)?) {
         Ok(completed) => show(alloc, &completed),
         Err(AttributeError::Faulty(code)) => String::from_str(alloc, code.label()),
         Err(AttributeError::OutOfMemory) => Err(AllocError),
@@ -605,7 +605,8 @@ fn elements_stop_at_the_greatest(rt: HostRuntime) -> Result<(), Fail> {
 /// What BASED and OFFSET know of the first item of a declaration, a letter for each, and its fault.
 fn named(alloc: Global, text: &str) -> Result<String, Fail> {
     let item = first_item(alloc, text)?;
-    let named = Named::of_item(&item.attributes);
+    let facts = ItemFacts::of(alloc, &item)?;
+    let named = Named::of_item(&facts);
     let mut shown = String::new(alloc);
     for (holds, letter) in [
         (named.is_variable, "V"),
@@ -617,7 +618,7 @@ fn named(alloc: Global, text: &str) -> Result<String, Fail> {
             shown.push_str(letter)?;
         }
     }
-    if let Some(code) = item_fault(alloc, place_of('L'), &item)? {
+    if let Some(code) = item_fault(place_of('L'), &facts) {
         shown.push_str(" ")?;
         shown.push_str(code.label())?;
     }

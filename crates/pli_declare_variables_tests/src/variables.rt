@@ -13,7 +13,7 @@ use pli_base::declaration::{DescribedAttribute, Item, SimpleAttribute};
 use pli_base::statement::{Procedure, ProcedureOption};
 use pli_base::syntax::Identifier;
 use pli_base::{Code, Name};
-use pli_declare_attributes::{Completed, result_fault};
+use pli_declare_attributes::{Completed, ItemFacts, result_fault};
 use pli_declare_scopes::standings;
 use pli_declare_tables::{Entity, Entry};
 use pli_declare_variables::{Declaration, Judged, Kind, declare, is_built_in, judge};
@@ -37,6 +37,7 @@ fn entries_of<'a>(alloc: Global, items: &'a [Item]) -> Result<Vec<Entry<'a>>, Al
     let stand = standings(alloc, &levels)?;
     let mut entries = Vec::new(alloc);
     for item in items {
+        let facts = ItemFacts::of(alloc, item)?;
         for identifier in item.names.as_slice() {
             let (owner, is_bad_level) = match stand.get(entries.len()) {
                 Some(standing) => (standing.owner, standing.is_bad),
@@ -45,7 +46,10 @@ fn entries_of<'a>(alloc: Global, items: &'a [Item]) -> Result<Vec<Entry<'a>>, Al
             let entry = Entry {
                 identifier: *identifier,
                 owner,
-                entity: Entity::Item { item, is_bad_level },
+                entity: Entity::Item {
+                    facts,
+                    is_bad_level,
+                },
             };
             if entries.push(entry).is_err() {
                 return Err(AllocError);
@@ -314,7 +318,7 @@ fn is_good(entry: &Entry, code: Option<Code>) -> bool
 {
     match entry.entity {
         Entity::Item {
-            item: _,
+            facts: _,
             is_bad_level,
         } => !is_bad_level && code.is_none(),
         Entity::Label { .. } => true,

@@ -13,7 +13,7 @@ use Rattle.pli_declare_tables.specs.declared.entries.NamedItem.{NamedItem}
 use Rattle.pli_declare_tables.specs.declared.table.Table.{Table}
 
 abbrev pub entity_view : Entity → plain.Entity
-entity_view (entities.Item item is_bad_level) = plain.AsItem (item_view item.now) is_bad_level
+entity_view (entities.Item facts is_bad_level) = plain.AsItem (item_view facts.item.now) is_bad_level
 entity_view (entities.Label region) = plain.AsLabel region
 entity_view (entities.Procedure procedure region) = plain.AsProcedure (unit_view procedure.now).heading region
 
@@ -21,7 +21,7 @@ abbrev pub entry_view : Entry → plain.Entry
 entry_view e = record { identifier = e.identifier; owner = e.owner; entity = entity_view e.entity }
 
 abbrev pub named_view : NamedItem → Identifier × tree.Item
-named_view n = (n.identifier, item_view n.item.now)
+named_view n = (n.identifier, item_view n.facts.item.now)
 
 abbrev pub entries_view : List Entry → List plain.Entry
 entries_view es = map entry_view es

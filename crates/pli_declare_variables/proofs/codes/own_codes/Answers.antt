@@ -24,7 +24,7 @@ loop-number-preserved c =
     let lt = c.loop-number-test.true in
     let place = element_at (place_in entries names) c.in_ok-places.places.items count n c.index.result.now c.in_ok-places.ensures lt c.index.ensures in
     let view = view_at c.args.entries.now n c.index-entries-number.result lt c.index-entries-number.is in
-    let here = c.in_ok-code.ensures
+    let here = c.own_code.ensures
     ∙ ap (λ (p : Place). item_fault p (item_in (entry_view c.index-entries-number.result).entity)) place
     ∙ ap (λ (x : plain.Entry). item_fault (place_in entries names n) (item_in x.entity)) (sym view) in
-    c.in_ok-push.ensures.items ∙ mapped_more (own_code entries names) c.loop-number.codes.items n c.in_ok-code.code c.loop-number.invariant here
+    c.in_ok-push.ensures.items ∙ mapped_more (own_code entries names) c.loop-number.codes.items n c.own_code.result c.loop-number.invariant here
