@@ -1,60 +1,85 @@
 -- The worked examples, each by computing it.
 use Rattle.std.specs.Prelude.{refl}
-use Rattle.pli_store.specs.World.{nothing, entered, left_by, cleared, at_statement, stepped, height_of, printed, error_at}
-use Rattle.pli_machine_step.specs.examples.MachineExamples.{SmallestStops, SmallestEnds, GotoLeaves, GotoStops, CallStops, JumpsGoOn, JumpsFault, TurnsStop, TooMany, ManyStop, EndFaults, BeginEnds, BeginFaults, CallFaults}
+use Rattle.std.specs.Fmt.{digits}
+use Rattle.pli_store.specs.World.{nothing, entered, made_of, left_by, held, stored, cleared, at_statement, stepped, height_of, slot_place, printed, error_at}
+use Rattle.pli_machine_step.specs.examples.MachineExamples as example
 
-pub smallest_stops : SmallestStops
+pub smallest_stops : example.SmallestStops
 unfolding nothing entered stepped
 smallest_stops = record { count = 0; ending = _; world = _; over = refl; gives = refl }
 
-pub smallest_ends : SmallestEnds
+pub smallest_ends : example.SmallestEnds
 unfolding nothing entered stepped left_by
 smallest_ends = record { count = 1; ending = _; world = _; over = refl; gives = refl }
 
-pub goto_leaves : GotoLeaves
+pub goto_leaves : example.GotoLeaves
 unfolding nothing entered stepped left_by cleared at_statement height_of printed
 goto_leaves = refl
 
-pub goto_stops : GotoStops
+pub goto_stops : example.GotoStops
 unfolding nothing entered stepped left_by cleared at_statement height_of
 goto_stops = refl
 
-pub call_stops : CallStops
+pub call_stops : example.CallStops
 unfolding nothing entered stepped at_statement
 call_stops = refl
 
-pub jumps_go_on : JumpsGoOn
+pub jumps_go_on : example.JumpsGoOn
 unfolding nothing entered stepped
 jumps_go_on = refl
 
-pub jumps_fault : JumpsFault
+pub jumps_fault : example.JumpsFault
 unfolding nothing entered stepped
 jumps_fault = refl
 
-pub turns_stop : TurnsStop
+pub turns_stop : example.TurnsStop
 unfolding nothing entered stepped at_statement
 turns_stop = refl
 
-pub begin_ends : BeginEnds
+pub begin_ends : example.BeginEnds
 unfolding nothing entered stepped left_by
 begin_ends = refl
 
-pub begin_faults : BeginFaults
+pub begin_faults : example.BeginFaults
 unfolding nothing entered stepped
 begin_faults = refl
 
-pub call_faults : CallFaults
+pub call_faults : example.CallFaults
 unfolding nothing entered stepped
 call_faults = refl
 
-pub end_faults : EndFaults
+pub end_faults : example.EndFaults
 unfolding nothing entered stepped at_statement
 end_faults = refl
 
-pub too_many : TooMany
+pub too_many : example.TooMany
 unfolding nothing entered stepped error_at
 too_many = refl
 
-pub many_stop : ManyStop
+pub many_stop : example.ManyStop
 unfolding nothing entered stepped
 many_stop = refl
+
+pub gotos_end : example.GotosEnd
+unfolding nothing entered stepped left_by cleared height_of
+gotos_end = refl
+
+pub gotos_fault : example.GotosFault
+unfolding nothing entered stepped left_by cleared height_of
+gotos_fault = refl
+
+pub jumps_end : example.JumpsEnd
+unfolding nothing entered stepped left_by
+jumps_end = refl
+
+pub argument_is_shared : example.ArgumentIsShared
+unfolding nothing entered made_of stepped left_by held stored height_of slot_place printed digits
+argument_is_shared = refl
+
+pub function_gives : example.FunctionGives
+unfolding nothing entered stepped left_by printed
+function_gives = refl
+
+pub value_faults : example.ValueFaults
+unfolding nothing entered stepped left_by
+value_faults = refl

@@ -7,13 +7,13 @@ use Rattle.pli_machine_step.specs.laws.Laws.{OneOutcome}
 use Rattle.pli_machine_step.specs.laws.RunLaws.{one_end}
 
 -- the outcome of a run that is over
-outcome_at : State → Outcome
-outcome_at (At here frames w left) = outcome_of MachineFault w
-outcome_at (Over ending w) = outcome_of ending w
+outcome_or_fault : State → Outcome
+outcome_or_fault (At here frames w left) = outcome_of MachineFault w
+outcome_or_fault (Over ending w) = outcome_of ending w
 
 pub one_outcome : OneOutcome
-unfolding outcome_at
+unfolding outcome_or_fault
 one_outcome p steps one other run again =
     run.gives
-    ∙ ap outcome_at (one_end p run.count again.count (start p steps) run.ending again.ending run.world again.world run.over again.over)
+    ∙ ap outcome_or_fault (one_end p run.count again.count (start p steps) run.ending again.ending run.world again.world run.over again.over)
     ∙ sym again.gives

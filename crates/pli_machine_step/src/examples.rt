@@ -3,9 +3,11 @@ ghost use Rattle.pli_machine_step.specs.examples.MachineExamples.{SmallestStops,
 ghost use Rattle.pli_machine_step.specs.examples.MachineExamples.{GotoStops, CallStops, JumpsGoOn, JumpsFault};
 ghost use Rattle.pli_machine_step.specs.examples.MachineExamples.{TurnsStop, TooMany, ManyStop, EndFaults};
 ghost use Rattle.pli_machine_step.specs.examples.MachineExamples.{BeginEnds, BeginFaults, CallFaults};
+ghost use Rattle.pli_machine_step.specs.examples.MachineExamples.{GotosEnd, GotosFault, JumpsEnd};
+ghost use Rattle.pli_machine_step.specs.examples.MachineExamples.{ArgumentIsShared, FunctionGives, ValueFaults};
 
-/// Worked examples: steps, a GOTO out of a call, jumps without a step, the limit of activations, the
-/// kinds of blocks, the code's end.
+/// Worked examples: steps, a GOTO out of a call, jumps without a step, the limit of activations, the kinds of
+/// blocks, the code's end, an argument by place, a function's value.
 pub fn worked_examples()
     ensures smallest_stops { SmallestStops }
     ensures smallest_ends { SmallestEnds }
@@ -21,4 +23,10 @@ pub fn worked_examples()
     ensures begin_faults { BeginFaults }
     ensures call_faults { CallFaults }
     ensures end_faults { EndFaults }
+    ensures gotos_end { GotosEnd }
+    ensures gotos_fault { GotosFault }
+    ensures jumps_end { JumpsEnd }
+    ensures argument_is_shared { ArgumentIsShared }
+    ensures function_gives { FunctionGives }
+    ensures value_faults { ValueFaults }
 {}

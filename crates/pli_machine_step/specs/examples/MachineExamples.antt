@@ -1,12 +1,15 @@
 -- Worked examples: small programs, each with what its run gives after so many instructions.
-use Rattle.std.specs.Prelude.{◌≡◌, ℕ, Option, Some, None, List, [], ◌∷◌, codes}
+use Rattle.std.specs.Prelude.{◌≡◌, ℕ, zero, suc, pos, Option, Some, None, List, [], ◌∷◌, codes}
 use Rattle.pli_code.specs.declared.ending.Ending.{Ending}
 use Rattle.pli_code.specs.declared.ending.Ending.TheVariants.{Ended, OutOfSteps, Error, MachineFault}
 use Rattle.pli_code.specs.declared.ending.RunError.TheVariants.{TooManyActivations}
-use Rattle.pli_code.specs.declared.instruction.Instruction.TheVariants.{Step, Constant, Put, Return}
+use Rattle.pli_code.specs.declared.instruction.Instruction.TheVariants.{Step, Constant, Load, Local, Put}
+use Rattle.pli_code.specs.declared.instruction.Instruction.TheVariants.{Return, Store, ToCharacters}
 use Rattle.pli_code.specs.views.ModuleView.{Module}
-use Rattle.pli_value.specs.Value.{Value, Characters}
+use Rattle.pli_map.specs.Description.{FixedBinary}
+use Rattle.pli_value.specs.Value.{Value, Number, Characters}
 use Rattle.pli_machine_step.specs.Program.{Instruction, Basic, Line, Jump, Goto, Call, Begin}
+use Rattle.pli_machine_step.specs.Program.{ReturnValue}
 use Rattle.pli_machine_step.specs.Program.{BlockKind, Procedure, BeginBlock, Block, Program}
 use Rattle.pli_machine_step.specs.Machine.{State, At, Over, iterate}
 use Rattle.pli_machine_step.specs.Runs.{Outcome, outcome_of, start}
@@ -94,6 +97,20 @@ JumpsGoOn = after turning 1 64 ≡ None
 abbrev pub JumpsFault : Type 0
 JumpsFault = after turning 1 65 ≡ Some (gives [] MachineFault 1)
 
+-- each instruction leads to the next one; a GOTO counts there too, a jump does not
+abbrev pub chain : (ℕ → Instruction) → (count from : ℕ) → List Instruction
+chain lead zero from = Basic (Return 0) ∷ []
+chain lead (suc count) from = lead (suc from) ∷ chain lead count (suc from)
+
+abbrev pub GotosEnd : Type 0
+GotosEnd = after (program [] [] (chain (Goto 0) 64 0)) 1 65 ≡ Some (gives [] Ended 1)
+
+abbrev pub GotosFault : Type 0
+GotosFault = after (program [] [] (chain (Goto 0) 65 0)) 1 65 ≡ Some (gives [] MachineFault 1)
+
+abbrev pub JumpsEnd : Type 0
+JumpsEnd = after (program [] [] (chain Jump 65 0)) 1 66 ≡ Some (gives [] Ended 1)
+
 -- where each turn takes a step, it goes on until no step is left
 abbrev pub stepping : Program
 stepping = program [] [] (Basic (Step 2) ∷ Jump 0 ∷ [])
@@ -125,6 +142,42 @@ BeginFaults = after (entering Procedure (Begin 1)) 1 1 ≡ Some (gives [] Machin
 
 abbrev pub CallFaults : Type 0
 CallFaults = after (entering BeginBlock (Call 1 0)) 1 1 ≡ Some (gives [] MachineFault 1)
+
+-- a procedure stores 7 by its parameter, in a variable of its caller, which prints it
+abbrev pub shared : Program
+shared = record {
+  units =
+      record {
+        name = codes "M";
+        descriptions = [];
+        templates = record { description = FixedBinary 15; initial = Number (pos 0) } ∷ [];
+        values = Number (pos 7) ∷ [];
+        blocks =
+            record (block Procedure None 0 1) { variables = 0 ∷ [] }
+            ∷ record (block Procedure (Some 0) 7 4) { parameters = 1 } ∷ [];
+        instructions =
+            Basic (Local 0 0) ∷ Call 1 1 ∷ Basic (Local 0 0) ∷ Basic Load ∷ Basic (ToCharacters 1) ∷ Basic Put
+            ∷ Basic (Return 0) ∷ Basic (Local 0 0) ∷ Basic (Constant 0) ∷ Basic Store ∷ Basic (Return 0) ∷ [];
+      } ∷ [];
+  main = 0;
+  greatest = 31;
+}
+
+abbrev pub ArgumentIsShared : Type 0
+ArgumentIsShared = after shared 2 11 ≡ Some (gives (codes "7 ") Ended 3)
+
+-- a function's value is there for its caller; where none waits it is a fault
+abbrev pub FunctionGives : Type 0
+FunctionGives =
+    after
+    (program (Characters (codes "YES") ∷ []) (block Procedure (Some 0) 3 2 ∷ [])
+    (Call 1 0 ∷ Basic Put ∷ Basic (Return 0) ∷ Basic (Constant 0) ∷ ReturnValue 0 ∷ [])) 2 5
+    ≡ Some (gives (codes "YES ") Ended 5)
+
+abbrev pub ValueFaults : Type 0
+ValueFaults =
+    after (program (Characters (codes "YES") ∷ []) [] (Basic (Constant 0) ∷ ReturnValue 0 ∷ [])) 1 2
+    ≡ Some (gives [] MachineFault 1)
 
 -- the code's end is a fault
 abbrev pub EndFaults : Type 0

@@ -42,3 +42,21 @@ returns-clause-begin_faults c = run.begin_faults
 
 pub returns-clause-call_faults : goal.returns-clause-call_faults
 returns-clause-call_faults c = run.call_faults
+
+pub returns-clause-gotos_end : goal.returns-clause-gotos_end
+returns-clause-gotos_end c = run.gotos_end
+
+pub returns-clause-gotos_fault : goal.returns-clause-gotos_fault
+returns-clause-gotos_fault c = run.gotos_fault
+
+pub returns-clause-jumps_end : goal.returns-clause-jumps_end
+returns-clause-jumps_end c = run.jumps_end
+
+pub returns-clause-argument_is_shared : goal.returns-clause-argument_is_shared
+returns-clause-argument_is_shared c = run.argument_is_shared
+
+pub returns-clause-function_gives : goal.returns-clause-function_gives
+returns-clause-function_gives c = run.function_gives
+
+pub returns-clause-value_faults : goal.returns-clause-value_faults
+returns-clause-value_faults c = run.value_faults
