@@ -83,3 +83,7 @@ function_gives = refl
 pub value_faults : example.ValueFaults
 unfolding nothing entered stepped left_by
 value_faults = refl
+
+pub begins_end : example.BeginsEnd
+unfolding nothing entered stepped error_at
+begins_end = refl

@@ -5,6 +5,7 @@ ghost use Rattle.pli_machine_step.specs.examples.MachineExamples.{TurnsStop, Too
 ghost use Rattle.pli_machine_step.specs.examples.MachineExamples.{BeginEnds, BeginFaults, CallFaults};
 ghost use Rattle.pli_machine_step.specs.examples.MachineExamples.{GotosEnd, GotosFault, JumpsEnd};
 ghost use Rattle.pli_machine_step.specs.examples.MachineExamples.{ArgumentIsShared, FunctionGives, ValueFaults};
+ghost use Rattle.pli_machine_step.specs.examples.MachineExamples.{BeginsEnd};
 
 /// Worked examples: steps, a GOTO out of a call, jumps without a step, the limit of activations, the kinds of
 /// blocks, the code's end, an argument by place, a function's value.
@@ -22,6 +23,7 @@ pub fn worked_examples()
     ensures begin_ends { BeginEnds }
     ensures begin_faults { BeginFaults }
     ensures call_faults { CallFaults }
+    ensures begins_end { BeginsEnd }
     ensures end_faults { EndFaults }
     ensures gotos_end { GotosEnd }
     ensures gotos_fault { GotosFault }

@@ -179,6 +179,12 @@ ValueFaults =
     after (program (Characters (codes "YES") ∷ []) [] (Basic (Constant 0) ∷ ReturnValue 0 ∷ [])) 1 2
     ≡ Some (gives [] MachineFault 1)
 
+-- a BEGIN block that enters itself: no step is taken, and still there is an end
+abbrev pub BeginsEnd : Type 0
+BeginsEnd =
+    after (program [] (block BeginBlock None 0 2 ∷ []) (Begin 1 ∷ [])) 1 1000
+    ≡ Some (gives [] (Error TooManyActivations (codes "M") 2) 1)
+
 -- the code's end is a fault
 abbrev pub EndFaults : Type 0
 EndFaults = after (program [] [] (Line 7 ∷ [])) 1 2 ≡ Some (gives [] MachineFault 1)

@@ -60,3 +60,6 @@ returns-clause-function_gives c = run.function_gives
 
 pub returns-clause-value_faults : goal.returns-clause-value_faults
 returns-clause-value_faults c = run.value_faults
+
+pub returns-clause-begins_end : goal.returns-clause-begins_end
+returns-clause-begins_end c = run.begins_end
