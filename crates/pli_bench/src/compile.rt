@@ -2,14 +2,14 @@
 ghost use Rattle.std.specs.Prelude.{◌≡◌, ◌≤◌, ◌++◌, length, map, option_map, slice_get, IfOk, OnOk};
 ghost use Rattle.std.specs.List.{flat_map};
 ghost use Rattle.pli_meaning.specs.Scratch.{diagnostic_line, located, origin_of, compiled_of};
-ghost use Rattle.pli_bench.specs.answers.Compiling.{Compiles, Tells, all_located, compiled_texts, of_generating, of_lowering, of_parsing};
+ghost use Rattle.pli_bench.specs.answers.Compiling.{Compiles, Tells, all_located, compiled_texts, of_generating, of_lowering, of_parsing, of_resolving};
 ghost use Rattle.pli_bench.specs.declared.compile.CompileError.TheVariants as errors;
 ghost use Rattle.pli_link.specs.answers.Answers.{compiled_view};
 
 use crate::answer::append_parts;
 use itoa::Buffer;
 use pli_base::{Code, Fault, Name, Origin, TokenText};
-use pli_declare::faults;
+use pli_declare::{ResolveError, resolve};
 use pli_gen::{GenerateError, generate};
 use pli_include::{Expander, Expansion};
 use pli_link::Compiled;
@@ -35,6 +35,17 @@ impl From<ParseError> for CompileError {
         match error {
             ParseError::Fault(fault) => CompileError::Fault(fault),
             ParseError::OutOfMemory => CompileError::OutOfMemory,
+        }
+    }
+}
+
+impl From<ResolveError> for CompileError {
+    ghost from_gives = { λ error e. e ≡ of_resolving error };
+
+    fn from(error: ResolveError) -> CompileError {
+        match error {
+            ResolveError::Faulty(faults) => CompileError::Faults(faults),
+            ResolveError::OutOfMemory => CompileError::OutOfMemory,
         }
     }
 }
@@ -99,10 +110,7 @@ fn compile_texts(alloc: Global, unit: Name, texts: &[TokenText]) -> Result<Compi
     ensures { Compiles result (compiled_texts unit texts.now) }
 {
     let tree = parse(alloc, texts)?;
-    let found = faults(alloc, &tree)?;
-    if !found.is_empty() {
-        return Err(CompileError::Faults(found));
-    }
+    drop(resolve(alloc, &tree)?);
     let lowered = lower(alloc, &tree)?;
     let code = generate(alloc, &lowered)?;
     Ok(Compiled {

@@ -8,7 +8,7 @@ use Rattle.pli_declare.specs.answers.Answers.{IsLookedUp}
 use Rattle.pli_declare.specs.Resolved.{used_as, named_at}
 use Rattle.pli_declare.specs.declared.look_up.Looked.{Looked}
 use Rattle.pli_declare.specs.declared.look_up.Looked.TheVariants.{Found, Ambiguous, NotDeclared}
-use Rattle.pli_declare.specs.declared.resolved.Use.{Use}
+use Rattle.pli_declare.specs.declared.block.Use.{Use}
 
 no_uses : (f : Identifier → List Use) → ((i : Identifier) → f i ≡ []) → (is : List Identifier) → flat_map f is ≡ []
 no_uses f none [] = refl

@@ -1,5 +1,5 @@
 -- A unit whose declarations have no faults: what each block declares, and what each use of a name means.
-use Rattle.std.specs.Prelude.{ℕ, Option, Some, List, [], ◌∷◌, map, length, if◌then◌else◌}
+use Rattle.std.specs.Prelude.{ℕ, nat_eq, Option, Some, None, List, [], ◌∷◌, map, length, if◌then◌else◌}
 use Rattle.std.specs.List.{flat_map, slice_get}
 use Rattle.pli_base.specs.Name.{Name}
 use Rattle.pli_base.specs.Declarations.{Item, SimpleAttribute, Offset, Based, DescribedAttribute, Plain}
@@ -16,8 +16,9 @@ use Rattle.pli_declare_scopes.specs.declared.found.Meant.TheVariants.{NotDeclare
 use Rattle.pli_declare_tables.specs.Tables.{entries_in, unit_entries, inner_marks, numbers_from, scope_of}
 use Rattle.pli_declare_variables.specs.Declarations.{Declaration, declared_in, returned_by}
 use Rattle.pli_declare.specs.Resolution.{is_function, names_of, parameters_of}
-use Rattle.pli_declare.specs.declared.resolved.Use.{Use}
-use Rattle.pli_declare.specs.declared.resolved.Target.TheVariants.{Name as AName, Function as AFunction}
+use Rattle.pli_declare.specs.declared.block.Use.{Use}
+use Rattle.pli_declare.specs.declared.block.Target.{Target}
+use Rattle.pli_declare.specs.declared.block.Target.TheVariants.{Name as AName, Function as AFunction}
 
 -- what a block declares, and the names of its parameters, if it is a procedure
 pub record Block : Type 0 where
@@ -134,3 +135,12 @@ resolution_of o = record {
 -- the unit, resolved
 unfoldable pub resolved_of : ExternalProcedure → Resolved
 resolved_of u = resolution_of (outline_of u)
+
+-- the meaning of a name by its token: that of the last use there, or else what was found before
+abbrev pub meaning_after : Option Target → List Use → (at : ℕ) → Option Target
+meaning_after found [] at = found
+meaning_after found (u ∷ us) at = meaning_after (if nat_eq u.at at then Some u.target else found) us at
+
+-- the meaning of a name by its token
+abbrev pub meaning_at : List Use → (at : ℕ) → Option Target
+meaning_at uses at = meaning_after None uses at

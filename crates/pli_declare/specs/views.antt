@@ -1,1 +1,2 @@
+pub mod BlockView
 pub mod ResolvedView

@@ -6,10 +6,10 @@ ghost use Rattle.pli_declare_outline.specs.views.OutlineView.{outline_view, regi
 ghost use Rattle.pli_declare_tables.specs.answers.Answers.{AreOf};
 ghost use Rattle.pli_declare.specs.Resolved.{of_marks, areas_at, locators_at, area_in, locator_in, item_names, named_at};
 
+use crate::block::{Target, Use};
 use crate::heading::options_of;
 use crate::look_up::{Looked, look_up};
 use crate::named::{area_of, locator_of, returned_area};
-use crate::resolved::{Target, Use};
 use pli_base::Name;
 use pli_base::declaration::Item;
 use pli_base::syntax::Identifier;

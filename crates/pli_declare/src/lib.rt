@@ -2,6 +2,7 @@
 #![tactic(auto)]
 
 mod attributes;
+mod block;
 mod good;
 mod heading;
 mod item_codes;
@@ -11,6 +12,7 @@ mod laws;
 mod least;
 mod look_up;
 mod marks;
+mod meanings;
 mod named;
 mod parameters;
 mod references;
@@ -20,7 +22,7 @@ mod told;
 mod unit;
 mod uses;
 
+pub use block::{Block, Target};
 pub use laws::{faults_are_least_codes, resolved_examples, worked_examples};
-pub use resolved::{Block, Resolved, Target, Use};
+pub use resolved::Resolved;
 pub use resolving::{ResolveError, resolve};
-pub use unit::faults;

@@ -1,102 +1,117 @@
 //! Resolved units.
-ghost use Rattle.std.specs.Prelude.{◌≡◌, map, IfOk};
+ghost use Rattle.std.specs.Prelude.{◌≡◌, ℕ, nat_eq, map, IfOk};
+ghost use Rattle.indexmap.specs.IndexMap.{get};
+ghost use Rattle.pli_base.specs.views.StatementView.{unit_view};
+ghost use Rattle.pli_declare_outline.specs.views.OutlineView.{regions_view};
 ghost use Rattle.pli_declare_variables.specs.views.DeclarationView.{declaration_view};
-ghost use Rattle.pli_declare.specs.views.ResolvedView.{block_view, resolved_view};
+ghost use Rattle.pli_declare.specs.Resolved.{resolved_of, meaning_at};
+ghost use Rattle.pli_declare.specs.views.BlockView.{block_view};
 
-use pli_base::Name;
+use crate::block::{Block, Target, copied_blocks, copied_declarations};
+use indexmap::IndexMap;
+use pli_base::statement::Procedure;
 use pli_declare_outline::Region;
 use pli_declare_variables::Declaration;
 use std::alloc::{AllocError, Global};
+use std::marker::Model;
 
-/// What a name means.
-#[derive(Clone, Copy, Debug, PartialEq, Eq)]
-pub enum Target {
-    /// The name of this number in a block, by its region; or the unit's own name, which the outermost block declares.
-    Name { block: Option<usize>, number: usize },
-    /// A built-in function.
-    Function,
-}
-
-/// What the name at a token means. Tokens are counted from 0.
-#[derive(Clone, Copy, Debug, PartialEq, Eq)]
-pub struct Use {
-    pub at: u32,
-    pub target: Target,
-}
-
-/// What a block declares.
+/// A unit whose declarations have no faults: its tree, with what each of its blocks declares and what each name means. Contracts
+/// see the tree.
 #[derive(Drop)]
-pub struct Block {
-    /// The names of its parameters, if it is a procedure.
-    pub parameters: Vec<Name>,
-    pub declarations: Vec<Declaration>,
+pub struct Resolved<'a> {
+    pub(crate) unit: &'a Procedure,
+    pub(crate) regions: Vec<Region>,
+    pub(crate) outermost: Vec<Declaration>,
+    pub(crate) blocks: Vec<Block>,
+    pub(crate) meanings: IndexMap<u32, Target>,
+    pub(crate) areas: IndexMap<u32, Target>,
+    pub(crate) locators: IndexMap<u32, Target>,
 }
 
-/// A unit whose declarations have no faults.
-#[derive(Drop)]
-pub struct Resolved {
-    pub regions: Vec<Region>,
-    /// The outermost block, which declares the unit's own name.
-    pub outermost: Vec<Declaration>,
-    /// For each region what it declares; that of a group or an ON-unit is empty.
-    pub blocks: Vec<Block>,
-    /// What each reference, at its first name, and the label of each GOTO mean, in the order of the text.
-    pub uses: Vec<Use>,
-    /// For each declared name the area of its OFFSET, or of that in its RETURNS, if it names one; in the order of the text.
-    pub areas: Vec<Use>,
-    /// For each declared name the locator of its BASED, if it names one; in the order of the text.
-    pub locators: Vec<Use>,
+impl<'a> Model for Resolved<'a> {
+    ghost use Rattle.pli_base.specs.declared.statement.Procedure.{Procedure};
+    ghost use Rattle.pli_base.specs.views.StatementView.{unit_view};
+    ghost use Rattle.pli_declare.specs.views.BlockView.{IsResolvedOf};
+
+    ghost use Rattle.pli_base.specs.contracts.statement.Body.TheKnot.{coded-Procedure};
+
+    ghost Value = { Procedure };
+
+    ghost coded = { coded-Procedure };
+
+    ghost view = { λ r. r.unit.now };
+
+    ghost invariant = { λ r. IsResolvedOf (unit_view r.unit.now) r.regions.items r.outermost.items r.blocks.items r.meanings r.areas r.locators };
 }
 
-/// Declarations that say the same.
-fn copied_declarations(
-    alloc: Global,
-    declarations: &[Declaration],
-) -> Result<Vec<Declaration>, AllocError>
-    ensures { IfOk result (λ copied. map declaration_view copied.items ≡ map declaration_view declarations.now) }
+/// The same meanings.
+fn copied_meanings(meanings: &IndexMap<u32, Target>) -> Result<IndexMap<u32, Target>, AllocError>
+    ensures { IfOk result (λ copied. (at : ℕ) → get nat_eq copied at ≡ get nat_eq meanings.now at) }
 {
-    let mut copied = Vec::new(alloc);
-    for declaration in declarations {
-        copied.push(declaration.copy(alloc)?)?;
-    }
-    Ok(copied)
+    meanings.clone()
 }
 
-impl Block {
-    /// A block that says the same.
-    pub fn copy(&self, alloc: Global) -> Result<Block, AllocError>
-        ensures { IfOk result (λ copied. block_view copied ≡ block_view self.now) }
+impl<'a> Resolved<'a> {
+    /// The tree of the unit.
+    pub fn unit(&self) -> &'a Procedure
+        ensures { result.now ≡ self.now }
     {
-        Ok(Block {
-            parameters: Vec::from_slice(alloc, &self.parameters)?,
-            declarations: copied_declarations(alloc, &self.declarations)?,
-        })
+        self.unit
     }
-}
 
-/// Blocks that say the same.
-fn copied_blocks(alloc: Global, blocks: &[Block]) -> Result<Vec<Block>, AllocError>
-    ensures { IfOk result (λ copied. map block_view copied.items ≡ map block_view blocks.now) }
-{
-    let mut copied = Vec::new(alloc);
-    for block in blocks {
-        copied.push(block.copy(alloc)?)?;
+    /// Its regions: procedures, BEGIN blocks, groups and ON-units, in the order in which they begin.
+    pub fn regions(&self) -> &[Region]
+        ensures { regions_view result.now ≡ (resolved_of (unit_view self.now)).regions }
+    {
+        &self.regions
     }
-    Ok(copied)
-}
 
-impl Resolved {
-    /// A resolved unit that says the same.
-    pub fn copy(&self, alloc: Global) -> Result<Resolved, AllocError>
-        ensures { IfOk result (λ copied. resolved_view copied ≡ resolved_view self.now) }
+    /// What the outermost block declares: the unit's own name.
+    pub fn outermost(&self) -> &[Declaration]
+        ensures { map declaration_view result.now ≡ (resolved_of (unit_view self.now)).outermost }
+    {
+        &self.outermost
+    }
+
+    /// For each region what it declares; that of a group or an ON-unit is empty.
+    pub fn blocks(&self) -> &[Block]
+        ensures { map block_view result.now ≡ (resolved_of (unit_view self.now)).blocks }
+    {
+        &self.blocks
+    }
+
+    /// What a reference, by the token of its first name, or the label of a GOTO means. Tokens are counted from 0.
+    pub fn meaning_at(&self, at: u32) -> Option<Target>
+        ensures { result ≡ meaning_at (resolved_of (unit_view self.now)).uses at }
+    {
+        self.meanings.get(&at).copied()
+    }
+
+    /// The area of the OFFSET of the name that is declared at a token, or of that in its RETURNS, if it names one.
+    pub fn area_at(&self, at: u32) -> Option<Target>
+        ensures { result ≡ meaning_at (resolved_of (unit_view self.now)).areas at }
+    {
+        self.areas.get(&at).copied()
+    }
+
+    /// The locator of the BASED of the name that is declared at a token, if it names one.
+    pub fn locator_at(&self, at: u32) -> Option<Target>
+        ensures { result ≡ meaning_at (resolved_of (unit_view self.now)).locators at }
+    {
+        self.locators.get(&at).copied()
+    }
+    /// A resolved unit of the same tree.
+    pub fn copy(&self, alloc: Global) -> Result<Resolved<'a>, AllocError>
+        ensures { IfOk result (λ copied. copied ≡ self.now) }
     {
         Ok(Resolved {
+            unit: self.unit,
             regions: Vec::from_slice(alloc, &self.regions)?,
             outermost: copied_declarations(alloc, &self.outermost)?,
             blocks: copied_blocks(alloc, &self.blocks)?,
-            uses: Vec::from_slice(alloc, &self.uses)?,
-            areas: Vec::from_slice(alloc, &self.areas)?,
-            locators: Vec::from_slice(alloc, &self.locators)?,
+            meanings: copied_meanings(&self.meanings)?,
+            areas: copied_meanings(&self.areas)?,
+            locators: copied_meanings(&self.locators)?,
         })
     }
 }

@@ -1,20 +1,24 @@
 //! From a unit to the resolved unit.
 ghost use Rattle.std.specs.Prelude.{◌≡◌, ◌<◌, [], length, map, IfOk};
 ghost use Rattle.pli_base.specs.views.StatementView.{unit_view};
+ghost use Rattle.pli_declare_outline.specs.Outlines.{outline_of};
 ghost use Rattle.pli_declare_outline.specs.views.OutlineView.{outline_view, regions_view, marks_view};
 ghost use Rattle.pli_declare_tables.specs.Tables.{numbers_from, inner_marks, unit_entries};
 ghost use Rattle.pli_declare_tables.specs.answers.Answers.{AreOf};
 ghost use Rattle.pli_declare_variables.specs.Declarations.{declared_in};
 ghost use Rattle.pli_declare_variables.specs.views.DeclarationView.{declaration_view};
 ghost use Rattle.pli_declare.specs.Resolution.{outline_faults};
-ghost use Rattle.pli_declare.specs.Resolved.{block_at, resolution_of};
-ghost use Rattle.pli_declare.specs.views.ResolvedView.{block_view, resolved_view, IsResolved, IsResolvedOutline};
+ghost use Rattle.pli_declare.specs.Resolved.{block_at};
+ghost use Rattle.pli_declare.specs.views.BlockView.{block_view};
+ghost use Rattle.pli_declare.specs.views.ResolvedView.{IsResolved};
 ghost use Rattle.pli_declare.specs.answers.Walks.{AreParameters};
 ghost use Rattle.pli_declare.specs.declared.resolving.ResolveError.TheVariants.{OutOfMemory};
 
 use crate::attributes::{areas, locators};
+use crate::block::Block;
+use crate::meanings::meanings;
 use crate::parameters::parameters;
-use crate::resolved::{Block, Resolved};
+use crate::resolved::Resolved;
 use crate::unit::faults_told;
 use crate::uses::uses;
 use pli_base::statement::Procedure;
@@ -102,63 +106,65 @@ fn outermost(
     declare(alloc, &tables.unit.entries, &[])
 }
 
-/// The resolved unit of an outline without faults.
-fn resolved(
+/// The resolved unit of a tree without faults, by its outline.
+#[tactic(auto, unfolding(crate::specs::Resolved::resolved_of))]
+fn resolved<'a>(
     alloc: Global,
+    unit: &'a Procedure,
     outline: &Outline,
     nesting: &Nesting,
     tables: &Tables,
-) -> Result<Resolved, AllocError>
+) -> Result<Resolved<'a>, AllocError>
+    requires outlined { outline_view outline.now ≡ outline_of (unit_view unit.now) }
     requires nested { nesting.now ≡ regions_view outline.now.regions.items }
     requires tabled { AreOf tables.now (outline_view outline.now) }
     requires faultless { outline_faults (outline_view outline.now) (outline_view outline.now).marks ≡ [] }
-    ensures { IfOk result (λ r. resolved_view r ≡ resolution_of (outline_view outline.now)) }
+    ensures { IfOk result (λ r. r ≡ unit.now) }
 {
     let marks = marks_behind(outline);
+    let uses = uses(alloc, outline, nesting, tables, marks)?;
+    let areas = areas(alloc, outline, nesting, tables, marks)?;
+    let locators = locators(alloc, outline, nesting, tables, marks)?;
     Ok(Resolved {
+        unit,
         regions: Vec::from_slice(alloc, &outline.regions)?,
         outermost: outermost(alloc, outline, tables)?,
         blocks: blocks(alloc, outline, tables)?,
-        uses: uses(alloc, outline, nesting, tables, marks)?,
-        areas: areas(alloc, outline, nesting, tables, marks)?,
-        locators: locators(alloc, outline, nesting, tables, marks)?,
+        meanings: meanings(alloc, &uses)?,
+        areas: meanings(alloc, &areas)?,
+        locators: meanings(alloc, &locators)?,
     })
 }
 
-/// The resolved unit of an outline, or all its faults, by the tables of what its blocks declare.
-fn resolve_told(
+/// The resolved unit of a tree, or all its faults, by its outline and the tables of what its blocks declare.
+#[tactic(auto, unfolding(crate::specs::Resolution::resolution_faults))]
+fn resolve_told<'a>(
     alloc: Global,
+    unit: &'a Procedure,
     outline: &Outline,
     nesting: &Nesting,
     tables: &Tables,
-) -> Result<Resolved, ResolveError>
+) -> Result<Resolved<'a>, ResolveError>
+    requires outlined { outline_view outline.now ≡ outline_of (unit_view unit.now) }
     requires nested { nesting.now ≡ regions_view outline.now.regions.items }
     requires tabled { AreOf tables.now (outline_view outline.now) }
-    ensures { IsResolvedOutline result (outline_view outline.now) }
+    ensures { IsResolved result (unit_view unit.now) }
 {
     let faults = faults_told(alloc, outline, nesting, tables)?;
     if faults.is_empty() {
-        Ok(resolved(alloc, outline, nesting, tables)?)
+        Ok(resolved(alloc, unit, outline, nesting, tables)?)
     } else {
         Err(ResolveError::Faulty(faults))
     }
 }
 
-/// The resolved unit of an outline, or all its faults.
-fn resolve_outline(alloc: Global, outline: &Outline) -> Result<Resolved, ResolveError>
-    ensures { IsResolvedOutline result (outline_view outline.now) }
-{
-    let nesting = Nesting::new(alloc, &outline.regions)?;
-    let tables = Tables::new(alloc, outline, &nesting)?;
-    resolve_told(alloc, outline, &nesting, &tables)
-}
-
 /// The resolved unit, or all faults of its declarations and uses: for each declared name and each reference the least code, in the
 /// order of their tokens.
-#[tactic(auto, unfolding(crate::specs::Resolution::resolution_faults, crate::specs::Resolved::resolved_of))]
-pub fn resolve(alloc: Global, unit: &Procedure) -> Result<Resolved, ResolveError>
+pub fn resolve(alloc: Global, unit: &Procedure) -> Result<Resolved<'_>, ResolveError>
     ensures { IsResolved result (unit_view unit.now) }
 {
     let outline = pli_declare_outline::outline(alloc, unit)?;
-    resolve_outline(alloc, &outline)
+    let nesting = Nesting::new(alloc, &outline.regions)?;
+    let tables = Tables::new(alloc, &outline, &nesting)?;
+    resolve_told(alloc, unit, &outline, &nesting, &tables)
 }

@@ -1,9 +1,8 @@
 //! The faults of the declarations of a unit.
 ghost use Rattle.std.specs.Prelude.{◌≡◌, ◌++◌, map, IfOk, OnOk};
-ghost use Rattle.pli_base.specs.views.StatementView.{unit_view};
 ghost use Rattle.pli_declare_outline.specs.views.OutlineView.{outline_view, placed_view, regions_view};
 ghost use Rattle.pli_declare_tables.specs.answers.Answers.{AreOf};
-ghost use Rattle.pli_declare.specs.Resolution.{unit_faults, outline_faults, resolution_faults};
+ghost use Rattle.pli_declare.specs.Resolution.{unit_faults, outline_faults};
 ghost use Rattle.pli_declare.specs.answers.Walks.{AreCodes};
 
 use crate::heading::{heading_code, returned_name_nothing};
@@ -11,7 +10,6 @@ use crate::known::Known;
 use crate::marks::tell_marks;
 use crate::parameters::{judged_blocks, parameters, tell_parameters};
 use crate::told::tell;
-use pli_base::statement::Procedure;
 use pli_base::{Code, Fault};
 use pli_declare_constructs::Nesting;
 use pli_declare_outline::{Mark, Outline, Placed};
@@ -111,23 +109,4 @@ pub(crate) fn faults_told(
     let mut faults = Vec::new(alloc);
     tell_outline(alloc, outline, nesting, tables, &mut faults)?;
     Ok(faults)
-}
-
-/// All faults of an outline.
-fn faults_of(alloc: Global, outline: &Outline) -> Result<Vec<Fault>, AllocError>
-    ensures { IfOk result (λ faults. faults.items ≡ outline_faults (outline_view outline.now) (outline_view outline.now).marks) }
-{
-    let nesting = Nesting::new(alloc, &outline.regions)?;
-    let tables = Tables::new(alloc, outline, &nesting)?;
-    faults_told(alloc, outline, &nesting, &tables)
-}
-
-/// The faults of the declarations and uses of names in a unit: for each declared name and each reference the least code, in the
-/// order of their tokens.
-#[tactic(auto, unfolding(crate::specs::Resolution::resolution_faults))]
-pub fn faults(alloc: Global, unit: &Procedure) -> Result<Vec<Fault>, AllocError>
-    ensures { IfOk result (λ faults. faults.items ≡ resolution_faults (unit_view unit.now)) }
-{
-    let outline = pli_declare_outline::outline(alloc, unit)?;
-    faults_of(alloc, &outline)
 }

@@ -8,9 +8,9 @@ ghost use Rattle.pli_declare_tables.specs.answers.Answers.{AreOf};
 ghost use Rattle.pli_declare.specs.Resolved.{of_marks, used_as, uses_at};
 ghost use Rattle.pli_declare.specs.answers.Targets.{target_uses};
 
+use crate::block::{Target, Use};
 use crate::look_up::{Looked, look_up};
 use crate::references::{is_function, names_of};
-use crate::resolved::{Target, Use};
 use pli_base::Name;
 use pli_base::syntax::Identifier;
 use pli_declare_constructs::Nesting;

@@ -1,7 +1,7 @@
 //! The faults of the declarations of units.
 use crate::units::unit_of;
 use pli_base::Fault;
-use pli_declare::{faults, faults_are_least_codes, worked_examples};
+use pli_declare::{ResolveError, faults_are_least_codes, resolve, worked_examples};
 use std::alloc::{AllocError, Global};
 use std::fmt::Write;
 use std::test::*;
@@ -23,7 +23,11 @@ fn show_faults(alloc: Global, faults: &[Fault]) -> Result<String, AllocError> {
 /// The faults of the declarations of a text; of one that does not read, the parser's.
 fn answered(alloc: Global, text: &str) -> Result<String, AllocError> {
     match unit_of(alloc, text)? {
-        Ok(unit) => show_faults(alloc, &faults(alloc, &unit)?),
+        Ok(unit) => match resolve(alloc, &unit) {
+            Ok(_) => show_faults(alloc, &[]),
+            Err(ResolveError::Faulty(faults)) => show_faults(alloc, &faults),
+            Err(ResolveError::OutOfMemory) => Err(AllocError),
+        },
         Err(fault) => show_faults(alloc, &[fault]),
     }
 }

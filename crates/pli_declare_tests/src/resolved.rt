@@ -8,7 +8,7 @@
 //! begins.
 use crate::units::{push_name, unit_of};
 use pli_base::declaration::InitialValue;
-use pli_declare::{Block, ResolveError, Resolved, Target, Use, faults, resolve, resolved_examples};
+use pli_declare::{Block, ResolveError, Resolved, Target, resolve, resolved_examples};
 use pli_declare_attributes::{Completed, Scope, Storage, Variable};
 use pli_declare_outline::{Region, RegionKind};
 use pli_declare_variables::{Declaration, Kind};
@@ -198,21 +198,27 @@ fn show_block(shown: &mut String, region: &Region, block: &Block) -> Result<(), 
     Ok(())
 }
 
-/// ` 12>0.1`: the name at token 12 is number 1 of block 0; ` 12>-.0`, the unit's own name; ` 12>f`, a built-in function.
-fn show_uses(shown: &mut String, uses: &[Use]) -> Result<(), AllocError> {
-    for one in uses {
-        let at = one.at;
-        write!(shown, " {at}>")?;
-        match one.target {
-            Target::Name { block, number } => {
-                match block {
-                    Some(block) => write!(shown, "{block}")?,
-                    None => shown.push('-')?,
-                }
-                write!(shown, ".{number}")?;
-            }
-            Target::Function => shown.push('f')?,
-        }
+/// How many tokens are looked at, which is more than any of the texts has.
+const TOKENS: u32 = 200;
+
+/// ` 12>0.1`: the name at token 12 is number 1 of block 0; ` 12>-.0`, the unit's own name; ` 12>f`, a built-in function; nothing
+/// where it means nothing.
+fn show_target(shown: &mut String, at: u32, target: Option<Target>) -> Result<(), AllocError> {
+    match target {
+        None => {}
+        Some(
+            Target::Name {
+                block: Some(block),
+                number,
+            },
+        ) => write!(shown, " {at}>{block}.{number}")?,
+        Some(
+            Target::Name {
+                block: None,
+                number,
+            },
+        ) => write!(shown, " {at}>-.{number}")?,
+        Some(Target::Function) => write!(shown, " {at}>f")?,
     }
     Ok(())
 }
@@ -220,18 +226,24 @@ fn show_uses(shown: &mut String, uses: &[Use]) -> Result<(), AllocError> {
 /// The outermost block, each region with what it declares, and what uses, and names in OFFSET and in BASED, mean.
 fn show_resolved(alloc: Global, unit: &Resolved) -> Result<String, AllocError> {
     let mut shown = String::new(alloc);
-    for declaration in unit.outermost.iter() {
+    for declaration in unit.outermost() {
         show_declaration(&mut shown, declaration)?;
     }
-    for (region, block) in unit.regions.iter().zip(unit.blocks.iter()) {
+    for (region, block) in unit.regions().iter().zip(unit.blocks().iter()) {
         show_block(&mut shown, region, block)?;
     }
     shown.push_str(" uses")?;
-    show_uses(&mut shown, &unit.uses)?;
+    for at in 0..TOKENS {
+        show_target(&mut shown, at, unit.meaning_at(at))?;
+    }
     shown.push_str(" areas")?;
-    show_uses(&mut shown, &unit.areas)?;
+    for at in 0..TOKENS {
+        show_target(&mut shown, at, unit.area_at(at))?;
+    }
     shown.push_str(" locators")?;
-    show_uses(&mut shown, &unit.locators)?;
+    for at in 0..TOKENS {
+        show_target(&mut shown, at, unit.locator_at(at))?;
+    }
     Ok(shown)
 }
 
@@ -354,17 +366,6 @@ fn are_resolved(alloc: Global, texts: &[(&str, &str)]) -> Result<(), Fail> {
     Ok(())
 }
 
-/// Fails at the first text of a table that does not read, or that has a fault.
-fn are_faultless(alloc: Global, texts: &[(&str, &str)]) -> Result<(), Fail> {
-    for (text, _resolved) in texts {
-        let unit = unit_of(alloc, text)?.ok().ok_or(*text)?;
-        if !faults(alloc, &unit)?.is_empty() {
-            return Err(Fail::new(*text));
-        }
-    }
-    Ok(())
-}
-
 #[test]
 fn blocks_are_resolved(rt: HostRuntime) -> Result<(), Fail> {
     are_resolved(rt.alloc(), &BLOCKS)
@@ -393,17 +394,6 @@ fn locators_are_resolved(rt: HostRuntime) -> Result<(), Fail> {
 #[test]
 fn items_are_resolved(rt: HostRuntime) -> Result<(), Fail> {
     are_resolved(rt.alloc(), &ITEMS)
-}
-
-#[test]
-fn no_text_has_a_fault(rt: HostRuntime) -> Result<(), Fail> {
-    let alloc = rt.alloc();
-    are_faultless(alloc, &BLOCKS)?;
-    are_faultless(alloc, &STRUCTURES)?;
-    are_faultless(alloc, &LABELS)?;
-    are_faultless(alloc, &FUNCTIONS)?;
-    are_faultless(alloc, &LOCATORS)?;
-    are_faultless(alloc, &ITEMS)
 }
 
 #[test]

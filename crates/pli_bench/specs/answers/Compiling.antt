@@ -9,6 +9,8 @@ use Rattle.pli_base.specs.declared.token.Fault as fault
 use Rattle.pli_base.specs.declared.token.Origin.{Origin}
 use Rattle.pli_base.specs.declared.reading.ParseError.{ParseError}
 use Rattle.pli_base.specs.declared.reading.ParseError.TheVariants as parsing
+use Rattle.pli_declare.specs.declared.resolving.ResolveError.{ResolveError}
+use Rattle.pli_declare.specs.declared.resolving.ResolveError.TheVariants as resolving
 use Rattle.pli_lower.specs.LoweredTree.{LoweredUnit}
 use Rattle.pli_lower.specs.declared.answer.LowerError.{LowerError}
 use Rattle.pli_lower.specs.declared.answer.LowerError.TheVariants as lowering
@@ -31,6 +33,10 @@ too_long = record { code = CodeTooLong; at = 0 }
 abbrev pub of_parsing : ParseError → CompileError
 of_parsing (parsing.Fault f) = Fault f
 of_parsing parsing.OutOfMemory = OutOfMemory
+
+abbrev pub of_resolving : ResolveError → CompileError
+of_resolving (resolving.Faulty faults) = Faults faults
+of_resolving resolving.OutOfMemory = OutOfMemory
 
 abbrev pub of_lowering : LowerError → CompileError
 of_lowering (lowering.NotYetBuilt f) = Fault f

@@ -18,8 +18,8 @@ use Rattle.pli_declare.specs.examples.ResolutionExamples.{at, heading, item, pla
 use Rattle.pli_declare.specs.examples.ResolutionExamples.{in_region, unit, Answers}
 use Rattle.pli_declare.specs.Resolution.{resolution_faults}
 use Rattle.pli_declare.specs.Resolved.{use_of, resolution_of, resolved_of}
-use Rattle.pli_declare.specs.declared.resolved.Use.{Use}
-use Rattle.pli_declare.specs.declared.resolved.Target.TheVariants.{Function}
+use Rattle.pli_declare.specs.declared.block.Use.{Use}
+use Rattle.pli_declare.specs.declared.block.Target.TheVariants.{Function}
 
 -- the name of this number in a block; the unit's own name; a built-in function
 abbrev pub in_block : (at block number : ℕ) → Use

@@ -2,7 +2,7 @@ use Rattle.std.proofs.Common.{◌≡◌, map}
 use Rattle.pli_declare_outline.specs.views.OutlineView.{outline_view}
 use Rattle.pli_declare_tables.specs.Tables.{numbers_from}
 use Rattle.pli_declare.specs.Resolved.{block_at}
-use Rattle.pli_declare.specs.views.ResolvedView.{block_view}
+use Rattle.pli_declare.specs.views.BlockView.{block_view}
 use Rattle.pli_declare.proofs.resolving.blocks.Given as goal
 
 -- the blocks so far

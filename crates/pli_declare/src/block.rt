@@ -1,0 +1,69 @@
+//! What blocks declare, and what names mean.
+ghost use Rattle.std.specs.Prelude.{◌≡◌, map, IfOk};
+ghost use Rattle.pli_declare_variables.specs.views.DeclarationView.{declaration_view};
+ghost use Rattle.pli_declare.specs.views.BlockView.{block_view};
+
+use pli_base::Name;
+use pli_declare_variables::Declaration;
+use std::alloc::{AllocError, Global};
+
+/// What a name means.
+#[derive(Clone, Copy, Debug, PartialEq, Eq)]
+pub enum Target {
+    /// The name of this number in a block, by its region; or the unit's own name, which the outermost block declares.
+    Name { block: Option<usize>, number: usize },
+    /// A built-in function.
+    Function,
+}
+
+/// What the name at a token means. Tokens are counted from 0.
+#[derive(Clone, Copy, Debug, PartialEq, Eq)]
+pub struct Use {
+    pub at: u32,
+    pub target: Target,
+}
+
+/// What a block declares.
+#[derive(Drop)]
+pub struct Block {
+    /// The names of its parameters, if it is a procedure.
+    pub parameters: Vec<Name>,
+    pub declarations: Vec<Declaration>,
+}
+
+/// Declarations that say the same.
+pub(crate) fn copied_declarations(
+    alloc: Global,
+    declarations: &[Declaration],
+) -> Result<Vec<Declaration>, AllocError>
+    ensures { IfOk result (λ copied. map declaration_view copied.items ≡ map declaration_view declarations.now) }
+{
+    let mut copied = Vec::new(alloc);
+    for declaration in declarations {
+        copied.push(declaration.copy(alloc)?)?;
+    }
+    Ok(copied)
+}
+
+impl Block {
+    /// A block that says the same.
+    pub fn copy(&self, alloc: Global) -> Result<Block, AllocError>
+        ensures { IfOk result (λ copied. block_view copied ≡ block_view self.now) }
+    {
+        Ok(Block {
+            parameters: Vec::from_slice(alloc, &self.parameters)?,
+            declarations: copied_declarations(alloc, &self.declarations)?,
+        })
+    }
+}
+
+/// Blocks that say the same.
+pub(crate) fn copied_blocks(alloc: Global, blocks: &[Block]) -> Result<Vec<Block>, AllocError>
+    ensures { IfOk result (λ copied. map block_view copied.items ≡ map block_view blocks.now) }
+{
+    let mut copied = Vec::new(alloc);
+    for block in blocks {
+        copied.push(block.copy(alloc)?)?;
+    }
+    Ok(copied)
+}
