@@ -13,6 +13,7 @@ use Rattle.pli_declare.specs.declared.block.Block.{Block}
 use Rattle.pli_declare.specs.declared.block.Target.{Target}
 use Rattle.pli_declare.specs.declared.block.Use.{Use}
 
+-- a block, with its parameters and what it declares
 abbrev pub block_view : Block → plain.Block
 block_view b =
     record { parameters = b.parameters.items; declarations = map declaration_view b.declarations.items }
@@ -22,8 +23,9 @@ abbrev pub AreMeanings : {S : Type 0} → IndexMap ℕ Target S → List Use →
 AreMeanings meanings uses = (at : ℕ) → get nat_eq meanings at ≡ meaning_at uses at
 
 -- what a resolved unit keeps is what the tree says: each declared name, and each use by its token
-pub record IsResolvedOf {S : Type 0} (u : ExternalProcedure) (regions : List Region) (outermost : List Declaration)
-    (blocks : List Block) (meanings areas locators : IndexMap ℕ Target S) : Type 0 where
+pub record IsResolvedOf {S : Type 0} (u : ExternalProcedure) (regions : List Region)
+    (outermost : List Declaration) (blocks : List Block) (meanings areas locators : IndexMap ℕ Target S) : Type 0
+  where
   pub regions_are : regions_view regions ≡ (resolved_of u).regions
   pub outermost_is : map declaration_view outermost ≡ (resolved_of u).outermost
   pub blocks_are : map block_view blocks ≡ (resolved_of u).blocks
