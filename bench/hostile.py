@@ -85,6 +85,11 @@ def first_values(tokens):
     yield from ["DCL ("] + joined(names) + [") CHAR INIT("] + joined(["'A'"] * (tokens // 4)) + [");"]
 
 
+def repeated(tokens):
+    names = [f"N{number}" for number in range(tokens // 4)]
+    yield from ["DCL ("] + joined(names) + [") "] + ["FIXED "] * (tokens // 2) + [";"]
+
+
 def descriptions(tokens):
     names = [f"N{number}" for number in range(tokens // 4)]
     yield from ["DCL ("] + joined(names) + [") ENTRY("] + joined(["PTR"] * (tokens // 4)) + [");"]
@@ -117,6 +122,7 @@ TEXTS = (
     ("the same within one structure, qualified in part", member_of_parts),
     ("the same, qualified by another structure", member_of_none),
     ("INITIAL with many values, of many names", first_values),
+    ("an attribute that stands many times, of many names", repeated),
     ("ENTRY with many descriptions, of many names", descriptions),
     ("BASED with a reference of many names, of many names", locators),
     ("60 blocks, and uses of the outermost names", blocks),

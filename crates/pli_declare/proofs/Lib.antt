@@ -9,6 +9,7 @@ pub mod Gathered
 pub mod TableAt
 pub mod Names
 pub mod Walked
+pub mod GoodnessOfBlocks
 pub mod NamedUses
 pub mod Faultless
 pub mod OfBlocks

@@ -14,6 +14,7 @@ mod look_up;
 mod marks;
 mod meanings;
 mod named;
+mod names_in_attributes;
 mod parameters;
 mod references;
 mod resolved;

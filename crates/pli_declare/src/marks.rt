@@ -135,7 +135,7 @@ fn tell_used(
 }
 
 /// The block of a region.
-fn block_of(outline: &Outline, nesting: &Nesting, region: usize) -> usize
+pub(crate) fn block_of(outline: &Outline, nesting: &Nesting, region: usize) -> usize
     requires { nesting.now ≡ regions_view outline.now.regions.items }
     ensures { result ≡ block_of (outline_view outline.now).regions region }
 {

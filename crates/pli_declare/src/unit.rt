@@ -20,9 +20,10 @@ use std::alloc::{AllocError, Global};
 fn codes_of_blocks(alloc: Global, known: &Known) -> Result<Vec<Vec<Option<Code>>>, AllocError>
     ensures { IfOk result (λ codes. AreCodes (map (λ list. list.items) codes.items) (outline_view known.now.outline.now)) }
 {
+    let good = known.goodness(alloc)?;
     let mut codes = Vec::new(alloc);
     for block in 0..known.outline.regions.len() + 1 {
-        codes.push(known.codes_of_block(alloc, block)?)?;
+        codes.push(known.codes_of_block(alloc, block, &good[block])?)?;
     }
     Ok(codes)
 }
