@@ -25,3 +25,4 @@ pub mod StatementSpelledSimple
 pub mod StatementSpelledStarts
 pub mod StatementSpelledTools
 pub mod StatementSpelledUnits
+pub mod UnitFaults

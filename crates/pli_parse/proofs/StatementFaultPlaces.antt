@@ -1,7 +1,9 @@
 -- A fault of reading stands at a token: statements and the unit.
-use Rattle.std.proofs.Common.{◌≡◌, ◌<◌, ◌≤◌, ◌+◌, ◌-◌, ℕ, suc, zero, Bool, true, false, cond, [], ◌∷◌, Option, Some, None, Result, Ok, Err, length, codes, refl, ap, ◌∙◌, sym, subst, arith}
+use Rattle.std.proofs.Common.{◌≡◌, ◌<◌, ◌≤◌, ◌+◌, ◌-◌, ℕ, suc, zero, Bool, true, false, cond, [], ◌∷◌, Option, Some, None, Result, Ok, Err, length, codes, refl, ap, ◌∙◌, sym, subst, arith, inl, inr, ⊎_elim, ◌⊎◌}
 use Rattle.pli_base.specs.FaultPlaces.{StandsAtToken, FaultStands, Passes}
-use Rattle.pli_base.specs.laws.FaultPlaceLaws.{passes_none, passes_one, passes_two, passes_on, fault_first, fault_last, fault_behind, fault_of_text}
+use Rattle.pli_base.specs.laws.FaultPlaceLaws.{passes_none, passes_one, passes_two, passes_on, fault_of_text}
+use Rattle.pli_parse_fault.specs.FaultCodes.{is_of_part, IsToldOf}
+use Rattle.pli_parse_fault.proofs.ToldFaults.{told_first, told_last, told_ended, told_behind, told_stands}
 use Rattle.pli_base.specs.Words.{Tokens, is_procedure, is_semicolon, is_open, is_word}
 use Rattle.pli_base.specs.Reading.{◌>>=◌, Front, at_fault, misplaced}
 use Rattle.pli_base.specs.declared.code.Code.{Code}
@@ -20,7 +22,7 @@ use Rattle.pli_parse_declaration.specs.declared.list.Separator.TheVariants.{Comm
 use Rattle.pli_base.specs.Reading.{read_as, mapped, taken, if_open}
 use Rattle.pli_parse_declaration.proofs.DeclarationFaults.{identifier_sound, Stands, at_least, stands_behind, stands_then, stands_made, mapped_stands, taken_then, optional_stands, list_sound, declaration_stands, fault_of}
 use Rattle.pli_parse_statement.specs.StatementWords.{Context, standing, the_unit, a_procedure, Kind, Assigns, Empty, Keyed, Unknown, kind_of}
-use Rattle.pli_parse_statement.specs.StatementReading.{expression_in, reference_in, stopped, closing, assignment_at, condition_at, control_at, allocation_at, put_at, call_at, heading_at, StatementReader, Inside, deeper, has_semicolon, label_at, is_labelled, second_label, bad_label, Misplacement, AtLabel, AtStatement, standing_misplaced, misplacement, at_label, Listing, is_label, named_end, ending_at, Next, EndsHere, Another, next_of, list_by, list_from, list_in, else_first, alternative_from, if_at, on_at, do_at, begin_at, inner_list, procedure_at, keyed_at, unless_misplaced, body_from, behind_label, begun, statement_of, inside_of, statement_at, finished, external_at, unit_from, unit_of}
+use Rattle.pli_parse_statement.specs.StatementReading.{expression_in, reference_in, stopped, closing, assignment_at, condition_at, control_at, allocation_at, put_at, call_at, heading_at, StatementReader, Inside, deeper, has_semicolon, label_at, is_labelled, second_label, bad_label, Misplacement, AtLabel, AtStatement, unit_misplaced, standing_misplaced, misplacement, at_label, Listing, is_label, named_end, ending_at, Next, EndsHere, Another, next_of, list_by, list_from, list_in, else_first, alternative_from, if_at, on_at, do_at, begin_at, inner_list, procedure_at, keyed_at, unless_misplaced, body_from, behind_label, begun, statement_of, inside_of, statement_at, finished, external_at, unit_from, unit_of}
 use Rattle.pli_parse_statement.specs.declared.keyword.Keyword.{Keyword}
 use Rattle.pli_parse_statement.specs.declared.keyword.Keyword.TheVariants as words
 use Rattle.pli_parse_statement.specs.declared.keyword.Standing.{Standing}
@@ -43,7 +45,7 @@ ending_stands label p (Word n ∷ us) = by (is_label label n)
   where
     by : (b : Bool) → Stands 1 p (Word n ∷ us) (named_end b p us)
     by true = behind_first 1 p (Word n ∷ us) us (stopped tt (p + 1) us) (omega arith) (stopped_sound tt (p + 1) us)
-    by false = fault_first WrongEndName p (Word n ∷ us) (omega arith)
+    by false = told_first WrongEndName refl p (Word n ∷ us) (omega arith)
 ending_stands label p (t ∷ us) = stopped_sound tt p (t ∷ us)
 
 module _ (one : StatementReader) (sound : IsSoundReader one) (c : Context) (label : Option Identifier) where
@@ -62,7 +64,7 @@ module _ (one : StatementReader) (sound : IsSoundReader one) (c : Context) (labe
   list_stands zero p k ts small = absurd (omega arith)
   list_stands (suc bound) p k ts small = list_step (list_from one c label bound) p k ts (λ q l us less. list_stands bound q l us (omega arith)) (next_of ts) refl
 
-list_in_stands : (i : Inside) → IsSoundReader i.statement → (c : Context) (label : Option Identifier) (p k : ℕ) (ts : Tokens) → Stands 1 p ts (list_in i c label p k ts)
+pub list_in_stands : (i : Inside) → IsSoundReader i.statement → (c : Context) (label : Option Identifier) (p k : ℕ) (ts : Tokens) → Stands 1 p ts (list_in i c label p k ts)
 list_in_stands i sound c label p k ts = list_stands i.statement sound c label (length ts + 1) p k ts (omega arith)
 
 alternative_stands : (i : Inside) → IsSoundReader i.statement → (c : Context) (p k : ℕ) (ts : Tokens) → Stands 0 p ts (alternative_from i c p k ts (else_first ts))
@@ -80,7 +82,7 @@ unfolding if_at
 if_stands i sound c p k ts =
     stands_then 1 0 p ts (expression_in i.levels p ts) _ (expression_sound i.levels p ts)
     (λ condition s. at_least 2 0 condition.next condition.rest _ (omega arith)
-    (taken_then (is_word (codes "THEN")) ThenExpected 1 condition.next condition.rest _
+    (taken_then (is_word (codes "THEN")) ThenExpected refl 1 condition.next condition.rest _
     (λ us. stands_then 1 0 (condition.next + 1) us (i.statement (standing AsClause c) (condition.next + 1) k us) _ (sound (standing AsClause c) (condition.next + 1) k us)
     (λ consequence t. stands_made 0 consequence.next consequence.rest (alternative_from i c consequence.next (k + count consequence.value) consequence.rest (else_first consequence.rest))
     (λ alternative. body.If condition.value consequence.value alternative.value) (alternative_stands i sound c consequence.next (k + count consequence.value) consequence.rest)))))
@@ -96,14 +98,14 @@ do_stands : (i : Inside) → IsSoundReader i.statement → (c : Context) (label 
 unfolding do_at
 do_stands i sound c label p k ts =
     stands_then 0 2 p ts (control_at i.levels p ts) _ (control_stands i.levels p ts)
-    (λ control s. taken_then is_semicolon SemicolonExpected 1 control.next control.rest _
+    (λ control s. taken_then is_semicolon SemicolonExpected refl 1 control.next control.rest _
     (λ us. stands_made 1 (control.next + 1) us (list_in i (standing InGroup c) label (control.next + 1) k us) (λ list. body.Do control.value list.value.statements list.value.end)
     (list_in_stands i sound (standing InGroup c) label (control.next + 1) k us)))
 
 begin_stands : (i : Inside) → IsSoundReader i.statement → (c : Context) (label : Option Identifier) (p k : ℕ) (ts : Tokens) → Stands 2 p ts (begin_at i c label p k ts)
 unfolding begin_at
 begin_stands i sound c label p k ts =
-    taken_then is_semicolon SemicolonExpected 1 p ts _
+    taken_then is_semicolon SemicolonExpected refl 1 p ts _
     (λ us. stands_made 1 (p + 1) us (list_in i (standing InBlock c) label (p + 1) k us) (λ list. body.Begin list.value.statements list.value.end) (list_in_stands i sound (standing InBlock c) label (p + 1) k us))
 
 -- PROCEDURE has a label where it may stand
@@ -121,7 +123,7 @@ procedure_stands i sound s (Some name) placed number p ts =
 -- a level more, at a token
 deeper_stands : (inside : Option Inside) → InsideSound inside → (least p : ℕ) (ts us : Tokens) → length ts ≡ suc (length us) → (read : Inside → Result (Front Body) Fault)
     → ((i : Inside) → IsSoundReader i.statement → Stands least (p + 1) us (read i)) → Stands 1 p ts (deeper inside p read)
-deeper_stands None sound least p ts us one read stands = fault_first NestedTooDeep p ts (omega arith)
+deeper_stands None sound least p ts us one read stands = told_first NestedTooDeep refl p ts (omega arith)
 deeper_stands (Some i) sound least p ts us one read stands = behind_first least p ts us (read i) one (stands i sound)
 
 -- the first word, and the first two of GO TO
@@ -139,7 +141,7 @@ module _ (levels : ℕ) (inside : Option Inside) (sound : InsideSound inside) (c
       behind_first 2 p ts us (mapped body.Declare (declaration_at (p + 1) us)) (keyword_less ts us words.Declare kind (λ e. cc)) (mapped_stands 2 (p + 1) us body.Declare (declaration_at (p + 1) us) (declaration_stands (p + 1) us))
   keyed_stands words.End kind placed =
       let one : length ts ≡ suc (length us) = keyword_less ts us words.End kind (λ e. cc) in
-      fault_first MisplacedStatement p ts (omega arith)
+      told_first MisplacedStatement refl p ts (omega arith)
   keyed_stands words.Begin kind placed =
       deeper_stands inside sound 2 p ts us (keyword_less ts us words.Begin kind (λ e. cc)) (λ i. begin_at i c label (p + 1) (k + 1) us) (λ i inner. begin_stands i inner c label (p + 1) (k + 1) us)
   keyed_stands words.Do kind placed =
@@ -206,35 +208,76 @@ at_same h = cc
 
 -- the label that may not stand
 bad_label_stands : (s : Standing) (p : ℕ) (ts : Tokens) (x : Front (Option Identifier)) → Passes 0 p ts x.next x.rest → (label : Option Identifier) → LabelStands p ts label → (q : ℕ) → bad_label s x label ≡ Some q
-    → FaultStands p ts (record { code = BadLabel; at = q })
+    → IsToldOf p ts (record { code = BadLabel; at = q })
 bad_label_stands s p ts x passed None here q h = cc
 bad_label_stands AsClause p ts x passed (Some l) here q h =
     let e : l.at ≡ q = at_same h in
-    subst (λ r. FaultStands p ts (record { code = BadLabel; at = r })) (sym here.0 ∙ e) (fault_first BadLabel p ts here.1)
+    subst (λ r. IsToldOf p ts (record { code = BadLabel; at = r })) (sym here.0 ∙ e) (told_first BadLabel refl p ts here.1)
 bad_label_stands AsUnit p ts x passed (Some l) here q h =
     let e : l.at ≡ q = at_same h in
-    subst (λ r. FaultStands p ts (record { code = BadLabel; at = r })) (sym here.0 ∙ e) (fault_first BadLabel p ts here.1)
+    subst (λ r. IsToldOf p ts (record { code = BadLabel; at = r })) (sym here.0 ∙ e) (told_first BadLabel refl p ts here.1)
 bad_label_stands s p ts x passed (Some l) here q h = by (label_at x.next x.rest).value (label_stands x.next x.rest) h
   where
-    by : (second : Option Identifier) → LabelStands x.next x.rest second → second_label x.next second ≡ Some q → FaultStands p ts (record { code = BadLabel; at = q })
+    by : (second : Option Identifier) → LabelStands x.next x.rest second → second_label x.next second ≡ Some q → IsToldOf p ts (record { code = BadLabel; at = q })
     by None there g = cc
     by (Some m) there g =
-        subst (λ r. FaultStands p ts (record { code = BadLabel; at = r })) (at_same g)
-        (fault_behind 0 p x.next ts x.rest (record { code = BadLabel; at = x.next }) passed (fault_first BadLabel x.next x.rest there.1))
+        subst (λ r. IsToldOf p ts (record { code = BadLabel; at = r })) (at_same g)
+        (told_behind 0 p x.next ts x.rest (record { code = BadLabel; at = x.next }) passed (told_first BadLabel refl x.next x.rest there.1))
+
+-- a statement that may not stand has the code of a part
+abbrev PlacedCode : Option Misplacement → Type 0
+PlacedCode None = Unit {0}
+PlacedCode (Some (AtLabel code)) = is_of_part code ≡ true
+PlacedCode (Some (AtStatement code)) = is_of_part code ≡ true
+
+unit_code : (keyword : Keyword) → PlacedCode (unit_misplaced keyword)
+unit_code words.Allocate = tt
+unit_code words.Begin = tt
+unit_code words.Call = tt
+unit_code words.Free = tt
+unit_code words.Goto = tt
+unit_code words.GoTo = tt
+unit_code words.Put = tt
+unit_code words.Revert = tt
+unit_code words.Signal = tt
+unit_code words.Stop = tt
+unit_code keyword = refl
+
+standing_code : (s : Standing) (keyword : Keyword) (l : Bool) → PlacedCode (standing_misplaced s keyword l)
+standing_code AsUnit keyword l = unit_code keyword
+standing_code AsClause words.Procedure l = refl
+standing_code AsClause words.Declare l = refl
+standing_code AsClause words.End l = refl
+standing_code InBlock words.Procedure false = refl
+standing_code InGroup words.Procedure false = refl
+standing_code InGroup words.Procedure true = refl
+standing_code InBlock words.Declare true = refl
+standing_code InBlock words.End true = refl
+standing_code InGroup words.Declare true = refl
+standing_code InGroup words.End true = refl
+standing_code s keyword l = tt
+
+placed_code : (c : Context) (keyword : Keyword) (l in_unit : Bool) → PlacedCode (misplacement c keyword l in_unit)
+placed_code c words.Return l true = refl
+placed_code c keyword l in_unit = standing_code c.standing keyword l
 
 -- a statement behind its label
 module _ (levels : ℕ) (inside : Option Inside) (sound : InsideSound inside) (c : Context) (p q k : ℕ) (ts us : Tokens) (passed : Passes 0 p ts q us) (label : Option Identifier) (here : LabelStands p ts label) where
   behind_stands : (r : Result (Front Body) Fault) → Stands 1 q us r → Stands 1 p ts r
   behind_stands r h = stands_behind 0 1 p q ts us r passed h
 
-  label_fault : (code : Code) (l : Option Identifier) → LabelStands p ts l → 0 < length us → Stands {A = Body} 1 p ts (at_label code q l)
-  label_fault code None there some = fault_behind 0 p q ts us (record { code = code; at = q }) passed (fault_first code q us some)
-  label_fault code (Some l) there some = subst (λ r. FaultStands p ts (record { code = code; at = r })) (sym there.0) (fault_first code p ts there.1)
+  label_fault : (code : Code) → is_of_part code ≡ true → (l : Option Identifier) → LabelStands p ts l → 0 < length us → Stands {A = Body} 1 p ts (at_label code q l)
+  label_fault code part None there some = told_behind 0 p q ts us (record { code = code; at = q }) passed (told_first code part q us some)
+  label_fault code part (Some l) there some = subst (λ r. IsToldOf p ts (record { code = code; at = r })) (sym there.0) (told_first code part p ts there.1)
 
   placed_stands : (vs : Tokens) (keyword : Keyword) → kind_of us ≡ Keyed keyword vs → (o : Option Misplacement) → misplacement c keyword (is_labelled label) c.in_unit ≡ o
       → Stands 1 p ts (unless_misplaced levels inside c label q k vs keyword o)
-  placed_stands vs keyword kind (Some (AtLabel code)) e = label_fault code label here (some_first us vs keyword kind)
-  placed_stands vs keyword kind (Some (AtStatement code)) e = behind_stands (at_fault code q) (fault_first code q us (some_first us vs keyword kind))
+  placed_stands vs keyword kind (Some (AtLabel code)) e =
+      let part : is_of_part code ≡ true = subst PlacedCode e (placed_code c keyword (is_labelled label) c.in_unit) in
+      label_fault code part label here (some_first us vs keyword kind)
+  placed_stands vs keyword kind (Some (AtStatement code)) e =
+      let part : is_of_part code ≡ true = subst PlacedCode e (placed_code c keyword (is_labelled label) c.in_unit) in
+      behind_stands (at_fault code q) (told_first code part q us (some_first us vs keyword kind))
   placed_stands vs keyword kind None e = behind_stands (keyed_at levels inside c label q k vs keyword) (keyed_stands levels inside sound c label q k us vs keyword kind e)
 
   body_stands : has_semicolon us ≡ true → (kind : Kind) → kind_of us ≡ kind → Stands 1 p ts (body_from levels inside c label q k us kind)
@@ -243,7 +286,7 @@ module _ (levels : ℕ) (inside : Option Inside) (sound : InsideSound inside) (c
       let one : length us ≡ suc (length vs) = ap length (empty_begins us vs e).1 in
       behind_stands (read_as body.Null (q + 1) vs) (passes_one q us vs one)
   body_stands has (Keyed keyword vs) e = placed_stands vs keyword e (misplacement c keyword (is_labelled label) c.in_unit) refl
-  body_stands has Unknown e = behind_stands (at_fault NotAStatement q) (fault_first NotAStatement q us (some_tokens us has))
+  body_stands has Unknown e = behind_stands (at_fault NotAStatement q) (told_first NotAStatement refl q us (some_tokens us has))
 
 labelled_stands : (levels : ℕ) (inside : Option Inside) → InsideSound inside → (c : Context) (p k : ℕ) (ts : Tokens) → has_semicolon ts ≡ true → (o : Option ℕ) → bad_label c.standing (label_at p ts) (label_at p ts).value ≡ o
     → Stands 1 p ts (behind_label levels inside c k (label_at p ts) o)
@@ -253,39 +296,49 @@ labelled_stands levels inside sound c p k ts has None e =
     mapped_stands 1 p ts (Numbered k x.value x.next) (body_from levels inside c x.value x.next k x.rest (kind_of x.rest))
     (body_stands levels inside sound c p x.next k ts x.rest (label_passes p ts) x.value (label_stands p ts) (label_keeps p ts has) (kind_of x.rest) refl)
 
-statement_stands : (levels : ℕ) (inside : Option Inside) → InsideSound inside → IsSoundReader (statement_of levels inside)
+pub statement_stands : (levels : ℕ) (inside : Option Inside) → InsideSound inside → IsSoundReader (statement_of levels inside)
 unfolding statement_of
 statement_stands levels inside sound c p k ts = by (has_semicolon ts) refl
   where
     by : (b : Bool) → has_semicolon ts ≡ b → Stands 1 p ts (begun levels inside c p k ts b)
     by true e = labelled_stands levels inside sound c p k ts e (bad_label c.standing (label_at p ts) (label_at p ts).value) refl
-    by false e = fault_last p ts
+    by false e = told_last p ts
 
-inside_sound : (levels : ℕ) → InsideSound (inside_of levels)
+pub inside_sound : (levels : ℕ) → InsideSound (inside_of levels)
 unfolding inside_of
 inside_sound zero = tt
 inside_sound (suc levels) = statement_stands levels (inside_of levels) (inside_sound levels)
 
+pub statement_told : (c : Context) (levels p k : ℕ) (ts : Tokens) (f : Fault) → statement_at levels c p k ts ≡ Err f → IsToldOf p ts f
+statement_told c levels p k ts f h = fault_of 1 p ts (statement_at levels c p k ts) f (statement_stands levels (inside_of levels) (inside_sound levels) c p k ts) h
+
 pub statement_fault_stands : (c : Context) (levels p k : ℕ) (ts : Tokens) (f : Fault) → statement_at levels c p k ts ≡ Err f → FaultStands p ts f
-statement_fault_stands c levels p k ts f h = fault_of 1 p ts (statement_at levels c p k ts) f (statement_stands levels (inside_of levels) (inside_sound levels) c p k ts) h
+statement_fault_stands c levels p k ts f h = told_stands p ts f (statement_told c levels p k ts f h)
+
+-- a fault behind the unit
+abbrev pub IsBehindUnit : ℕ → Tokens → Fault → Type 0
+IsBehindUnit p ts f = (f.code ≡ TextAfterEnd) × (p ≤ f.at) × (f.at < p + length ts)
 
 -- the unit behind its PROCEDURE
-abbrev UnitStands : ℕ → Tokens → Result ExternalProcedure Fault → Type 0
+abbrev pub UnitStands : ℕ → Tokens → Result ExternalProcedure Fault → Type 0
 UnitStands p ts (Ok u) = Unit {0}
-UnitStands p ts (Err f) = FaultStands p ts f
+UnitStands p ts (Err f) = IsToldOf p ts f ⊎ IsBehindUnit p ts f
+
+behind_passed : (least p q : ℕ) (ts us : Tokens) (f : Fault) → Passes least p ts q us → IsBehindUnit q us f → IsBehindUnit p ts f
+behind_passed least p q ts us f passed h = (h.0, omega (arith, passed.0, h.1), omega (arith, passed.1, h.2))
 
 unit_behind : (least p q : ℕ) (ts us : Tokens) (r : Result ExternalProcedure Fault) → Passes least p ts q us → UnitStands q us r → UnitStands p ts r
 unit_behind least p q ts us (Ok u) passed h = tt
-unit_behind least p q ts us (Err f) passed h = fault_behind least p q ts us f passed h
+unit_behind least p q ts us (Err f) passed h = ⊎_elim (λ told. inl (told_behind least p q ts us f passed told)) (λ behind. inr (behind_passed least p q ts us f passed behind)) h
 
 unit_then : {A : Type 0} (least p : ℕ) (ts : Tokens) (r : Result (Front A) Fault) (f : Front A → Result ExternalProcedure Fault)
     → Stands least p ts r → ((x : Front A) → UnitStands x.next x.rest (f x)) → UnitStands p ts (r >>= f)
 unit_then least p ts (Ok x) f h more = unit_behind least p x.next ts x.rest (f x) h (more x)
-unit_then least p ts (Err e) f h more = h
+unit_then least p ts (Err e) f h more = inl h
 
 finished_stands : (u : ExternalProcedure) (p : ℕ) (ts : Tokens) → UnitStands p ts (finished u p ts)
 finished_stands u p [] = tt
-finished_stands u p (t ∷ ts) = fault_first TextAfterEnd p (t ∷ ts) (omega arith)
+finished_stands u p (t ∷ ts) = inr (refl, omega arith, omega arith)
 
 abbrev external_in : Identifier → Tokens → Inside → Result ExternalProcedure Fault
 external_in name ts i =
@@ -293,14 +346,14 @@ external_in name ts i =
     >>= λ list. finished (record { heading = heading.value; statements = list.value.statements; end = list.value.end }) list.next list.rest
 
 external_by : (name : Identifier) (t : TokenText) (ts : Tokens) (inside : Option Inside) → InsideSound inside → UnitStands 2 (t ∷ ts) (deeper inside 2 (external_in name ts))
-external_by name t ts None sound = fault_first NestedTooDeep 2 (t ∷ ts) (omega arith)
+external_by name t ts None sound = inl (told_first NestedTooDeep refl 2 (t ∷ ts) (omega arith))
 external_by name t ts (Some i) sound =
     unit_behind 1 2 3 (t ∷ ts) ts (external_in name ts i) (omega arith, omega arith)
     (unit_then 1 3 ts (heading_at name 1 3 ts) _ (heading_stands name 1 3 ts)
     (λ heading. unit_then 1 heading.next heading.rest (inner_list i name heading.next 2 heading.rest) _ (list_in_stands i sound a_procedure (Some name) heading.next 2 heading.rest)
     (λ list. finished_stands (record { heading = heading.value; statements = list.value.statements; end = list.value.end }) list.next list.rest)))
 
-external_stands : (name : Identifier) (t : TokenText) (ts : Tokens) → UnitStands 2 (t ∷ ts) (external_at name ts)
+pub external_stands : (name : Identifier) (t : TokenText) (ts : Tokens) → UnitStands 2 (t ∷ ts) (external_at name ts)
 unfolding external_at
 external_stands name t ts = external_by name t ts (inside_of nesting_limit) (inside_sound nesting_limit)
 
@@ -324,7 +377,9 @@ TextStands ts (Err f) = StandsAtToken ts f
 
 text_stands : (p : ℕ) (ts us : Tokens) (r : Result ExternalProcedure Fault) → Passes 0 0 ts p us → UnitStands p us r → TextStands ts r
 text_stands p ts us (Ok u) passed h = tt
-text_stands p ts us (Err f) passed h = fault_of_text ts f (fault_behind 0 0 p ts us f passed h)
+text_stands p ts us (Err f) passed h =
+    fault_of_text ts f
+    (⊎_elim (λ told. told_stands 0 ts f (told_behind 0 0 p ts us f passed told)) (λ behind. let b = behind_passed 0 0 p ts us f passed behind in inl (b.1, b.2)) h)
 
 first_token : (code : Code) (ts : Tokens) → StandsAtToken ts (record { code = code; at = 0 })
 first_token code [] = refl

@@ -2,7 +2,9 @@
 use Rattle.std.proofs.Common.{◌≡◌, ◌<◌, ◌≤◌, ◌+◌, ℕ, suc, zero, Bool, true, false, cond, List, [], ◌∷◌, Option, Some, None, Result, Ok, Err, option_map, length, codes, refl, ap, sym, subst, arith}
 use Rattle.pli_base.specs.Name.{Name}
 use Rattle.pli_base.specs.FaultPlaces.{FaultStands, Passes}
-use Rattle.pli_base.specs.laws.FaultPlaceLaws.{passes_none, passes_one, fault_first}
+use Rattle.pli_base.specs.laws.FaultPlaceLaws.{passes_none, passes_one}
+use Rattle.pli_parse_fault.specs.FaultCodes.{is_of_part, IsToldOf}
+use Rattle.pli_parse_fault.proofs.ToldFaults.{told_first, told_last, told_ended, told_behind, told_stands}
 use Rattle.pli_base.specs.Words.{Tokens, same_name, is_semicolon, is_open, is_word}
 use Rattle.pli_base.specs.Reading.{◌>>=◌, Front, at_fault}
 use Rattle.pli_base.specs.Syntax.{Expression, Reference, Arguments}
@@ -44,7 +46,7 @@ reference_sound levels p ts = uncounted_stands 1 p ts (reference_at levels p ts)
 
 pub stopped_sound : {A : Type 0} (value : A) → IsSound (stopped value)
 unfolding stopped
-stopped_sound value p ts = taken_then is_semicolon SemicolonExpected 0 p ts (λ us. read_as value (p + 1) us) (λ us. passes_none (p + 1) us)
+stopped_sound value p ts = taken_then is_semicolon SemicolonExpected refl 0 p ts (λ us. read_as value (p + 1) us) (λ us. passes_none (p + 1) us)
 
 pub closing_stands : {A B : Type 0} (least p : ℕ) (ts : Tokens) (f : A → B) (r : Result (Front A) Fault) → Stands least p ts r → Stands 1 p ts (closing f r)
 closing_stands least p ts f r h =
@@ -53,7 +55,7 @@ closing_stands least p ts f r h =
 pub parenthesized_stands : {A : Type 0} (one : ℕ → Tokens → Result (Front A) Fault) → IsSound one → (p : ℕ) (ts : Tokens) → Stands 3 p ts (parenthesized one p ts)
 unfolding parenthesized
 parenthesized_stands one sound p ts =
-    taken_then is_open ParenthesisExpected 2 p ts (λ us. enclosed (one (p + 1) us)) (λ us. enclosed_stands 1 (p + 1) us (one (p + 1) us) (sound (p + 1) us))
+    taken_then is_open ParenthesisExpected refl 2 p ts (λ us. enclosed (one (p + 1) us)) (λ us. enclosed_stands 1 (p + 1) us (one (p + 1) us) (sound (p + 1) us))
 
 parenthesized_sound : {A : Type 0} (one : ℕ → Tokens → Result (Front A) Fault) → IsSound one → IsSound (parenthesized one)
 parenthesized_sound one sound p ts = at_least 3 1 p ts (parenthesized one p ts) (omega arith) (parenthesized_stands one sound p ts)
@@ -69,19 +71,19 @@ assignment_stands levels p ts =
     (λ target. taken is_equals NotAStatement target.next target.rest >>= λ us. expression_in levels (target.next + 1) us >>= λ value. stopped (body.Assign target.value target.next value.value) value.next value.rest)
     (reference_sound levels p ts)
     (λ target s. at_least 3 0 target.next target.rest _ (omega arith)
-    (taken_then is_equals NotAStatement 2 target.next target.rest (λ us. expression_in levels (target.next + 1) us >>= λ value. stopped (body.Assign target.value target.next value.value) value.next value.rest)
+    (taken_then is_equals NotAStatement refl 2 target.next target.rest (λ us. expression_in levels (target.next + 1) us >>= λ value. stopped (body.Assign target.value target.next value.value) value.next value.rest)
     (λ us. stands_then 1 1 (target.next + 1) us (expression_in levels (target.next + 1) us) (λ value. stopped (body.Assign target.value target.next value.value) value.next value.rest)
     (expression_sound levels (target.next + 1) us) (λ value t. stopped_sound (body.Assign target.value target.next value.value) value.next value.rest))))
 
 pub condition_sound : IsSound condition_at
 unfolding condition_at
-condition_sound p [] = misfit_stands BadCondition p []
+condition_sound p [] = misfit_stands BadCondition refl p []
 condition_sound p (Word n ∷ us) = by (condition_of n)
   where
     by : (o : Option Condition) → Stands 1 p (Word n ∷ us) (condition_from p us o)
     by (Some c) = passes_one p (Word n ∷ us) us (omega arith)
-    by None = fault_first BadCondition p (Word n ∷ us) (omega arith)
-condition_sound p (t ∷ us) = misfit_stands BadCondition p (t ∷ us)
+    by None = told_first BadCondition refl p (Word n ∷ us) (omega arith)
+condition_sound p (t ∷ us) = misfit_stands BadCondition refl p (t ∷ us)
 
 optional_stand : {A : Type 0} (w : Name) (one : ℕ → Tokens → Result (Front A) Fault) → IsSound one → (p : ℕ) (ts : Tokens) → Stands 0 p ts (optional_at w one p ts)
 unfolding optional_at
@@ -177,7 +179,7 @@ control_stands levels p ts = by (specified ts) refl
         at_least 1 0 p ts (control_from levels p ts Iterated) (omega arith)
         (stands_then 1 0 p ts (reference_in levels p ts) _ (reference_sound levels p ts)
         (λ variable s. at_least 2 0 variable.next variable.rest _ (omega arith)
-        (taken_then is_equals BadDo 1 variable.next variable.rest _
+        (taken_then is_equals BadDo refl 1 variable.next variable.rest _
         (λ us. stands_then 1 0 (variable.next + 1) us (expression_in levels (variable.next + 1) us) _ (expression_sound levels (variable.next + 1) us)
         (λ first t. stands_then 0 0 first.next first.rest (range_at levels first.next first.rest) _ (range_stands levels first.next first.rest)
         (λ range u. stands_made 0 range.next range.rest (optional_at (codes "WHILE") (parenthesized (expression_in levels)) range.next range.rest)
@@ -188,8 +190,8 @@ control_stands levels p ts = by (specified ts) refl
 abbrev made_of : Identifier → Option Reference → Option Reference → Allocation
 made_of n area target = record { name = n; area = area; target = target }
 
-second_place : (ts us : Tokens) (w : PlaceWord) (p : ℕ) → place_first ts ≡ Some (w, us) → FaultStands p ts (record { code = BadOption; at = p })
-second_place ts us w p e = let one : length ts ≡ suc (length us) = place_less ts (w, us) e in fault_first BadOption p ts (omega arith)
+second_place : (ts us : Tokens) (w : PlaceWord) (p : ℕ) → place_first ts ≡ Some (w, us) → IsToldOf p ts (record { code = BadOption; at = p })
+second_place ts us w p e = let one : length ts ≡ suc (length us) = place_less ts (w, us) e in told_first BadOption refl p ts (omega arith)
 
 both_stand : (levels bound : ℕ) (n : Identifier) (area target : Reference) (p : ℕ) (ts : Tokens) → Stands 0 p ts (places_from levels (suc bound) (made_of n (Some area) (Some target)) p ts)
 unfolding places_from
@@ -243,8 +245,8 @@ allocation_sound levels p ts =
     stands_then 1 0 p ts (identifier_at p ts) (λ n. places_from levels 3 (made_of n.value None None) n.next n.rest) (identifier_sound p ts) (λ n s. places_stand levels 0 n.value n.next n.rest)
 
 -- SKIP and LIST stand once
-second_option : (ts us : Tokens) (w : PutWord) (p : ℕ) → put_first ts ≡ Some (w, us) → FaultStands p ts (record { code = BadOption; at = p })
-second_option ts us w p e = let one : length ts ≡ suc (length us) = put_less ts (w, us) e in fault_first BadOption p ts (omega arith)
+second_option : (ts us : Tokens) (w : PutWord) (p : ℕ) → put_first ts ≡ Some (w, us) → IsToldOf p ts (record { code = BadOption; at = p })
+second_option ts us w p e = let one : length ts ≡ suc (length us) = put_less ts (w, us) e in told_first BadOption refl p ts (omega arith)
 
 put_both : (levels bound : ℕ) (x : Expression) (xs : List Expression) (p : ℕ) (ts : Tokens) → Stands 0 p ts (put_from levels (suc bound) true (x ∷ xs) p ts)
 unfolding put_from
@@ -317,7 +319,7 @@ unfolding put_at
 put_stands levels p ts = by (put_first ts)
   where
     by : (o : Option (PutWord × Tokens)) → Stands 0 p ts (put_begun levels p ts o)
-    by None = misfit_stands BadOption p ts
+    by None = misfit_stands BadOption refl p ts
     by (Some x) = put_none levels 0 p ts
 
 pub call_sound : (levels : ℕ) → IsSound (call_at levels)
@@ -333,7 +335,7 @@ main_sound : IsSound main_at
 unfolding main_at
 main_sound p ts =
     parenthesized_sound (λ p ts. taken (is_word (codes "MAIN")) BadOption p ts >>= λ us. read_as Main (p + 1) us)
-    (λ p ts. taken_then (is_word (codes "MAIN")) BadOption 0 p ts (λ us. read_as Main (p + 1) us) (λ us. passes_none (p + 1) us)) p ts
+    (λ p ts. taken_then (is_word (codes "MAIN")) BadOption refl 0 p ts (λ us. read_as Main (p + 1) us) (λ us. passes_none (p + 1) us)) p ts
 
 options_stand : (bound p : ℕ) (ts : Tokens) → length ts < bound → Stands 0 p ts (options_from bound p ts)
 unfolding options_from

@@ -1,5 +1,5 @@
 -- What is read is spelled so: statements and the unit.
-use Rattle.std.proofs.Common.{◌≡◌, ◌+◌, ℕ, suc, zero, Bool, true, false, cond, [], ◌∷◌, ◌++◌, Option, Some, None, Result, Ok, length, refl, ap, ◌∙◌, sym, subst}
+use Rattle.std.proofs.Common.{◌≡◌, ◌+◌, ℕ, suc, zero, Bool, true, false, cond, [], ◌∷◌, ◌++◌, Option, Some, None, Result, Ok, length, refl, ap, ◌∙◌, sym, subst, arith, append_assoc, length-append}
 use Rattle.std.proofs.lemmas.List.{append-nil}
 use Rattle.pli_base.specs.Name.{Name}
 use Rattle.pli_base.specs.Words.{Tokens, is_procedure}
@@ -13,9 +13,9 @@ use Rattle.pli_parse_expression.specs.Operators.{nesting_limit}
 use Rattle.pli_parse_expression.specs.Expressions.{Deeper}
 use Rattle.pli_parse_declaration.specs.DeclarationGrammar.{SpellsFront}
 use Rattle.pli_parse_declaration.proofs.DeclarationSteps.{bind_ok, mapped_ok, two}
-use Rattle.pli_base.specs.Statements.{Statement, Numbered, Body, ExternalProcedure, list_count, AwaitsElse}
+use Rattle.pli_base.specs.Statements.{Statement, Numbered, Body, ExternalProcedure, Heading, list_count, AwaitsElse}
 use Rattle.pli_parse_statement.specs.StatementWords.{Context, a_procedure, keyword_of, begins_assignment, Kind, Assigns, Empty, Keyed, Unknown, kind_of}
-use Rattle.pli_parse_statement.specs.StatementReading.{Inside, inner_list, has_semicolon, heading_at, label_at, is_labelled, bad_label, Misplacement, AtLabel, AtStatement, misplacement, keyed_at, unless_misplaced, body_from, behind_label, begun, statement_of, inside_of, statement_at, finished, external_at, unit_from, unit_of, else_first}
+use Rattle.pli_parse_statement.specs.StatementReading.{Inside, Listing, inner_list, has_semicolon, heading_at, label_at, is_labelled, bad_label, Misplacement, AtLabel, AtStatement, misplacement, keyed_at, unless_misplaced, body_from, behind_label, begun, statement_of, inside_of, statement_at, finished, external_at, unit_from, unit_of, else_first}
 use Rattle.pli_parse_statement.specs.StatementGrammar.{SpellsHeading, SpellsEnd, SpellsStatement, SpellsStatements, SpellsUnit}
 use Rattle.pli_parse_statement.specs.declared.keyword.Keyword.{Keyword}
 use Rattle.pli_parse_statement.specs.declared.keyword.Keyword.TheVariants as words
@@ -119,7 +119,7 @@ labelled_read levels inside inner c p k ts y None e h =
     let s = subst (λ q. BodySpelled c levels x.value q k f.0 m.0.value) l.2 f.3 in
     subst (StatementRead c levels p k ts) m.2 ((l.0 ++ f.0, t.0, t.1, (l.0, f.0, refl, l.3, refl, l.2, s.0, s.1, s.2, s.3)), b.1)
 
-statement_reads : (levels : ℕ) (inside : Option Inside) → InsideReads levels inside → StatementReads levels (statement_of levels inside)
+pub statement_reads : (levels : ℕ) (inside : Option Inside) → InsideReads levels inside → StatementReads levels (statement_of levels inside)
 unfolding statement_of
 statement_reads levels inside inner c p k ts y h = by (has_semicolon ts) h
   where
@@ -128,7 +128,7 @@ statement_reads levels inside inner c p k ts y h = by (has_semicolon ts) h
     by false g = cc
 
 -- one level after another
-inside_reads : (levels : ℕ) → InsideReads levels (inside_of levels)
+pub inside_reads : (levels : ℕ) → InsideReads levels (inside_of levels)
 unfolding inside_of
 inside_reads zero = tt
 inside_reads (suc levels) = (refl, statement_reads levels (inside_of levels) (inside_reads levels))
@@ -152,10 +152,10 @@ unfolding keyword_of
 procedure_word n h = first_chosen (is_procedure n) (Some words.Procedure) _ h
 
 -- what stands before a heading
-abbrev IsProcedure : TokenText → Type 0
+abbrev pub IsProcedure : TokenText → Type 0
 IsProcedure t = (n : Name) × (t ≡ Word n) × (keyword_of n ≡ Some words.Procedure)
 
-procedure_stands : (n : Name) (t : TokenText) (ts : Tokens) → misplaced (Word n ∷ Sign Colon ∷ t ∷ ts) ≡ None → IsProcedure t
+pub procedure_stands : (n : Name) (t : TokenText) (ts : Tokens) → misplaced (Word n ∷ Sign Colon ∷ t ∷ ts) ≡ None → IsProcedure t
 unfolding misplaced
 procedure_stands n (Word m) ts h = by (is_procedure m) refl h
   where
@@ -170,7 +170,7 @@ finished_ok unit u p [] h = (refl, cc)
 finished_ok unit u p (t ∷ ts) h = cc
 
 -- the unit, where so many levels may be opened
-abbrev SpellsWithin : (levels : ℕ) → Tokens → ExternalProcedure → Type 0
+abbrev pub SpellsWithin : (levels : ℕ) → Tokens → ExternalProcedure → Type 0
 SpellsWithin levels ts u =
     (n : Name) × (hs : Tokens) × (ss : Tokens) × (es : Tokens)
     × (ts ≡ Word u.heading.name.name ∷ Sign Colon ∷ Word n ∷ hs ++ (Sign Semicolon ∷ (ss ++ es)))
@@ -184,34 +184,48 @@ external_in i name ts =
     heading_at name 1 3 ts >>= λ heading. inner_list i name heading.next 2 heading.rest
     >>= λ list. finished (record { heading = heading.value; statements = list.value.statements; end = list.value.end }) list.next list.rest
 
+-- what was read in front of what is left
+pub external_front : (i : Inside) → StatementReads i.levels i.statement → (n : Name) (t : TokenText) (ts : Tokens) → IsProcedure t → (x : Front Heading) → heading_at (record { name = n; at = 0 }) 1 3 ts ≡ Ok x
+    → (l : Front Listing) → inner_list i (record { name = n; at = 0 }) x.next 2 x.rest ≡ Ok l
+    → (us : Tokens) × (ts ≡ us ++ l.rest) × (l.next ≡ 3 + length us) × SpellsWithin (suc i.levels) (Word n ∷ Sign Colon ∷ t ∷ us) (record { heading = x.value; statements = l.value.statements; end = l.value.end })
+external_front i reads n t ts procedure x read l listed =
+    let name : Identifier = record { name = n; at = 0 } in
+    let hs = heading_reads name 1 3 ts x read in
+    let f = list_reads i.levels i.statement reads a_procedure (Some name) (length x.rest + 1) x.next 2 x.rest l listed in
+    let g = f.3 in
+    let us : Tokens = hs.0 ++ (Sign Semicolon ∷ (g.0 ++ g.1)) in
+    let shape : ts ≡ us ++ l.rest =
+    hs.1 ∙ ap (λ vs. hs.0 ++ (Sign Semicolon ∷ vs)) (f.1 ∙ ap (λ vs. vs ++ l.rest) g.2) ∙ sym (append_assoc hs.0 (Sign Semicolon ∷ (g.0 ++ g.1)) l.rest) in
+    let place : l.next ≡ 3 + length us = omega (arith, f.2, hs.2, ap length g.2, length-append hs.0 (Sign Semicolon ∷ (g.0 ++ g.1))) in (
+      us,
+      shape,
+      place,
+      (
+        procedure.0,
+        hs.0,
+        g.0,
+        g.1,
+        ap (λ v. Word n ∷ Sign Colon ∷ v ∷ us) procedure.1 ∙ ap (λ (v : Identifier). Word v.name ∷ Sign Colon ∷ Word procedure.0 ∷ us) (sym hs.4),
+        procedure.2,
+        ap (λ (v : Identifier). v.at) hs.4,
+        hs.5,
+        hs.3,
+        subst (λ q. SpellsStatements a_procedure i.levels q 2 g.0 l.value.statements) hs.2 g.3,
+        subst (λ v. SpellsEnd (Some v) g.1) (sym hs.4) g.4,
+        g.5,
+      ),
+    )
+
 external_inside : (i : Inside) → StatementReads i.levels i.statement → (n : Name) (t : TokenText) (ts : Tokens) (u : ExternalProcedure) → IsProcedure t → external_in i (record { name = n; at = 0 }) ts ≡ Ok u
     → SpellsWithin (suc i.levels) (Word n ∷ Sign Colon ∷ t ∷ ts) u
 external_inside i reads n t ts u procedure h =
-    let name : Identifier = record { name = n; at = 0 } in
-    let x = bind_ok (heading_at name 1 3 ts) _ u h in
-    let hs = heading_reads name 1 3 ts x.0 x.1 in
-    let l = bind_ok (inner_list i name x.0.next 2 x.0.rest) _ u x.2 in
-    let f = list_reads i.levels i.statement reads a_procedure (Some name) (length x.0.rest + 1) x.0.next 2 x.0.rest l.0 l.1 in
-    let g = f.3 in
+    let x = bind_ok (heading_at (record { name = n; at = 0 }) 1 3 ts) _ u h in
+    let l = bind_ok (inner_list i (record { name = n; at = 0 }) x.0.next 2 x.0.rest) _ u x.2 in
+    let f = external_front i reads n t ts procedure x.0 x.1 l.0 l.1 in
     let e = finished_ok (record { heading = x.0.value; statements = l.0.value.statements; end = l.0.value.end }) u l.0.next l.0.rest l.2 in
-    let back : x.0.rest ≡ g.0 ++ g.1 = f.1 ∙ ap (λ us. f.0 ++ us) e.0 ∙ append-nil f.0 ∙ g.2 in
-    let behind : t ∷ ts ≡ Word procedure.0 ∷ hs.0 ++ (Sign Semicolon ∷ (g.0 ++ g.1)) =
-    ap (λ v. v ∷ ts) procedure.1 ∙ ap (λ us. Word procedure.0 ∷ us) (hs.1 ∙ ap (λ us. hs.0 ++ (Sign Semicolon ∷ us)) back)
-    in
-    subst (SpellsWithin (suc i.levels) (Word n ∷ Sign Colon ∷ t ∷ ts)) e.1 (
-      procedure.0,
-      hs.0,
-      g.0,
-      g.1,
-      ap (λ us. Word n ∷ Sign Colon ∷ us) behind ∙ ap (λ (v : Identifier). Word v.name ∷ Sign Colon ∷ Word procedure.0 ∷ hs.0 ++ (Sign Semicolon ∷ (g.0 ++ g.1))) (sym hs.4),
-      procedure.2,
-      ap (λ (v : Identifier). v.at) hs.4,
-      hs.5,
-      hs.3,
-      subst (λ q. SpellsStatements a_procedure i.levels q 2 g.0 l.0.value.statements) hs.2 g.3,
-      subst (λ v. SpellsEnd (Some v) g.1) (sym hs.4) g.4,
-      g.5,
-    )
+    let all : f.0 ≡ ts = sym (f.1 ∙ ap (λ us. f.0 ++ us) e.0 ∙ append-nil f.0) in
+    subst (λ us. SpellsWithin (suc i.levels) (Word n ∷ Sign Colon ∷ t ∷ us) u) all
+    (subst (SpellsWithin (suc i.levels) (Word n ∷ Sign Colon ∷ t ∷ f.0)) e.1 f.3)
 
 external_reads : (n : Name) (t : TokenText) (ts : Tokens) (u : ExternalProcedure) → IsProcedure t → external_at (record { name = n; at = 0 }) ts ≡ Ok u → SpellsUnit (Word n ∷ Sign Colon ∷ t ∷ ts) u
 unfolding external_at

@@ -1,1 +1,2 @@
+pub mod UnitFaults
 pub mod examples

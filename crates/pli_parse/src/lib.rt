@@ -1,12 +1,14 @@
 //! Statements inside one another, and the unit: their parser, and the laws of their grammar.
 #![tactic(auto)]
 
+mod faults;
 mod laws;
 mod reader;
 mod reading;
 mod spelling;
 mod unit;
 
+pub use faults::{no_procedure_begins, text_stands_behind, texts_end_too_early};
 pub use laws::{faults_stand_at_tokens, tokens_of_units_rise, worked_examples};
 pub use pli_base::ParseError;
 pub use reading::units_read_are_spelled;

@@ -1,7 +1,9 @@
 -- A fault of reading stands at one of the tokens, or at the last where they have ended.
 use Rattle.std.proofs.Common.{◌≡◌, ◌<◌, ◌≤◌, ◌+◌, ℕ, suc, zero, Bool, true, false, cond, List, [], ◌∷◌, ◌++◌, Option, Some, None, Result, Ok, Err, length, codes, refl, ap, subst, arith, length-append}
 use Rattle.pli_base.specs.FaultPlaces.{FaultStands, Passes}
-use Rattle.pli_base.specs.laws.FaultPlaceLaws.{passes_none, passes_one, passes_on, fault_first, fault_ended, fault_behind}
+use Rattle.pli_base.specs.laws.FaultPlaceLaws.{passes_none, passes_one, passes_on}
+use Rattle.pli_parse_fault.specs.FaultCodes.{is_of_part, IsToldOf}
+use Rattle.pli_parse_fault.proofs.ToldFaults.{told_first, told_ended, told_behind, told_stands}
 use Rattle.pli_base.specs.Words.{Tokens, same_name, is_open, is_close, is_comma, is_semicolon}
 use Rattle.pli_base.specs.Reading.{◌>>=◌, Front}
 use Rattle.pli_base.specs.declared.code.Code.{Code}
@@ -18,7 +20,7 @@ use Rattle.pli_base.specs.declared.declaration.InitialValue.{InitialValue}
 use Rattle.pli_base.specs.declared.declaration.InitialValue.TheVariants as initial
 use Rattle.pli_parse_declaration.specs.DeclarationWords.{attribute_first, with_attribute, begins_description, is_zero}
 use Rattle.pli_base.specs.Words.{behind, name_first, is_colon}
-use Rattle.pli_parse_declaration.specs.DeclarationReading.{listed_after, listed_at, list_at, number_at, signed, integer_at, bounds_from, bounds_at, dimensions_at, length_at, with_scale, scaled_at, precision_at, name_from, name_at, identifier_at, area_at, locator_at, repeated_at, null_from, value_at, values_at, simple_of, Walk, description_walk, parameters_walk, entry_walk, word_walk, closed_walk, comma_walk, behind_walk, no_word_walk, walk_by, step_at, walked_after, walked, nest_at, described_from, described_at, parameter_at, parameters_from, parameters_at, entry_from, entry_at, returned_at, attribute_from, attribute_at, attributes_from, attributes_at, level_at, names_from, names_at, item_at, items_at, declaration_at}
+use Rattle.pli_parse_declaration.specs.DeclarationReading.{listed_after, listed_at, list_at, number_at, signed, integer_at, bounds_from, bounds_at, dimensions_at, length_at, with_scale, scaled_at, precision_at, name_at, identifier_at, area_at, locator_at, repeated_at, null_from, value_at, values_at, simple_of, Walk, description_walk, parameters_walk, entry_walk, word_walk, closed_walk, comma_walk, behind_walk, no_word_walk, walk_by, step_at, walked_after, walked, nest_at, described_from, described_at, parameter_at, parameters_from, parameters_at, entry_from, entry_at, returned_at, attribute_from, attribute_at, attributes_from, attributes_at, level_at, names_from, names_at, item_at, items_at, declaration_at}
 use Rattle.pli_base.specs.Reading.{expected, misfit, read_as, mapped, taken, taken_or, enclosed, if_open, or_none}
 use Rattle.pli_parse_declaration.specs.declared.list.Separator.{Separator}
 use Rattle.pli_parse_declaration.specs.declared.list.Separator.TheVariants.{Commas, Periods, Nothing}
@@ -38,16 +40,16 @@ use Rattle.pli_parse_declaration.proofs.DeclarationRead.{word_first}
 -- what was read passes over so many tokens at least, and a fault stands at one of them
 abbrev pub Stands : {A : Type 0} → (least p : ℕ) → Tokens → Result (Front A) Fault → Type 0
 Stands least p ts (Ok x) = Passes least p ts x.next x.rest
-Stands least p ts (Err f) = FaultStands p ts f
+Stands least p ts (Err f) = IsToldOf p ts f
 
 -- a reader passes over a token at least
 abbrev pub IsSound : {A : Type 0} → (one : ℕ → Tokens → Result (Front A) Fault) → Type 0
 IsSound one = (p : ℕ) (ts : Tokens) → Stands 1 p ts (one p ts)
 
-pub misfit_stands : (code : Code) (p : ℕ) (ts : Tokens) → FaultStands p ts (misfit code p ts)
+pub misfit_stands : (code : Code) → is_of_part code ≡ true → (p : ℕ) (ts : Tokens) → IsToldOf p ts (misfit code p ts)
 unfolding misfit
-misfit_stands code p [] = fault_ended p
-misfit_stands code p (t ∷ ts) = fault_first code p (t ∷ ts) (omega arith)
+misfit_stands code part p [] = told_ended p
+misfit_stands code part p (t ∷ ts) = told_first code part p (t ∷ ts) (omega arith)
 
 -- with less passed over
 pub at_least : {A : Type 0} (most least p : ℕ) (ts : Tokens) (r : Result (Front A) Fault) → least ≤ most → Stands most p ts r → Stands least p ts r
@@ -57,7 +59,7 @@ at_least most least p ts (Err f) less h = h
 -- behind tokens that were passed over
 pub stands_behind : {A : Type 0} (a b p q : ℕ) (ts us : Tokens) (r : Result (Front A) Fault) → Passes a p ts q us → Stands b q us r → Stands (a + b) p ts r
 stands_behind a b p q ts us (Ok x) passed h = passes_on a b p q x.next ts us x.rest passed h
-stands_behind a b p q ts us (Err f) passed h = fault_behind a p q ts us f passed h
+stands_behind a b p q ts us (Err f) passed h = told_behind a p q ts us f passed h
 
 -- one step behind another
 pub stands_then : {A B : Type 0} (a b p : ℕ) (ts : Tokens) (r : Result (Front A) Fault) (f : Front A → Result (Front B) Fault)
@@ -82,19 +84,19 @@ pub one_less : (fits : TokenText → Bool) (ts us : Tokens) → behind fits ts �
 one_less fits ts us h = let f = first_is fits ts us h in ap length f.2
 
 -- behind a token that must stand
-pub taken_then : {A : Type 0} (fits : TokenText → Bool) (code : Code) (b p : ℕ) (ts : Tokens) (f : Tokens → Result (Front A) Fault)
+pub taken_then : {A : Type 0} (fits : TokenText → Bool) (code : Code) → is_of_part code ≡ true → (b p : ℕ) (ts : Tokens) (f : Tokens → Result (Front A) Fault)
     → ((us : Tokens) → Stands b (p + 1) us (f us)) → Stands (1 + b) p ts (taken fits code p ts >>= f)
 unfolding taken
-taken_then {A = A} fits code b p ts f more = by (behind fits ts) refl
+taken_then {A = A} fits code part b p ts f more = by (behind fits ts) refl
   where
     by : (o : Option Tokens) → behind fits ts ≡ o → Stands {A = A} (1 + b) p ts (taken_or code p ts o >>= f)
-    by None e = misfit_stands code p ts
+    by None e = misfit_stands code part p ts
     by (Some us) e = stands_behind 1 b p (p + 1) ts us (f us) (passes_one p ts us (one_less fits ts us e)) (more us)
 
 pub enclosed_stands : {A : Type 0} (a p : ℕ) (ts : Tokens) (r : Result (Front A) Fault) → Stands a p ts r → Stands (a + 1) p ts (enclosed r)
 enclosed_stands a p ts r h =
     stands_then a 1 p ts r (λ x. taken is_close ParenthesisExpected x.next x.rest >>= λ rest. read_as x.value (x.next + 1) rest) h
-    (λ x s. taken_then is_close ParenthesisExpected 0 x.next x.rest (λ rest. read_as x.value (x.next + 1) rest) (λ us. passes_none (x.next + 1) us))
+    (λ x s. taken_then is_close ParenthesisExpected refl 0 x.next x.rest (λ rest. read_as x.value (x.next + 1) rest) (λ us. passes_none (x.next + 1) us))
 
 pub optional_stands : {A : Type 0} (one : ℕ → Tokens → Result (Front A) Fault) → IsSound one → (p : ℕ) (ts : Tokens) → Stands 0 p ts (if_open one p ts (behind is_open ts))
 optional_stands {A = A} one sound p ts = by (behind is_open ts) refl
@@ -133,10 +135,10 @@ module _ {A : Type 0} (s : Separator) (one : ℕ → Tokens → Result (Front A)
 
 number_sound : IsSound number_at
 unfolding number_at
-number_sound p [] = misfit_stands ConstantExpected p []
+number_sound p [] = misfit_stands ConstantExpected refl p []
 number_sound p (Decimal v d ∷ ts) = passes_one p (Decimal v d ∷ ts) ts (omega arith)
 number_sound p (Binary v d ∷ ts) = passes_one p (Binary v d ∷ ts) ts (omega arith)
-number_sound p (t ∷ ts) = misfit_stands ConstantExpected p (t ∷ ts)
+number_sound p (t ∷ ts) = misfit_stands ConstantExpected refl p (t ∷ ts)
 
 signed_sound : (negative : Bool) → IsSound (λ p ts. signed negative (number_at p ts))
 signed_sound negative = mapped_sound (λ v. record { negative = negative; value = v }) number_at number_sound
@@ -184,7 +186,7 @@ scaled_sound p ts = stands_then 1 0 p ts (number_at p ts) (λ x. with_scale x (b
         let read : Result (Front ℕ) Fault = taken is_zero ConstantExpected (x.next + 1) us >>= λ rest. read_as x.value (x.next + 2) rest in
         at_least 2 0 x.next x.rest read (omega arith)
         (stands_behind 1 1 x.next (x.next + 1) x.rest us read (passes_one x.next x.rest us (one_less is_comma x.rest us e))
-        (taken_then is_zero ConstantExpected 0 (x.next + 1) us (λ rest. read_as x.value (x.next + 2) rest) (λ rest. (omega arith, omega arith))))
+        (taken_then is_zero ConstantExpected refl 0 (x.next + 1) us (λ rest. read_as x.value (x.next + 2) rest) (λ rest. (omega arith, omega arith))))
 
 precision_stands : (p : ℕ) (ts : Tokens) → Stands 0 p ts (precision_at p ts)
 unfolding precision_at
@@ -192,9 +194,9 @@ precision_stands p ts = optional_stands scaled_at scaled_sound p ts
 
 name_sound : IsSound name_at
 unfolding name_at name_first
-name_sound p [] = misfit_stands NameExpected p []
+name_sound p [] = misfit_stands NameExpected refl p []
 name_sound p (Word n ∷ ts) = passes_one p (Word n ∷ ts) ts (omega arith)
-name_sound p (t ∷ ts) = misfit_stands NameExpected p (t ∷ ts)
+name_sound p (t ∷ ts) = misfit_stands NameExpected refl p (t ∷ ts)
 
 pub identifier_sound : IsSound identifier_at
 unfolding identifier_at
@@ -223,7 +225,7 @@ null_stands p ts = by (behind is_open ts) refl
         let read : Result (Front InitialValue) Fault = taken is_close ParenthesisExpected (p + 1) us >>= λ rest. read_as initial.Null (p + 2) rest in
         at_least 2 0 p ts read (omega arith)
         (stands_behind 1 1 p (p + 1) ts us read (passes_one p ts us (one_less is_open ts us e))
-        (taken_then is_close ParenthesisExpected 0 (p + 1) us (λ rest. read_as initial.Null (p + 2) rest) (λ rest. (omega arith, omega arith))))
+        (taken_then is_close ParenthesisExpected refl 0 (p + 1) us (λ rest. read_as initial.Null (p + 2) rest) (λ rest. (omega arith, omega arith))))
 
 integer_value_sound : IsSound (λ p ts. mapped (initial.Integer None) (integer_at p ts))
 integer_value_sound = mapped_sound (initial.Integer None) integer_at integer_sound
@@ -240,13 +242,13 @@ value_sound p (Word n ∷ ts) = by (same_name n (codes "NULL"))
   where
     by : (b : Bool) → Stands 1 p (Word n ∷ ts) (cond b (null_from (p + 1) ts (behind is_open ts)) (expected ConstantExpected p (Word n ∷ ts)))
     by true = stands_behind 1 0 p (p + 1) (Word n ∷ ts) ts (null_from (p + 1) ts (behind is_open ts)) (passes_one p (Word n ∷ ts) ts (omega arith)) (null_stands (p + 1) ts)
-    by false = misfit_stands ConstantExpected p (Word n ∷ ts)
+    by false = misfit_stands ConstantExpected refl p (Word n ∷ ts)
 value_sound p (t ∷ ts) = integer_value_sound p (t ∷ ts)
 
 values_stand : (p : ℕ) (ts : Tokens) → Stands 3 p ts (values_at p ts)
 unfolding values_at
 values_stand p ts =
-    taken_then is_open ParenthesisExpected 2 p ts (λ us. enclosed (list_at Commas value_at (p + 1) us))
+    taken_then is_open ParenthesisExpected refl 2 p ts (λ us. enclosed (list_at Commas value_at (p + 1) us))
     (λ us. enclosed_stands 1 (p + 1) us (list_at Commas value_at (p + 1) us) (list_sound Commas value_at value_sound (p + 1) us))
 
 simple_stands : (w : SimpleWord) (p : ℕ) (ts : Tokens) → Stands 0 p ts (simple_of w p ts)
@@ -268,11 +270,11 @@ keyword_less ts us w h = ap length (word_first ts us w h).1
 -- nests: a step of the walk
 abbrev WalkStands : (least p : ℕ) → Tokens → Result Walk Fault → Type 0
 WalkStands least p ts (Ok w) = Passes least p ts w.next w.rest
-WalkStands least p ts (Err f) = FaultStands p ts f
+WalkStands least p ts (Err f) = IsToldOf p ts f
 
 walk_behind : (a b p q : ℕ) (ts us : Tokens) (r : Result Walk Fault) → Passes a p ts q us → WalkStands b q us r → WalkStands (a + b) p ts r
 walk_behind a b p q ts us (Ok w) passed h = passes_on a b p q w.next ts us w.rest passed h
-walk_behind a b p q ts us (Err f) passed h = fault_behind a p q ts us f passed h
+walk_behind a b p q ts us (Err f) passed h = told_behind a p q ts us f passed h
 
 walk_least : (most least p : ℕ) (ts : Tokens) (r : Result Walk Fault) → least ≤ most → WalkStands most p ts r → WalkStands least p ts r
 walk_least most least p ts (Ok w) less h = (omega (arith, h.0), h.1)
@@ -293,7 +295,7 @@ parameters_walk_stands opens p us None e = by (begins_description us)
   where
     by : (b : Bool) → WalkStands 0 p us (cond b (description_walk opens p us) (expected ParenthesisExpected p us))
     by true = description_stands opens p us
-    by false = misfit_stands ParenthesisExpected p us
+    by false = misfit_stands ParenthesisExpected refl p us
 
 entry_walk_stands : (opens : List Open) (p : ℕ) (ts : Tokens) (o : Option Tokens) → behind is_open ts ≡ o → WalkStands 0 p ts (entry_walk opens p ts o)
 entry_walk_stands opens p ts None e = passes_none p ts
@@ -310,11 +312,11 @@ word_walk_stands opens attribute.Returns p ts = by (behind is_open ts) refl
     by : (o : Option Tokens) → behind is_open ts ≡ o → WalkStands 0 p ts (taken_or ParenthesisExpected p ts o >>= λ us. Ok (record { opens = opened.Returns ∷ opens; expects = expects.Attribute; next = p + 1; rest = us }))
     by (Some us) e =
         walk_least 1 0 p ts (Ok (record { opens = opened.Returns ∷ opens; expects = expects.Attribute; next = p + 1; rest = us })) (omega arith) (passes_one p ts us (one_less is_open ts us e))
-    by None e = misfit_stands ParenthesisExpected p ts
+    by None e = misfit_stands ParenthesisExpected refl p ts
 
 closed_walk_stands : (opens : List Open) (p : ℕ) (ts : Tokens) (o : Option Tokens) → behind is_close ts ≡ o → WalkStands 1 p ts (closed_walk opens p ts o)
 closed_walk_stands opens p ts (Some us) e = passes_one p ts us (one_less is_close ts us e)
-closed_walk_stands opens p ts None e = misfit_stands ParenthesisExpected p ts
+closed_walk_stands opens p ts None e = misfit_stands ParenthesisExpected refl p ts
 
 comma_walk_stands : (opens : List Open) (p : ℕ) (ts : Tokens) (o : Option Tokens) → behind is_comma ts ≡ o → WalkStands 1 p ts (comma_walk opens p ts o)
 comma_walk_stands opens p ts (Some us) e = walk_behind 1 0 p (p + 1) ts us (description_walk opens (p + 1) us) (passes_one p ts us (one_less is_comma ts us e)) (description_stands opens (p + 1) us)
@@ -322,7 +324,7 @@ comma_walk_stands opens p ts None e = closed_walk_stands opens p ts (behind is_c
 
 behind_walk_stands : (opens : List Open) (p : ℕ) (ts : Tokens) → WalkStands 1 p ts (behind_walk opens p ts)
 unfolding behind_walk
-behind_walk_stands [] p ts = misfit_stands ParenthesisExpected p ts
+behind_walk_stands [] p ts = misfit_stands ParenthesisExpected refl p ts
 behind_walk_stands (opened.Entry ∷ opens) p ts = comma_walk_stands opens p ts (behind is_comma ts) refl
 behind_walk_stands (opened.Returns ∷ opens) p ts = closed_walk_stands opens p ts (behind is_close ts) refl
 
@@ -331,7 +333,7 @@ unfolding step_at
 step_stands opens what p ts = by (attribute_first ts) refl
   where
     no_word : (e : Expects) → WalkStands 1 p ts (no_word_walk opens e p ts)
-    no_word expects.Attribute = misfit_stands BadAttribute p ts
+    no_word expects.Attribute = misfit_stands BadAttribute refl p ts
     no_word expects.More = behind_walk_stands opens p ts
 
     by : (o : Option (AttributeWord × Tokens)) → attribute_first ts ≡ o → WalkStands 1 p ts (walk_by opens what p ts o)
@@ -365,7 +367,7 @@ unfolding described_at
 described_sound p ts = by (attribute_first ts) refl
   where
     by : (o : Option (AttributeWord × Tokens)) → attribute_first ts ≡ o → Stands 1 p ts (described_from p ts o)
-    by None e = misfit_stands BadAttribute p ts
+    by None e = misfit_stands BadAttribute refl p ts
     by (Some (attribute.Simple w, us)) e =
         stands_behind 1 0 p (p + 1) ts us (mapped tree.Plain (simple_of w (p + 1) us)) (passes_one p ts us (keyword_less ts us (attribute.Simple w) e))
         (mapped_stands 0 (p + 1) us tree.Plain (simple_of w (p + 1) us) (simple_stands w (p + 1) us))
@@ -385,7 +387,7 @@ parameters_sound p us = by (behind is_close us) refl
     descriptions : (b : Bool) → Stands 1 p us (cond b (enclosed (list_at Commas parameter_at p us)) (expected ParenthesisExpected p us))
     descriptions true =
         at_least 2 1 p us (enclosed (list_at Commas parameter_at p us)) (omega arith) (enclosed_stands 1 p us (list_at Commas parameter_at p us) (list_sound Commas parameter_at parameter_sound p us))
-    descriptions false = misfit_stands ParenthesisExpected p us
+    descriptions false = misfit_stands ParenthesisExpected refl p us
 
     by : (o : Option Tokens) → behind is_close us ≡ o → Stands 1 p us (parameters_from p us o)
     by (Some vs) e = passes_one p us vs (one_less is_close us vs e)
@@ -405,7 +407,7 @@ entry_stands p ts = by (behind is_open ts) refl
 pub returned_stands : (p : ℕ) (ts : Tokens) → Stands 3 p ts (returned_at p ts)
 unfolding returned_at
 returned_stands p ts =
-    taken_then is_open ParenthesisExpected 2 p ts (λ us. enclosed (list_at Nothing described_at (p + 1) us))
+    taken_then is_open ParenthesisExpected refl 2 p ts (λ us. enclosed (list_at Nothing described_at (p + 1) us))
     (λ us. enclosed_stands 1 (p + 1) us (list_at Nothing described_at (p + 1) us) (list_sound Nothing described_at described_sound (p + 1) us))
 
 attribute_sound : IsSound attribute_at
@@ -413,7 +415,7 @@ unfolding attribute_at
 attribute_sound p ts = by (attribute_first ts) refl
   where
     by : (o : Option (AttributeWord × Tokens)) → attribute_first ts ≡ o → Stands 1 p ts (attribute_from p ts o)
-    by None e = misfit_stands BadAttribute p ts
+    by None e = misfit_stands BadAttribute refl p ts
     by (Some (attribute.Simple w, us)) e =
         stands_behind 1 0 p (p + 1) ts us (mapped tree.Simple (simple_of w (p + 1) us)) (passes_one p ts us (keyword_less ts us (attribute.Simple w) e))
         (mapped_stands 0 (p + 1) us tree.Simple (simple_of w (p + 1) us) (simple_stands w (p + 1) us))
@@ -475,21 +477,21 @@ pub declaration_stands : (p : ℕ) (ts : Tokens) → Stands 2 p ts (declaration_
 unfolding declaration_at
 declaration_stands p ts =
     stands_then 1 1 p ts (items_at p ts) (λ x. taken is_semicolon SemicolonExpected x.next x.rest >>= λ rest. read_as x.value (x.next + 1) rest) (items_sound p ts)
-    (λ x s. taken_then is_semicolon SemicolonExpected 0 x.next x.rest (λ rest. read_as x.value (x.next + 1) rest) (λ us. passes_none (x.next + 1) us))
+    (λ x s. taken_then is_semicolon SemicolonExpected refl 0 x.next x.rest (λ rest. read_as x.value (x.next + 1) rest) (λ us. passes_none (x.next + 1) us))
 
 -- of a fault
 err_same : {A : Type 0} {x y : Fault} → ◌≡◌ {A = Result A Fault} (Err x) (Err y) → x ≡ y
 err_same h = cc
 
-pub fault_of : {A : Type 0} (least p : ℕ) (ts : Tokens) (r : Result (Front A) Fault) (f : Fault) → Stands least p ts r → r ≡ Err f → FaultStands p ts f
+pub fault_of : {A : Type 0} (least p : ℕ) (ts : Tokens) (r : Result (Front A) Fault) (f : Fault) → Stands least p ts r → r ≡ Err f → IsToldOf p ts f
 fault_of least p ts (Ok x) f h e = cc
-fault_of least p ts (Err g) f h e = subst (FaultStands p ts) (err_same e) h
+fault_of least p ts (Err g) f h e = subst (IsToldOf p ts) (err_same e) h
 
 pub items_fault_stands : (p : ℕ) (ts : Tokens) (f : Fault) → items_at p ts ≡ Err f → FaultStands p ts f
-items_fault_stands p ts f h = fault_of 1 p ts (items_at p ts) f (items_sound p ts) h
+items_fault_stands p ts f h = told_stands p ts f (fault_of 1 p ts (items_at p ts) f (items_sound p ts) h)
 
 pub declaration_fault_stands : (p : ℕ) (ts : Tokens) (f : Fault) → declaration_at p ts ≡ Err f → FaultStands p ts f
-declaration_fault_stands p ts f h = fault_of 2 p ts (declaration_at p ts) f (declaration_stands p ts) h
+declaration_fault_stands p ts f h = told_stands p ts f (fault_of 2 p ts (declaration_at p ts) f (declaration_stands p ts) h)
 
 pub returned_fault_stands : (p : ℕ) (ts : Tokens) (f : Fault) → returned_at p ts ≡ Err f → FaultStands p ts f
-returned_fault_stands p ts f h = fault_of 3 p ts (returned_at p ts) f (returned_stands p ts) h
+returned_fault_stands p ts f h = told_stands p ts f (fault_of 3 p ts (returned_at p ts) f (returned_stands p ts) h)

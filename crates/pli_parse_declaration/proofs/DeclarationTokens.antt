@@ -9,7 +9,7 @@ use Rattle.pli_base.specs.declared.token.Sign.TheVariants.{CloseParenthesis, Sem
 use Rattle.pli_base.specs.declared.token.TokenText.TheVariants.{Sign}
 use Rattle.pli_parse_declaration.specs.DeclarationReading.{items_at, declaration_at}
 use Rattle.pli_parse_declaration.specs.declared.list.Separator.{Separator}
-use Rattle.pli_parse_declaration.specs.declared.list.Separator.TheVariants.{Commas, Periods, Nothing}
+use Rattle.pli_parse_declaration.specs.declared.list.Separator.TheVariants.{Commas}
 use Rattle.pli_parse_declaration.specs.Separators.{behind_separator}
 use Rattle.pli_parse_declaration.specs.DeclarationGrammar.{between, SpellsListed, SpellsIdentifier, SpellsNames, SpellsItem, SpellsItems, SpellsDeclaration}
 use Rattle.pli_parse_declaration.proofs.DeclarationSteps.{separator_place}

@@ -1,20 +1,18 @@
 -- Reading what stands behind DECLARE: items, or the one fault. Tokens are counted from 0, and p is the place
 -- of the first.
 -- A part that need not stand is passed over, so a fault is about what must stand next.
-use Rattle.std.specs.Prelude.{ℕ, zero, suc, ◌+◌, ◌-◌, nat_eq, Bool, true, false, Option, Some, None, Result}
-use Rattle.std.specs.Prelude.{Ok, Err, List, [], ◌∷◌, length, codes, if◌then◌else◌}
+use Rattle.std.specs.Prelude.{ℕ, zero, suc, ◌+◌, nat_eq, Bool, true, false, Option, Some, None, Result}
+use Rattle.std.specs.Prelude.{Ok, List, [], ◌∷◌, length, codes, if◌then◌else◌}
 use Rattle.pli_base.specs.Name.{Name}
 use Rattle.pli_base.specs.Words.{Tokens, same_name, is_open, is_close, is_comma, is_semicolon, behind}
-use Rattle.pli_base.specs.Words.{name_first, is_colon, is_period}
+use Rattle.pli_base.specs.Words.{name_first, is_colon}
 use Rattle.pli_base.specs.Reading.{◌>>=◌, at_fault, Front, expected, read_as, mapped, taken, enclosed}
 use Rattle.pli_base.specs.Reading.{if_open, or_none}
-use Rattle.pli_base.specs.declared.code.Code.{Code}
 use Rattle.pli_base.specs.declared.code.Code.TheVariants.{ParenthesisExpected, SemicolonExpected}
 use Rattle.pli_base.specs.declared.code.Code.TheVariants.{NameExpected, EndMissing, BadAttribute}
 use Rattle.pli_base.specs.declared.code.Code.TheVariants.{ConstantExpected}
 use Rattle.pli_base.specs.declared.token.Fault.{Fault}
 use Rattle.pli_base.specs.declared.token.Sign.TheVariants.{OpenParenthesis, Plus, Minus}
-use Rattle.pli_base.specs.declared.token.TokenText.{TokenText}
 use Rattle.pli_base.specs.declared.token.TokenText.TheVariants.{Word, Decimal, Binary, Characters, Bits, Sign}
 use Rattle.pli_parse_declaration.specs.DeclarationWords.{attribute_first, with_attribute, begins_description}
 use Rattle.pli_parse_declaration.specs.DeclarationWords.{is_zero}

@@ -1,11 +1,10 @@
 -- The keywords of attributes, and tests of tokens.
-use Rattle.std.specs.Prelude.{Bool, true, false, ◌||◌, ◌&&◌, is_some, nat_eq, [], ◌∷◌, codes, Option, Some}
+use Rattle.std.specs.Prelude.{Bool, false, ◌||◌, ◌&&◌, is_some, nat_eq, ◌∷◌, codes, Option, Some}
 use Rattle.std.specs.Prelude.{None, if◌then◌else◌}
 use Rattle.pli_base.specs.Name.{Name}
 use Rattle.pli_base.specs.Words.{Tokens, same_name, is_open, behind}
 use Rattle.pli_base.specs.declared.token.TokenText.{TokenText}
-use Rattle.pli_base.specs.declared.token.Sign.TheVariants.{Colon, Period}
-use Rattle.pli_base.specs.declared.token.TokenText.TheVariants.{Word, Decimal, Sign}
+use Rattle.pli_base.specs.declared.token.TokenText.TheVariants.{Word, Decimal}
 use Rattle.pli_parse_declaration.specs.declared.word.SimpleWord.{SimpleWord}
 use Rattle.pli_parse_declaration.specs.declared.word.SimpleWord.TheVariants.{Fixed, Binary, Character, Bit}
 use Rattle.pli_parse_declaration.specs.declared.word.SimpleWord.TheVariants.{Varying, Pointer, Offset, Area}

@@ -3,7 +3,9 @@ use Rattle.std.proofs.Common.{◌≡◌, ◌<◌, ◌≤◌, ◌+◌, ℕ, suc, 
 use Rattle.pli_base.specs.Name.{Name}
 use Rattle.pli_base.specs.Syntax.{Expression, Referred, Parenthesized, Prefix, Infix, Reference, Named, JoinedParts, Joined, Arguments, Given, Expressions, Empty, Listed}
 use Rattle.pli_base.specs.FaultPlaces.{FaultStands, Passes}
-use Rattle.pli_base.specs.laws.FaultPlaceLaws.{passes_none, passes_one, passes_on, fault_first, fault_ended, fault_behind}
+use Rattle.pli_base.specs.laws.FaultPlaceLaws.{passes_none, passes_one, passes_on}
+use Rattle.pli_parse_fault.specs.FaultCodes.{is_of_part, IsToldOf}
+use Rattle.pli_parse_fault.proofs.ToldFaults.{told_first, told_ended, told_behind, told_stands}
 use Rattle.pli_base.specs.declared.code.Code.{Code}
 use Rattle.pli_base.specs.declared.code.Code.TheVariants.{ExpressionExpected, ParenthesisExpected, NameExpected, NestedTooDeep}
 use Rattle.pli_base.specs.declared.syntax.PrefixOperator.{PrefixOperator}
@@ -23,12 +25,12 @@ use Rattle.pli_parse_expression.proofs.ReadingTools.{operator_ok, joining_ok, na
 -- what was read passes over so many tokens at least, and a fault stands at one of them
 abbrev pub Stands : {A : Type 0} → (least p : ℕ) → Tokens → Result (Front A) Fault → Type 0
 Stands least p ts (Ok x) = Passes least p ts x.next x.rest
-Stands least p ts (Err f) = FaultStands p ts f
+Stands least p ts (Err f) = IsToldOf p ts f
 
-pub misfit_stands : (code : Code) (p : ℕ) (ts : Tokens) → FaultStands p ts (misfit code p ts)
+pub misfit_stands : (code : Code) → is_of_part code ≡ true → (p : ℕ) (ts : Tokens) → IsToldOf p ts (misfit code p ts)
 unfolding misfit
-misfit_stands code p [] = fault_ended p
-misfit_stands code p (t ∷ ts) = fault_first code p (t ∷ ts) (omega arith)
+misfit_stands code part p [] = told_ended p
+misfit_stands code part p (t ∷ ts) = told_first code part p (t ∷ ts) (omega arith)
 
 -- with less passed over
 pub at_least : {A : Type 0} (most least p : ℕ) (ts : Tokens) (r : Result (Front A) Fault) → least ≤ most → Stands most p ts r → Stands least p ts r
@@ -38,7 +40,7 @@ at_least most least p ts (Err f) less h = h
 -- behind tokens that were passed over
 pub stands_behind : {A : Type 0} (a b p q : ℕ) (ts us : Tokens) (r : Result (Front A) Fault) → Passes a p ts q us → Stands b q us r → Stands (a + b) p ts r
 stands_behind a b p q ts us (Ok x) passed h = passes_on a b p q x.next ts us x.rest passed h
-stands_behind a b p q ts us (Err f) passed h = fault_behind a p q ts us f passed h
+stands_behind a b p q ts us (Err f) passed h = told_behind a p q ts us f passed h
 
 -- one step behind another
 pub stands_then : {A B : Type 0} (a b p : ℕ) (ts : Tokens) (r : Result (Front A) Fault) (f : Front A → Result (Front B) Fault)
@@ -57,13 +59,13 @@ limited_stands {A = A} least count p ts r some h = by (nat_lt count operator_lim
   where
     by : (b : Bool) → Stands {A = A} least p ts (cond b r (at_fault NestedTooDeep p))
     by true = h
-    by false = fault_first NestedTooDeep p ts some
+    by false = told_first NestedTooDeep refl p ts some
 
 pub closed_stands : {A : Type 0} (value : A) (count p : ℕ) (ts : Tokens) → Stands 1 p ts (closed value count p ts)
 unfolding taken behind
-closed_stands value count p [] = misfit_stands ParenthesisExpected p []
+closed_stands value count p [] = misfit_stands ParenthesisExpected refl p []
 closed_stands value count p (Sign signs.CloseParenthesis ∷ ts) = passes_one p (Sign signs.CloseParenthesis ∷ ts) ts (omega arith)
-closed_stands value count p (t ∷ ts) = misfit_stands ParenthesisExpected p (t ∷ ts)
+closed_stands value count p (t ∷ ts) = misfit_stands ParenthesisExpected refl p (t ∷ ts)
 
 -- a reader passes over a token at least
 abbrev pub IsSound : Reader → Type 0
@@ -145,7 +147,7 @@ IsSoundWhere (Some one) = IsSound one
 
 opened_arguments : (one : Option Reader) → IsSoundWhere one → (count p : ℕ) (ts : Tokens)
     → Stands 0 p (Sign signs.OpenParenthesis ∷ ts) (opened one p (λ one. list_at one count (p + 1) ts >>= λ x. Ok (record { value = Given x.value; count = x.count; next = x.next; rest = x.rest })))
-opened_arguments None sound count p ts = fault_first NestedTooDeep p (Sign signs.OpenParenthesis ∷ ts) (omega arith)
+opened_arguments None sound count p ts = told_first NestedTooDeep refl p (Sign signs.OpenParenthesis ∷ ts) (omega arith)
 opened_arguments (Some one) sound count p ts =
     let read : Result (Front Arguments) Fault = list_at one count (p + 1) ts >>= λ x. Ok (record { value = Given x.value; count = x.count; next = x.next; rest = x.rest }) in
     let us : Tokens = Sign signs.OpenParenthesis ∷ ts in
@@ -165,7 +167,7 @@ module _ (one : Option Reader) (sound : IsSoundWhere one) where
   -- behind `.` or `->`
   part_stands : (bound : ℕ) → PartsStand bound → (joining : Joining) (count p : ℕ) (ts : Tokens) → length ts < bound → (o : Option (Name × Tokens)) → name_first ts ≡ o
       → Stands 0 p ts (part_behind one (joined_from one bound) joining count p ts o)
-  part_stands bound more joining count p ts small None found = misfit_stands NameExpected p ts
+  part_stands bound more joining count p ts small None found = misfit_stands NameExpected refl p ts
   part_stands bound more joining count p ts small (Some n) found =
       let name : length ts ≡ suc (length n.1) = ap length (name_ok ts n found) in
       let read : Result (Front JoinedParts) Fault = part_behind one (joined_from one bound) joining count p ts (Some n) in
@@ -191,7 +193,7 @@ module _ (one : Option Reader) (sound : IsSoundWhere one) where
   parts_stand (suc bound) count p ts small = parts_step bound (parts_stand bound) count p ts small (joining_at ts) refl
 
   reference_step : (count p : ℕ) (ts : Tokens) (o : Option (Name × Tokens)) → name_first ts ≡ o → Stands 1 p ts (reference_behind one count p ts o)
-  reference_step count p ts None found = misfit_stands NameExpected p ts
+  reference_step count p ts None found = misfit_stands NameExpected refl p ts
   reference_step count p ts (Some n) found =
       let name : length ts ≡ suc (length n.1) = ap length (name_ok ts n found) in
       let read : Result (Front Reference) Fault = reference_behind one count p ts (Some n) in
@@ -215,7 +217,7 @@ mapped_sound (Some operand) sound = expression_sound operand sound
 prefix_stands : (one : Option Reader) → IsSoundWhere one → (operator : PrefixOperator) (count p : ℕ) (t : TokenText) (ts : Tokens) → Stands 1 p (t ∷ ts) (prefix_of one operator count p ts)
 unfolding prefix_of
 prefix_stands None sound operator count p t ts =
-    limited_stands 1 count p (t ∷ ts) (at_fault NestedTooDeep p) (omega arith) (fault_first NestedTooDeep p (t ∷ ts) (omega arith))
+    limited_stands 1 count p (t ∷ ts) (at_fault NestedTooDeep p) (omega arith) (told_first NestedTooDeep refl p (t ∷ ts) (omega arith))
 prefix_stands (Some operand) sound operator count p t ts =
     let read : Result (Front Expression) Fault = operand (count + 1) (p + 1) ts >>= λ x. Ok (record { value = Prefix operator p x.value; count = x.count; next = x.next; rest = x.rest }) in
     limited_stands 1 count p (t ∷ ts) read (omega arith)
@@ -224,7 +226,7 @@ prefix_stands (Some operand) sound operator count p t ts =
 
 parenthesis_stands : (one : Option Reader) → IsSoundWhere one → (count p : ℕ) (t : TokenText) (ts : Tokens) → Stands 1 p (t ∷ ts) (parenthesis_of one count p ts)
 unfolding parenthesis_of
-parenthesis_stands None sound count p t ts = fault_first NestedTooDeep p (t ∷ ts) (omega arith)
+parenthesis_stands None sound count p t ts = told_first NestedTooDeep refl p (t ∷ ts) (omega arith)
 parenthesis_stands (Some operand) sound count p t ts =
     let read : Result (Front Expression) Fault = expression_of operand count (p + 1) ts >>= λ x. closed (Parenthesized p x.value) x.count x.next x.rest in
     at_least 3 1 p (t ∷ ts) read (omega arith)
@@ -234,12 +236,12 @@ parenthesis_stands (Some operand) sound count p t ts =
 
 constant_stands : IsSound constant_at
 unfolding constant_at
-constant_stands count p [] = misfit_stands ExpressionExpected p []
+constant_stands count p [] = misfit_stands ExpressionExpected refl p []
 constant_stands count p (Decimal v d ∷ ts) = passes_one p (Decimal v d ∷ ts) ts (omega arith)
 constant_stands count p (Binary v d ∷ ts) = passes_one p (Binary v d ∷ ts) ts (omega arith)
 constant_stands count p (Characters s ∷ ts) = passes_one p (Characters s ∷ ts) ts (omega arith)
 constant_stands count p (Bits s ∷ ts) = passes_one p (Bits s ∷ ts) ts (omega arith)
-constant_stands count p (t ∷ ts) = misfit_stands ExpressionExpected p (t ∷ ts)
+constant_stands count p (t ∷ ts) = misfit_stands ExpressionExpected refl p (t ∷ ts)
 
 pub operand_stands : (one : Option Reader) → IsSoundWhere one → IsSound (operand_of one)
 unfolding operand_of
@@ -277,12 +279,12 @@ reference_at_stands levels p ts = reference_stands (option_map (argument_of true
 err_same : {A : Type 0} {x y : Fault} → ◌≡◌ {A = Result A Fault} (Err x) (Err y) → x ≡ y
 err_same h = cc
 
-pub fault_of : {A : Type 0} (least p : ℕ) (ts : Tokens) (r : Result (Front A) Fault) (f : Fault) → Stands least p ts r → r ≡ Err f → FaultStands p ts f
+pub fault_of : {A : Type 0} (least p : ℕ) (ts : Tokens) (r : Result (Front A) Fault) (f : Fault) → Stands least p ts r → r ≡ Err f → IsToldOf p ts f
 fault_of least p ts (Ok x) f h e = cc
-fault_of least p ts (Err g) f h e = subst (FaultStands p ts) (err_same e) h
+fault_of least p ts (Err g) f h e = subst (IsToldOf p ts) (err_same e) h
 
 pub expression_fault_stands : (levels p : ℕ) (ts : Tokens) (f : Fault) → expression_at levels 0 p ts ≡ Err f → FaultStands p ts f
-expression_fault_stands levels p ts f h = fault_of 1 p ts (expression_at levels 0 p ts) f (expression_at_sound levels 0 p ts) h
+expression_fault_stands levels p ts f h = told_stands p ts f (fault_of 1 p ts (expression_at levels 0 p ts) f (expression_at_sound levels 0 p ts) h)
 
 pub reference_fault_stands : (levels p : ℕ) (ts : Tokens) (f : Fault) → reference_at levels p ts ≡ Err f → FaultStands p ts f
-reference_fault_stands levels p ts f h = fault_of 1 p ts (reference_at levels p ts) f (reference_at_stands levels p ts) h
+reference_fault_stands levels p ts f h = told_stands p ts f (fault_of 1 p ts (reference_at levels p ts) f (reference_at_stands levels p ts) h)

@@ -1,3 +1,4 @@
 pub mod Examples
 pub mod OnePlace
 pub mod ReadingStops
+pub mod ToldFaults

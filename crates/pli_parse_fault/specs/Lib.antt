@@ -1,2 +1,3 @@
+pub mod FaultCodes
 pub mod FirstFaults
 pub mod examples

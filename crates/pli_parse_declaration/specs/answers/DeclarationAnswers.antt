@@ -1,14 +1,9 @@
 -- What the parser answers, against what reading a list of tokens gives.
-use Rattle.std.specs.Prelude.{◌≡◌, ◌+◌, ◌<◌, ◌≤◌, ℕ, List, Result, Ok, Err, length}
-use Rattle.pli_base.specs.Words.{Tokens}
-use Rattle.pli_base.specs.Reading as reading
-use Rattle.pli_base.specs.declared.token.Fault.{Fault}
+use Rattle.std.specs.Prelude.{List}
 use Rattle.pli_parse_declaration.specs.DeclarationReading.{Walk}
 use Rattle.pli_parse_declaration.specs.declared.nest.Open.{Open}
 use Rattle.pli_parse_declaration.specs.declared.nest.Expects.{Expects}
-use Rattle.pli_base.specs.declared.reading.ParseError.TheVariants as errors
 use Rattle.pli_base.specs.declared.reading.Front.{Front}
-use Rattle.pli_base.specs.declared.reading.ParseError.{ParseError}
 
 -- where a step of a walk has come, with these parentheses open
 abbrev pub walk_view : List Open → Front Expects → Walk
