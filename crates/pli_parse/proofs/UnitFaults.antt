@@ -109,8 +109,10 @@ no_procedure_met ts f h code = by (misplaced ts) (has_semicolon ts) ts refl refl
   where
     ended : EndMissing ≡ NoProcedure → ⊥
     ended e = cc
+
     behind : TextAfterEnd ≡ NoProcedure → ⊥
     behind e = cc
+
     by : (o : Option ℕ) (b : Bool) (us : Tokens) → misplaced us ≡ o → has_semicolon us ≡ b → unit_from o b us ≡ Err f
         → HasNoProcedure us f.at
     by (Some p) b us e s g = subst (λ (x : Fault). HasNoProcedure us x.at) (err_same g) (misplaced_here us p e)
@@ -132,8 +134,10 @@ end_missing_met ts f h code = by (misplaced ts) (has_semicolon ts) ts refl refl 
   where
     head : NoProcedure ≡ EndMissing → ⊥
     head e = cc
+
     behind : TextAfterEnd ≡ EndMissing → ⊥
     behind e = cc
+
     by : (o : Option ℕ) (b : Bool) (us : Tokens) → misplaced us ≡ o → has_semicolon us ≡ b → unit_from o b us ≡ Err f
         → f.at ≡ length us - 1
     by (Some p) b us e s g = absurd (head (ap (λ (x : Fault). x.code) (err_same g) ∙ code))
@@ -172,6 +176,7 @@ told_no_text p ts f told code =
   where
     differ : false ≡ true → ⊥
     differ g = cc
+
     ended : EndMissing ≡ TextAfterEnd → ⊥
     ended e = cc
 
@@ -191,7 +196,7 @@ unfolding external_at
 external_met n t ts f procedure h code =
     let name : Identifier = record { name = n; at = 0 } in
     let there : deeper (inside_of nesting_limit) 2 (λ i. heading_at name 1 3 ts >>= λ x. inner_list i name x.next 2 x.rest >>= λ l. finished (record { heading = x.value; statements = l.value.statements; end = l.value.end }) l.next l.rest)
-        ≡ (heading_at name 1 3 ts >>= λ x. inner_list in_unit name x.next 2 x.rest >>= λ l. finished (record { heading = x.value; statements = l.value.statements; end = l.value.end }) l.next l.rest) =
+    ≡ (heading_at name 1 3 ts >>= λ x. inner_list in_unit name x.next 2 x.rest >>= λ l. finished (record { heading = x.value; statements = l.value.statements; end = l.value.end }) l.next l.rest) =
     ap (λ o. deeper o 2 (λ i. heading_at name 1 3 ts >>= λ x. inner_list i name x.next 2 x.rest >>= λ l. finished (record { heading = x.value; statements = l.value.statements; end = l.value.end }) l.next l.rest)) (inside_there 63) in
     ⊎_elim
     (λ first. absurd (told_no_text 3 ts f (fault_of 1 3 ts (heading_at name 1 3 ts) f (heading_stands name 1 3 ts) first) code))
@@ -221,8 +226,10 @@ text_behind_met ts f h code = by (misplaced ts) (has_semicolon ts) ts refl refl 
   where
     head : NoProcedure ≡ TextAfterEnd → ⊥
     head e = cc
+
     ended : EndMissing ≡ TextAfterEnd → ⊥
     ended e = cc
+
     by : (o : Option ℕ) (b : Bool) (us : Tokens) → misplaced us ≡ o → has_semicolon us ≡ b → unit_from o b us ≡ Err f
         → HasTextBehind us f.at
     by (Some p) b us e s g = absurd (head (ap (λ (x : Fault). x.code) (err_same g) ∙ code))

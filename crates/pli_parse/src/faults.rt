@@ -4,6 +4,7 @@ ghost use Rattle.pli_base.specs.Reading.{at_fault};
 ghost use Rattle.pli_base.specs.Words.{Tokens};
 ghost use Rattle.pli_base.specs.declared.code.Code.TheVariants.{NoProcedure, EndMissing, TextAfterEnd};
 ghost use Rattle.pli_base.specs.declared.token.Fault.{Fault};
+ghost use Rattle.pli_parse_fault.specs.FaultCodes.{IsToldOf};
 ghost use Rattle.pli_parse_statement.specs.StatementReading.{has_semicolon, statement_at, unit_of};
 ghost use Rattle.pli_parse_statement.specs.StatementWords.{Context};
 ghost use Rattle.pli_parse.specs.UnitFaults.{HasNoProcedure, HasTextBehind};
@@ -30,4 +31,10 @@ pub fn texts_end_too_early()
 pub fn text_stands_behind()
     ensures told { (ts : Tokens) (p : ℕ) → HasTextBehind ts p → unit_of ts ≡ at_fault TextAfterEnd p }
     ensures met { (ts : Tokens) (f : Fault) → unit_of ts ≡ Err f → f.code ≡ TextAfterEnd → HasTextBehind ts f.at }
+{}
+
+/// A law: a fault of a statement is never P1 or P10; it stands at one of its tokens, or the text ends too early, and it is P9.
+#[tactic(auto, using(crate::proofs::StatementFaultPlaces::statement_told))]
+pub fn statements_have_codes_of_parts()
+    ensures { (c : Context) (levels p k : ℕ) (ts : Tokens) (f : Fault) → statement_at levels c p k ts ≡ Err f → IsToldOf p ts f }
 {}

@@ -8,7 +8,9 @@ mod reading;
 mod spelling;
 mod unit;
 
-pub use faults::{no_procedure_begins, text_stands_behind, texts_end_too_early};
+pub use faults::{
+    no_procedure_begins, statements_have_codes_of_parts, text_stands_behind, texts_end_too_early,
+};
 pub use laws::{faults_stand_at_tokens, tokens_of_units_rise, worked_examples};
 pub use pli_base::ParseError;
 pub use reading::units_read_are_spelled;
