@@ -1,5 +1,7 @@
 -- Commands that are obeyed are cases of the session.
 use Rattle.std.specs.Prelude.{◌≡◌, ◌≢◌, is_some, ℕ, Bool, true, false, nat_eq, if◌then◌else◌, Option, Some, None, Result, Ok, Err, List, [], ◌∷◌, ◌++◌, ◌⊎◌, refl}
+use Rattle.std.specs.Prelude.{OnOk, OnErr}
+use Rattle.std.specs.Result.{result_err}
 use Rattle.std.proofs.Common.{sym, ap, ◌∙◌, subst, inl, inr, append_assoc, arith}
 use Rattle.std.proofs.lemmas.Bool.Decides.{nat_tests}
 use Rattle.std.specs.Io.KnownBytes.{Appends}
@@ -7,6 +9,9 @@ use Rattle.pli_base.specs.Name.{Name}
 use Rattle.pli_base.specs.Devices.{AppendsPrefix}
 use Rattle.pli_base.specs.laws.DeviceLaws.{Appends-then, Appends-then_AppendsPrefix, AppendsPrefix-more}
 use Rattle.pli_members.specs.Members.{Store, lines_of}
+use Rattle.pli_members.specs.Refusals.{refusal_in}
+use Rattle.pli_members.specs.declared.refusal.EditError.{EditError}
+use Rattle.pli_members.specs.declared.refusal.EditError.TheVariants.{Refused, OutOfMemory}
 use Rattle.pli_members.specs.declared.refusal.Refusal.{Refusal}
 use Rattle.pli_members.specs.declared.refusal.Refusal.TheVariants.{NoSuchMember}
 use Rattle.pli_code.specs.views.ModuleView.{Module, module_view}
@@ -19,8 +24,9 @@ use Rattle.pli_meaning.proofs.MembersDoAsMeant.{members_simulate}
 use Rattle.pli_meaning.specs.Members.{HasMeaning}
 use Rattle.pli_bench.specs.answers.Answering.{Writes}
 use Rattle.pli_machine.specs.answers.Runs.{RanTo, StoppedWithin}
-use Rattle.pli_bench.specs.answers.Obeying.{Does, end_answer, gone}
+use Rattle.pli_bench.specs.answers.Obeying.{Does, as_edit, edit_answer, end_answer, gone, standing_after}
 use Rattle.pli_bench.specs.Commands.{Command, command_of}
+use Rattle.pli_bench.specs.Exchanges.{exchange, span}
 use Rattle.pli_bench.specs.Runs.{AnsweredOne, next_after}
 use Rattle.pli_bench.specs.declared.serving.Next.{Next}
 use Rattle.pli_bench.specs.declared.serving.WriteFailed.{WriteFailed}
@@ -31,57 +37,66 @@ use Rattle.pli_bench.specs.Session.{State, Lists, numbered_lines, EditsInMemory,
 abbrev pub state : Store → Bool → ℕ → State
 state store stands steps = record { store = store; stands = stands; steps = steps }
 
-module _ (refusal_of : Store → Option Refusal) (target_of : Store → Store) (s : State) (store : Store) (stands : Bool) (steps : ℕ) (is : state store stands steps ≡ s) where
-  -- an edit that may want memory: it was made, it was refused, or there was none
-  pub made_in_memory : (new : Store) → refusal_of store ≡ None → new ≡ target_of store → EditsInMemory (refusal_of s.store) (target_of s.store) s okay (state new false steps)
-  made_in_memory new e h =
-      subst (λ t. EditsInMemory (refusal_of t.store) (target_of t.store) t okay (state new false steps)) is
-      (subst (λ f. EditsInMemory f (target_of store) (state store stands steps) okay (state new false steps)) (sym e) (inl (refl, ap (λ m. state m false steps) h)))
+-- an edit of the store, and what it leaves standing, are cases of the session, whatever came of the edit
+module _ {M : Type 0} (refusal_of : Store → Option Refusal) (target_of : Store → Store) (s : State) (store : Store) (standing : Option M) (steps : ℕ) (is : state store (is_some standing) steps ≡ s) (new : Store) (after : Option M) where
+  left_alone : after ≡ standing → new ≡ store → state new (is_some after) steps ≡ state store (is_some standing) steps
+  left_alone a h = ap (λ m. state m (is_some after) steps) h ∙ ap (λ m. state store (is_some m) steps) a
 
-  pub refused_in_memory : (new : Store) (r : Refusal) → refusal_of store ≡ Some r → new ≡ store → EditsInMemory (refusal_of s.store) (target_of s.store) s (refused r) (state new stands steps)
-  refused_in_memory new r e h =
-      subst (λ t. EditsInMemory (refusal_of t.store) (target_of t.store) t (refused r) (state new stands steps)) is
-      (subst (λ f. EditsInMemory f (target_of store) (state store stands steps) (refused r) (state new stands steps)) (sym e) (refl, ap (λ m. state m stands steps) h))
+  left_edited : after ≡ None → new ≡ target_of store → state new (is_some after) steps ≡ state (target_of store) false steps
+  left_edited a h = ap (λ m. state m (is_some after) steps) h ∙ ap (λ (m : Option M). state (target_of store) (is_some m) steps) a
 
-  pub no_memory_for : (new : Store) → refusal_of store ≡ None → new ≡ store → EditsInMemory (refusal_of s.store) (target_of s.store) s no_memory (state new stands steps)
-  no_memory_for new e h =
-      subst (λ t. EditsInMemory (refusal_of t.store) (target_of t.store) t no_memory (state new stands steps)) is
-      (subst (λ f. EditsInMemory f (target_of store) (state store stands steps) no_memory (state new stands steps)) (sym e) (inr (refl, ap (λ m. state m stands steps) h)))
+  -- one that may want memory
+  pub edits_in_memory : {A : Type 0} (edit : Result A EditError) → after ≡ standing_after edit standing → refusal_in edit ≡ refusal_of store
+      → OnOk edit (new ≡ target_of store) → OnErr edit (new ≡ store)
+      → EditsInMemory (refusal_of s.store) (target_of s.store) (exchange s (edit_answer edit) (state new (is_some after) steps))
+  edits_in_memory {A} edit a r ok err =
+      subst (λ t. EditsInMemory (refusal_of t.store) (target_of t.store) (exchange t (edit_answer edit) (state new (is_some after) steps))) is
+      (subst (λ f. EditsInMemory f (target_of store) (exchange (state store (is_some standing) steps) (edit_answer edit) (state new (is_some after) steps))) r (by edit a ok err))
+    where
+      by : (edit : Result A EditError) → after ≡ standing_after edit standing → OnOk edit (new ≡ target_of store) → OnErr edit (new ≡ store)
+          → EditsInMemory (refusal_in edit) (target_of store) (exchange (state store (is_some standing) steps) (edit_answer edit) (state new (is_some after) steps))
+      by (Ok x) a ok err = inl (refl, left_edited a ok)
+      by (Err (Refused q)) a ok err = (refl, left_alone a err)
+      by (Err OutOfMemory) a ok err = inr (refl, left_alone a err)
 
-  -- an edit that wants none
-  pub made : (new : Store) → refusal_of store ≡ None → new ≡ target_of store → Edits (refusal_of s.store) (target_of s.store) s okay (state new false steps)
-  made new e h =
-      subst (λ t. Edits (refusal_of t.store) (target_of t.store) t okay (state new false steps)) is
-      (subst (λ f. Edits f (target_of store) (state store stands steps) okay (state new false steps)) (sym e) (refl, ap (λ m. state m false steps) h))
-
-  pub refused_edit : (new : Store) (r : Refusal) → refusal_of store ≡ Some r → new ≡ store → Edits (refusal_of s.store) (target_of s.store) s (refused r) (state new stands steps)
-  refused_edit new r e h =
-      subst (λ t. Edits (refusal_of t.store) (target_of t.store) t (refused r) (state new stands steps)) is
-      (subst (λ f. Edits f (target_of store) (state store stands steps) (refused r) (state new stands steps)) (sym e) (refl, ap (λ m. state m stands steps) h))
+  -- one that wants none
+  pub edits : {A : Type 0} (edit : Result A Refusal) (given : Result A EditError) → given ≡ as_edit edit → after ≡ standing_after given standing → result_err edit ≡ refusal_of store
+      → OnOk edit (new ≡ target_of store) → OnErr edit (new ≡ store)
+      → Edits (refusal_of s.store) (target_of s.store) (exchange s (edit_answer given) (state new (is_some after) steps))
+  edits {A} edit given g a r ok err =
+      subst (λ t. Edits (refusal_of t.store) (target_of t.store) (exchange t (edit_answer given) (state new (is_some after) steps))) is
+      (subst (λ f. Edits f (target_of store) (exchange (state store (is_some standing) steps) (edit_answer given) (state new (is_some after) steps))) r
+      (subst (λ e. Edits (result_err edit) (target_of store) (exchange (state store (is_some standing) steps) (edit_answer e) (state new (is_some after) steps))) (sym g)
+      (by edit (a ∙ ap (λ e. standing_after e standing) g) ok err)))
+    where
+      by : (edit : Result A Refusal) → after ≡ standing_after (as_edit edit) standing → OnOk edit (new ≡ target_of store) → OnErr edit (new ≡ store)
+          → Edits (result_err edit) (target_of store) (exchange (state store (is_some standing) steps) (edit_answer (as_edit edit)) (state new (is_some after) steps))
+      by (Ok x) a ok err = (refl, left_edited a ok)
+      by (Err q) a ok err = (refl, left_alone a err)
 
 module _ (s : State) (store : Store) (stands : Bool) (steps : ℕ) (is : state store stands steps ≡ s) where
   -- a build answers what a build from scratch gives
-  pub builds : (b : Built) → b ≡ scratch store.entries → Builds s (build_answer b) (state store (is_made b) steps)
+  pub builds : (b : Built) → b ≡ scratch store.entries → Builds (exchange s (build_answer b) (state store (is_made b) steps))
   builds b e =
-      subst (λ t. Builds t (build_answer b) (state store (is_made b) steps)) is
+      subst (λ t. Builds (exchange t (build_answer b) (state store (is_made b) steps))) is
       (inl (ap build_answer e, ap (λ x. state store (is_made x) steps) e))
 
   -- or memory was refused
-  pub builds_not : Builds s no_memory (state store false steps)
-  builds_not = subst (λ t. Builds t no_memory (state store false steps)) is (inr (refl, refl))
+  pub builds_not : Builds (exchange s no_memory (state store false steps))
+  builds_not = subst (λ t. Builds (exchange t no_memory (state store false steps))) is (inr (refl, refl))
 
 module _ (s : State) (store : Store) (stands : Bool) (steps : ℕ) (is : state store stands steps ≡ s) (name : Name) where
   -- there is no member to list
-  pub lists_none : lines_of store name ≡ None → Lists (lines_of s.store name) s (refused NoSuchMember) s
-  lists_none e = subst (λ o. Lists o s (refused NoSuchMember) s) (sym e ∙ ap (λ t. lines_of t.store name) is) (refl, refl)
+  pub lists_none : lines_of store name ≡ None → Lists (lines_of s.store name) (exchange s (refused NoSuchMember) s)
+  lists_none e = subst (λ o. Lists o (exchange s (refused NoSuchMember) s)) (sym e ∙ ap (λ t. lines_of t.store name) is) (refl, refl)
 
   -- the lines of one are listed
-  pub lists : (lines : List (List ℕ)) → lines_of store name ≡ Some lines → Lists (lines_of s.store name) s (numbered_lines 1 lines ++ okay) s
-  lists lines e = subst (λ o. Lists o s (numbered_lines 1 lines ++ okay) s) (sym e ∙ ap (λ t. lines_of t.store name) is) (refl, refl)
+  pub lists : (lines : List (List ℕ)) → lines_of store name ≡ Some lines → Lists (lines_of s.store name) (exchange s (numbered_lines 1 lines ++ okay) s)
+  lists lines e = subst (λ o. Lists o (exchange s (numbered_lines 1 lines ++ okay) s)) (sym e ∙ ap (λ t. lines_of t.store name) is) (refl, refl)
 
 -- no module stands
-pub runs_not : (s : State) (n : ℕ) → s.stands ≡ false → Runs s.stands n s not_built s
-runs_not s n e = subst (λ b. Runs b n s not_built s) (sym e) (refl, refl)
+pub runs_not : (s : State) (n : ℕ) → s.stands ≡ false → Runs s.stands n (exchange s not_built s)
+runs_not s n e = subst (λ b. Runs b n (exchange s not_built s)) (sym e) (refl, refl)
 
 -- a part is written after another
 pub writes_then : {A E : Type 0} (a b c : Option (List ℕ)) (xs ys : List ℕ) (r : Result A E) → Appends a b xs → Writes b c ys r → Writes a c (xs ++ ys) r
@@ -92,12 +107,12 @@ module _ (s : State) (n : ℕ) (m : Module) (stands : s.stands ≡ true) (built 
   means_at : HasMeaning s.store.entries m n
   means_at = members_simulate s.store.entries m built n
 
-  runs_with : (answer : List ℕ) → (answer ≡ run_answer means_at.outcome) ⊎ Breaks means_at.outcome.output answer → Runs s.stands n s answer s
-  runs_with answer h = subst (λ b. Runs b n s answer s) (sym stands) (means_at.outcome, means_at.means, h, refl)
+  runs_with : (answer : List ℕ) → (answer ≡ run_answer means_at.outcome) ⊎ Breaks means_at.outcome.output answer → Runs s.stands n (exchange s answer s)
+  runs_with answer h = subst (λ b. Runs b n (exchange s answer s)) (sym stands) (means_at.outcome, means_at.means, h, refl)
 
   -- a run that came to its end
   pub run_done : {A E : Type 0} (a b c : Option (List ℕ)) (ran : Ran) (r : Result A E) → RanTo m n ran a b → Writes b c (end_answer ran.column ran.ending) r
-      → (x : List ℕ) × Runs s.stands n s x s × Writes a c x r
+      → (x : List ℕ) × Runs s.stands n (exchange s x s) × Writes a c x r
   run_done a b c ran r h w =
       let same : h.outcome ≡ means_at.outcome = one_outcome (program_of m) n h.outcome means_at.outcome h.runs means_at.runs in
       let text : h.outcome.output ++ end_answer ran.column ran.ending ≡ run_answer means_at.outcome =
@@ -107,24 +122,24 @@ module _ (s : State) (n : ℕ) (m : Module) (stands : s.stands ≡ true) (built 
 
   -- a run for which memory was refused
   pub run_broken : {A E : Type 0} (a b c : Option (List ℕ)) (r : Result A E) → StoppedWithin m n a b → Writes b c (10 ∷ no_memory) r
-      → (x : List ℕ) × Runs s.stands n s x s × Writes a c x r
+      → (x : List ℕ) × Runs s.stands n (exchange s x s) × Writes a c x r
   run_broken a b c r h w =
       let p = h means_at.outcome means_at.runs in
       (p.written ++ 10 ∷ no_memory, runs_with _ (inr (record { written = p.written; left = p.left; whole = p.whole; says = refl })), writes_then a b c _ _ r p.appended w)
 
   -- a run whose writer failed
-  pub run_unwritten : (a b : Option (List ℕ)) → StoppedWithin m n a b → (x : List ℕ) × Runs s.stands n s x s × AppendsPrefix a b x
+  pub run_unwritten : (a b : Option (List ℕ)) → StoppedWithin m n a b → (x : List ℕ) × Runs s.stands n (exchange s x s) × AppendsPrefix a b x
   run_unwritten a b h =
       let p = AppendsPrefix-more a b means_at.outcome.output (end_answer means_at.outcome.column means_at.outcome.ending) (h means_at.outcome means_at.runs) in
       (means_at.outcome.output ++ end_answer means_at.outcome.column means_at.outcome.ending, runs_with _ (inl (sym (append_assoc means_at.outcome.output _ _))), p)
 
 -- a command that does not quit
 pub answered_one : {A E : Type 0} (s t : State) (line : List ℕ) (command : Option Command) (a b : Option (List ℕ)) (given : Result A E) (r : Result Next WriteFailed)
-    → command_of line ≡ command → is_quit command ≡ false → r ≡ gone given → Does (Obeys command) s t a b given → AnsweredOne Step quits s line t a b r
+    → command_of line ≡ command → is_quit command ≡ false → r ≡ gone given → Does (Obeys command) s t a b given → AnsweredOne Step quits line (span s t) (span a b) r
 answered_one s t line command a b (Ok x) r e q g d =
-    subst (AnsweredOne Step quits s line t a b) (sym g) (d.0, subst (λ k. Obeys k s d.0 t) (sym e) d.1, d.2, ap next_after (sym (ap is_quit e ∙ q)))
+    subst (AnsweredOne Step quits line (span s t) (span a b)) (sym g) (d.0, subst (λ k. Obeys k (exchange s d.0 t)) (sym e) d.1, d.2, ap next_after (sym (ap is_quit e ∙ q)))
 answered_one s t line command a b (Err x) r e q g d =
-    subst (AnsweredOne Step quits s line t a b) (sym g) (d.0, subst (λ k. Obeys k s d.0 t) (sym e) d.1, d.2)
+    subst (AnsweredOne Step quits line (span s t) (span a b)) (sym g) (d.0, subst (λ k. Obeys k (exchange s d.0 t)) (sym e) d.1, d.2)
 
 not_one : (column : ℕ) → column ≢ 1 → nat_eq column 1 ≡ false
 not_one column h = grind (arith, nat_tests)
@@ -151,12 +166,12 @@ standing_built s store standing steps m is some h =
 
 module _ (s : State) (n k : ℕ) (same : n ≡ k) (m : Module) (stands : s.stands ≡ true) (built : scratch s.store.entries ≡ Made m) where
   pub run_done_at : {A E : Type 0} (a b c : Option (List ℕ)) (ran : Ran) (r : Result A E) → RanTo m n ran a b → Writes b c (end_answer ran.column ran.ending) r
-      → (x : List ℕ) × Runs s.stands k s x s × Writes a c x r
-  run_done_at a b c ran r h w = subst (λ k. (x : List ℕ) × Runs s.stands k s x s × Writes a c x r) same (run_done s n m stands built a b c ran r h w)
+      → (x : List ℕ) × Runs s.stands k (exchange s x s) × Writes a c x r
+  run_done_at a b c ran r h w = subst (λ k. (x : List ℕ) × Runs s.stands k (exchange s x s) × Writes a c x r) same (run_done s n m stands built a b c ran r h w)
 
   pub run_broken_at : {A E : Type 0} (a b c : Option (List ℕ)) (r : Result A E) → StoppedWithin m n a b → Writes b c (10 ∷ no_memory) r
-      → (x : List ℕ) × Runs s.stands k s x s × Writes a c x r
-  run_broken_at a b c r h w = subst (λ k. (x : List ℕ) × Runs s.stands k s x s × Writes a c x r) same (run_broken s n m stands built a b c r h w)
+      → (x : List ℕ) × Runs s.stands k (exchange s x s) × Writes a c x r
+  run_broken_at a b c r h w = subst (λ k. (x : List ℕ) × Runs s.stands k (exchange s x s) × Writes a c x r) same (run_broken s n m stands built a b c r h w)
 
-  pub run_unwritten_at : (a b : Option (List ℕ)) → StoppedWithin m n a b → (x : List ℕ) × Runs s.stands k s x s × AppendsPrefix a b x
-  run_unwritten_at a b h = subst (λ k. (x : List ℕ) × Runs s.stands k s x s × AppendsPrefix a b x) same (run_unwritten s n m stands built a b h)
+  pub run_unwritten_at : (a b : Option (List ℕ)) → StoppedWithin m n a b → (x : List ℕ) × Runs s.stands k (exchange s x s) × AppendsPrefix a b x
+  run_unwritten_at a b h = subst (λ k. (x : List ℕ) × Runs s.stands k (exchange s x s) × AppendsPrefix a b x) same (run_unwritten s n m stands built a b h)

@@ -9,6 +9,7 @@ use Rattle.pli_base.specs.laws.DeviceLaws.{Appends-none, Appends-then, Consumes-
 use Rattle.pli_bench.specs.Commands.{line_limit}
 use Rattle.pli_bench.specs.answers.Kept.{kept_limit}
 use Rattle.pli_bench.specs.Lines.{is_line_feed, without_return, complete_from, pending_from, complete_lines, pending_line, last_line, input_lines}
+use Rattle.pli_bench.specs.Exchanges.{Exchange, exchange, span}
 use Rattle.pli_bench.specs.Runs.{Answers, nothing, quitting, going, Broken, Answered, QuitsWithin, Stops, next_after, IsInput}
 use Rattle.pli_bench.specs.answers.Going.{Going}
 use Rattle.pli_bench.specs.declared.serving.Next.{Next}
@@ -42,7 +43,7 @@ alike_ended kept line ended is ended_is = elim (kept_cases kept line is) [
   | inr long ↦ inr (omega (arith, ap length ended_is, length-without_return kept), omega (arith, length-without_return line))
 ]
 
-module _ {S : Type 0} (Step : S → List ℕ → List ℕ → S → Type 0) (quits : List ℕ → Bool) where
+module _ {S : Type 0} (Step : List ℕ → Exchange S → Type 0) (quits : List ℕ → Bool) where
   -- lines after lines that do not quit
   pub Answers-then : (s t u : S) (xs ys : List (List ℕ)) (a b : List ℕ) (next : Next) → Answers Step quits s xs a t End → Answers Step quits t ys b u next → Answers Step quits s (xs ++ ys) (a ++ b) u next
   Answers-then _ _ u _ ys _ b next (nothing s) rest = rest
@@ -61,12 +62,12 @@ module _ {S : Type 0} (Step : S → List ℕ → List ℕ → S → Type 0) (qui
   Answers-go_on _ _ _ _ (nothing s) = All-nil (λ l. quits l ≡ false)
   Answers-go_on _ _ _ _ (going s t u line lines answer answers _ goes step more) = All-cons (λ l. quits l ≡ false) line lines goes (Answers-go_on t u lines answers more)
 
-  pub Answers-one : (s t : S) (line answer : List ℕ) → quits line ≡ false → Step s line answer t → Answers Step quits s (line ∷ []) answer t End
+  pub Answers-one : (s t : S) (line answer : List ℕ) → quits line ≡ false → Step line (exchange s answer t) → Answers Step quits s (line ∷ []) answer t End
   Answers-one s t line answer goes step = subst (λ l. Answers Step quits s (line ∷ []) l t End) (append-nil answer) (going s t t line [] answer [] End goes step (nothing t))
 
   -- answered lines before others
   pub Answered-then : (s t u : S) (xs ys : List (List ℕ)) (answers : List ℕ) (a b d : Option (List ℕ)) (r : Result Next WriteFailed)
-      → Answers Step quits s xs answers t End → Appends a b answers → Answered Step quits t ys u b d r → Answered Step quits s (xs ++ ys) u a d r
+      → Answers Step quits s xs answers t End → Appends a b answers → Answered Step quits ys (span t u) (span b d) r → Answered Step quits (xs ++ ys) (span s u) (span a d) r
   Answered-then s t u xs ys answers a b d (Ok next) front written rest =
       (answers ++ rest.0, Answers-then s t u xs ys answers rest.0 next front rest.1, Appends-then a b d answers rest.0 written rest.2)
   Answered-then s t u xs ys answers a b d (Err e) front written rest = record {
@@ -86,11 +87,11 @@ module _ {S : Type 0} (Step : S → List ℕ → List ℕ → S → Type 0) (qui
   }
 
   -- lines that follow the one that quits
-  pub Answered-quit : (s t : S) (xs ys : List (List ℕ)) (a d : Option (List ℕ)) → Answered Step quits s xs t a d (Ok Quit) → Answered Step quits s (xs ++ ys) t a d (Ok Quit)
+  pub Answered-quit : (s t : S) (xs ys : List (List ℕ)) (a d : Option (List ℕ)) → Answered Step quits xs (span s t) (span a d) (Ok Quit) → Answered Step quits (xs ++ ys) (span s t) (span a d) (Ok Quit)
   Answered-quit s t xs ys a d run = (run.0, Answers-quit s t xs ys run.0 run.1, run.2)
 
   -- lines that follow the one where the writer failed
-  pub Broken-more : (s t : S) (xs ys : List (List ℕ)) (a d : Option (List ℕ)) → Broken Step quits s xs t a d → Broken Step quits s (xs ++ ys) t a d
+  pub Broken-more : (s t : S) (xs ys : List (List ℕ)) (a d : Option (List ℕ)) → Broken Step quits xs (span s t) (span a d) → Broken Step quits (xs ++ ys) (span s t) (span a d)
   Broken-more s t xs ys a d run = record {
     earlier = run.earlier;
     line = run.line;
@@ -109,11 +110,11 @@ module _ {S : Type 0} (Step : S → List ℕ → List ℕ → S → Type 0) (qui
 
   -- the one line that quits
   pub Answered-quitting : (s t : S) (line : List ℕ) (more : List (List ℕ)) (answer : List ℕ) (a d : Option (List ℕ))
-      → quits line ≡ true → Step s line answer t → Appends a d answer → Answered Step quits s (line ∷ more) t a d (Ok Quit)
+      → quits line ≡ true → Step line (exchange s answer t) → Appends a d answer → Answered Step quits (line ∷ more) (span s t) (span a d) (Ok Quit)
   Answered-quitting s t line more answer a d quit step written = (answer, quitting s t line more answer quit step, written)
 
   -- the one line where the writer fails
-  pub Broken-one : (s t : S) (line : List ℕ) (more : List (List ℕ)) (answer : List ℕ) (a d : Option (List ℕ)) → Step s line answer t → AppendsPrefix a d answer → Broken Step quits s (line ∷ more) t a d
+  pub Broken-one : (s t : S) (line : List ℕ) (more : List (List ℕ)) (answer : List ℕ) (a d : Option (List ℕ)) → Step line (exchange s answer t) → AppendsPrefix a d answer → Broken Step quits (line ∷ more) (span s t) (span a d)
   Broken-one s t line more answer a d step written = record {
     earlier = [];
     line = line;
@@ -149,7 +150,7 @@ module _ {S : Type 0} (Step : S → List ℕ → List ℕ → S → Type 0) (qui
 
   -- more bytes behind those of which the lines are answered
   pub Going-then : (s t u : S) (begun xs kept ys kept_after : List ℕ) (a b d : Option (List ℕ)) → Going Step quits s t begun xs kept a b
-      → Answered Step quits t (complete_from (pending_from begun xs) ys) u b d (Ok End) → kept_after ≡ take kept_limit (pending_from (pending_from begun xs) ys)
+      → Answered Step quits (complete_from (pending_from begun xs) ys) (span t u) (span b d) (Ok End) → kept_after ≡ take kept_limit (pending_from (pending_from begun xs) ys)
       → Going Step quits s u begun (xs ++ ys) kept_after a d
   Going-then s t u begun xs kept ys kept_after a b d so_far more is =
       let both = Answered-then s t u (complete_from begun xs) (complete_from (pending_from begun xs) ys) so_far.answers a b d (Ok End) so_far.answered so_far.written more in
@@ -160,11 +161,11 @@ module _ {S : Type 0} (Step : S → List ℕ → List ℕ → S → Type 0) (qui
         kept_is = is ∙ ap (take kept_limit) (sym (pending_from-append begun xs ys));
       }
 
-  module _ (long : (s t : S) (line other answer : List ℕ) → line_limit < length line → line_limit < length other → Step s line answer t → Step s other answer t)
+  module _ (long : (s t : S) (line other answer : List ℕ) → line_limit < length line → line_limit < length other → Step line (exchange s answer t) → Step other (exchange s answer t))
       (goes : (line : List ℕ) → line_limit < length line → quits line ≡ false) where
-    step_alike : (s t : S) (line other answer : List ℕ) → Alike line other → Step s line answer t → Step s other answer t
+    step_alike : (s t : S) (line other answer : List ℕ) → Alike line other → Step line (exchange s answer t) → Step other (exchange s answer t)
     step_alike s t line other answer alike step = elim alike [
-      | inl same ↦ subst (λ l. Step s l answer t) same step
+      | inl same ↦ subst (λ l. Step l (exchange s answer t)) same step
       | inr both ↦ long s t line other answer both.0 both.1 step
     ]
 
@@ -176,7 +177,7 @@ module _ {S : Type 0} (Step : S → List ℕ → List ℕ → S → Type 0) (qui
 
     -- a line feed behind a line that does not quit
     pub Going-line : (s t u : S) (begun bytes kept ended answer : List ℕ) (c : ℕ) (a b d : Option (List ℕ)) → is_line_feed c ≡ true → Going Step quits s t begun bytes kept a b → ended ≡ without_return kept
-        → quits ended ≡ false → Step t ended answer u → Appends b d answer → Going Step quits s u begun (bytes ++ c ∷ []) [] a d
+        → quits ended ≡ false → Step ended (exchange t answer u) → Appends b d answer → Going Step quits s u begun (bytes ++ c ∷ []) [] a d
     Going-line s t u begun bytes kept ended answer c a b d feed so_far ended_is still step written =
         let line = without_return (pending_from begun bytes) in
         let alike = alike_ended kept (pending_from begun bytes) ended so_far.kept_is ended_is in
@@ -191,12 +192,12 @@ module _ {S : Type 0} (Step : S → List ℕ → List ℕ → S → Type 0) (qui
 
     -- a line feed behind the line that quits
     pub quit_line : (s t u : S) (begun bytes kept ended answer : List ℕ) (c : ℕ) (more : List ℕ) (a b d : Option (List ℕ)) → is_line_feed c ≡ true → Going Step quits s t begun bytes kept a b → ended ≡ without_return kept
-        → quits ended ≡ true → Step t ended answer u → Appends b d answer → Answered Step quits s (complete_from begun (bytes ++ c ∷ more)) u a d (Ok Quit)
+        → quits ended ≡ true → Step ended (exchange t answer u) → Appends b d answer → Answered Step quits (complete_from begun (bytes ++ c ∷ more)) (span s u) (span a d) (Ok Quit)
     quit_line s t u begun bytes kept ended answer c more a b d feed so_far ended_is quit step written =
         let line = without_return (pending_from begun bytes) in
         let alike = alike_ended kept (pending_from begun bytes) ended so_far.kept_is ended_is in
         let one = Answered-quitting t u line (complete_from [] more) answer b d (quits_alike ended line alike ∙ quit) (step_alike t u ended line answer alike step) written in
-        subst (λ l. Answered Step quits s l u a d (Ok Quit)) (sym (complete_from-line_feed begun bytes c more feed))
+        subst (λ l. Answered Step quits l (span s u) (span a d) (Ok Quit)) (sym (complete_from-line_feed begun bytes c more feed))
         (Answered-then s t u (complete_from begun bytes) (line ∷ complete_from [] more) so_far.answers a b d (Ok Quit) so_far.answered so_far.written one)
 
     -- the bytes up to that line feed, and those behind it
@@ -220,37 +221,37 @@ module _ {S : Type 0} (Step : S → List ℕ → List ℕ → S → Type 0) (qui
 
     -- a line feed behind a line whose answer cannot be written
     pub broken_line : (s t u : S) (begun bytes kept ended answer : List ℕ) (c : ℕ) (more : List ℕ) (a b d : Option (List ℕ)) → is_line_feed c ≡ true → Going Step quits s t begun bytes kept a b → ended ≡ without_return kept
-        → Step t ended answer u → AppendsPrefix b d answer → Broken Step quits s (complete_from begun (bytes ++ c ∷ more)) u a d
+        → Step ended (exchange t answer u) → AppendsPrefix b d answer → Broken Step quits (complete_from begun (bytes ++ c ∷ more)) (span s u) (span a d)
     broken_line s t u begun bytes kept ended answer c more a b d feed so_far ended_is step written =
         let line = without_return (pending_from begun bytes) in
         let alike = alike_ended kept (pending_from begun bytes) ended so_far.kept_is ended_is in
         let one = Broken-one t u line (complete_from [] more) answer b d (step_alike t u ended line answer alike step) written in
         let e : WriteFailed = record {} in
-        subst (λ l. Broken Step quits s l u a d) (sym (complete_from-line_feed begun bytes c more feed))
+        subst (λ l. Broken Step quits l (span s u) (span a d)) (sym (complete_from-line_feed begun bytes c more feed))
         (Answered-then s t u (complete_from begun bytes) (line ∷ complete_from [] more) so_far.answers a b d (Err e) so_far.answered so_far.written one)
 
     -- an empty last line is none
-    pub last_none : (s : S) (kept line : List ℕ) (a : Option (List ℕ)) → kept ≡ take kept_limit line → length kept ≡ 0 → Answered Step quits s (last_line line) s a a (Ok End)
+    pub last_none : (s : S) (kept line : List ℕ) (a : Option (List ℕ)) → kept ≡ take kept_limit line → length kept ≡ 0 → Answered Step quits (last_line line) (span s s) (span a a) (Ok End)
     last_none s kept [] a is none = ([], nothing s, Appends-none a)
     last_none s kept (c ∷ text) a is none = absurd (omega (arith, ap length is))
 
     -- the last line, which no line feed ends
-    pub last_going : (s t : S) (kept line answer : List ℕ) (a d : Option (List ℕ)) → kept ≡ take kept_limit line → 0 < length kept → quits kept ≡ false → Step s kept answer t → Appends a d answer
-        → Answered Step quits s (last_line line) t a d (Ok End)
+    pub last_going : (s t : S) (kept line answer : List ℕ) (a d : Option (List ℕ)) → kept ≡ take kept_limit line → 0 < length kept → quits kept ≡ false → Step kept (exchange s answer t) → Appends a d answer
+        → Answered Step quits (last_line line) (span s t) (span a d) (Ok End)
     last_going s t kept [] answer a d is some goes_on step written = absurd (omega (arith, ap length is))
     last_going s t kept (c ∷ text) answer a d is some goes_on step written =
         let alike = alike_last kept (c ∷ text) is in
         (answer, Answers-one s t (c ∷ text) answer (quits_alike kept (c ∷ text) alike ∙ goes_on) (step_alike s t kept (c ∷ text) answer alike step), written)
 
-    pub last_quit : (s t : S) (kept line answer : List ℕ) (a d : Option (List ℕ)) → kept ≡ take kept_limit line → 0 < length kept → quits kept ≡ true → Step s kept answer t → Appends a d answer
-        → Answered Step quits s (last_line line) t a d (Ok Quit)
+    pub last_quit : (s t : S) (kept line answer : List ℕ) (a d : Option (List ℕ)) → kept ≡ take kept_limit line → 0 < length kept → quits kept ≡ true → Step kept (exchange s answer t) → Appends a d answer
+        → Answered Step quits (last_line line) (span s t) (span a d) (Ok Quit)
     last_quit s t kept [] answer a d is some quit step written = absurd (omega (arith, ap length is))
     last_quit s t kept (c ∷ text) answer a d is some quit step written =
         let alike = alike_last kept (c ∷ text) is in
         Answered-quitting s t (c ∷ text) [] answer a d (quits_alike kept (c ∷ text) alike ∙ quit) (step_alike s t kept (c ∷ text) answer alike step) written
 
-    pub last_broken : (s t : S) (kept line answer : List ℕ) (a d : Option (List ℕ)) → kept ≡ take kept_limit line → 0 < length kept → Step s kept answer t → AppendsPrefix a d answer
-        → Broken Step quits s (last_line line) t a d
+    pub last_broken : (s t : S) (kept line answer : List ℕ) (a d : Option (List ℕ)) → kept ≡ take kept_limit line → 0 < length kept → Step kept (exchange s answer t) → AppendsPrefix a d answer
+        → Broken Step quits (last_line line) (span s t) (span a d)
     last_broken s t kept [] answer a d is some step written = absurd (omega (arith, ap length is))
     last_broken s t kept (c ∷ text) answer a d is some step written =
         Broken-one s t (c ∷ text) [] answer a d (step_alike s t kept (c ∷ text) answer (alike_last kept (c ∷ text) is) step) written
@@ -266,25 +267,25 @@ input_ended None new taken h e = tt
 input_ended (Some xs) None taken h e = absurd h
 input_ended (Some xs) (Some ys) taken h e = h ∙ ap (λ l. taken ++ l) e ∙ append-nil taken
 
-module _ {S : Type 0} (Step : S → List ℕ → List ℕ → S → Type 0) (quits : List ℕ → Bool) where
+module _ {S : Type 0} (Step : List ℕ → Exchange S → Type 0) (quits : List ℕ → Bool) where
   -- the lines of all of the input begin with those among which the answers stopped
   pub served_part : (s t u : S) (taken kept piece : List ℕ) (a b d left between left_after : Option (List ℕ)) (r : Result Next WriteFailed)
-      → ((xs ys : List (List ℕ)) → Answered Step quits s xs u a d r → Answered Step quits s (xs ++ ys) u a d r)
-      → Going Step quits s t [] taken kept a b → Consumes left between taken → Consumes between left_after piece → Answered Step quits t (complete_from (pending_line taken) piece) u b d r
-      → (input : List ℕ) × IsInput left input × Answered Step quits s (input_lines input) u a d r
+      → ((xs ys : List (List ℕ)) → Answered Step quits xs (span s u) (span a d) r → Answered Step quits (xs ++ ys) (span s u) (span a d) r)
+      → Going Step quits s t [] taken kept a b → Consumes left between taken → Consumes between left_after piece → Answered Step quits (complete_from (pending_line taken) piece) (span t u) (span b d) r
+      → (input : List ℕ) × IsInput left input × Answered Step quits (input_lines input) (span s u) (span a d) r
   served_part s t u taken kept piece a b d left between left_after r stays so_far before behind run =
       let more = input_lines-append (taken ++ piece) (unwrap_or left_after []) in
       let lines = complete_lines taken ++ complete_from (pending_line taken) piece in
       let both = Answered-then Step quits s t u (complete_lines taken) (complete_from (pending_line taken) piece) so_far.answers a b d r so_far.answered so_far.written run in (
         (taken ++ piece) ++ unwrap_or left_after [],
         input_told left left_after (taken ++ piece) (Consumes-then left between left_after taken piece before behind),
-        subst (λ l. Answered Step quits s l u a d r) (sym (more.1 ∙ ap (λ l. l ++ more.0) (complete_from-append [] taken piece))) (stays lines more.0 both),
+        subst (λ l. Answered Step quits l (span s u) (span a d) r) (sym (more.1 ∙ ap (λ l. l ++ more.0) (complete_from-append [] taken piece))) (stays lines more.0 both),
       )
 
   -- at the end of the input the last line is answered
   pub served_end : (s t u : S) (taken kept : List ℕ) (a b d left between left_after : Option (List ℕ)) (r : Result Next WriteFailed)
-      → Going Step quits s t [] taken kept a b → Consumes left between taken → Consumes between left_after [] → IsAtEnd left_after → Answered Step quits t (last_line (pending_line taken)) u b d r
-      → (input : List ℕ) × IsInput left input × Answered Step quits s (input_lines input) u a d r
+      → Going Step quits s t [] taken kept a b → Consumes left between taken → Consumes between left_after [] → IsAtEnd left_after → Answered Step quits (last_line (pending_line taken)) (span t u) (span b d) r
+      → (input : List ℕ) × IsInput left input × Answered Step quits (input_lines input) (span s u) (span a d) r
   served_end s t u taken kept a b d left between left_after r so_far before behind ended run = (
     taken,
     input_ended left left_after taken (subst (Consumes left left_after) (append-nil taken) (Consumes-then left between left_after taken [] before behind)) ended,

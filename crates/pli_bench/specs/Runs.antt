@@ -3,6 +3,7 @@ use Rattle.std.specs.Prelude.{◌≡◌, ℕ, ◌*◌, ◌<◌, ◌≤◌, ◌�
 use Rattle.std.specs.Prelude.{Option, Result, Ok, Err, IfSome, MatchResult, if◌then◌else◌}
 use Rattle.std.specs.Io.KnownBytes.{Appends, Consumes, IsAtEnd}
 use Rattle.pli_base.specs.Devices.{AppendsPrefix}
+use Rattle.pli_bench.specs.Exchanges.{Exchange, exchange, Span}
 use Rattle.pli_bench.specs.Lines.{complete_from, pending_from, complete_lines, input_lines}
 use Rattle.pli_bench.specs.declared.serving.Next.{Next}
 use Rattle.pli_bench.specs.declared.serving.Next.TheVariants.{Go, Quit, End}
@@ -12,39 +13,44 @@ use Rattle.pli_bench.specs.declared.serving.ServeFault.TheVariants as faults
 
 -- how lines lead from a state over answers to another: one after another, to the end of them, or to the first
 -- that quits
-pub data Answers {S : Type 0} (Step : S → List ℕ → List ℕ → S → Type 0) (quits : List ℕ → Bool) : S
+pub data Answers {S : Type 0} (Step : List ℕ → Exchange S → Type 0) (quits : List ℕ → Bool) : S
     → List (List ℕ) → List ℕ → S → Next → Type 0 where
   nothing : (s : S) → Answers Step quits s [] [] s End
   quitting : (s t : S) (line : List ℕ) (lines : List (List ℕ)) (answer : List ℕ) → quits line ≡ true
-      → Step s line answer t → Answers Step quits s (line ∷ lines) answer t Quit
+      → Step line (exchange s answer t) → Answers Step quits s (line ∷ lines) answer t Quit
   going : (s t u : S) (line : List ℕ) (lines : List (List ℕ)) (answer answers : List ℕ) (next : Next)
-      → quits line ≡ false → Step s line answer t → Answers Step quits t lines answers u next
+      → quits line ≡ false → Step line (exchange s answer t) → Answers Step quits t lines answers u next
       → Answers Step quits s (line ∷ lines) (answer ++ answers) u next
+
+-- what a device holds, where it tells that
+abbrev pub Bytes : Type 0
+Bytes = Option (List ℕ)
 
 -- the writer failed in the answer to one of the lines: those before it were answered, its own answer up to
 -- some place, and the state is the one behind it
-pub record Broken {S : Type 0} (Step : S → List ℕ → List ℕ → S → Type 0) (quits : List ℕ → Bool)
-    (s : S) (lines : List (List ℕ)) (t : S) (before after : Option (List ℕ)) : Type 0 where
+pub record Broken {S : Type 0} (Step : List ℕ → Exchange S → Type 0) (quits : List ℕ → Bool)
+    (lines : List (List ℕ)) (state : Span S) (writer : Span Bytes) : Type 0 where
   pub earlier : List (List ℕ)
   pub line : List ℕ
   pub later : List (List ℕ)
   pub lines_are : lines ≡ earlier ++ line ∷ later
   pub between : S
   pub answers : List ℕ
-  pub answered : Answers Step quits s earlier answers between End
+  pub answered : Answers Step quits state.before earlier answers between End
   pub answer : List ℕ
-  pub step : Step between line answer t
+  pub step : Step line (exchange between answer state.after)
   pub put : List ℕ
   pub unput : List ℕ
   pub answer_is : answer ≡ put ++ unput
-  pub written : Appends before after (answers ++ put)
+  pub written : Appends writer.before writer.after (answers ++ put)
 
 -- the lines were answered, or the writer failed
-abbrev pub Answered : {S : Type 0} → (Step : S → List ℕ → List ℕ → S → Type 0) → (quits : List ℕ → Bool)
-    → (s : S) → List (List ℕ) → (t : S) → (before after : Option (List ℕ)) → Result Next WriteFailed → Type 0
-Answered Step quits s lines t before after (Ok next) =
-    (answers : List ℕ) × Answers Step quits s lines answers t next × Appends before after answers
-Answered Step quits s lines t before after (Err e) = Broken Step quits s lines t before after
+abbrev pub Answered : {S : Type 0} → (Step : List ℕ → Exchange S → Type 0) → (quits : List ℕ → Bool)
+    → List (List ℕ) → (state : Span S) → (writer : Span Bytes) → Result Next WriteFailed → Type 0
+Answered Step quits lines state writer (Ok next) =
+    (answers : List ℕ) × Answers Step quits state.before lines answers state.after next
+    × Appends writer.before writer.after answers
+Answered Step quits lines state writer (Err e) = Broken Step quits lines state writer
 
 -- what follows a line
 abbrev pub next_after : Bool → Next
@@ -52,41 +58,51 @@ next_after is_last = if is_last then Quit else Go
 
 -- a line was answered, and it is told whether it quits; or the writer failed after some first bytes of the
 -- answer
-abbrev pub AnsweredOne : {S : Type 0} → (Step : S → List ℕ → List ℕ → S → Type 0) → (quits : List ℕ → Bool)
-    → (s : S) → (line : List ℕ) → (t : S) → (before after : Option (List ℕ)) → Result Next WriteFailed
-    → Type 0
-AnsweredOne Step quits s line t before after (Ok next) =
-    (answer : List ℕ) × Step s line answer t × Appends before after answer × (next ≡ next_after (quits line))
-AnsweredOne Step quits s line t before after (Err e) =
-    (answer : List ℕ) × Step s line answer t × AppendsPrefix before after answer
+abbrev pub AnsweredOne : {S : Type 0} → (Step : List ℕ → Exchange S → Type 0) → (quits : List ℕ → Bool)
+    → (line : List ℕ) → (state : Span S) → (writer : Span Bytes) → Result Next WriteFailed → Type 0
+AnsweredOne Step quits line state writer (Ok next) =
+    (answer : List ℕ) × Step line (exchange state.before answer state.after)
+    × Appends writer.before writer.after answer × (next ≡ next_after (quits line))
+AnsweredOne Step quits line state writer (Err e) =
+    (answer : List ℕ) × Step line (exchange state.before answer state.after)
+    × AppendsPrefix writer.before writer.after answer
 
 -- the bytes that a reader has left, where it tells them
-abbrev pub IsInput : Option (List ℕ) → List ℕ → Type 0
+abbrev pub IsInput : Bytes → List ℕ → Type 0
 IsInput left input = IfSome left (λ bytes. bytes ≡ input)
+
+-- a reader is served on a writer: the state, what the reader has left, what was written, and how often the
+-- reader may be asked for bytes
+pub record Service (S : Type 0) : Type 0 where
+  pub state : Span S
+  pub reader : Span Bytes
+  pub writer : Span Bytes
+  pub reads : ℕ
 
 -- some first bytes of the input were taken: the lines that end among them were answered, and nothing else was
 -- written
-pub record Cut {S : Type 0} (Step : S → List ℕ → List ℕ → S → Type 0) (quits : List ℕ → Bool)
-    (s t : S) (left left_after before after : Option (List ℕ)) : Type 0 where
+pub record Cut {S : Type 0} (Step : List ℕ → Exchange S → Type 0) (quits : List ℕ → Bool)
+    (service : Service S) : Type 0 where
   pub taken : List ℕ
-  pub consumed : Consumes left left_after taken
+  pub consumed : Consumes service.reader.before service.reader.after taken
   pub answers : List ℕ
-  pub answered : Answers Step quits s (complete_lines taken) answers t End
-  pub written : Appends before after answers
+  pub answered :
+    Answers Step quits service.state.before (complete_lines taken) answers service.state.after End
+  pub written : Appends service.writer.before service.writer.after answers
 
 -- the lines of the input were answered, up to the first that quits; or a device failed, or there were too
 -- many reads for the bytes
-abbrev pub Served : {S : Type 0} → (Step : S → List ℕ → List ℕ → S → Type 0) → (quits : List ℕ → Bool)
-    → (s t : S) → (left left_after before after : Option (List ℕ)) → (reads : ℕ) → Result Next ServeFault
-    → Type 0
-Served Step quits s t left left_after before after reads (Ok next) =
-    (input : List ℕ) × IsInput left input × Answered Step quits s (input_lines input) t before after (Ok next)
-Served Step quits s t left left_after before after reads (Err faults.WriteFailed) =
-    (input : List ℕ) × IsInput left input × Broken Step quits s (input_lines input) t before after
-Served Step quits s t left left_after before after reads (Err faults.ReadFailed) =
-    Cut Step quits s t left left_after before after
-Served Step quits s t left left_after before after reads (Err faults.TooManyReads) =
-    (cut : Cut Step quits s t left left_after before after) × (reads ≤ length cut.taken)
+abbrev pub Served : {S : Type 0} → (Step : List ℕ → Exchange S → Type 0) → (quits : List ℕ → Bool)
+    → Service S → Result Next ServeFault → Type 0
+Served Step quits service (Ok next) =
+    (input : List ℕ) × IsInput service.reader.before input
+    × Answered Step quits (input_lines input) service.state service.writer (Ok next)
+Served Step quits service (Err faults.WriteFailed) =
+    (input : List ℕ) × IsInput service.reader.before input
+    × Broken Step quits (input_lines input) service.state service.writer
+Served Step quits service (Err faults.ReadFailed) = Cut Step quits service
+Served Step quits service (Err faults.TooManyReads) =
+    (cut : Cut Step quits service) × (service.reads ≤ length cut.taken)
 
 -- the most bytes that one read takes
 abbrev pub piece_limit : ℕ
@@ -115,14 +131,13 @@ Stops quits piece taken left (Ok Quit) = QuitsWithin quits piece [] taken ⊎ Is
 Stops quits piece taken left (Ok End) = IsAtEnd left
 Stops quits piece taken left (Err e) = Unit {0}
 
--- what was taken of the reader: at most a piece for each read, and no more once it was known that the
--- commands end
-pub record Takes (quits : List ℕ → Bool) (piece reads : ℕ) (left left_after : Option (List ℕ))
+-- what was taken of the reader: at most so many pieces, and no more once it was known that the commands end
+pub record Takes {S : Type 0} (quits : List ℕ → Bool) (piece : ℕ) (service : Service S)
     (result : Result Next ServeFault) : Type 0 where
   pub taken : List ℕ
-  pub consumed : Consumes left left_after taken
-  pub few : length taken ≤ reads * piece
-  pub stops : Stops quits piece taken left_after result
+  pub consumed : Consumes service.reader.before service.reader.after taken
+  pub few : length taken ≤ service.reads * piece
+  pub stops : Stops quits piece taken service.reader.after result
 
 -- behind what was answered the writer's mark is as it was, behind a fault it is set
 abbrev pub Marked : {A E : Type 0} → Bool → Bool → Result A E → Type 0

@@ -16,6 +16,7 @@ use Rattle.pli_machine_step.specs.Runs.{Outcome}
 use Rattle.pli_code.specs.declared.ending.Ending.{Ending}
 use Rattle.pli_code.specs.declared.ending.Ending.TheVariants.{Ended, OutOfSteps, Error, MachineFault}
 use Rattle.pli_meaning.specs.Scratch.{Built, Diagnosed, Made, scratch, Means}
+use Rattle.pli_bench.specs.Exchanges.{Exchange}
 use Rattle.pli_bench.specs.Commands.{Command, Add, Delete, Insert, Replace, Remove, ListLines, ListMembers}
 use Rattle.pli_bench.specs.Commands.{Build, Run, Quit, command_of}
 
@@ -72,31 +73,38 @@ is_made (Diagnosed text) = false
 is_made (Made m) = true
 
 -- nothing changes, and this is answered
-abbrev pub Says : List ℕ → State → List ℕ → State → Type 0
-Says words s answer new = (answer ≡ words) × (new ≡ s)
+abbrev pub Says : List ℕ → Exchange State → Type 0
+Says words e = (e.answer ≡ words) × (e.after ≡ e.before)
 
--- an edit of the members, after which no module stands
+-- the members were edited, and no module of them stands
 abbrev pub edited : State → Store → State
 edited s store = record { store = store; stands = false; steps = s.steps }
 
+-- no module of the members stands
+abbrev pub without_module : State → State
+without_module s = record { store = s.store; stands = false; steps = s.steps }
+
 -- an edit is refused, and nothing changes, or is made
-abbrev pub Edits : Option Refusal → Store → State → List ℕ → State → Type 0
-Edits (Some r) store s answer new = Says (refused r) s answer new
-Edits None store s answer new = (answer ≡ okay) × (new ≡ edited s store)
+abbrev pub Edits : Option Refusal → Store → Exchange State → Type 0
+Edits (Some r) store e = Says (refused r) e
+Edits None store e = (e.answer ≡ okay) × (e.after ≡ edited e.before store)
 
 -- the same of an edit that takes memory: where that is refused, nothing changes
-abbrev pub EditsInMemory : Option Refusal → Store → State → List ℕ → State → Type 0
-EditsInMemory (Some r) store s answer new = Says (refused r) s answer new
-EditsInMemory None store s answer new =
-    ((answer ≡ okay) × (new ≡ edited s store)) ⊎ Says no_memory s answer new
+abbrev pub EditsInMemory : Option Refusal → Store → Exchange State → Type 0
+EditsInMemory (Some r) store e = Says (refused r) e
+EditsInMemory None store e = Edits None store e ⊎ Says no_memory e
+
+-- what a build leaves: a module stands where it gave one
+abbrev pub left_by : Built → State → State
+left_by b s = record { store = s.store; stands = is_made b; steps = s.steps }
 
 -- a build answers what a build from scratch of the members gives; where memory is refused, the members stay
 -- and no module stands
-abbrev pub Builds : State → List ℕ → State → Type 0
-Builds s answer new =
-    ((answer ≡ build_answer (scratch s.store.entries))
-    × (new ≡ record { store = s.store; stands = is_made (scratch s.store.entries); steps = s.steps }))
-    ⊎ ((answer ≡ no_memory) × (new ≡ edited s s.store))
+abbrev pub Builds : Exchange State → Type 0
+Builds e =
+    ((e.answer ≡ build_answer (scratch e.before.store.entries))
+    × (e.after ≡ left_by (scratch e.before.store.entries) e.before))
+    ⊎ ((e.answer ≡ no_memory) × (e.after ≡ without_module e.before))
 
 -- a run broke off: some first bytes of the output, a line end, and that memory was refused
 pub record Breaks (output answer : List ℕ) : Type 0 where
@@ -106,10 +114,11 @@ pub record Breaks (output answer : List ℕ) : Type 0 where
   pub says : answer ≡ written ++ 10 ∷ no_memory
 
 -- a run prints and ends as the members' program does, if a module of them stands
-abbrev pub Runs : Bool → ℕ → State → List ℕ → State → Type 0
-Runs false n s answer new = Says not_built s answer new
-Runs true n s answer new =
-    (o : Outcome) × Means s.store.entries n o × ((answer ≡ run_answer o) ⊎ Breaks o.output answer) × (new ≡ s)
+abbrev pub Runs : Bool → ℕ → Exchange State → Type 0
+Runs false n e = Says not_built e
+Runs true n e =
+    (o : Outcome) × Means e.before.store.entries n o × ((e.answer ≡ run_answer o) ⊎ Breaks o.output e.answer)
+    × (e.after ≡ e.before)
 
 -- a line of a member, behind its number
 abbrev pub numbered_line : ℕ → List ℕ → List ℕ
@@ -121,9 +130,9 @@ numbered_lines number [] = []
 numbered_lines number (text ∷ lines) = numbered_line number text ++ numbered_lines (number + 1) lines
 
 -- the lines of a member, if there is one, are listed from 1 on
-abbrev pub Lists : Option (List (List ℕ)) → State → List ℕ → State → Type 0
-Lists None s answer new = Says (refused NoSuchMember) s answer new
-Lists (Some lines) s answer new = Says (numbered_lines 1 lines ++ okay) s answer new
+abbrev pub Lists : Option (List (List ℕ)) → Exchange State → Type 0
+Lists None e = Says (refused NoSuchMember) e
+Lists (Some lines) e = Says (numbered_lines 1 lines ++ okay) e
 
 -- the word for a kind of members
 abbrev pub kind_word : Kind → List ℕ
@@ -135,28 +144,39 @@ abbrev pub member_line : Name × Member → List ℕ
 member_line entry = line (entry.0 ++ 32 ∷ kind_word entry.1.kind ++ 32 ∷ decimal (length entry.1.lines))
 
 -- what a command may answer, and what it leaves
-abbrev pub Obeys : Option Command → State → List ℕ → State → Type 0
-Obeys None s answer new = Says bad_command s answer new
-Obeys (Some (Add name kind)) s answer new =
-    EditsInMemory (refusal_of_add s.store name) (added s.store name kind) s answer new
-Obeys (Some (Delete name)) s answer new =
-    Edits (refusal_of_delete s.store name) (deleted s.store name) s answer new
-Obeys (Some (Insert name after text)) s answer new =
-    EditsInMemory (refusal_of_insert s.store name after text) (with_line s.store name after text) s answer new
-Obeys (Some (Replace name number text)) s answer new =
-    EditsInMemory (refusal_of_replace s.store name number text) (with_line_replaced s.store name number text)
-    s answer new
-Obeys (Some (Remove name first last)) s answer new =
-    Edits (refusal_of_remove s.store name first last) (without_lines s.store name first last) s answer new
-Obeys (Some (ListLines name)) s answer new = Lists (lines_of s.store name) s answer new
-Obeys (Some ListMembers) s answer new = Says (flat_map member_line s.store.entries ++ okay) s answer new
-Obeys (Some Build) s answer new = Builds s answer new
-Obeys (Some (Run n)) s answer new = Runs s.stands (unwrap_or n s.steps) s answer new
-Obeys (Some Quit) s answer new = Says okay s answer new
+abbrev pub Obeys : Option Command → Exchange State → Type 0
+-- no command
+Obeys None e = Says bad_command e
+-- ADD puts a member without lines among the others
+Obeys (Some (Add name kind)) e =
+    EditsInMemory (refusal_of_add e.before.store name) (added e.before.store name kind) e
+-- DELETE takes a member away
+Obeys (Some (Delete name)) e = Edits (refusal_of_delete e.before.store name) (deleted e.before.store name) e
+-- INSERT puts a line behind another
+Obeys (Some (Insert name after text)) e =
+    EditsInMemory (refusal_of_insert e.before.store name after text)
+    (with_line e.before.store name after text) e
+-- REPLACE gives a line another text
+Obeys (Some (Replace name number text)) e =
+    EditsInMemory (refusal_of_replace e.before.store name number text)
+    (with_line_replaced e.before.store name number text) e
+-- REMOVE takes lines away
+Obeys (Some (Remove name first last)) e =
+    Edits (refusal_of_remove e.before.store name first last) (without_lines e.before.store name first last) e
+-- LIST shows the lines of a member
+Obeys (Some (ListLines name)) e = Lists (lines_of e.before.store name) e
+-- MEMBERS shows what members there are
+Obeys (Some ListMembers) e = Says (flat_map member_line e.before.store.entries ++ okay) e
+-- BUILD answers the diagnostics, or makes a module
+Obeys (Some Build) e = Builds e
+-- RUN runs the module with so many steps, or as many as a bare RUN has
+Obeys (Some (Run n)) e = Runs e.before.stands (unwrap_or n e.before.steps) e
+-- QUIT changes nothing
+Obeys (Some Quit) e = Says okay e
 
 -- a command line is answered
-abbrev pub Step : State → List ℕ → List ℕ → State → Type 0
-Step s text answer new = Obeys (command_of text) s answer new
+abbrev pub Step : List ℕ → Exchange State → Type 0
+Step text e = Obeys (command_of text) e
 
 -- the command is QUIT
 abbrev pub is_quit : Option Command → Bool

@@ -3,7 +3,8 @@ ghost use Rattle.std.specs.Prelude.{◌≡◌, ◌≤◌, ◌+◌, Err};
 ghost use Rattle.pli_bench.specs.declared.serving.ServeFault.TheVariants.{TooManyReads};
 ghost use Rattle.pli_bench.specs.answers.Answering.{Writes};
 ghost use Rattle.pli_bench.specs.Commands as spelt;
-ghost use Rattle.pli_bench.specs.answers.Obeying.{Does, end_answer, gone};
+ghost use Rattle.pli_bench.specs.answers.Obeying.{Does, as_edit, edit_answer, end_answer, gone, standing_after};
+ghost use Rattle.pli_bench.specs.Exchanges.{span};
 ghost use Rattle.pli_bench.specs.Runs.{AnsweredOne, Marked, Served, Takes, Blames, piece_limit};
 ghost use Rattle.pli_bench.specs.Session.{Obeys, Step, quits, opened};
 
@@ -69,6 +70,33 @@ fn put_end<W: Sink>(writer: &mut W, ran: Ran) -> Result<(), Failed>
     put_ending(writer, ran.ending)
 }
 
+/// An edit that takes no memory, as one that may take some.
+fn as_edit(edited: Result<(), Refusal>) -> Result<(), EditError>
+    ensures { result ≡ as_edit edited }
+{
+    Ok(edited?)
+}
+
+/// Puts the answer to an edit. Where it was made, no module stands any more.
+fn answer_edit<W: Sink>(
+    standing: &mut Option<Module>,
+    edited: Result<(), EditError>,
+    writer: &mut W,
+) -> Result<(), Failed>
+    ensures standing { standing.new ≡ standing_after edited standing.old }
+    ensures written { Writes (W.contents writer.old) (W.contents writer.new) (edit_answer edited) result }
+    ensures mark { Marked (W.failed writer.old) (W.failed writer.new) result }
+{
+    match edited {
+        Ok(()) => {
+            *standing = None;
+            put_parts(writer, &[b"OK\n"])
+        }
+        Err(EditError::Refused(refusal)) => put_refusal(writer, refusal),
+        Err(EditError::OutOfMemory) => put_parts(writer, &[b"NO MEMORY\n"]),
+    }
+}
+
 impl Bench {
     /// A workbench without members, whose first version is 1. A bare RUN has `steps` steps.
     pub fn new(alloc: Global, steps: u64) -> Bench
@@ -87,27 +115,16 @@ impl Bench {
         ensures answered { Does (Obeys (Some (spelt.Add name kind))) self.old self.new (W.contents writer.old) (W.contents writer.new) result }
         ensures mark { Marked (W.failed writer.old) (W.failed writer.new) result }
     {
-        match self.members.add(name, kind) {
-            Ok(()) => {
-                self.standing = None;
-                put_parts(writer, &[b"OK\n"])
-            }
-            Err(EditError::Refused(refusal)) => put_refusal(writer, refusal),
-            Err(EditError::OutOfMemory) => put_parts(writer, &[b"NO MEMORY\n"]),
-        }
+        let edited = self.members.add(name, kind);
+        answer_edit(&mut self.standing, edited, writer)
     }
 
     fn delete<W: Sink>(&mut self, name: Name, writer: &mut W) -> Result<(), Failed>
         ensures answered { Does (Obeys (Some (spelt.Delete name))) self.old self.new (W.contents writer.old) (W.contents writer.new) result }
         ensures mark { Marked (W.failed writer.old) (W.failed writer.new) result }
     {
-        match self.members.delete(name) {
-            Ok(()) => {
-                self.standing = None;
-                put_parts(writer, &[b"OK\n"])
-            }
-            Err(refusal) => put_refusal(writer, refusal),
-        }
+        let edited = as_edit(self.members.delete(name));
+        answer_edit(&mut self.standing, edited, writer)
     }
 
     fn insert<W: Sink>(
@@ -120,14 +137,8 @@ impl Bench {
         ensures answered { Does (Obeys (Some (spelt.Insert name after text.now))) self.old self.new (W.contents writer.old) (W.contents writer.new) result }
         ensures mark { Marked (W.failed writer.old) (W.failed writer.new) result }
     {
-        match self.members.insert_line(name, after as usize, text) {
-            Ok(()) => {
-                self.standing = None;
-                put_parts(writer, &[b"OK\n"])
-            }
-            Err(EditError::Refused(refusal)) => put_refusal(writer, refusal),
-            Err(EditError::OutOfMemory) => put_parts(writer, &[b"NO MEMORY\n"]),
-        }
+        let edited = self.members.insert_line(name, after as usize, text);
+        answer_edit(&mut self.standing, edited, writer)
     }
 
     fn replace<W: Sink>(
@@ -140,14 +151,8 @@ impl Bench {
         ensures answered { Does (Obeys (Some (spelt.Replace name number text.now))) self.old self.new (W.contents writer.old) (W.contents writer.new) result }
         ensures mark { Marked (W.failed writer.old) (W.failed writer.new) result }
     {
-        match self.members.replace_line(name, number as usize, text) {
-            Ok(()) => {
-                self.standing = None;
-                put_parts(writer, &[b"OK\n"])
-            }
-            Err(EditError::Refused(refusal)) => put_refusal(writer, refusal),
-            Err(EditError::OutOfMemory) => put_parts(writer, &[b"NO MEMORY\n"]),
-        }
+        let edited = self.members.replace_line(name, number as usize, text);
+        answer_edit(&mut self.standing, edited, writer)
     }
 
     fn remove<W: Sink>(
@@ -160,16 +165,10 @@ impl Bench {
         ensures answered { Does (Obeys (Some (spelt.Remove name first last))) self.old self.new (W.contents writer.old) (W.contents writer.new) result }
         ensures mark { Marked (W.failed writer.old) (W.failed writer.new) result }
     {
-        match self
+        let removed = self
             .members
-            .remove_lines(name, first as usize, last as usize)
-        {
-            Ok(()) => {
-                self.standing = None;
-                put_parts(writer, &[b"OK\n"])
-            }
-            Err(refusal) => put_refusal(writer, refusal),
-        }
+            .remove_lines(name, first as usize, last as usize);
+        answer_edit(&mut self.standing, as_edit(removed), writer)
     }
 
     fn list_lines<W: Sink>(&self, name: Name, writer: &mut W) -> Result<(), Failed>
@@ -228,7 +227,7 @@ impl Bench {
     /// Answers the command on a line, which has no line end. A line of more than 200 bytes is no command. All of the
     /// answer is put before the call ends.
     pub fn command<W: Sink>(&mut self, line: &[u8], writer: &mut W) -> Result<Next, WriteFailed>
-        ensures answered { AnsweredOne Step quits self.old line.now self.new (W.contents writer.old) (W.contents writer.new) result }
+        ensures answered { AnsweredOne Step quits line.now (span self.old self.new) (span (W.contents writer.old) (W.contents writer.new)) result }
         ensures mark { Marked (W.failed writer.old) (W.failed writer.new) result }
     {
         match read_command(line) {
@@ -274,9 +273,13 @@ impl Bench {
         writer: &mut W,
         reads: u64,
     ) -> Result<Next, ServeFault>
-        ensures served { Served Step quits self.old self.new (R.remaining reader.old) (R.remaining reader.new) (W.contents writer.old) (W.contents writer.new) reads result }
+        ensures served { Served Step quits (record { state = span self.old self.new;
+            reader = span (R.remaining reader.old) (R.remaining reader.new);
+            writer = span (W.contents writer.old) (W.contents writer.new); reads = reads }) result }
         ensures blamed { Blames result (R.failed reader.new) (W.failed writer.new) }
-        ensures few { Takes quits piece_limit reads (R.remaining reader.old) (R.remaining reader.new) result }
+        ensures few { Takes quits piece_limit (record { state = span self.old self.new;
+            reader = span (R.remaining reader.old) (R.remaining reader.new);
+            writer = span (W.contents writer.old) (W.contents writer.new); reads = reads }) result }
         ensures unread { reads ≡ 0 → result ≡ Err TooManyReads }
         ensures takes { R.takes reader.new ≤ R.takes reader.old + reads }
     {

@@ -2,6 +2,7 @@
 ghost use Rattle.std.specs.Prelude.{◌≡◌, ◌+◌, ◌*◌, ◌<◌, ◌≤◌, ℕ, List, Bool, false, length, take, ◌≢◌, Ok, Err};
 ghost use Rattle.pli_bench.specs.Commands.{line_limit};
 ghost use Rattle.pli_bench.specs.answers.Kept.{kept_limit};
+ghost use Rattle.pli_bench.specs.Exchanges.{Exchange, exchange, span};
 ghost use Rattle.pli_bench.specs.Lines.{without_return, complete_from, pending_from, last_line};
 ghost use Rattle.pli_bench.specs.Runs.{AnsweredOne, Answered, Served, QuitsWithin, Takes, Marked, Blames, piece_limit};
 ghost use Rattle.pli_bench.specs.declared.serving.Next.TheVariants.{Go, Quit, End};
@@ -63,22 +64,22 @@ impl From<WriteFailed> for ServeFault {
 
 /// What answers commands.
 pub trait Interpreter {
-    /// A command may lead from this state over this answer to that state.
-    ghost steps: { Self → List ℕ → List ℕ → Self → Type 0 };
+    /// A line may be answered so.
+    ghost steps: { List ℕ → Exchange Self → Type 0 };
 
     /// Whether a line ends the session.
     ghost quits: { List ℕ → Bool };
 
     /// Answers the command on a line, which has no line end.
     fn command<W: Sink>(&mut self, line: &[u8], writer: &mut W) -> Result<Next, WriteFailed>
-        ensures answered { AnsweredOne steps quits self.old line.now self.new
-            (W.contents writer.old) (W.contents writer.new) result }
+        ensures answered { AnsweredOne steps quits line.now (span self.old self.new)
+            (span (W.contents writer.old) (W.contents writer.new)) result }
         ensures mark { Marked (W.failed writer.old) (W.failed writer.new) result };
 
     /// Lines that are too long for a command are answered alike.
     ghost too_long: { (s t : Self) (line other answer : List ℕ)
         → line_limit < length line → line_limit < length other
-        → steps s line answer t → steps s other answer t };
+        → steps line (exchange s answer t) → steps other (exchange s answer t) };
 
     /// None of them ends the session.
     ghost too_long_goes: { (line : List ℕ) → line_limit < length line → quits line ≡ false };
@@ -103,8 +104,8 @@ fn answer_piece<T: Interpreter, W: Sink>(
     writer: &mut W,
 ) -> Result<Next, WriteFailed>
     ensures answered { (begun : List ℕ) → line.old ≡ take kept_limit begun
-        → Answered T.steps T.quits bench.old (complete_from begun piece.now) bench.new
-        (W.contents writer.old) (W.contents writer.new) result }
+        → Answered T.steps T.quits (complete_from begun piece.now) (span bench.old bench.new)
+        (span (W.contents writer.old) (W.contents writer.new)) result }
     ensures kept { (begun : List ℕ) → line.old ≡ take kept_limit begun → result ≡ Ok End
         → line.new ≡ take kept_limit (pending_from begun piece.now) }
     ensures quit { (begun : List ℕ) → line.old ≡ take kept_limit begun → result ≡ Ok Quit
@@ -132,8 +133,8 @@ fn answer_last<T: Interpreter, W: Sink>(
     writer: &mut W,
 ) -> Result<Next, WriteFailed>
     ensures answered { (begun : List ℕ) → line.now ≡ take kept_limit begun
-        → Answered T.steps T.quits bench.old (last_line begun) bench.new
-        (W.contents writer.old) (W.contents writer.new) result }
+        → Answered T.steps T.quits (last_line begun) (span bench.old bench.new)
+        (span (W.contents writer.old) (W.contents writer.new)) result }
     ensures mark { Marked (W.failed writer.old) (W.failed writer.new) result }
 {
     if line.is_empty() {
@@ -154,11 +155,13 @@ fn serve_pieces<T: Interpreter, R: Source, W: Sink>(
     buffer: &mut [u8],
 ) -> Result<Next, ServeFault>
     requires { 0 < length buffer.old }
-    ensures served { Served T.steps T.quits bench.old bench.new (R.remaining reader.old)
-        (R.remaining reader.new) (W.contents writer.old) (W.contents writer.new) reads result }
+    ensures served { Served T.steps T.quits (record { state = span bench.old bench.new;
+        reader = span (R.remaining reader.old) (R.remaining reader.new);
+        writer = span (W.contents writer.old) (W.contents writer.new); reads = reads }) result }
     ensures blamed { Blames result (R.failed reader.new) (W.failed writer.new) }
-    ensures few { Takes T.quits (length buffer.old) reads
-        (R.remaining reader.old) (R.remaining reader.new) result }
+    ensures few { Takes T.quits (length buffer.old) (record { state = span bench.old bench.new;
+        reader = span (R.remaining reader.old) (R.remaining reader.new);
+        writer = span (W.contents writer.old) (W.contents writer.new); reads = reads }) result }
     ensures unread { reads ≡ 0 → result ≡ Err TooManyReads }
     ensures takes { R.takes reader.new ≤ R.takes reader.old + reads }
 {
@@ -188,10 +191,13 @@ pub fn serve<T: Interpreter, R: Source, W: Sink>(
     writer: &mut W,
     reads: u64,
 ) -> Result<Next, ServeFault>
-    ensures served { Served T.steps T.quits bench.old bench.new (R.remaining reader.old)
-        (R.remaining reader.new) (W.contents writer.old) (W.contents writer.new) reads result }
+    ensures served { Served T.steps T.quits (record { state = span bench.old bench.new;
+        reader = span (R.remaining reader.old) (R.remaining reader.new);
+        writer = span (W.contents writer.old) (W.contents writer.new); reads = reads }) result }
     ensures blamed { Blames result (R.failed reader.new) (W.failed writer.new) }
-    ensures few { Takes T.quits piece_limit reads (R.remaining reader.old) (R.remaining reader.new) result }
+    ensures few { Takes T.quits piece_limit (record { state = span bench.old bench.new;
+        reader = span (R.remaining reader.old) (R.remaining reader.new);
+        writer = span (W.contents writer.old) (W.contents writer.new); reads = reads }) result }
     ensures unread { reads ≡ 0 → result ≡ Err TooManyReads }
     ensures takes { R.takes reader.new ≤ R.takes reader.old + reads }
 {

@@ -5,7 +5,8 @@ use Rattle.std.specs.Io.KnownBytes.{Keeps, Appends}
 use Rattle.clap.specs.Words.{Text}
 use Rattle.pli_base.specs.Devices.{AppendsPrefix}
 use Rattle.pli_bench.specs.Session.{State, Step, quits, opened}
-use Rattle.pli_bench.specs.Runs.{Served, Takes, Blames, piece_limit}
+use Rattle.pli_bench.specs.Exchanges.{span}
+use Rattle.pli_bench.specs.Runs.{Service, Served, Takes, Blames, piece_limit}
 use Rattle.pli_bench.specs.declared.serving.Next.{Next}
 use Rattle.pli_bench.specs.declared.serving.ServeFault.{ServeFault}
 use Rattle.pliwb.specs.CommandLine.{Refuses, faults}
@@ -16,13 +17,24 @@ use Rattle.pliwb.specs.declared.arguments.ArgumentsError.TheVariants.{Usage, Out
 abbrev pub reads_limit : ℕ
 reads_limit = 1000000000
 
+-- a new workbench serves a reader on a writer, and this is its last state
+abbrev pub service_of : (steps reads : ℕ) (left left_after before after : Option (List ℕ)) (last : State)
+    → Service State
+service_of steps reads left left_after before after last =
+    record {
+      state = span (opened steps) last;
+      reader = span left left_after;
+      writer = span before after;
+      reads = reads;
+    }
+
 -- a new workbench, with so many steps for a bare RUN, served a reader to a writer with at most so many reads,
 -- and this came of it; the marks are those behind it
 pub record Serves (steps reads : ℕ) (left left_after before after : Option (List ℕ)) (reader writer : Bool)
     (result : Result Next ServeFault) : Type 0 where
   pub last : State
-  pub served : Served Step quits (opened steps) last left left_after before after reads result
-  pub few : Takes quits piece_limit reads left left_after result
+  pub served : Served Step quits (service_of steps reads left left_after before after last) result
+  pub few : Takes quits piece_limit (service_of steps reads left left_after before after last) result
   pub blamed : Blames result reader writer
 
 -- status 0: all commands were answered, up to the end of the input or the first QUIT

@@ -2,6 +2,7 @@
 use Rattle.std.specs.Prelude.{◌≡◌, ℕ, ◌<◌, false, None, List, length}
 use Rattle.std.proofs.Common.{sym, subst, ap, ◌∙◌, refl}
 use Rattle.std.proofs.lemmas.Bool.{lt-ltb}
+use Rattle.pli_bench.specs.Exchanges.{exchange}
 use Rattle.pli_bench.specs.Commands.{command_of, line_limit}
 use Rattle.pli_bench.specs.Session.{State, Obeys, Step, quits, is_quit}
 
@@ -11,9 +12,9 @@ none_of line h = rw (lt-ltb line_limit (length line) h) refl
 
 -- what may follow one of them may follow any
 pub long_alike : (s t : State) (line other answer : List ℕ) → line_limit < length line
-    → line_limit < length other → Step s line answer t → Step s other answer t
+    → line_limit < length other → Step line (exchange s answer t) → Step other (exchange s answer t)
 long_alike s t line other answer h k step =
-    subst (λ c. Obeys c s answer t) (none_of line h ∙ sym (none_of other k)) step
+    subst (λ c. Obeys c (exchange s answer t)) (none_of line h ∙ sym (none_of other k)) step
 
 -- none of them is QUIT
 pub long_goes : (line : List ℕ) → line_limit < length line → quits line ≡ false

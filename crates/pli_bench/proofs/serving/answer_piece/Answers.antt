@@ -3,6 +3,7 @@ use Rattle.std.proofs.lemmas.List.{take_more, drop_more}
 use Rattle.std.proofs.lemmas.Result.{err_from_is_err_and}
 use Rattle.pli_bench.specs.Lines.{is_line_feed, without_return, complete_from, pending_from}
 use Rattle.pli_bench.specs.answers.Kept.{kept_limit}
+use Rattle.pli_bench.specs.Exchanges.{span}
 use Rattle.pli_bench.specs.Runs.{Broken, Answers, QuitsWithin}
 use Rattle.pli_bench.specs.declared.serving.Next.TheVariants.{End}
 use Rattle.pli_bench.proofs.RunLaws.{Going-none, Going-other, Going-line, quit_line, quits_within, broken_line, quits_from, goes_from}
@@ -28,7 +29,7 @@ returns-in_err-command-clause-answered g c = λ begun is.
     let one = c.in_err-command.ensures.answered in
     let ended = c.without_return.ensures ∙ ap without_return c.bytes.ensures in
     let done = broken_line g.T.Interpreter.steps g.T.Interpreter.quits g.met.T.Interpreter.too_long g.met.T.Interpreter.too_long_goes c.args.bench.now c.loop-byte.bench c.command.new.self begun (take i text) c.loop-byte.line c.without_return.result.now one.0 (get_or text i 0) (drop (i + 1) text) (g.W.Sink.contents c.args.writer.now) (g.W.Sink.contents c.loop-byte.writer) (g.W.Sink.contents c.command.new.writer) feed (c.loop-byte.invariant.lines begun is) ended one.1 one.2 in
-    rw p.1 (subst (λ l. Broken g.T.Interpreter.steps g.T.Interpreter.quits c.args.bench.now (complete_from begun l) c.command.new.self (g.W.Sink.contents c.args.writer.now) (g.W.Sink.contents c.command.new.writer)) (split text i (omega arith)) done)
+    rw p.1 (subst (λ l. Broken g.T.Interpreter.steps g.T.Interpreter.quits (complete_from begun l) (span c.args.bench.now c.command.new.self) (span (g.W.Sink.contents c.args.writer.now) (g.W.Sink.contents c.command.new.writer))) (split text i (omega arith)) done)
 
 pub returns-in-Quit-clause-answered : goal.returns-in-Quit-clause-answered
 returns-in-Quit-clause-answered g c = λ begun is.

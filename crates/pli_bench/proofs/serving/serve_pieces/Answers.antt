@@ -4,7 +4,8 @@ use Rattle.std.proofs.lemmas.Result.{err_from_is_err_and}
 use Rattle.std.specs.Io.KnownBytes.{Consumes}
 use Rattle.pli_base.specs.laws.DeviceLaws.{Consumes-none, Consumes-then, Consumes-then_Keeps}
 use Rattle.pli_bench.specs.Lines.{pending_line, complete_lines, complete_from}
-use Rattle.pli_bench.specs.Runs.{Answered, Stops, Takes}
+use Rattle.pli_bench.specs.Exchanges.{span}
+use Rattle.pli_bench.specs.Runs.{Answered, Bytes, Service, Stops, Takes}
 use Rattle.pli_bench.specs.declared.serving.Next.{Next}
 use Rattle.pli_bench.specs.declared.serving.ServeFault.{ServeFault}
 use Rattle.pli_bench.specs.declared.serving.Next.TheVariants.{Quit}
@@ -25,14 +26,14 @@ few_reads : (taken : List ℕ) (read reads size : ℕ) → length taken ≤ read
 few_reads taken read reads size few h = omega (arith, mul-le-mul_left size h)
 
 -- what was taken with one read more
-module _ (quits : List ℕ → Bool) (left between left_after : Option (List ℕ)) (taken buffer : List ℕ) (count read reads size : ℕ) (r : Result Next ServeFault) where
-  takes_piece : Consumes left between taken → Consumes between left_after (take count buffer) → length taken ≤ read * size → count ≤ length buffer → length buffer ≡ size → read < reads
-      → Stops quits size (taken ++ take count buffer) left_after r → Takes quits size reads left left_after r
+module _ {S : Type 0} (quits : List ℕ → Bool) (service : Service S) (between : Bytes) (taken buffer : List ℕ) (count read size : ℕ) (r : Result Next ServeFault) where
+  takes_piece : Consumes service.reader.before between taken → Consumes between service.reader.after (take count buffer) → length taken ≤ read * size → count ≤ length buffer → length buffer ≡ size → read < service.reads
+      → Stops quits size (taken ++ take count buffer) service.reader.after r → Takes quits size service r
   takes_piece before behind few within sized h stops =
-      let next : read + 1 ≤ reads = omega arith in record {
+      let next : read + 1 ≤ service.reads = omega arith in record {
         taken = taken ++ take count buffer;
-        consumed = Consumes-then left between left_after taken (take count buffer) before behind;
-        few = few_reads (taken ++ take count buffer) (read + 1) reads size (few_more taken buffer count read size few within sized) next;
+        consumed = Consumes-then _ between _ taken (take count buffer) before behind;
+        few = few_reads (taken ++ take count buffer) (read + 1) service.reads size (few_more taken buffer count read size few within sized) next;
         stops = stops;
       }
 
@@ -79,7 +80,7 @@ returns-in-Quit-clause-served g c =
     let (taken, before, reads, so_far, sized, few, asked) = c.loop-read.invariant in
     let piece = take c.in-Ok.count c.take.new.buffer in
     let run = c.in_ok-answer_piece.ensures.answered (pending_line taken) so_far.kept_is in
-    let quit = subst (λ n. Answered g.T.Interpreter.steps g.T.Interpreter.quits c.loop-read.bench (complete_from (pending_line taken) piece) c.answer_piece.new.bench (g.W.Sink.contents c.loop-read.writer) (g.W.Sink.contents c.answer_piece.new.writer) (Ok n)) c.in-Quit.is run in
+    let quit = subst (λ n. Answered g.T.Interpreter.steps g.T.Interpreter.quits (complete_from (pending_line taken) piece) (span c.loop-read.bench c.answer_piece.new.bench) (span (g.W.Sink.contents c.loop-read.writer) (g.W.Sink.contents c.answer_piece.new.writer)) (Ok n)) c.in-Quit.is run in
     let stays = Answered-quit g.T.Interpreter.steps g.T.Interpreter.quits c.args.bench.now c.answer_piece.new.bench in
     served_part g.T.Interpreter.steps g.T.Interpreter.quits c.args.bench.now c.loop-read.bench c.answer_piece.new.bench taken c.loop-read.line piece _ _ _ _ _ _ (Ok Quit) (λ xs ys. stays xs ys _ _) so_far before c.in-Ok.ensures.moved.0 quit
 
@@ -89,7 +90,7 @@ loop-read-preserved g c =
     let piece = take c.in-Ok.count c.take.new.buffer in
     let ended = end_from c.in_ok-answer_piece.field-0 c.in_default-2.not-Quit c.in_ok-answer_piece.ensures.stops in
     let run = c.in_ok-answer_piece.ensures.answered (pending_line taken) so_far.kept_is in
-    let whole = subst (λ n. Answered g.T.Interpreter.steps g.T.Interpreter.quits c.loop-read.bench (complete_from (pending_line taken) piece) c.answer_piece.new.bench (g.W.Sink.contents c.loop-read.writer) (g.W.Sink.contents c.answer_piece.new.writer) (Ok n)) ended run in
+    let whole = subst (λ n. Answered g.T.Interpreter.steps g.T.Interpreter.quits (complete_from (pending_line taken) piece) (span c.loop-read.bench c.answer_piece.new.bench) (span (g.W.Sink.contents c.loop-read.writer) (g.W.Sink.contents c.answer_piece.new.writer)) (Ok n)) ended run in
     let kept = c.in_ok-answer_piece.ensures.kept (pending_line taken) so_far.kept_is (ap Ok ended) in (
       taken ++ piece,
       Consumes-then _ _ _ taken piece before c.in-Ok.ensures.moved.0,
@@ -119,19 +120,19 @@ pub returns-in_err-answer_last-clause-few : goal.returns-in_err-answer_last-clau
 returns-in_err-answer_last-clause-few g c =
     let p = err_from_is_err_and c.from_residual.result c.from_residual.ensures.1 in
     let (taken, before, reads, so_far, sized, few, asked) = c.loop-read.invariant in
-    rw p.1 (takes_piece g.T.Interpreter.quits _ _ _ taken c.take.new.buffer c.in-Ok.count c.loop-read._read c.args.reads (length c.args.buffer.now) (Err p.0) before c.in-Ok.ensures.moved.0 few c.in-Ok.ensures.bound (omega (arith, sized)) (omega arith) tt)
+    rw p.1 (takes_piece g.T.Interpreter.quits _ _ taken c.take.new.buffer c.in-Ok.count c.loop-read._read (length c.args.buffer.now) (Err p.0) before c.in-Ok.ensures.moved.0 few c.in-Ok.ensures.bound (omega (arith, sized)) (omega arith) tt)
 
 pub returns-then-count-eq0-clause-few : goal.returns-then-count-eq0-clause-few
 returns-then-count-eq0-clause-few g c =
     let (taken, before, reads, so_far, sized, few, asked) = c.loop-read.invariant in
     let ended = c.in-Ok.ensures.moved.1 c.if-count-eq0.true (omega (arith, sized)) in
-    takes_piece g.T.Interpreter.quits _ _ _ taken c.take.new.buffer c.in-Ok.count c.loop-read._read c.args.reads (length c.args.buffer.now) (Ok c.in_ok-answer_last.field-0) before c.in-Ok.ensures.moved.0 few c.in-Ok.ensures.bound (omega (arith, sized)) (omega arith) (stops_at_end g.T.Interpreter.quits (length c.args.buffer.now) _ _ c.in_ok-answer_last.field-0 ended)
+    takes_piece g.T.Interpreter.quits _ _ taken c.take.new.buffer c.in-Ok.count c.loop-read._read (length c.args.buffer.now) (Ok c.in_ok-answer_last.field-0) before c.in-Ok.ensures.moved.0 few c.in-Ok.ensures.bound (omega (arith, sized)) (omega arith) (stops_at_end g.T.Interpreter.quits (length c.args.buffer.now) _ _ c.in_ok-answer_last.field-0 ended)
 
 pub returns-in_err-answer_piece-clause-few : goal.returns-in_err-answer_piece-clause-few
 returns-in_err-answer_piece-clause-few g c =
     let p = err_from_is_err_and c.from_residual-in_err-answer_piece.result c.from_residual-in_err-answer_piece.ensures.1 in
     let (taken, before, reads, so_far, sized, few, asked) = c.loop-read.invariant in
-    rw p.1 (takes_piece g.T.Interpreter.quits _ _ _ taken c.take.new.buffer c.in-Ok.count c.loop-read._read c.args.reads (length c.args.buffer.now) (Err p.0) before c.in-Ok.ensures.moved.0 few c.in-Ok.ensures.bound (omega (arith, sized)) (omega arith) tt)
+    rw p.1 (takes_piece g.T.Interpreter.quits _ _ taken c.take.new.buffer c.in-Ok.count c.loop-read._read (length c.args.buffer.now) (Err p.0) before c.in-Ok.ensures.moved.0 few c.in-Ok.ensures.bound (omega (arith, sized)) (omega arith) tt)
 
 pub returns-in-Quit-clause-few : goal.returns-in-Quit-clause-few
 returns-in-Quit-clause-few g c =
@@ -141,7 +142,7 @@ returns-in-Quit-clause-few g c =
     let fits : length piece ≤ size = omega (arith, sized, length-take-le c.in-Ok.count c.take.new.buffer c.in-Ok.ensures.bound, c.in-Ok.ensures.bound) in
     let found = c.in_ok-answer_piece.ensures.quit (pending_line taken) so_far.kept_is (ap Ok c.in-Quit.is) in
     let go_on = Answers-go_on g.T.Interpreter.steps g.T.Interpreter.quits c.args.bench.now c.loop-read.bench (complete_lines taken) so_far.answers so_far.answered in
-    takes_piece g.T.Interpreter.quits _ _ _ taken c.take.new.buffer c.in-Ok.count c.loop-read._read c.args.reads size (Ok Quit) before c.in-Ok.ensures.moved.0 few c.in-Ok.ensures.bound (omega (arith, sized)) (omega arith) (inl (QuitsWithin-then g.T.Interpreter.quits (length piece) size taken piece fits go_on found))
+    takes_piece g.T.Interpreter.quits _ _ taken c.take.new.buffer c.in-Ok.count c.loop-read._read size (Ok Quit) before c.in-Ok.ensures.moved.0 few c.in-Ok.ensures.bound (omega (arith, sized)) (omega arith) (inl (QuitsWithin-then g.T.Interpreter.quits (length piece) size taken piece fits go_on found))
 
 pub returns-clause-few : goal.returns-clause-few
 returns-clause-few g c =

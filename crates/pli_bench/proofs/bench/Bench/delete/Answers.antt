@@ -1,14 +1,13 @@
-use Rattle.std.proofs.Common.{sym}
 use Rattle.pli_members.specs.Members.{deleted}
 use Rattle.pli_members.specs.Refusals.{refusal_of_delete}
-use Rattle.pli_bench.specs.Session.{okay, refused}
-use Rattle.pli_bench.proofs.ObeyLaws.{made, refused_edit}
+use Rattle.pli_bench.specs.answers.Obeying.{edit_answer}
+use Rattle.pli_bench.proofs.ObeyLaws.{edits}
 use Rattle.pli_bench.proofs.bench.Bench.delete.Goals as goal
 
-pub returns-in-Ok-clause-answered : goal.returns-in-Ok-clause-answered
-returns-in-Ok-clause-answered g c =
-    (okay, made (λ s. refusal_of_delete s c.args.name) (λ s. deleted s c.args.name) c.args.self.now c.self.inside.members _ c.self.inside.steps c.self.view_is c.delete.new.self (sym c.in-Ok.ensures.refusal) c.in-Ok.ensures.ok, c.put_parts.ensures.written)
-
-pub returns-in-Err-clause-answered : goal.returns-in-Err-clause-answered
-returns-in-Err-clause-answered g c =
-    (refused c.in-Err.refusal, refused_edit (λ s. refusal_of_delete s c.args.name) (λ s. deleted s c.args.name) c.args.self.now c.self.inside.members _ c.self.inside.steps c.self.view_is c.delete.new.self c.in-Err.refusal (sym c.in-Err.ensures.refusal) c.in-Err.ensures.err, c.put_refusal.ensures.written)
+pub returns-clause-answered : goal.returns-clause-answered
+returns-clause-answered g c = (
+  edit_answer c.as_edit-edited.result,
+  edits (λ s. refusal_of_delete s c.args.name) (λ s. deleted s c.args.name) c.args.self.now c.self.inside.members c.self.inside.standing c.self.inside.steps c.self.view_is c.delete.new.self _
+      c.delete.result c.as_edit-edited.result c.as_edit-edited.ensures c.answer_edit.ensures.standing c.delete.ensures.refusal c.delete.ensures.ok c.delete.ensures.err,
+  c.answer_edit.ensures.written,
+)
