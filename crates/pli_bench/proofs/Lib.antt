@@ -1,6 +1,5 @@
 pub mod AnswerLaws
 pub mod BatchLaws
-pub mod CompileLaws
 pub mod LineLaws
 pub mod ListingLaws
 pub mod ObeyLaws

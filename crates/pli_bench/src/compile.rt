@@ -1,8 +1,8 @@
 //! A unit compiled from its expansion, or its diagnostics as they are answered.
 ghost use Rattle.std.specs.Prelude.{◌≡◌, ◌≤◌, ◌++◌, length, map, option_map, slice_get, IfOk, OnOk};
 ghost use Rattle.std.specs.List.{flat_map};
-ghost use Rattle.pli_meaning.specs.Scratch.{diagnostic_line, located, origin_of, compiled_of};
-ghost use Rattle.pli_bench.specs.answers.Compiling.{Compiles, Tells, all_located, compiled_texts, of_generating, of_lowering, of_parsing, of_resolving};
+ghost use Rattle.pli_meaning.specs.Scratch.{all_located, compiled_of, compiled_texts, diagnostic_line, located, origin_of};
+ghost use Rattle.pli_bench.specs.answers.Compiling.{Compiles, Tells, of_generating, of_lowering, of_parsing, of_resolving};
 ghost use Rattle.pli_bench.specs.declared.compile.CompileError.TheVariants as errors;
 ghost use Rattle.pli_link.specs.answers.Answers.{compiled_view};
 
@@ -84,7 +84,7 @@ impl From<AllocError> for CompileError {
 }
 
 /// Compiles a unit, or appends its diagnostics to `text`, in the order of their tokens. A pass with faults is the last.
-#[tactic(auto, unfolding(pli_meaning::specs::Scratch::compiled_of, pli_meaning::specs::Scratch::parsed_of, pli_include::specs::Expanded::expansion_of), using(crate::proofs::CompileLaws::located_compiled))]
+#[tactic(auto, unfolding(pli_meaning::specs::Scratch::compiled_of, pli_include::specs::Expanded::expansion_of))]
 pub fn compile(
     alloc: Global,
     expander: &mut Expander,

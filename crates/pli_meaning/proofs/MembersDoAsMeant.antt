@@ -12,7 +12,7 @@ use Rattle.pli_machine_step.specs.Runs.{Outcome}
 use Rattle.pli_machine_step.specs.views.ModuleProgram.{RunsTo}
 use Rattle.pli_meaning.specs.Meaning.{alone, whole_run}
 use Rattle.pli_meaning.specs.Members.{MembersSimulate, OneMeaning, MembersGrow}
-use Rattle.pli_meaning.specs.Scratch.{Diagnostic, read_or_fault, lowered_unless, program_from, Parsed, program_of, parsed_as, parsed_from, parsed_of, main_units, Means}
+use Rattle.pli_meaning.specs.Scratch.{Diagnostic, read_or_fault, lowered_unless, program_from, program_of, all_located, parsed_from, parsed_of, main_units, Means}
 use Rattle.pli_meaning.specs.Sound.{IsSound}
 use Rattle.pli_meaning.proofs.ProceduresGrow.{growth}
 use Rattle.pli_meaning.proofs.ProceduresSimulate.{some_is, simulation}
@@ -22,12 +22,6 @@ use Rattle.pli_base.specs.Statements.{ExternalProcedure}
 use Rattle.pli_declare.specs.Resolution.{resolution_faults}
 use Rattle.pli_lower.proofs.LoweringConstants.{lowers_to_language}
 use Rattle.pli_meaning.proofs.MembersHaveOneProgram.{program_made}
-
-abbrev read_as : Parsed → Result Parsed (List Diagnostic)
-read_as p = Ok p
-
-read_is : (p q : Parsed) → read_as p ≡ read_as q → p ≡ q
-read_is p q e = cc
 
 abbrev tree_as : {F : Type 0} → LoweredUnit → Result LoweredUnit F
 tree_as u = Ok u
@@ -48,26 +42,26 @@ program_sound : (read : Result ExternalProcedure Fault) (u : LoweredUnit) → pr
 program_sound (Ok unit) u h = resolved_sound (resolution_faults unit) unit u h
 program_sound (Err fault) u h = let bad : ⊥ = cc in absurd bad
 
-read_sound : (unit : Name) (origins : List Origin) (r : Result LoweredUnit (List Fault)) (p : Parsed) → ((u : LoweredUnit) → r ≡ Ok u → IsSound u) → parsed_as unit origins r ≡ Ok p → IsSound p.tree
-read_sound unit origins (Ok u) p sound h = subst (λ q. IsSound q.tree) (read_is _ p h) (sound u refl)
-read_sound unit origins (Err faults) p sound h = let bad : ⊥ = cc in absurd bad
+read_sound : (unit : Name) (origins : List Origin) (r : Result LoweredUnit (List Fault)) (u : LoweredUnit) → ((v : LoweredUnit) → r ≡ Ok v → IsSound v) → all_located unit origins r ≡ Ok u → IsSound u
+read_sound unit origins (Ok v) u sound h = subst IsSound (tree_is v u h) (sound v refl)
+read_sound unit origins (Err faults) u sound h = let bad : ⊥ = cc in absurd bad
 
 -- the tree that an expansion gives is sound
-sound_from : (unit : Name) (o : Expansion) (p : Parsed) → parsed_from unit o ≡ Ok p → IsSound p.tree
-sound_from unit (Err stop) p h = let bad : ⊥ = cc in absurd bad
-sound_from unit (Ok q) p h = read_sound unit q.origins (program_of q.texts) p (program_sound (unit_of q.texts)) h
+sound_from : (unit : Name) (o : Expansion) (u : LoweredUnit) → parsed_from unit o ≡ Ok u → IsSound u
+sound_from unit (Err stop) u h = let bad : ⊥ = cc in absurd bad
+sound_from unit (Ok p) u h = read_sound unit p.origins (program_of p.texts) u (program_sound (unit_of p.texts)) h
 
-sound_of : (entries : List (Name × Member)) (unit : Name) (p : Parsed) → parsed_of entries unit ≡ Ok p → IsSound p.tree
+sound_of : (entries : List (Name × Member)) (unit : Name) (u : LoweredUnit) → parsed_of entries unit ≡ Ok u → IsSound u
 unfolding parsed_of
-sound_of entries unit p h = sound_from unit (outcome_of entries unit) p h
+sound_of entries unit u h = sound_from unit (outcome_of entries unit) u h
 
 pub members_simulate : MembersSimulate
 members_simulate entries m e n =
     let program = program_made entries m e in
-    let s = simulation program.unit program.parsed.tree program.faultless (sound_of entries program.unit program.parsed program.spelled) n in
+    let s = simulation program.unit program.tree program.faultless (sound_of entries program.unit program.tree program.spelled) n in
     record {
       outcome = s.outcome;
-      means = record { unit = program.unit; parsed = program.parsed; only = program.only; spelled = program.spelled; run = s.means };
+      means = record { unit = program.unit; tree = program.tree; only = program.only; spelled = program.spelled; run = s.means };
       runs = subst (λ x. RunsTo x n s.outcome) (sym program.module_is) s.runs;
       no_fault = s.no_fault;
     }
@@ -76,19 +70,19 @@ unit_is : (a b : Name) → a ∷ [] ≡ b ∷ [] → a ≡ b
 unit_is a b e = cc
 
 -- what they mean is of one unit and one tree
-means_of : (entries : List (Name × Member)) (n : ℕ) (o : Outcome) (unit : Name) (parsed : Parsed) → main_units entries ≡ unit ∷ [] → parsed_of entries unit ≡ Ok parsed
-    → Means entries n o → whole_run (alone unit parsed.tree) n ≡ Some o
-means_of entries n o unit parsed only spelled m =
+means_of : (entries : List (Name × Member)) (n : ℕ) (o : Outcome) (unit : Name) (u : LoweredUnit) → main_units entries ≡ unit ∷ [] → parsed_of entries unit ≡ Ok u
+    → Means entries n o → whole_run (alone unit u) n ≡ Some o
+means_of entries n o unit u only spelled m =
     let same : m.unit ≡ unit = unit_is _ _ (sym m.only ∙ only) in
-    let tree : m.parsed ≡ parsed = read_is _ _ (sym m.spelled ∙ ap (λ u. parsed_of entries u) same ∙ spelled) in
-    sym (ap (λ u. whole_run (alone u m.parsed.tree) n) same ∙ ap (λ p. whole_run (alone unit p.tree) n) tree) ∙ m.run
+    let tree : m.tree ≡ u = tree_is _ _ (sym m.spelled ∙ ap (λ x. parsed_of entries x) same ∙ spelled) in
+    sym (ap (λ x. whole_run (alone x m.tree) n) same ∙ ap (λ v. whole_run (alone unit v) n) tree) ∙ m.run
 
 pub one_meaning : OneMeaning
-one_meaning entries n o p a b = some_is o p (sym (means_of entries n o b.unit b.parsed b.only b.spelled a) ∙ b.run)
+one_meaning entries n o p a b = some_is o p (sym (means_of entries n o b.unit b.tree b.only b.spelled a) ∙ b.run)
 
 pub members_grow : MembersGrow
 members_grow entries m e n o p a b =
     let program = program_made entries m e in
-    growth program.unit program.parsed.tree program.faultless (sound_of entries program.unit program.parsed program.spelled) n o p
-    (means_of entries n o program.unit program.parsed program.only program.spelled a)
-    (means_of entries (n + 1) p program.unit program.parsed program.only program.spelled b)
+    growth program.unit program.tree program.faultless (sound_of entries program.unit program.tree program.spelled) n o p
+    (means_of entries n o program.unit program.tree program.only program.spelled a)
+    (means_of entries (n + 1) p program.unit program.tree program.only program.spelled b)

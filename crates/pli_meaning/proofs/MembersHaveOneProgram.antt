@@ -2,7 +2,6 @@
 use Rattle.std.specs.Prelude.{◌≡◌, ℕ, Bool, true, false, Some, Result, Ok, Err, List, [], ◌∷◌, ◌++◌, map, refl, if◌then◌else◌}
 use Rattle.std.specs.Cmp.Lexicographic.{slice_cmp}
 use Rattle.std.specs.List.{filter, flat_map}
-use Rattle.std.specs.Result.{result_ok}
 use Rattle.std.specs.Ordering.{nat_cmp, is_gt}
 use Rattle.std.proofs.Common.{sym, ◌∙◌, ap, subst}
 use Rattle.pli_base.specs.Name.{Name}
@@ -23,7 +22,7 @@ use Rattle.pli_lower.proofs.LoweringNames.{lowers_to_faultless}
 use Rattle.pli_parse_statement.specs.StatementReading.{unit_of}
 use Rattle.pli_base.specs.Statements.{ExternalProcedure}
 use Rattle.pli_declare.specs.Resolution.{resolution_faults}
-use Rattle.pli_meaning.specs.Scratch.{Diagnostic, read_or_fault, lowered_unless, program_from, program_of, Parsed, units_of, parsed_as, parsed_from, parsed_of, compiled_from, compiled_of, diagnostics_in, diagnostic_line, one, Made, built, linked, scratch, all_text, all_units, text_in, units_in, sources, source_in, has_main, main_units}
+use Rattle.pli_meaning.specs.Scratch.{Diagnostic, read_or_fault, lowered_unless, program_from, program_of, units_of, all_located, parsed_from, parsed_of, too_long, coded_from, compiled_from, compiled_of, diagnostics_in, diagnostic_line, one, Made, built, linked, scratch, all_text, all_units, text_in, units_in, sources, source_in, has_main, main_units}
 
 -- a list with an element is not empty
 filled : {A : Type 0} (xs ys : List A) (y : A) → xs ++ y ∷ ys ≡ [] → ⊥
@@ -61,68 +60,45 @@ program_read : (r : Result ExternalProcedure Fault) → IsRead (program_from r)
 program_read (Ok unit) = resolved_read (resolution_faults unit) unit
 program_read (Err fault) = tt
 
--- the same of a unit, whose faults are diagnostics
-abbrev IsParsed : Result Parsed (List Diagnostic) → Type 0
-IsParsed (Ok p) = declaration_faults p.tree ≡ []
-IsParsed (Err []) = ⊥
-IsParsed (Err (d ∷ ds)) = Unit {0}
-
-parsed_as_has : (unit : Name) (origins : List Origin) (r : Result LoweredUnit (List Fault)) → IsRead r → IsParsed (parsed_as unit origins r)
-parsed_as_has unit origins (Ok u) h = h
-parsed_as_has unit origins (Err []) h = h
-parsed_as_has unit origins (Err (fault ∷ faults)) h = tt
-
-parsed_has : (unit : Name) (o : Outcome) → IsParsed (parsed_from unit o)
-parsed_has unit (Err stop) = tt
-parsed_has unit (Ok p) = parsed_as_has unit p.origins (program_of p.texts) (program_read (unit_of p.texts))
-
-unit_parsed : (entries : List (Name × Member)) (unit : Name) → IsParsed (parsed_of entries unit)
-unfolding parsed_of
-unit_parsed entries unit = parsed_has unit (outcome_of entries unit)
-
-parsed_tree : (r : Result Parsed (List Diagnostic)) (p : Parsed) → IsParsed r → Some p ≡ result_ok r → declaration_faults p.tree ≡ []
-parsed_tree (Ok q) p h e = let same : p ≡ q = cc in subst (λ p. declaration_faults p.tree ≡ []) (sym same) h
-parsed_tree (Err ds) p h e = let bad : ⊥ = cc in absurd bad
-
--- the declarations of a unit's tree have no faults
-pub tree_faultless : (entries : List (Name × Member)) (unit : Name) (p : Parsed) → Some p ≡ result_ok (parsed_of entries unit) → declaration_faults p.tree ≡ []
-tree_faultless entries unit p e = parsed_tree (parsed_of entries unit) p (unit_parsed entries unit) e
-
-abbrev unit_code : Name → Parsed → Compiled
-unit_code name p = record { unit = name; procedure = p.tree.name; is_main = p.tree.is_main; code = code_of p.tree }
+abbrev unit_code : Name → LoweredUnit → Compiled
+unit_code name u = record { unit = name; procedure = u.name; is_main = u.is_main; code = code_of u }
 
 -- a unit without diagnostics: its tree has no faults, and this is its code
-record IsClean (name : Name) (r : Result Parsed (List Diagnostic)) (c : Result Compiled (List Diagnostic)) : Type 0 where
-  parsed : Parsed
-  spelled : r ≡ Ok parsed
-  faultless : declaration_faults parsed.tree ≡ []
-  code : c ≡ Ok (unit_code name parsed)
+record IsClean (name : Name) (r : Result LoweredUnit (List Diagnostic)) (c : Result Compiled (List Diagnostic)) : Type 0 where
+  tree : LoweredUnit
+  spelled : r ≡ Ok tree
+  faultless : declaration_faults tree ≡ []
+  code : c ≡ Ok (unit_code name tree)
 
-chosen_clean : (name : Name) (p : Parsed) (b : Bool) (d : Diagnostic) → declaration_faults p.tree ≡ []
-    → diagnostics_in name (if b then Err (d ∷ []) else Ok (unit_code name p)) ≡ []
-    → IsClean name (Ok p) (if b then Err (d ∷ []) else Ok (unit_code name p))
-chosen_clean name p true d e h = absurd (text_filled name d [] h)
-chosen_clean name p false d e h = record { parsed = p; spelled = refl; faultless = e; code = refl }
+chosen_clean : (name : Name) (origins : List Origin) (u : LoweredUnit) (b : Bool) → declaration_faults u ≡ []
+    → diagnostics_in name (all_located name origins (if b then Err (too_long ∷ []) else Ok (unit_code name u))) ≡ []
+    → IsClean name (Ok u) (all_located name origins (if b then Err (too_long ∷ []) else Ok (unit_code name u)))
+chosen_clean name origins u true none e = absurd (text_filled name _ [] e)
+chosen_clean name origins u false none e = record { tree = u; spelled = refl; faultless = none; code = refl }
 
-compiled_clean : (name : Name) (r : Result Parsed (List Diagnostic)) → IsParsed r
-    → diagnostics_in name (compiled_from name r) ≡ [] → IsClean name r (compiled_from name r)
-compiled_clean name (Ok p) h e = chosen_clean name p (is_too_long (code_of p.tree)) _ h e
-compiled_clean name (Err []) h e = absurd h
-compiled_clean name (Err (d ∷ ds)) h e = absurd (text_filled name d ds e)
+read_clean : (name : Name) (origins : List Origin) (r : Result LoweredUnit (List Fault)) → IsRead r
+    → diagnostics_in name (all_located name origins (coded_from name r)) ≡ [] → IsClean name (all_located name origins r) (all_located name origins (coded_from name r))
+read_clean name origins (Ok u) h e = chosen_clean name origins u (is_too_long (code_of u)) h e
+read_clean name origins (Err []) h e = absurd h
+read_clean name origins (Err (fault ∷ faults)) h e = absurd (text_filled name _ _ e)
+
+compiled_clean : (name : Name) (o : Outcome) → diagnostics_in name (compiled_from name o) ≡ [] → IsClean name (parsed_from name o) (compiled_from name o)
+compiled_clean name (Err stop) e = absurd (text_filled name _ [] e)
+compiled_clean name (Ok p) e = read_clean name p.origins (program_of p.texts) (program_read (unit_of p.texts)) e
 
 -- a unit without diagnostics
 unit_clean : (entries : List (Name × Member)) (name : Name) → diagnostics_in name (compiled_of entries name) ≡ []
     → IsClean name (parsed_of entries name) (compiled_of entries name)
-unfolding compiled_of
-unit_clean entries name e = compiled_clean name (parsed_of entries name) (unit_parsed entries name) e
+unfolding compiled_of parsed_of
+unit_clean entries name e = compiled_clean name (outcome_of entries name) e
 
 module _ (entries : List (Name × Member)) where
   -- a unit's code is that of its tree, which has no faults
   record IsOfTree (c : Compiled) : Type 0 where
-    parsed : Parsed
-    spelled : parsed_of entries c.unit ≡ Ok parsed
-    faultless : declaration_faults parsed.tree ≡ []
-    code : c ≡ unit_code c.unit parsed
+    tree : LoweredUnit
+    spelled : parsed_of entries c.unit ≡ Ok tree
+    faultless : declaration_faults tree ≡ []
+    code : c ≡ unit_code c.unit tree
 
   -- so is each of these
   abbrev AreOfTrees : List Compiled → Type 0
@@ -136,7 +112,7 @@ module _ (entries : List (Name × Member)) where
   trees_in : (name : Name) (kind : Kind) (units : List Compiled) → text_in entries name kind ≡ [] → AreOfTrees units → AreOfTrees (units_in entries name kind ++ units)
   trees_in name Source units h all =
       let clean = unit_clean entries name h in
-      subst (λ r. AreOfTrees (units_of r ++ units)) (sym clean.code) (record { parsed = clean.parsed; spelled = clean.spelled; faultless = clean.faultless; code = refl }, all)
+      subst (λ r. AreOfTrees (units_of r ++ units)) (sym clean.code) (record { tree = clean.tree; spelled = clean.spelled; faultless = clean.faultless; code = refl }, all)
   trees_in name Include units h all = all
 
   -- where there is no diagnostic, each unit is of a tree
@@ -158,7 +134,7 @@ module _ (entries : List (Name × Member)) where
   mains_in name Source names units h e =
       let clean = unit_clean entries name h in
       ap (λ r. map (λ c. c.unit) (mains (units_of r ++ units))) clean.code
-      ∙ by clean.parsed.tree.is_main (unit_code name clean.parsed) (mains units) (filter is_main_unit names) e refl
+      ∙ by clean.tree.is_main (unit_code name clean.tree) (mains units) (filter is_main_unit names) e refl
       ∙ ap (λ r. if has_main r then name ∷ filter is_main_unit names else filter is_main_unit names) (sym clean.spelled)
     where
       by : (b : Bool) (c : Compiled) (cs : List Compiled) (ns : List Name) → map (λ c. c.unit) cs ≡ ns → c.unit ≡ name
@@ -221,17 +197,17 @@ built_main (b ∷ text) units m e = let bad : ⊥ = cc in absurd bad
 -- members with a module: their one main unit, its tree, without faults, and the module of its code
 pub record HasProgram (entries : List (Name × Member)) (m : Module) : Type 0 where
   pub unit : Name
-  pub parsed : Parsed
+  pub tree : LoweredUnit
   pub only : main_units entries ≡ unit ∷ []
-  pub spelled : parsed_of entries unit ≡ Ok parsed
-  pub faultless : declaration_faults parsed.tree ≡ []
-  pub module_is : m ≡ record { unit = unit; code = code_of parsed.tree }
+  pub spelled : parsed_of entries unit ≡ Ok tree
+  pub faultless : declaration_faults tree ≡ []
+  pub module_is : m ≡ record { unit = unit; code = code_of tree }
 
 program_of_tree : (entries : List (Name × Member)) (m : Module) (c : Compiled) → main_units entries ≡ c.unit ∷ [] → IsOfTree entries c → m ≡ record { unit = c.unit; code = c.code } → HasProgram entries m
 program_of_tree entries m c only tree e =
     record {
       unit = c.unit;
-      parsed = tree.parsed;
+      tree = tree.tree;
       only = only;
       spelled = tree.spelled;
       faultless = tree.faultless;

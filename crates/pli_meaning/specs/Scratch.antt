@@ -67,40 +67,49 @@ program_from (Err fault) = Err (fault ∷ [])
 abbrev pub program_of : Tokens → Result LoweredUnit (List Fault)
 program_of texts = program_from (unit_of texts)
 
--- a tree and the places of the tokens that it was read from
-pub record Parsed : Type 0 where
-  pub origins : List Origin
-  pub tree : LoweredUnit
+-- what a pass gives, with its faults where their tokens stand
+abbrev pub all_located : {A : Type 0} → Name → List Origin → Result A (List Fault)
+    → Result A (List Diagnostic)
+all_located unit origins (Ok x) = Ok x
+all_located unit origins (Err faults) = Err (map (located unit origins) faults)
 
--- a lowered unit with the origins of its tokens, or its faults where they stand
-abbrev pub parsed_as : Name → List Origin → Result LoweredUnit (List Fault) → Result Parsed (List Diagnostic)
-parsed_as unit origins (Ok u) = Ok (record { origins = origins; tree = u })
-parsed_as unit origins (Err faults) = Err (map (located unit origins) faults)
-
--- the unit of an expansion, or the fault of the expansion
-abbrev pub parsed_from : Name → Expansion → Result Parsed (List Diagnostic)
+-- the tree of an expansion, or the fault of the expansion
+abbrev pub parsed_from : Name → Expansion → Result LoweredUnit (List Diagnostic)
 parsed_from unit (Err stop) = Err (one stop.fault.code stop.fault.origin)
-parsed_from unit (Ok p) = parsed_as unit p.origins (program_of p.texts)
+parsed_from unit (Ok p) = all_located unit p.origins (program_of p.texts)
 
 -- the tree of a unit's expansion, or its diagnostics: the one of the expansion, or those of the first pass
 -- over its tokens that has any
-unfoldable pub parsed_of : List (Name × Member) → Name → Result Parsed (List Diagnostic)
+unfoldable pub parsed_of : List (Name × Member) → Name → Result LoweredUnit (List Diagnostic)
 parsed_of entries unit = parsed_from unit (outcome_of entries unit)
 
--- the code of a tree, if it is not too long
-abbrev pub coded : Name → Parsed → Result Compiled (List Diagnostic)
-coded unit p =
-    if is_too_long (code_of p.tree) then Err (one code.CodeTooLong (origin_of unit (slice_get p.origins 0)))
-    else Ok (record { unit = unit; procedure = p.tree.name; is_main = p.tree.is_main; code = code_of p.tree })
+-- code is too long, at the first token
+abbrev pub too_long : Fault
+too_long = record { code = code.CodeTooLong; at = 0 }
 
--- the code of a unit, or its diagnostics
-abbrev pub compiled_from : Name → Result Parsed (List Diagnostic) → Result Compiled (List Diagnostic)
-compiled_from unit (Err diagnostics) = Err diagnostics
-compiled_from unit (Ok p) = coded unit p
+-- the code of a tree, if it is not too long
+abbrev pub coded : Name → LoweredUnit → Result Compiled (List Fault)
+coded unit u =
+    if is_too_long (code_of u) then Err (too_long ∷ [])
+    else Ok (record { unit = unit; procedure = u.name; is_main = u.is_main; code = code_of u })
+
+abbrev pub coded_from : Name → Result LoweredUnit (List Fault) → Result Compiled (List Fault)
+coded_from unit (Ok u) = coded unit u
+coded_from unit (Err faults) = Err faults
+
+-- the tokens of a unit compiled, or the faults of the first pass that has any; nothing else than its name is
+-- known of the unit, and not where its tokens come from
+abbrev pub compiled_texts : Name → Tokens → Result Compiled (List Fault)
+compiled_texts unit texts = coded_from unit (program_of texts)
+
+-- an expansion compiled, or the fault of the expansion
+abbrev pub compiled_from : Name → Expansion → Result Compiled (List Diagnostic)
+compiled_from unit (Err stop) = Err (one stop.fault.code stop.fault.origin)
+compiled_from unit (Ok p) = all_located unit p.origins (compiled_texts unit p.texts)
 
 -- a unit compiled, or its diagnostics in the order of their tokens; a pass with faults is the last
 unfoldable pub compiled_of : List (Name × Member) → Name → Result Compiled (List Diagnostic)
-compiled_of entries unit = compiled_from unit (parsed_of entries unit)
+compiled_of entries unit = compiled_from unit (outcome_of entries unit)
 
 -- a name, where its member is a SOURCE
 abbrev pub source_in : Name → Kind → List Name
@@ -178,8 +187,8 @@ unfoldable pub scratch : List (Name × Member) → Built
 scratch entries = built (all_text entries entries) (all_units entries entries)
 
 -- a main unit has a tree, and its procedure is a main procedure
-abbrev pub has_main : Result Parsed (List Diagnostic) → Bool
-has_main (Ok p) = p.tree.is_main
+abbrev pub has_main : Result LoweredUnit (List Diagnostic) → Bool
+has_main (Ok u) = u.is_main
 has_main (Err diagnostics) = false
 
 -- the main units among the source members
@@ -190,7 +199,7 @@ main_units entries = filter (λ unit. has_main (parsed_of entries unit)) (source
 -- has this meaning
 pub record Means (entries : List (Name × Member)) (steps : ℕ) (outcome : Outcome) : Type 0 where
   pub unit : Name
-  pub parsed : Parsed
+  pub tree : LoweredUnit
   pub only : main_units entries ≡ unit ∷ []
-  pub spelled : parsed_of entries unit ≡ Ok parsed
-  pub run : whole_run (alone unit parsed.tree) steps ≡ Some outcome
+  pub spelled : parsed_of entries unit ≡ Ok tree
+  pub run : whole_run (alone unit tree) steps ≡ Some outcome

@@ -1,32 +1,23 @@
 -- What compiling a unit answers, and what it appends to the text of diagnostics.
-use Rattle.std.specs.Prelude.{◌≡◌, ℕ, List, [], ◌∷◌, ◌++◌, map, Option, Result, Ok, Err, if◌then◌else◌}
+use Rattle.std.specs.Prelude.{◌≡◌, ℕ, List, [], ◌∷◌, ◌++◌, Option, Result, Ok, Err}
 use Rattle.std.specs.List.{flat_map}
 use Rattle.std.specs.Result.{result_ok}
 use Rattle.pli_base.specs.Name.{Name}
-use Rattle.pli_base.specs.Words.{Tokens}
-use Rattle.pli_base.specs.declared.code.Code.TheVariants.{CodeTooLong}
 use Rattle.pli_base.specs.declared.token.Fault as fault
-use Rattle.pli_base.specs.declared.token.Origin.{Origin}
 use Rattle.pli_base.specs.declared.reading.ParseError.{ParseError}
 use Rattle.pli_base.specs.declared.reading.ParseError.TheVariants as parsing
 use Rattle.pli_declare.specs.declared.resolving.ResolveError.{ResolveError}
 use Rattle.pli_declare.specs.declared.resolving.ResolveError.TheVariants as resolving
-use Rattle.pli_lower.specs.LoweredTree.{LoweredUnit}
 use Rattle.pli_lower.specs.declared.answer.LowerError.{LowerError}
 use Rattle.pli_lower.specs.declared.answer.LowerError.TheVariants as lowering
 use Rattle.pli_code.specs.Link as link
-use Rattle.pli_gen.specs.Translation.{code_of, is_too_long}
 use Rattle.pli_gen.specs.declared.translation.GenerateError.{GenerateError}
 use Rattle.pli_gen.specs.declared.translation.GenerateError.TheVariants as generating
 use Rattle.pli_link.specs.answers.Answers.{compiled_view}
 use Rattle.pli_link.specs.declared.linking.Compiled.{Compiled}
-use Rattle.pli_meaning.specs.Scratch.{Diagnostic, diagnostic_line, located, program_of}
+use Rattle.pli_meaning.specs.Scratch.{Diagnostic, diagnostic_line, too_long}
 use Rattle.pli_bench.specs.declared.compile.CompileError.{CompileError}
 use Rattle.pli_bench.specs.declared.compile.CompileError.TheVariants.{Fault, Faults, OutOfMemory}
-
--- G1, at the first token
-abbrev pub too_long : fault.Fault
-too_long = record { code = CodeTooLong; at = 0 }
 
 -- the errors of the passes, as errors of compiling
 
@@ -46,33 +37,12 @@ abbrev pub of_generating : GenerateError → CompileError
 of_generating generating.TooLong = Fault too_long
 of_generating generating.OutOfMemory = OutOfMemory
 
--- the code of a lowered unit, if it is not too long
-abbrev pub coded : Name → LoweredUnit → Result link.Compiled (List fault.Fault)
-coded unit u =
-    if is_too_long (code_of u) then Err (too_long ∷ [])
-    else Ok (record { unit = unit; procedure = u.name; is_main = u.is_main; code = code_of u })
-
-abbrev pub compiled_from : Name → Result LoweredUnit (List fault.Fault)
-    → Result link.Compiled (List fault.Fault)
-compiled_from unit (Ok u) = coded unit u
-compiled_from unit (Err faults) = Err faults
-
--- a unit's tokens, compiled, or the faults of the first pass that has any
-abbrev pub compiled_texts : Name → Tokens → Result link.Compiled (List fault.Fault)
-compiled_texts unit texts = compiled_from unit (program_of texts)
-
 -- the unit compiled, or its faults, unless memory runs out
 abbrev pub Compiles : Result Compiled CompileError → Result link.Compiled (List fault.Fault) → Type 0
 Compiles (Ok c) compiled = compiled ≡ Ok (compiled_view c)
 Compiles (Err (Fault f)) compiled = compiled ≡ Err (f ∷ [])
 Compiles (Err (Faults fs)) compiled = compiled ≡ Err fs.items
 Compiles (Err OutOfMemory) compiled = Unit {0}
-
--- faults with their places
-abbrev pub all_located : {A : Type 0} → Name → List Origin → Result A (List fault.Fault)
-    → Result A (List Diagnostic)
-all_located unit origins (Ok x) = Ok x
-all_located unit origins (Err faults) = Err (map (located unit origins) faults)
 
 -- the text of a unit's diagnostics, if it has any
 abbrev pub text_of : {A : Type 0} → Name → Result A (List Diagnostic) → List ℕ
