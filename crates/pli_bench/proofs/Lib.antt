@@ -1,7 +1,7 @@
-pub mod AnswerLaws
-pub mod BatchLaws
-pub mod LineLaws
-pub mod ListingLaws
-pub mod ObeyLaws
-pub mod RunLaws
-pub mod Words
+pub mod BytesWaiting
+pub mod CommandsObeyed
+pub mod FirstWordFound
+pub mod LinesAnswered
+pub mod LinesListed
+pub mod LinesOfBytes
+pub mod PartsPut

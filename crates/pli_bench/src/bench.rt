@@ -48,55 +48,6 @@ impl Model for Bench {
     ghost invariant = { λ b. IsStanding b.members.entries b.standing };
 }
 
-/// What a command that was answered, or not, tells the session.
-fn going_on(answered: Result<(), Failed>) -> Result<Next, WriteFailed>
-    ensures { result ≡ gone answered }
-{
-    match answered {
-        Ok(()) => Ok(Next::Go),
-        Err(Failed) => Err(WriteFailed),
-    }
-}
-
-/// Puts what stands behind the output of a run: a line end, unless the next column is the first, and how it ended.
-fn put_end<W: Sink>(writer: &mut W, ran: Ran) -> Result<(), Failed>
-    ensures written { Writes (W.contents writer.old) (W.contents writer.new) (end_answer ran.column ran.ending) result }
-    ensures mark { Marked (W.failed writer.old) (W.failed writer.new) result }
-{
-    if ran.column == 1 {
-        return put_ending(writer, ran.ending);
-    }
-    put_parts(writer, &[b"\n"])?;
-    put_ending(writer, ran.ending)
-}
-
-/// An edit that takes no memory, as one that may take some.
-fn as_edit(edited: Result<(), Refusal>) -> Result<(), EditError>
-    ensures { result ≡ as_edit edited }
-{
-    Ok(edited?)
-}
-
-/// Puts the answer to an edit. Where it was made, no module stands any more.
-fn answer_edit<W: Sink>(
-    standing: &mut Option<Module>,
-    edited: Result<(), EditError>,
-    writer: &mut W,
-) -> Result<(), Failed>
-    ensures standing { standing.new ≡ standing_after edited standing.old }
-    ensures written { Writes (W.contents writer.old) (W.contents writer.new) (edit_answer edited) result }
-    ensures mark { Marked (W.failed writer.old) (W.failed writer.new) result }
-{
-    match edited {
-        Ok(()) => {
-            *standing = None;
-            put_parts(writer, &[b"OK\n"])
-        }
-        Err(EditError::Refused(refusal)) => put_refusal(writer, refusal),
-        Err(EditError::OutOfMemory) => put_parts(writer, &[b"NO MEMORY\n"]),
-    }
-}
-
 impl Bench {
     /// A workbench without members, whose first version is 1. A bare RUN has `steps` steps.
     pub fn new(alloc: Global, steps: u64) -> Bench
@@ -109,6 +60,68 @@ impl Bench {
             standing: None,
             steps,
         }
+    }
+
+    /// Answers the command on a line, which has no line end. A line of more than 200 bytes is no command. All of the
+    /// answer is put before the call ends.
+    pub fn command<W: Sink>(&mut self, line: &[u8], writer: &mut W) -> Result<Next, WriteFailed>
+        ensures answered { AnsweredOne Step quits line.now (span self.old self.new) (span (W.contents writer.old) (W.contents writer.new)) result }
+        ensures mark { Marked (W.failed writer.old) (W.failed writer.new) result }
+    {
+        match read_command(line) {
+            None => going_on(put_parts(writer, &[b"B1 BAD COMMAND\n"])),
+            Some(Command::Add { member, kind }) => going_on(self.add(member.name, kind, writer)),
+            Some(Command::Delete(member)) => going_on(self.delete(member.name, writer)),
+            Some(
+                Command::Insert {
+                    member,
+                    after,
+                    text,
+                },
+            ) => going_on(self.insert(member.name, after, text, writer)),
+            Some(
+                Command::Replace {
+                    member,
+                    number,
+                    text,
+                },
+            ) => going_on(self.replace(member.name, number, text, writer)),
+            Some(
+                Command::Remove {
+                    member,
+                    first,
+                    last,
+                },
+            ) => going_on(self.remove(member.name, first, last, writer)),
+            Some(Command::ListLines(member)) => going_on(self.list_lines(member.name, writer)),
+            Some(Command::ListMembers) => going_on(self.list_members(writer)),
+            Some(Command::Build) => going_on(self.rebuild(writer)),
+            Some(Command::Run(steps)) => going_on(self.execute(steps, writer)),
+            Some(Command::Quit) => match put_parts(writer, &[b"OK\n"]) {
+                Ok(()) => Ok(Next::Quit),
+                Err(Failed) => Err(WriteFailed),
+            },
+        }
+    }
+
+    /// Answers the commands of `reader` on `writer`, up to QUIT or to the end. Bytes are asked for at most `reads` times.
+    pub fn serve<R: Source, W: Sink>(
+        &mut self,
+        reader: &mut R,
+        writer: &mut W,
+        reads: u64,
+    ) -> Result<Next, ServeFault>
+        ensures served { Served Step quits (record { state = span self.old self.new;
+            reader = span (R.remaining reader.old) (R.remaining reader.new);
+            writer = span (W.contents writer.old) (W.contents writer.new); reads = reads }) result }
+        ensures blamed { Blames result (R.failed reader.new) (W.failed writer.new) }
+        ensures few { Takes quits piece_limit (record { state = span self.old self.new;
+            reader = span (R.remaining reader.old) (R.remaining reader.new);
+            writer = span (W.contents writer.old) (W.contents writer.new); reads = reads }) result }
+        ensures unread { reads ≡ 0 → result ≡ Err TooManyReads }
+        ensures takes { R.takes reader.new ≤ R.takes reader.old + reads }
+    {
+        serve(self, reader, writer, reads)
     }
 
     fn add<W: Sink>(&mut self, name: Name, kind: Kind, writer: &mut W) -> Result<(), Failed>
@@ -223,68 +236,6 @@ impl Bench {
             Err(RunFault::WriteFailed) => Err(Failed),
         }
     }
-
-    /// Answers the command on a line, which has no line end. A line of more than 200 bytes is no command. All of the
-    /// answer is put before the call ends.
-    pub fn command<W: Sink>(&mut self, line: &[u8], writer: &mut W) -> Result<Next, WriteFailed>
-        ensures answered { AnsweredOne Step quits line.now (span self.old self.new) (span (W.contents writer.old) (W.contents writer.new)) result }
-        ensures mark { Marked (W.failed writer.old) (W.failed writer.new) result }
-    {
-        match read_command(line) {
-            None => going_on(put_parts(writer, &[b"B1 BAD COMMAND\n"])),
-            Some(Command::Add { target, kind }) => going_on(self.add(target.name, kind, writer)),
-            Some(Command::Delete(target)) => going_on(self.delete(target.name, writer)),
-            Some(
-                Command::Insert {
-                    target,
-                    after,
-                    text,
-                },
-            ) => going_on(self.insert(target.name, after, text, writer)),
-            Some(
-                Command::Replace {
-                    target,
-                    number,
-                    text,
-                },
-            ) => going_on(self.replace(target.name, number, text, writer)),
-            Some(
-                Command::Remove {
-                    target,
-                    first,
-                    last,
-                },
-            ) => going_on(self.remove(target.name, first, last, writer)),
-            Some(Command::ListLines(target)) => going_on(self.list_lines(target.name, writer)),
-            Some(Command::ListMembers) => going_on(self.list_members(writer)),
-            Some(Command::Build) => going_on(self.rebuild(writer)),
-            Some(Command::Run(steps)) => going_on(self.execute(steps, writer)),
-            Some(Command::Quit) => match put_parts(writer, &[b"OK\n"]) {
-                Ok(()) => Ok(Next::Quit),
-                Err(Failed) => Err(WriteFailed),
-            },
-        }
-    }
-
-    /// Answers the commands of `reader` on `writer`, up to QUIT or to the end. Bytes are asked for at most `reads` times.
-    pub fn serve<R: Source, W: Sink>(
-        &mut self,
-        reader: &mut R,
-        writer: &mut W,
-        reads: u64,
-    ) -> Result<Next, ServeFault>
-        ensures served { Served Step quits (record { state = span self.old self.new;
-            reader = span (R.remaining reader.old) (R.remaining reader.new);
-            writer = span (W.contents writer.old) (W.contents writer.new); reads = reads }) result }
-        ensures blamed { Blames result (R.failed reader.new) (W.failed writer.new) }
-        ensures few { Takes quits piece_limit (record { state = span self.old self.new;
-            reader = span (R.remaining reader.old) (R.remaining reader.new);
-            writer = span (W.contents writer.old) (W.contents writer.new); reads = reads }) result }
-        ensures unread { reads ≡ 0 → result ≡ Err TooManyReads }
-        ensures takes { R.takes reader.new ≤ R.takes reader.old + reads }
-    {
-        serve(self, reader, writer, reads)
-    }
 }
 
 impl Interpreter for Bench {
@@ -302,4 +253,53 @@ impl Interpreter for Bench {
     ghost too_long = { long_alike };
 
     ghost too_long_goes = { long_goes };
+}
+
+/// What a command that was answered, or not, tells the session.
+fn going_on(answered: Result<(), Failed>) -> Result<Next, WriteFailed>
+    ensures { result ≡ gone answered }
+{
+    match answered {
+        Ok(()) => Ok(Next::Go),
+        Err(Failed) => Err(WriteFailed),
+    }
+}
+
+/// Puts what stands behind the output of a run: a line end, unless the next column is the first, and how it ended.
+fn put_end<W: Sink>(writer: &mut W, ran: Ran) -> Result<(), Failed>
+    ensures written { Writes (W.contents writer.old) (W.contents writer.new) (end_answer ran.column ran.ending) result }
+    ensures mark { Marked (W.failed writer.old) (W.failed writer.new) result }
+{
+    if ran.column == 1 {
+        return put_ending(writer, ran.ending);
+    }
+    put_parts(writer, &[b"\n"])?;
+    put_ending(writer, ran.ending)
+}
+
+/// An edit that takes no memory, as one that may take some.
+fn as_edit(edited: Result<(), Refusal>) -> Result<(), EditError>
+    ensures { result ≡ as_edit edited }
+{
+    Ok(edited?)
+}
+
+/// Puts the answer to an edit. Where it was made, no module stands any more.
+fn answer_edit<W: Sink>(
+    standing: &mut Option<Module>,
+    edited: Result<(), EditError>,
+    writer: &mut W,
+) -> Result<(), Failed>
+    ensures standing { standing.new ≡ standing_after edited standing.old }
+    ensures written { Writes (W.contents writer.old) (W.contents writer.new) (edit_answer edited) result }
+    ensures mark { Marked (W.failed writer.old) (W.failed writer.new) result }
+{
+    match edited {
+        Ok(()) => {
+            *standing = None;
+            put_parts(writer, &[b"OK\n"])
+        }
+        Err(EditError::Refused(refusal)) => put_refusal(writer, refusal),
+        Err(EditError::OutOfMemory) => put_parts(writer, &[b"NO MEMORY\n"]),
+    }
 }

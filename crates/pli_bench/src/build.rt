@@ -21,6 +21,23 @@ pub enum Built {
     Made(Module),
 }
 
+/// Builds all source members anew.
+#[tactic(auto, unfolding(pli_meaning::specs::Scratch::scratch))]
+pub fn build(alloc: Global, expander: &mut Expander, members: &Members) -> Result<Built, AllocError>
+    ensures { IfOk result (λ built. built_view built ≡ scratch members.now.entries) }
+{
+    let mut text = Vec::new(alloc);
+    let units = compile_all(alloc, expander, members, &mut text)?;
+    if !text.is_empty() {
+        return Ok(Built::Diagnosed(text));
+    }
+    match link(alloc, units) {
+        Ok(module) => Ok(Built::Made(module)),
+        Err(LinkError::Faults(faults)) => Ok(Built::Diagnosed(link_text(alloc, &faults)?)),
+        Err(LinkError::OutOfMemory) => Err(AllocError),
+    }
+}
+
 /// Compiles a member, if it is a source, and appends what that gives to `units` or `text`.
 fn compile_entry(
     alloc: Global,
@@ -108,21 +125,4 @@ fn link_text(alloc: Global, faults: &[LinkFault]) -> Result<Vec<u8>, AllocError>
         write_link_fault(&mut text, *fault)?;
     }
     Ok(text)
-}
-
-/// Builds all source members anew.
-#[tactic(auto, unfolding(pli_meaning::specs::Scratch::scratch))]
-pub fn build(alloc: Global, expander: &mut Expander, members: &Members) -> Result<Built, AllocError>
-    ensures { IfOk result (λ built. built_view built ≡ scratch members.now.entries) }
-{
-    let mut text = Vec::new(alloc);
-    let units = compile_all(alloc, expander, members, &mut text)?;
-    if !text.is_empty() {
-        return Ok(Built::Diagnosed(text));
-    }
-    match link(alloc, units) {
-        Ok(module) => Ok(Built::Made(module)),
-        Err(LinkError::Faults(faults)) => Ok(Built::Diagnosed(link_text(alloc, &faults)?)),
-        Err(LinkError::OutOfMemory) => Err(AllocError),
-    }
 }

@@ -19,7 +19,7 @@ const STEP_DIGITS: usize = 18;
 
 /// The member that a command names.
 #[derive(Clone, Copy, Debug)]
-pub struct Target {
+pub struct MemberName {
     pub name: Name,
 }
 
@@ -28,36 +28,78 @@ pub struct Target {
 pub enum Command<'a> {
     /// A new member of this kind, without lines.
     Add {
-        target: Target,
+        member: MemberName,
         kind: Kind,
     },
-    Delete(Target),
+    /// A member goes.
+    Delete(MemberName),
     /// A new line behind the line of this number, 0 for the front.
     Insert {
-        target: Target,
+        member: MemberName,
         after: u32,
         text: &'a [u8],
     },
     /// Another text for the line of this number, 1 for the first.
     Replace {
-        target: Target,
+        member: MemberName,
         number: u32,
         text: &'a [u8],
     },
     /// The lines from the first to the last go.
     Remove {
-        target: Target,
+        member: MemberName,
         first: u32,
         last: u32,
     },
     /// The lines of a member are listed.
-    ListLines(Target),
+    ListLines(MemberName),
     /// The members are listed.
     ListMembers,
+    /// The source members are built.
     Build,
-    /// So many steps, or the bench's own number.
+    /// The module that stands is run with so many steps, or with the bench's own number.
     Run(Option<u64>),
+    /// The session ends.
     Quit,
+}
+
+/// The command that `line` spells, which has no line end. None where it spells no command: it is over 200 bytes; its
+/// first word is no command's, in either case; a blank more stands between words or behind the last; a name or a number
+/// is of a wrong form; or a word is missing or too many (own).
+pub fn read_command(line: &[u8]) -> Option<Command<'_>>
+    ensures { option_map command_view result ≡ command_of line.now }
+{
+    if line.len() > LINE_LIMIT {
+        return None;
+    }
+    let (word, rest) = split_word(line);
+    if is_word(b"ADD", word) {
+        read_add(rest?)
+    } else if is_word(b"DELETE", word) {
+        Some(Command::Delete(MemberName {
+            name: Name::read(rest?)?,
+        }))
+    } else if is_word(b"INSERT", word) {
+        read_insert(rest?)
+    } else if is_word(b"REPLACE", word) {
+        read_replace(rest?)
+    } else if is_word(b"REMOVE", word) {
+        read_remove(rest?)
+    } else if is_word(b"LIST", word) {
+        Some(Command::ListLines(MemberName {
+            name: Name::read(rest?)?,
+        }))
+    } else if is_word(b"MEMBERS", word) {
+        rest.is_none().then_some(Command::ListMembers)
+    } else if is_word(b"BUILD", word) {
+        rest.is_none().then_some(Command::Build)
+    } else if is_word(b"RUN", word) {
+        read_run(rest)
+    } else if is_word(b"QUIT", word) {
+        rest.is_none().then_some(Command::Quit)
+    } else {
+        None
+    }
 }
 
 /// Where the first blank stands.
@@ -144,31 +186,31 @@ fn read_add(text: &[u8]) -> Option<Command<'_>>
     let name = Name::read(word);
     let kind = read_kind(rest?)?;
     Some(Command::Add {
-        target: Target { name: name? },
+        member: MemberName { name: name? },
         kind,
     })
 }
 
 /// A line's number in a member, and a text for it, which is empty where nothing stands behind the number.
-fn read_numbered(text: &[u8]) -> Option<(Target, u32, &[u8])>
+fn read_numbered(text: &[u8]) -> Option<(MemberName, u32, &[u8])>
     ensures { option_map (λ n. numbered_text n.0.name n.1 n.2.now) result ≡ numbered_of text.now }
 {
     let (word, rest) = split_word(text);
     let name = Name::read(word);
     let (digits, line) = split_word(rest?);
     let number = read_number(digits, LINE_DIGITS)?;
-    Some((Target { name: name? }, number as u32, line.unwrap_or(b"")))
+    Some((MemberName { name: name? }, number as u32, line.unwrap_or(b"")))
 }
 
 /// What stands behind `INSERT`.
 fn read_insert(text: &[u8]) -> Option<Command<'_>>
     ensures { option_map command_view result ≡ insert_of text.now }
 {
-    let Some((target, after, text)) = read_numbered(text) else {
+    let Some((member, after, text)) = read_numbered(text) else {
         return None;
     };
     Some(Command::Insert {
-        target,
+        member,
         after,
         text,
     })
@@ -178,11 +220,11 @@ fn read_insert(text: &[u8]) -> Option<Command<'_>>
 fn read_replace(text: &[u8]) -> Option<Command<'_>>
     ensures { option_map command_view result ≡ replace_of text.now }
 {
-    let Some((target, number, text)) = read_numbered(text) else {
+    let Some((member, number, text)) = read_numbered(text) else {
         return None;
     };
     Some(Command::Replace {
-        target,
+        member,
         number,
         text,
     })
@@ -198,7 +240,7 @@ fn read_remove(text: &[u8]) -> Option<Command<'_>>
     let first = read_number(digits, LINE_DIGITS);
     let last = read_number(rest?, LINE_DIGITS)?;
     Some(Command::Remove {
-        target: Target { name: name? },
+        member: MemberName { name: name? },
         first: first? as u32,
         last: last as u32,
     })
@@ -211,44 +253,5 @@ fn read_run(rest: Option<&[u8]>) -> Option<Command<'_>>
     match rest {
         None => Some(Command::Run(None)),
         Some(digits) => Some(Command::Run(Some(read_number(digits, STEP_DIGITS)?))),
-    }
-}
-
-/// The command that `line` spells, which has no line end. None where it spells no command: it is over 200 bytes; its
-/// first word is no command's, in either case; a blank more stands between words or behind the last; a name or a number
-/// is of a wrong form; or a word is missing or too many (own).
-pub fn read_command(line: &[u8]) -> Option<Command<'_>>
-    ensures { option_map command_view result ≡ command_of line.now }
-{
-    if line.len() > LINE_LIMIT {
-        return None;
-    }
-    let (word, rest) = split_word(line);
-    if is_word(b"ADD", word) {
-        read_add(rest?)
-    } else if is_word(b"DELETE", word) {
-        Some(Command::Delete(Target {
-            name: Name::read(rest?)?,
-        }))
-    } else if is_word(b"INSERT", word) {
-        read_insert(rest?)
-    } else if is_word(b"REPLACE", word) {
-        read_replace(rest?)
-    } else if is_word(b"REMOVE", word) {
-        read_remove(rest?)
-    } else if is_word(b"LIST", word) {
-        Some(Command::ListLines(Target {
-            name: Name::read(rest?)?,
-        }))
-    } else if is_word(b"MEMBERS", word) {
-        rest.is_none().then_some(Command::ListMembers)
-    } else if is_word(b"BUILD", word) {
-        rest.is_none().then_some(Command::Build)
-    } else if is_word(b"RUN", word) {
-        read_run(rest)
-    } else if is_word(b"QUIT", word) {
-        rest.is_none().then_some(Command::Quit)
-    } else {
-        None
     }
 }

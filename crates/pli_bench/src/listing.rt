@@ -31,16 +31,6 @@ pub fn put_lines<W: Sink>(writer: &mut W, lines: &[Line]) -> Result<(), Failed>
     batch.put(writer)
 }
 
-/// The word for a kind of members.
-fn kind_word(kind: Kind) -> &'static str
-    ensures { result.now ≡ kind_word kind }
-{
-    match kind {
-        Kind::Source => "SOURCE",
-        Kind::Include => "INCLUDE",
-    }
-}
-
 /// Puts a line for each member: its name, its kind and how many lines it has.
 pub fn put_members<W: Sink>(writer: &mut W, entries: &[NamedMember]) -> Result<(), Failed>
     ensures written { Writes (W.contents writer.old) (W.contents writer.new) (flat_map member_line entries.now) result }
@@ -63,4 +53,14 @@ pub fn put_members<W: Sink>(writer: &mut W, entries: &[NamedMember]) -> Result<(
         )?;
     }
     batch.put(writer)
+}
+
+/// The word for a kind of members.
+fn kind_word(kind: Kind) -> &'static str
+    ensures { result.now ≡ kind_word kind }
+{
+    match kind {
+        Kind::Source => "SOURCE",
+        Kind::Include => "INCLUDE",
+    }
 }

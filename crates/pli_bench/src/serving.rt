@@ -85,6 +85,31 @@ pub trait Interpreter {
     ghost too_long_goes: { (line : List ℕ) → line_limit < length line → quits line ≡ false };
 }
 
+/// Answers the lines of `reader` on `writer`, up to the first that quits or to the end. A line ends with a line feed, and
+/// a carriage return before it is dropped; a last line without a line feed counts where it is not empty (own). Bytes are
+/// asked for at most `reads` times: where that does not come to the end, it is `TooManyReads`, which an input of fewer
+/// bytes than `reads` never is. Where the reader failed or was asked too often, the lines that ended in what was taken
+/// were answered; where the writer failed, the state is the one behind the command whose answer it failed in.
+pub fn serve<T: Interpreter, R: Source, W: Sink>(
+    bench: &mut T,
+    reader: &mut R,
+    writer: &mut W,
+    reads: u64,
+) -> Result<Next, ServeFault>
+    ensures served { Served T.steps T.quits (record { state = span bench.old bench.new;
+        reader = span (R.remaining reader.old) (R.remaining reader.new);
+        writer = span (W.contents writer.old) (W.contents writer.new); reads = reads }) result }
+    ensures blamed { Blames result (R.failed reader.new) (W.failed writer.new) }
+    ensures few { Takes T.quits piece_limit (record { state = span bench.old bench.new;
+        reader = span (R.remaining reader.old) (R.remaining reader.new);
+        writer = span (W.contents writer.old) (W.contents writer.new); reads = reads }) result }
+    ensures unread { reads ≡ 0 → result ≡ Err TooManyReads }
+    ensures takes { R.takes reader.new ≤ R.takes reader.old + reads }
+{
+    let mut buffer = [0; PIECE];
+    serve_pieces(bench, reader, writer, reads, &mut buffer)
+}
+
 /// The text before a line feed, without the carriage return at its end.
 fn without_return(text: &[u8]) -> &[u8]
     ensures { result.now ≡ without_return text.now }
@@ -178,29 +203,4 @@ fn serve_pieces<T: Interpreter, R: Source, W: Sink>(
         }
     }
     Err(ServeFault::TooManyReads)
-}
-
-/// Answers the lines of `reader` on `writer`, up to the first that quits or to the end. A line ends with a line feed, and
-/// a carriage return before it is dropped; a last line without a line feed counts where it is not empty (own). Bytes are
-/// asked for at most `reads` times: where that does not come to the end, it is `TooManyReads`, which an input of fewer
-/// bytes than `reads` never is. Where the reader failed or was asked too often, the lines that ended in what was taken
-/// were answered; where the writer failed, the state is the one behind the command whose answer it failed in.
-pub fn serve<T: Interpreter, R: Source, W: Sink>(
-    bench: &mut T,
-    reader: &mut R,
-    writer: &mut W,
-    reads: u64,
-) -> Result<Next, ServeFault>
-    ensures served { Served T.steps T.quits (record { state = span bench.old bench.new;
-        reader = span (R.remaining reader.old) (R.remaining reader.new);
-        writer = span (W.contents writer.old) (W.contents writer.new); reads = reads }) result }
-    ensures blamed { Blames result (R.failed reader.new) (W.failed writer.new) }
-    ensures few { Takes T.quits piece_limit (record { state = span bench.old bench.new;
-        reader = span (R.remaining reader.old) (R.remaining reader.new);
-        writer = span (W.contents writer.old) (W.contents writer.new); reads = reads }) result }
-    ensures unread { reads ≡ 0 → result ≡ Err TooManyReads }
-    ensures takes { R.takes reader.new ≤ R.takes reader.old + reads }
-{
-    let mut buffer = [0; PIECE];
-    serve_pieces(bench, reader, writer, reads, &mut buffer)
 }

@@ -7,12 +7,12 @@ use Rattle.pli_bench.specs.declared.command.Command.TheVariants.{ListLines, List
 
 -- the same command, without the places of names and texts
 abbrev pub command_view : Command → spelt.Command
-command_view (Add target kind) = spelt.Add target.name kind
-command_view (Delete target) = spelt.Delete target.name
-command_view (Insert target after text) = spelt.Insert target.name after text.now
-command_view (Replace target number text) = spelt.Replace target.name number text.now
-command_view (Remove target first last) = spelt.Remove target.name first last
-command_view (ListLines target) = spelt.ListLines target.name
+command_view (Add member kind) = spelt.Add member.name kind
+command_view (Delete member) = spelt.Delete member.name
+command_view (Insert member after text) = spelt.Insert member.name after text.now
+command_view (Replace member number text) = spelt.Replace member.name number text.now
+command_view (Remove member first last) = spelt.Remove member.name first last
+command_view (ListLines member) = spelt.ListLines member.name
 command_view ListMembers = spelt.ListMembers
 command_view Build = spelt.Build
 command_view (Run steps) = spelt.Run steps

@@ -1,7 +1,7 @@
 use Rattle.std.specs.Prelude.{◌<◌, length}
 use Rattle.std.proofs.Common.{rules, arith}
 use Rattle.std.proofs.lemmas.Result.{err_from_is_err_and}
-use Rattle.pli_bench.proofs.AnswerLaws.{more_written, some_written}
+use Rattle.pli_bench.proofs.PartsPut.{more_written, some_written}
 use Rattle.pli_bench.proofs.answer.put_parts.Goals as goal
 
 pub loop-part-preserved : goal.loop-part-preserved

@@ -1,5 +1,5 @@
 use Rattle.std.proofs.lemmas.Result.{err_from_is_err_and}
-use Rattle.pli_bench.proofs.ObeyLaws.{end_first, end_later, end_broken}
+use Rattle.pli_bench.proofs.CommandsObeyed.{end_first, end_later, end_broken}
 use Rattle.pli_bench.proofs.bench.put_end.Goals as goal
 
 pub returns-then-ran-eq1-clause-written : goal.returns-then-ran-eq1-clause-written

@@ -1,7 +1,7 @@
 use Rattle.std.proofs.Common.{ℕ, ◌+◌, Some, drop, sym, ap, ◌∙◌, option_map}
 use Rattle.std.proofs.lemmas.List.{take_rest}
 use Rattle.pli_bench.specs.Commands.{is_blank}
-use Rattle.pli_bench.proofs.Words.{before_none, before_some}
+use Rattle.pli_bench.proofs.FirstWordFound.{before_none, before_some}
 use Rattle.pli_bench.proofs.command.split_word.Goals as goal
 
 pub returns-in-None-clause-word : goal.returns-in-None-clause-word

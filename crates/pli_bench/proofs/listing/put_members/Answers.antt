@@ -4,8 +4,8 @@ use Rattle.std.proofs.Common.{rules, arith, ap, sym, ◌∙◌}
 use Rattle.std.proofs.lemmas.List.{drop_all}
 use Rattle.std.proofs.lemmas.Result.{err_from_is_err_and}
 use Rattle.pli_bench.specs.Session.{kind_word, member_line}
-use Rattle.pli_bench.proofs.BatchLaws.{has_put_more, breaks_in, writes_all}
-use Rattle.pli_bench.proofs.ListingLaws.{members_from, member_parts}
+use Rattle.pli_bench.proofs.BytesWaiting.{has_put_more, breaks_in, writes_all}
+use Rattle.pli_bench.proofs.LinesListed.{members_from, member_parts}
 use Rattle.pli_bench.proofs.listing.put_members.Goals as goal
 
 pub loop-entry-preserved : goal.loop-entry-preserved

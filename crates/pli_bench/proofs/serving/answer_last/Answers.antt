@@ -1,6 +1,6 @@
 use Rattle.std.proofs.Common.{◌≡◌, ◌<◌, length, sym, ◌∙◌, rules}
 use Rattle.std.proofs.lemmas.Result.{err_from_is_err_and}
-use Rattle.pli_bench.proofs.RunLaws.{last_none, last_going, last_quit, last_broken, quits_from, goes_from}
+use Rattle.pli_bench.proofs.LinesAnswered.{last_none, last_going, last_quit, last_broken, quits_from, goes_from}
 use Rattle.pli_bench.proofs.serving.answer_last.Goals as goal
 
 pub returns-then-is_empty-clause-answered : goal.returns-then-is_empty-clause-answered

@@ -9,7 +9,7 @@ use Rattle.pli_bench.specs.Runs.{Answered, Bytes, Service, Stops, Takes}
 use Rattle.pli_bench.specs.declared.serving.Next.{Next}
 use Rattle.pli_bench.specs.declared.serving.ServeFault.{ServeFault}
 use Rattle.pli_bench.specs.declared.serving.Next.TheVariants.{Quit}
-use Rattle.pli_bench.proofs.RunLaws.{Going-none, Going-then, Answered-quit, Broken-more, Answers-go_on, QuitsWithin-then, served_part, served_end, stops_at_end, end_from}
+use Rattle.pli_bench.proofs.LinesAnswered.{Going-none, Going-then, Answered-quit, Broken-more, Answers-go_on, QuitsWithin-then, served_part, served_end, stops_at_end, end_from}
 use Rattle.pli_bench.proofs.serving.serve_pieces.Goals as goal
 
 -- a piece that is not empty adds a byte at least

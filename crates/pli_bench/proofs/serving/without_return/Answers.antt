@@ -1,6 +1,6 @@
 use Rattle.std.proofs.Common.{◌≡◌, ℕ, List, [], ◌∷◌, ◌++◌, Bool, true, false, sym, ap, ◌∙◌, rules, if◌then◌else◌}
 use Rattle.pli_bench.specs.Lines.{is_carriage_return, without_return}
-use Rattle.pli_bench.proofs.LineLaws.{without_return-push}
+use Rattle.pli_bench.proofs.LinesOfBytes.{without_return-push}
 use Rattle.pli_bench.proofs.serving.without_return.Goals as goal
 
 dropped : (text front : List ℕ) (c : ℕ) → text ≡ front ++ c ∷ [] → (v : Bool) → is_carriage_return c ≡ v → (if v then front else text) ≡ without_return text

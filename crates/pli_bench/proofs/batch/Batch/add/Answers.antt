@@ -1,4 +1,4 @@
-use Rattle.pli_bench.proofs.BatchLaws.{passed_by}
+use Rattle.pli_bench.proofs.BytesWaiting.{passed_by}
 use Rattle.pli_bench.proofs.batch.Batch.add.Goals as goal
 
 pub returns-then-bytes-gt-BATCH_LIMIT-clause-passed : goal.returns-then-bytes-gt-BATCH_LIMIT-clause-passed

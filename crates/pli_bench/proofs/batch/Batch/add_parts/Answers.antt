@@ -2,7 +2,7 @@ use Rattle.std.specs.Prelude.{◌+◌, ◌<◌, length, map, drop}
 use Rattle.std.proofs.Common.{rules, arith}
 use Rattle.std.proofs.lemmas.Result.{err_from_is_err_and}
 use Rattle.pli_bench.specs.answers.Answering.{joined}
-use Rattle.pli_bench.proofs.BatchLaws.{has_put_more, breaks_in, joined_from}
+use Rattle.pli_bench.proofs.BytesWaiting.{has_put_more, breaks_in, joined_from}
 use Rattle.pli_bench.proofs.batch.Batch.add_parts.Goals as goal
 
 pub loop-part-preserved : goal.loop-part-preserved

@@ -1,7 +1,7 @@
 use Rattle.pli_members.specs.Members.{deleted}
 use Rattle.pli_members.specs.Refusals.{refusal_of_delete}
 use Rattle.pli_bench.specs.answers.Obeying.{edit_answer}
-use Rattle.pli_bench.proofs.ObeyLaws.{edits}
+use Rattle.pli_bench.proofs.CommandsObeyed.{edits}
 use Rattle.pli_bench.proofs.bench.Bench.delete.Goals as goal
 
 pub returns-clause-answered : goal.returns-clause-answered

@@ -5,7 +5,7 @@ use Rattle.std.proofs.lemmas.Result.{err_from_is_err_and}
 use Rattle.pli_base.specs.laws.DeviceLaws.{AppendsPrefix-more}
 use Rattle.pli_members.specs.declared.refusal.Refusal.TheVariants.{NoSuchMember}
 use Rattle.pli_bench.specs.Session.{okay, refused, numbered_lines}
-use Rattle.pli_bench.proofs.ObeyLaws.{lists_none, lists, writes_then}
+use Rattle.pli_bench.proofs.CommandsObeyed.{lists_none, lists, writes_then}
 use Rattle.pli_bench.proofs.bench.Bench.list_lines.Goals as goal
 
 pub returns-in_default-clause-answered : goal.returns-in_default-clause-answered

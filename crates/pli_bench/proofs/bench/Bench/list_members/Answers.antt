@@ -4,7 +4,7 @@ use Rattle.std.proofs.Common.{ap, ◌∙◌}
 use Rattle.std.proofs.lemmas.Result.{err_from_is_err_and}
 use Rattle.pli_base.specs.laws.DeviceLaws.{AppendsPrefix-more}
 use Rattle.pli_bench.specs.Session.{okay, member_line}
-use Rattle.pli_bench.proofs.ObeyLaws.{writes_then}
+use Rattle.pli_bench.proofs.CommandsObeyed.{writes_then}
 use Rattle.pli_bench.proofs.bench.Bench.list_members.Goals as goal
 
 pub returns-in_err-put_members-clause-answered : goal.returns-in_err-put_members-clause-answered

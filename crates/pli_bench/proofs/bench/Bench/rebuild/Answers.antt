@@ -1,7 +1,7 @@
 use Rattle.pli_code.specs.views.ModuleView.{module_view}
 use Rattle.pli_meaning.specs.Scratch.{Made, Diagnosed}
 use Rattle.pli_bench.specs.Session.{build_answer, no_memory}
-use Rattle.pli_bench.proofs.ObeyLaws.{builds, builds_not}
+use Rattle.pli_bench.proofs.CommandsObeyed.{builds, builds_not}
 use Rattle.pli_bench.proofs.bench.Bench.rebuild.Goals as goal
 
 pub returns-in-Ok-Made-clause-answered : goal.returns-in-Ok-Made-clause-answered

@@ -1,7 +1,7 @@
 use Rattle.pli_members.specs.Members.{with_line_replaced}
 use Rattle.pli_members.specs.Refusals.{refusal_of_replace}
 use Rattle.pli_bench.specs.answers.Obeying.{edit_answer}
-use Rattle.pli_bench.proofs.ObeyLaws.{edits_in_memory}
+use Rattle.pli_bench.proofs.CommandsObeyed.{edits_in_memory}
 use Rattle.pli_bench.proofs.bench.Bench.replace.Goals as goal
 
 pub returns-clause-answered : goal.returns-clause-answered

@@ -15,7 +15,7 @@ use Rattle.pli_bench.specs.answers.Going.{Going}
 use Rattle.pli_bench.specs.declared.serving.Next.{Next}
 use Rattle.pli_bench.specs.declared.serving.Next.TheVariants.{Go, Quit, End}
 use Rattle.pli_bench.specs.declared.serving.WriteFailed.{WriteFailed}
-use Rattle.pli_bench.proofs.LineLaws.{length-without_return, complete_from-append, pending_from-append, complete_from-line_feed, pending_from-line_feed, complete_from-other, pending_from-other, input_lines-append}
+use Rattle.pli_bench.proofs.LinesOfBytes.{length-without_return, complete_from-append, pending_from-append, complete_from-line_feed, pending_from-line_feed, complete_from-other, pending_from-other, input_lines-append}
 
 -- the front of a front and one element more
 pub take-take_push : (n : ℕ) (text : List ℕ) (c : ℕ) → take n (take n text ++ c ∷ []) ≡ take n (text ++ c ∷ [])
