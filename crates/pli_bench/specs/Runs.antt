@@ -87,7 +87,7 @@ pub record Cut {S : Type 0} (Step : List ℕ → Exchange S → Type 0) (quits :
   pub consumed : Consumes service.reader.before service.reader.after taken
   pub answers : List ℕ
   pub answered :
-    Answers Step quits service.state.before (complete_lines taken) answers service.state.after End
+      Answers Step quits service.state.before (complete_lines taken) answers service.state.after End
   pub written : Appends service.writer.before service.writer.after answers
 
 -- the lines of the input were answered, up to the first that quits; or a device failed, or there were too

@@ -111,13 +111,19 @@ impl Bench {
         writer: &mut W,
         reads: u64,
     ) -> Result<Next, ServeFault>
-        ensures served { Served Step quits (record { state = span self.old self.new;
-            reader = span (R.remaining reader.old) (R.remaining reader.new);
-            writer = span (W.contents writer.old) (W.contents writer.new); reads = reads }) result }
+        ensures served { Served Step quits (record {
+          state = span self.old self.new;
+          reader = span (R.remaining reader.old) (R.remaining reader.new);
+          writer = span (W.contents writer.old) (W.contents writer.new);
+          reads = reads;
+        }) result }
         ensures blamed { Blames result (R.failed reader.new) (W.failed writer.new) }
-        ensures few { Takes quits piece_limit (record { state = span self.old self.new;
-            reader = span (R.remaining reader.old) (R.remaining reader.new);
-            writer = span (W.contents writer.old) (W.contents writer.new); reads = reads }) result }
+        ensures few { Takes quits piece_limit (record {
+          state = span self.old self.new;
+          reader = span (R.remaining reader.old) (R.remaining reader.new);
+          writer = span (W.contents writer.old) (W.contents writer.new);
+          reads = reads;
+        }) result }
         ensures unread { reads ≡ 0 → result ≡ Err TooManyReads }
         ensures takes { R.takes reader.new ≤ R.takes reader.old + reads }
     {

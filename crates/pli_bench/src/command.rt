@@ -199,7 +199,11 @@ fn read_numbered(text: &[u8]) -> Option<(MemberName, u32, &[u8])>
     let name = Name::read(word);
     let (digits, line) = split_word(rest?);
     let number = read_number(digits, LINE_DIGITS)?;
-    Some((MemberName { name: name? }, number as u32, line.unwrap_or(b"")))
+    Some((
+        MemberName { name: name? },
+        number as u32,
+        line.unwrap_or(b""),
+    ))
 }
 
 /// What stands behind `INSERT`.

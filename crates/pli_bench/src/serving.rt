@@ -96,13 +96,19 @@ pub fn serve<T: Interpreter, R: Source, W: Sink>(
     writer: &mut W,
     reads: u64,
 ) -> Result<Next, ServeFault>
-    ensures served { Served T.steps T.quits (record { state = span bench.old bench.new;
-        reader = span (R.remaining reader.old) (R.remaining reader.new);
-        writer = span (W.contents writer.old) (W.contents writer.new); reads = reads }) result }
+    ensures served { Served T.steps T.quits (record {
+      state = span bench.old bench.new;
+      reader = span (R.remaining reader.old) (R.remaining reader.new);
+      writer = span (W.contents writer.old) (W.contents writer.new);
+      reads = reads;
+    }) result }
     ensures blamed { Blames result (R.failed reader.new) (W.failed writer.new) }
-    ensures few { Takes T.quits piece_limit (record { state = span bench.old bench.new;
-        reader = span (R.remaining reader.old) (R.remaining reader.new);
-        writer = span (W.contents writer.old) (W.contents writer.new); reads = reads }) result }
+    ensures few { Takes T.quits piece_limit (record {
+      state = span bench.old bench.new;
+      reader = span (R.remaining reader.old) (R.remaining reader.new);
+      writer = span (W.contents writer.old) (W.contents writer.new);
+      reads = reads;
+    }) result }
     ensures unread { reads ≡ 0 → result ≡ Err TooManyReads }
     ensures takes { R.takes reader.new ≤ R.takes reader.old + reads }
 {
@@ -180,13 +186,19 @@ fn serve_pieces<T: Interpreter, R: Source, W: Sink>(
     buffer: &mut [u8],
 ) -> Result<Next, ServeFault>
     requires { 0 < length buffer.old }
-    ensures served { Served T.steps T.quits (record { state = span bench.old bench.new;
-        reader = span (R.remaining reader.old) (R.remaining reader.new);
-        writer = span (W.contents writer.old) (W.contents writer.new); reads = reads }) result }
+    ensures served { Served T.steps T.quits (record {
+      state = span bench.old bench.new;
+      reader = span (R.remaining reader.old) (R.remaining reader.new);
+      writer = span (W.contents writer.old) (W.contents writer.new);
+      reads = reads;
+    }) result }
     ensures blamed { Blames result (R.failed reader.new) (W.failed writer.new) }
-    ensures few { Takes T.quits (length buffer.old) (record { state = span bench.old bench.new;
-        reader = span (R.remaining reader.old) (R.remaining reader.new);
-        writer = span (W.contents writer.old) (W.contents writer.new); reads = reads }) result }
+    ensures few { Takes T.quits (length buffer.old) (record {
+      state = span bench.old bench.new;
+      reader = span (R.remaining reader.old) (R.remaining reader.new);
+      writer = span (W.contents writer.old) (W.contents writer.new);
+      reads = reads;
+    }) result }
     ensures unread { reads ≡ 0 → result ≡ Err TooManyReads }
     ensures takes { R.takes reader.new ≤ R.takes reader.old + reads }
 {
