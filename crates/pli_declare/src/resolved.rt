@@ -32,7 +32,6 @@ impl<'a> Model for Resolved<'a> {
     ghost use Rattle.pli_base.specs.declared.statement.Procedure.{Procedure};
     ghost use Rattle.pli_base.specs.views.StatementView.{unit_view};
     ghost use Rattle.pli_declare.specs.views.BlockView.{IsResolvedOf};
-
     ghost use Rattle.pli_base.specs.contracts.statement.Body.TheKnot.{coded-Procedure};
 
     ghost Value = { Procedure };

@@ -127,6 +127,7 @@ module _ (call : Calls) (names : List Name) (level : ℕ) where
     where
       o : Answer ℤ
       o = or_raised (within 31 (x +ℤ y)) w
+
       by : (o : Answer ℤ) → Answers (λ z v. (x +ℤ y ≡ z) × (unsigned_abs (x +ℤ y) < 2 ^ 31) × (v ≡ w)) o → Answers (λ z v. IsOf (Sum l r) z × IsReady count v × Later w v) o
       by (Yields z v) h = (subst (IsOf (Sum l r)) h.0 (sum_is l r x y hx hy h.1), subst (IsReady count) (sym h.2) ready, subst (Later w) (sym h.2) (no_later w))
       by (Raises e v) h = h
@@ -137,6 +138,7 @@ module _ (call : Calls) (names : List Name) (level : ℕ) where
     where
       o : Answer ℤ
       o = or_raised (within 31 x) w
+
       by : (o : Answer ℤ) → Answers (λ z v. (x ≡ z) × (unsigned_abs x < 2 ^ 31) × (v ≡ w)) o → Answers (λ z v. (unsigned_abs z < 2 ^ 31) × IsReady count v × Later w v) o
       by (Yields z v) h = (subst (λ y. unsigned_abs y < 2 ^ 31) h.0 h.1, subst (IsReady count) (sym h.2) ready, subst (Later w) (sym h.2) (no_later w))
       by (Raises e v) h = h

@@ -171,10 +171,12 @@ module _ (p : Program) (number : ℕ) (u : UnitCode) where
           → Is u i a b → resume (act p.greatest u (Some i) (frame b ops l) fs w) left ≡ t → Comes p (At (frame a ops l) fs w left) t
       goes {i} {a} {b} {ops} {l} {fs} {w} {left} {t} is h =
           record {
-            by = λ k. (suc k,
-            ap (λ v. iterate p k (resume (act_in p.greatest v (frame a ops l) fs w) left)) there
-            ∙ ap (λ j. iterate p k (resume (act p.greatest u j (frame (suc a) ops l) fs w) left)) is.here
-            ∙ ap (λ m. iterate p k (resume (act p.greatest u (Some i) (frame m ops l) fs w) left)) is.ends ∙ ap (iterate p k) h);
+            by = λ k. (
+              suc k,
+              ap (λ v. iterate p k (resume (act_in p.greatest v (frame a ops l) fs w) left)) there
+                  ∙ ap (λ j. iterate p k (resume (act p.greatest u j (frame (suc a) ops l) fs w) left)) is.here
+                  ∙ ap (λ m. iterate p k (resume (act p.greatest u (Some i) (frame m ops l) fs w) left)) is.ends ∙ ap (iterate p k) h,
+            );
           }
 
       -- a statement is begun by the instruction that takes its step

@@ -152,9 +152,9 @@ module _ (count : ℕ) where
       let k = suc (length h.older) in (
         p.0,
         ap (λ o. further o (λ n v. slot_in (activation_at v.activations n) slot v)) (reached h.newest h.older w h.active)
-        ∙ ap (λ all. slot_in (activation_at all k) slot w) h.active
-        ∙ ap (λ o. slot_in o slot w) (found_newest h.newest h.older)
-        ∙ ap (λ o. known o w) p.1,
+            ∙ ap (λ all. slot_in (activation_at all k) slot w) h.active
+            ∙ ap (λ o. slot_in o slot w) (found_newest h.newest h.older)
+            ∙ ap (λ o. known o w) p.1,
         p.2,
       )
 
@@ -164,8 +164,8 @@ module _ (count : ℕ) where
       let n = number_at w.storage g l.0 h.numbers l.1 in (
         n.number,
         ap (λ o. held_in o (whole g (FixedBinary 31)) w) l.1
-        ∙ ap (λ d. if same d (FixedBinary 31) then Yields l.0.value w else Wrong) n.described
-        ∙ ap (λ v. Yields v w) n.held,
+            ∙ ap (λ d. if same d (FixedBinary 31) then Yields l.0.value w else Wrong) n.described
+            ∙ ap (λ v. Yields v w) n.held,
         n.small,
       )
 
@@ -177,8 +177,8 @@ module _ (count : ℕ) where
       let new = record w { storage = with_value w.storage g (Number x) } in (
         new,
         ap (λ o. stored_in o (whole g (FixedBinary 31)) (Number x) w) l.1
-        ∙ ap (λ d. if same d (FixedBinary 31) && has_digits 31 x then Yields tt new else Wrong) n.described
-        ∙ ap (λ b. if b then Yields tt new else Wrong) (lt-ltb (unsigned_abs x) (2 ^ 31) small),
+            ∙ ap (λ d. if same d (FixedBinary 31) && has_digits 31 x then Yields tt new else Wrong) n.described
+            ∙ ap (λ b. if b then Yields tt new else Wrong) (lt-ltb (unsigned_abs x) (2 ^ 31) small),
         record {
           newest = h.newest;
           older = h.older;
@@ -232,15 +232,20 @@ one_more count w h =
   where
     g : Generation
     g = record { number = w.made; description = FixedBinary 31; made = Automatic; value = Number (pos 0) }
+
     p : Place
     p = whole w.made (FixedBinary 31)
+
     new : World
     new = record w { storage = w.storage ++ g ∷ []; made = suc w.made }
+
     a : Activation
     a = h.ready.newest
+
     place : (slot : ℕ) → (slot < count) ⊎ (slot ≡ count) → (k : ℕ) × (slice_get (a.slots ++ p ∷ []) slot ≡ Some (whole k (FixedBinary 31))) × Lives (w.storage ++ g ∷ []) k
     place slot (inl lt) = let q = h.ready.places slot lt in (q.0, slot_before a.slots p slot (whole q.0 (FixedBinary 31)) q.1, lives_before w.storage g q.0 q.2)
     place slot (inr e) = (w.made, ap (slice_get (a.slots ++ p ∷ [])) (e ∙ sym h.just) ∙ slot_last a.slots p, lives_last w.storage g)
+
     by : (b : Bool) → Answers (λ p v. HasSlots (suc count) (in_newest (with_slot p) v)) (if b then Yields p new else Raises StorageLimit w)
     by true = record {
       ready = record {

@@ -26,9 +26,9 @@ AreMeanings meanings uses = (at : ℕ) → get nat_eq meanings at ≡ meaning_at
 pub record IsResolvedOf {S : Type 0} (u : ExternalProcedure) (regions : List Region)
     (outermost : List Declaration) (blocks : List Block) (meanings areas locators : IndexMap ℕ Target S) : Type 0
   where
-  pub regions_are : regions_view regions ≡ (resolved_of u).regions
-  pub outermost_is : map declaration_view outermost ≡ (resolved_of u).outermost
-  pub blocks_are : map block_view blocks ≡ (resolved_of u).blocks
-  pub meanings_are : AreMeanings meanings (resolved_of u).uses
-  pub areas_are : AreMeanings areas (resolved_of u).areas
-  pub locators_are : AreMeanings locators (resolved_of u).locators
+    pub regions_are : regions_view regions ≡ (resolved_of u).regions
+    pub outermost_is : map declaration_view outermost ≡ (resolved_of u).outermost
+    pub blocks_are : map block_view blocks ≡ (resolved_of u).blocks
+    pub meanings_are : AreMeanings meanings (resolved_of u).uses
+    pub areas_are : AreMeanings areas (resolved_of u).areas
+    pub locators_are : AreMeanings locators (resolved_of u).locators

@@ -13,17 +13,19 @@ use Rattle.pli_meaning.specs.Scratch.{Made, scratch}
 
 -- one member, of five lines
 abbrev pub first_members : List (Name × Member)
-first_members =
-    (codes "M", record {
-      kind = Source;
-      lines =
-          codes "M: PROC OPTIONS(MAIN);"
-          ∷ codes "DCL X FIXED BIN(31);"
-          ∷ codes "X = 2 + 3;"
-          ∷ codes "PUT LIST(X);"
-          ∷ codes "END M;" ∷ [];
-      version = 5;
-    }) ∷ []
+first_members = (
+  codes "M",
+  record {
+    kind = Source;
+    lines =
+        codes "M: PROC OPTIONS(MAIN);"
+        ∷ codes "DCL X FIXED BIN(31);"
+        ∷ codes "X = 2 + 3;"
+        ∷ codes "PUT LIST(X);"
+        ∷ codes "END M;" ∷ [];
+    version = 5;
+  },
+) ∷ []
 
 -- its module
 abbrev pub first_module : Module
