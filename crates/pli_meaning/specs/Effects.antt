@@ -4,7 +4,8 @@ use Rattle.std.specs.Prelude.{ℕ, zero, suc, nat_eq, nat_lt, Option, Some, None
 use Rattle.pli_code.specs.declared.ending.Ending.{Ending}
 use Rattle.pli_code.specs.declared.ending.RunError.TheVariants.{TooManyActivations}
 use Rattle.pli_store.specs.Activations.{activation_limit}
-use Rattle.pli_store.specs.World.{World, Answer, Yields, Raises, Wrong, height, at_statement, stepped, left_by}
+use Rattle.pli_store.specs.World.{World, Answer, Yields, Raises, Wrong, height, at_statement, stepped}
+use Rattle.pli_store.specs.World.{left_by}
 use Rattle.pli_store.specs.World.{error_at}
 use Rattle.pli_value.specs.Value.{Value}
 

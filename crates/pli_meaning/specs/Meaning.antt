@@ -1,5 +1,6 @@
 -- Meaning: what a program does, by recursion on its trees (own). No instruction is mentioned.
-use Rattle.std.specs.Prelude.{ℕ, zero, suc, ℤ, pos, ◌+ℤ◌, Bool, Option, Some, None, List, [], ◌∷◌, length, replicate}
+use Rattle.std.specs.Prelude.{ℕ, zero, suc, ℤ, pos, ◌+ℤ◌, Bool, Option, Some, None, List, [], ◌∷◌, length}
+use Rattle.std.specs.Prelude.{replicate}
 use Rattle.std.specs.Prelude.{slice_get, if◌then◌else◌}
 use Rattle.pli_base.specs.Name.{Name}
 use Rattle.pli_lower.specs.LoweredTree.{LoweredReference, LoweredExpression, Variable, Constant, Sum}
@@ -14,12 +15,14 @@ use Rattle.pli_value.specs.Numbers.{within}
 use Rattle.pli_value.specs.Value.{Value, Number, Characters, Bits}
 use Rattle.pli_store.specs.Storage.{Place}
 use Rattle.pli_store.specs.World as world
-use Rattle.pli_store.specs.World.{World, Answer, Yields, Wrong, known, or_raised, nothing, Head, entered, slot_place}
+use Rattle.pli_store.specs.World.{World, Answer, Yields, Wrong, known, or_raised, nothing, Head, entered}
+use Rattle.pli_store.specs.World.{slot_place}
 use Rattle.pli_store.specs.World.{held, stored, printed}
 use Rattle.pli_machine_step.specs.Machine.{characters_of}
 use Rattle.pli_machine_step.specs.Runs.{Outcome, outcome_of}
 use Rattle.pli_meaning.specs.Effects.{Effect, Gives, Jumps, Fails, Spent, Lost, Short, Flow, Next, Doing}
-use Rattle.pli_meaning.specs.Effects.{and_then, followed, answered, as_step, as_statement, unless_full, leaving}
+use Rattle.pli_meaning.specs.Effects.{and_then, followed, answered, as_step, as_statement, unless_full}
+use Rattle.pli_meaning.specs.Effects.{leaving}
 use Rattle.pli_meaning.specs.Effects.{procedure_end}
 
 -- a unit: the name of its member, and its tree
@@ -117,14 +120,16 @@ activates call level u link places =
     unless_full
     (as_step
     (λ w left. and_then (answered (entered (head_of u) link places w) left)
-    (λ _ w left. leaving (does_all call (declared_names u.tree) level u.tree.statements w left) procedure_end)))
+    (λ _ w left. leaving
+    (does_all call (declared_names u.tree) level u.tree.statements w left) procedure_end)))
 
 -- block 0 of a unit is its external procedure; no other is there yet
 abbrev pub procedure_in : List SourceUnit → (unit block : ℕ) → Option SourceUnit
 procedure_in us unit zero = slice_get us unit
 procedure_in us unit (suc block) = None
 
-abbrev pub activates_if : Calls → (level : ℕ) → Option SourceUnit → (link : ℕ) → List Place → Doing (Option Value)
+abbrev pub activates_if : Calls → (level : ℕ) → Option SourceUnit → (link : ℕ) → List Place
+    → Doing (Option Value)
 activates_if call level None link places w left = Lost
 activates_if call level (Some u) link places w left = activates call level u link places w left
 

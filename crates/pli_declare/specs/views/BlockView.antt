@@ -24,7 +24,8 @@ AreMeanings meanings uses = (at : ℕ) → get nat_eq meanings at ≡ meaning_at
 
 -- what a resolved unit keeps is what the tree says: each declared name, and each use by its token
 pub record IsResolvedOf {S : Type 0} (u : ExternalProcedure) (regions : List Region)
-    (outermost : List Declaration) (blocks : List Block) (meanings areas locators : IndexMap ℕ Target S) : Type 0
+    (outermost : List Declaration) (blocks : List Block) (meanings areas locators : IndexMap ℕ Target S)
+    : Type 0
   where
     pub regions_are : regions_view regions ≡ (resolved_of u).regions
     pub outermost_is : map declaration_view outermost ≡ (resolved_of u).outermost

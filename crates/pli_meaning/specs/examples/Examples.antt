@@ -44,7 +44,8 @@ next_of_x = Sum (Variable (x_at 25)) (Constant 1 1)
 -- what so many steps of M give
 abbrev pub Gives : LoweredUnit → (steps : ℕ) → List ℕ → Ending → (column : ℕ) → Type 0
 Gives u steps output ending column =
-    whole_run (alone (codes "M") u) steps ≡ Some (record { output = output; ending = ending; column = column })
+    whole_run (alone (codes "M") u) steps
+    ≡ Some (record { output = output; ending = ending; column = column })
 
 -- the procedure of the first run
 abbrev pub first_procedure : LoweredUnit

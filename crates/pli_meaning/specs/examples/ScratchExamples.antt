@@ -1,4 +1,5 @@
--- A worked example of the whole way: the members of a first session, the module that a build from scratch makes
+-- A worked example of the whole way: the members of a first session, the module that a build from
+-- scratch makes
 -- of them, and what its runs give.
 use Rattle.std.specs.Prelude.{◌≡◌, ℕ, pos, List, [], ◌∷◌, ◌++◌, replicate, codes}
 use Rattle.pli_base.specs.Name.{Name}
@@ -45,7 +46,8 @@ first_module = record {
 abbrev pub FirstIsMade : Type 0
 FirstIsMade = scratch first_members ≡ Made first_module
 
--- with three steps, the activation, the assignment and PUT, it prints the 5 in 14 columns and a blank, and ends
+-- with three steps, the activation, the assignment and PUT, it prints the 5 in 14 columns and a blank,
+-- and ends
 abbrev pub RunsWithThree : Type 0
 RunsWithThree =
     RunsTo first_module 3 (record { output = replicate 13 32 ++ codes "5 "; ending = Ended; column = 16 })
