@@ -7,7 +7,6 @@ use Rattle.pli_base.specs.Name.{Name}
 use Rattle.pli_lower.specs.LoweredTree.{LoweredExpression, Variable, Constant, Sum, LoweredBody, Null, Declare, Assign, Put, LoweredStatement, LoweredUnit}
 use Rattle.pli_base.specs.Words.{is_among}
 use Rattle.pli_lower.specs.LoweredNames.{declared_names, declaration_faults}
-use Rattle.pli_code.specs.views.ModuleView.{Code}
 use Rattle.pli_map.specs.Description.{FixedBinary}
 use Rattle.pli_value.specs.Value.{Number}
 use Rattle.pli_machine_step.specs.Program.{Basic, UnitCode}

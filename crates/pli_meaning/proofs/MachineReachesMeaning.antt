@@ -9,10 +9,10 @@ use Rattle.pli_value.specs.Numbers.{within}
 use Rattle.pli_value.specs.Value.{Value, Number, Characters, Bits}
 use Rattle.pli_store.specs.World.{World, slot_place, held, stored, printed, known, or_raised}
 use Rattle.pli_machine_step.specs.Program.{UnitCode, Program}
-use Rattle.pli_machine_step.specs.Machine.{Operand, OfValue, AtPlace, Locals, Frame, At, Goes, act, given, fitted_to, characters_of, resume}
+use Rattle.pli_machine_step.specs.Machine.{Operand, OfValue, AtPlace, Locals, Frame, At, Goes, given, fitted_to, characters_of, resume}
 use Rattle.pli_meaning.specs.Effects.{Gives, Next, answered}
 use Rattle.pli_meaning.specs.Meaning.{Calls, number_of, place_at, value_of, assigns, puts, puts_all, does, does_all}
-use Rattle.pli_meaning.proofs.ReachesLemmas.{Then, Is, Context, Fine, Kept, stays, frame, Reaches, goes, gives, passes, bound, goes_on, begins, answers, pushes, flows}
+use Rattle.pli_meaning.proofs.ReachesLemmas.{Context, Fine, stays, frame, Reaches, goes, gives, passes, bound, goes_on, begins, answers, pushes, flows}
 use Rattle.pli_meaning.proofs.WhereCodeStands.{PushesValue, FitsTo, PlaceOf, Values, Puts, PutsAll, Assigns, Does, DoesAll}
 
 -- a number as an operand

@@ -12,7 +12,7 @@ use Rattle.pli_machine_step.specs.Runs.{Outcome}
 use Rattle.pli_machine_step.specs.views.ModuleProgram.{RunsTo}
 use Rattle.pli_meaning.specs.Meaning.{alone, whole_run}
 use Rattle.pli_meaning.specs.Members.{MembersSimulate, OneMeaning, MembersGrow}
-use Rattle.pli_meaning.specs.Scratch.{Diagnostic, read_or_fault, lowered_unless, program_from, program_of, all_located, parsed_from, parsed_of, main_units, Means}
+use Rattle.pli_meaning.specs.Scratch.{read_or_fault, lowered_unless, program_from, program_of, all_located, parsed_from, parsed_of, main_units, Means}
 use Rattle.pli_meaning.specs.Sound.{IsSound}
 use Rattle.pli_meaning.proofs.ProceduresGrow.{growth}
 use Rattle.pli_meaning.proofs.ProceduresSimulate.{some_is, simulation}

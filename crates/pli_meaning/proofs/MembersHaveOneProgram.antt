@@ -1,5 +1,5 @@
 -- Members that have a module have one main unit, whose tree has no faults.
-use Rattle.std.specs.Prelude.{◌≡◌, ℕ, Bool, true, false, Some, Result, Ok, Err, List, [], ◌∷◌, ◌++◌, map, refl, if◌then◌else◌}
+use Rattle.std.specs.Prelude.{◌≡◌, ℕ, Bool, true, false, Result, Ok, Err, List, [], ◌∷◌, ◌++◌, map, refl, if◌then◌else◌}
 use Rattle.std.specs.Cmp.Lexicographic.{slice_cmp}
 use Rattle.std.specs.List.{filter, flat_map}
 use Rattle.std.specs.Ordering.{nat_cmp, is_gt}
@@ -22,7 +22,7 @@ use Rattle.pli_lower.proofs.LoweringNames.{lowers_to_faultless}
 use Rattle.pli_parse_statement.specs.StatementReading.{unit_of}
 use Rattle.pli_base.specs.Statements.{ExternalProcedure}
 use Rattle.pli_declare.specs.Resolution.{resolution_faults}
-use Rattle.pli_meaning.specs.Scratch.{Diagnostic, read_or_fault, lowered_unless, program_from, program_of, units_of, all_located, parsed_from, parsed_of, too_long, coded_from, compiled_from, compiled_of, diagnostics_in, diagnostic_line, one, Made, built, linked, scratch, all_text, all_units, text_in, units_in, sources, source_in, has_main, main_units}
+use Rattle.pli_meaning.specs.Scratch.{Diagnostic, read_or_fault, lowered_unless, program_from, program_of, units_of, located, all_located, parsed_from, parsed_of, too_long, coded_from, compiled_from, compiled_of, diagnostics_in, diagnostic_line, one, Made, built, linked, scratch, all_text, all_units, text_in, units_in, sources, source_in, has_main, main_units}
 
 -- a list with an element is not empty
 filled : {A : Type 0} (xs ys : List A) (y : A) → xs ++ y ∷ ys ≡ [] → ⊥
@@ -73,17 +73,17 @@ record IsClean (name : Name) (r : Result LoweredUnit (List Diagnostic)) (c : Res
 chosen_clean : (name : Name) (origins : List Origin) (u : LoweredUnit) (b : Bool) → declaration_faults u ≡ []
     → diagnostics_in name (all_located name origins (if b then Err (too_long ∷ []) else Ok (unit_code name u))) ≡ []
     → IsClean name (Ok u) (all_located name origins (if b then Err (too_long ∷ []) else Ok (unit_code name u)))
-chosen_clean name origins u true none e = absurd (text_filled name _ [] e)
+chosen_clean name origins u true none e = absurd (text_filled name (located name origins too_long) [] e)
 chosen_clean name origins u false none e = record { tree = u; spelled = refl; faultless = none; code = refl }
 
 read_clean : (name : Name) (origins : List Origin) (r : Result LoweredUnit (List Fault)) → IsRead r
     → diagnostics_in name (all_located name origins (coded_from name r)) ≡ [] → IsClean name (all_located name origins r) (all_located name origins (coded_from name r))
 read_clean name origins (Ok u) h e = chosen_clean name origins u (is_too_long (code_of u)) h e
 read_clean name origins (Err []) h e = absurd h
-read_clean name origins (Err (fault ∷ faults)) h e = absurd (text_filled name _ _ e)
+read_clean name origins (Err (fault ∷ faults)) h e = absurd (text_filled name (located name origins fault) (map (located name origins) faults) e)
 
 compiled_clean : (name : Name) (o : Outcome) → diagnostics_in name (compiled_from name o) ≡ [] → IsClean name (parsed_from name o) (compiled_from name o)
-compiled_clean name (Err stop) e = absurd (text_filled name _ [] e)
+compiled_clean name (Err stop) e = absurd (text_filled name (record { origin = stop.fault.origin; code = stop.fault.code }) [] e)
 compiled_clean name (Ok p) e = read_clean name p.origins (program_of p.texts) (program_read (unit_of p.texts)) e
 
 -- a unit without diagnostics

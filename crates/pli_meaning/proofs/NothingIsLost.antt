@@ -1,5 +1,5 @@
 -- What a sound procedure does has a meaning: no effect is lost, and none is short of a level. A lemma for each combinator, and a clause for each form of the tree.
-use Rattle.std.specs.Prelude.{◌≡◌, ◌≢◌, ℕ, zero, suc, ◌<◌, ◌+ℤ◌, ℤ, unsigned_abs, ◌^◌, Some, None, List, [], ◌∷◌, length, refl}
+use Rattle.std.specs.Prelude.{◌≡◌, ◌≢◌, ℕ, zero, suc, ◌<◌, ◌+ℤ◌, ℤ, unsigned_abs, ◌^◌, List, [], ◌∷◌, length, refl}
 use Rattle.std.proofs.Common.{ap, sym, subst}
 use Rattle.pli_base.specs.Name.{Name}
 use Rattle.pli_lower.specs.LoweredTree.{LoweredReference, LoweredExpression, Variable, Constant, Sum, LoweredBody, Null, Declare, Assign, Put, LoweredStatement}

@@ -1,6 +1,6 @@
 -- The simulation: the module's run gives what the source means.
-use Rattle.std.specs.Prelude.{◌≡◌, ◌≢◌, ℕ, zero, suc, nat_eq, nat_lt, Bool, true, false, Option, Some, None, option_map, List, [], ◌∷◌, length, replicate, slice_get, if◌then◌else◌, refl}
-use Rattle.std.proofs.Common.{ap, ◌∙◌, sym, subst, arith}
+use Rattle.std.specs.Prelude.{◌≡◌, ◌≢◌, ℕ, zero, suc, nat_eq, Bool, true, false, Option, Some, option_map, List, [], ◌∷◌, length, replicate, slice_get, if◌then◌else◌, refl}
+use Rattle.std.proofs.Common.{ap, ◌∙◌, sym, arith}
 use Rattle.pli_base.specs.Name.{Name}
 use Rattle.pli_lower.specs.LoweredTree.{LoweredUnit}
 use Rattle.pli_lower.specs.LoweredNames.{declared_names, declaration_faults}
@@ -11,15 +11,15 @@ use Rattle.pli_code.specs.declared.ending.Ending.TheVariants.{Ended, OutOfSteps,
 use Rattle.pli_value.specs.Value.{Value}
 use Rattle.pli_store.specs.World.{World, Answer, Yields, Raises, Wrong, Variable, Head, nothing, entered, stepped, left_by, height, error_at}
 use Rattle.pli_machine_step.specs.Program.{Basic, UnitCode, Program, variables_in, head_of}
-use Rattle.pli_machine_step.specs.Machine.{Locals, Frame, State, At, Over, Goes, given, enters, fresh, resume, iterate}
-use Rattle.pli_machine_step.specs.Runs.{Outcome, outcome_of, start}
-use Rattle.pli_machine_step.specs.views.ModuleProgram.{procedure_of, unit_code, program_of, RunsTo}
+use Rattle.pli_machine_step.specs.Machine.{Locals, Frame, State, Over, Goes, given, enters, fresh, resume, iterate}
+use Rattle.pli_machine_step.specs.Runs.{Outcome, outcome_of}
+use Rattle.pli_machine_step.specs.views.ModuleProgram.{procedure_of, unit_code, program_of}
 use Rattle.pli_meaning.specs.Effects.{Effect, Gives, Jumps, Fails, Spent, Lost, Short, Flow, Next, Returned, and_then, answered, leaving, procedure_end}
 use Rattle.pli_meaning.specs.Meaning as meaning
 use Rattle.pli_meaning.specs.Meaning.{Calls, SourceUnit, alone, calls, does_all, variable, ended_as, ran, run_effect, whole_run}
-use Rattle.pli_meaning.specs.laws.Laws.{module_of, Simulates, Simulation}
+use Rattle.pli_meaning.specs.laws.Laws.{module_of, Simulation}
 use Rattle.pli_meaning.specs.Sound.{IsSound}
-use Rattle.pli_meaning.proofs.ReachesLemmas.{Is, Then, Context, Fine, Comes, stays, from, frame, flows, Reaches, goes}
+use Rattle.pli_meaning.proofs.ReachesLemmas.{Is, Context, Fine, Comes, from, flows, Reaches, goes}
 use Rattle.pli_meaning.proofs.UsesHaveSlots.{knows_all}
 use Rattle.pli_meaning.proofs.NothingIsLost.{Means, Anything, does_all_mean}
 use Rattle.pli_meaning.proofs.CodeStandsAsTranslated.{stands}

@@ -1,14 +1,13 @@
 -- The machine comes from here to there; these instructions stand at this place; what an effect says of the machine. One lemma for each
 -- combinator of the meaning, over variables: no form of the tree is mentioned.
-use Rattle.std.specs.Prelude.{◌≡◌, ℕ, zero, suc, ◌+◌, ◌<◌, ◌≤◌, nat_eq, nat_lt, Bool, true, false, Option, Some, None, List, [], ◌∷◌, length, slice_get, if◌then◌else◌, refl}
-use Rattle.std.proofs.Common.{ap, ◌∙◌, subst, sym, arith}
-use Rattle.pli_code.specs.declared.ending.Ending.TheVariants.{Ended, OutOfSteps, MachineFault}
+use Rattle.std.specs.Prelude.{◌≡◌, ℕ, zero, suc, ◌<◌, ◌≤◌, nat_eq, Some, List, [], ◌∷◌, length, slice_get, if◌then◌else◌, refl}
+use Rattle.std.proofs.Common.{ap, ◌∙◌, subst, arith}
+use Rattle.pli_code.specs.declared.ending.Ending.TheVariants.{OutOfSteps}
 use Rattle.pli_code.specs.declared.instruction.Instruction.TheVariants as op
-use Rattle.pli_value.specs.Value.{Value}
-use Rattle.pli_store.specs.World.{World, Answer, Yields, Raises, Wrong, height, at_statement, stepped, left_by, cleared, error_at}
+use Rattle.pli_store.specs.World.{World, Answer, Yields, Raises, Wrong, height, at_statement, stepped, left_by, cleared}
 use Rattle.pli_machine_step.specs.Program.{Instruction, Basic, UnitCode, Program}
-use Rattle.pli_machine_step.specs.Machine.{Operand, Locals, Frame, State, At, Over, Move, Goes, given, calm, lands, returned, resumed, act, act_in, ahead, resume, next_of, iterate}
-use Rattle.pli_meaning.specs.Effects.{Effect, Gives, Jumps, Fails, Spent, Lost, Short, Flow, Next, Returned, Doing, and_then, after_flow, followed, answered, as_statement, leaving, procedure_end}
+use Rattle.pli_machine_step.specs.Machine.{Operand, Locals, Frame, State, At, Over, Goes, given, calm, lands, resumed, act, act_in, resume, iterate}
+use Rattle.pli_meaning.specs.Effects.{Effect, Gives, Jumps, Fails, Spent, Lost, Short, Flow, Next, Returned, Doing, and_then, after_flow, followed, answered, as_statement}
 
 -- what stands from a place up to a place
 abbrev pub Span : Type 1

@@ -1,6 +1,5 @@
 -- Storage is ready for a procedure: each of its variables has a generation, and each generation holds a number of 31 digits. The operations keep it so.
-use Rattle.std.specs.Prelude.{◌≡◌, ◌≢◌, ℕ, zero, suc, ◌+◌, ◌-◌, ◌<◌, ◌^◌, ℤ, pos, unsigned_abs, nat_eq, nat_lt, nat_le, Bool, true, false, ◌&&◌, not, Result, Ok, Err, Option, Some, None, List, [], ◌∷◌, ◌++◌, length, replicate, slice_get, if◌then◌else◌, refl}
-use Rattle.std.specs.List.{All}
+use Rattle.std.specs.Prelude.{◌≡◌, ◌≢◌, ℕ, zero, suc, ◌+◌, ◌<◌, ◌^◌, ℤ, pos, unsigned_abs, nat_eq, nat_lt, nat_le, Bool, true, false, ◌&&◌, Ok, Err, Option, Some, None, List, [], ◌∷◌, ◌++◌, length, replicate, slice_get, if◌then◌else◌, refl}
 use Rattle.std.proofs.Common.{arith, ap, ◌∙◌, sym, subst, lt-ltb, ltb-true, eq-eqb, length-append, ◌⊎◌, inl, inr, ◌≤◌}
 use Rattle.std.proofs.lemmas.Bool.{cases_lt}
 use Rattle.pli_code.specs.declared.ending.Ending.TheVariants.{MachineFault}
@@ -9,12 +8,11 @@ use Rattle.pli_code.specs.declared.ending.RunError.TheVariants.{FixedOverflow, S
 use Rattle.pli_map.specs.Description.{FixedBinary}
 use Rattle.pli_value.specs.Numbers.{has_digits, within}
 use Rattle.pli_value.specs.Value.{Number}
-use Rattle.pli_value.specs.declared.number.Raised.{Raised}
 use Rattle.pli_value.specs.declared.number.Raised.TheVariants as raised
 use Rattle.pli_map.specs.Same.{same}
 use Rattle.pli_store.specs.Activations.{Activation, activation_at, outward_from, with_newest}
 use Rattle.pli_store.specs.Storage.{Generation, Automatic, Place, whole, generation_in, with_value, live_bytes, byte_limit, generation_limit}
-use Rattle.pli_store.specs.World.{World, Answer, Yields, Raises, Wrong, further, known, or_raised, Variable, Head, height, made_of, held, held_in, stored, stored_in, with_slot, in_newest, made_all, begun_in, entered, stepped, at_statement, height_of, slot_in, slot_place, printed, error_at}
+use Rattle.pli_store.specs.World.{World, Answer, Yields, Raises, Wrong, further, known, or_raised, Head, made_of, held, held_in, stored, stored_in, with_slot, in_newest, made_all, begun_in, entered, stepped, at_statement, height_of, slot_in, slot_place, printed, error_at}
 use Rattle.pli_meaning.specs.Meaning.{variable}
 
 -- a generation of FIXED BINARY(31) that holds a number

@@ -1,6 +1,6 @@
 -- What doing something comes to, and how one thing is done after another. A level bounds the recursion of a
 -- definition; the steps left are what the language counts, and go from one thing to the next.
-use Rattle.std.specs.Prelude.{ℕ, zero, suc, nat_eq, nat_lt, Option, Some, None, if◌then◌else◌}
+use Rattle.std.specs.Prelude.{ℕ, zero, suc, nat_eq, nat_lt, Option, None, if◌then◌else◌}
 use Rattle.pli_code.specs.declared.ending.Ending.{Ending}
 use Rattle.pli_code.specs.declared.ending.RunError.TheVariants.{TooManyActivations}
 use Rattle.pli_store.specs.Activations.{activation_limit}

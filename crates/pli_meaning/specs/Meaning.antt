@@ -1,7 +1,7 @@
 -- Meaning: what a program does, by recursion on its trees (own). No instruction is mentioned.
-use Rattle.std.specs.Prelude.{ℕ, zero, suc, ℤ, pos, ◌+ℤ◌, Bool, Option, Some, None, List, [], ◌∷◌, length}
+use Rattle.std.specs.Prelude.{ℕ, zero, suc, ℤ, pos, ◌+ℤ◌, Option, Some, None, List, [], ◌∷◌, length}
 use Rattle.std.specs.Prelude.{replicate}
-use Rattle.std.specs.Prelude.{slice_get, if◌then◌else◌}
+use Rattle.std.specs.Prelude.{slice_get}
 use Rattle.pli_base.specs.Name.{Name}
 use Rattle.pli_lower.specs.LoweredTree.{LoweredReference, LoweredExpression, Variable, Constant, Sum}
 use Rattle.pli_lower.specs.LoweredTree.{LoweredBody, Null, Declare, Assign, Put, LoweredStatement}

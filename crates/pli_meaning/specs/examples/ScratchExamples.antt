@@ -1,7 +1,7 @@
 -- A worked example of the whole way: the members of a first session, the module that a build from
 -- scratch makes
 -- of them, and what its runs give.
-use Rattle.std.specs.Prelude.{◌≡◌, ℕ, pos, List, [], ◌∷◌, ◌++◌, replicate, codes}
+use Rattle.std.specs.Prelude.{◌≡◌, pos, List, [], ◌∷◌, ◌++◌, replicate, codes}
 use Rattle.pli_base.specs.Name.{Name}
 use Rattle.pli_members.specs.Members.{Member}
 use Rattle.pli_members.specs.declared.kind.Kind.TheVariants.{Source}
