@@ -1,5 +1,12 @@
 //! Laws of runs: they hold of every program, also of one that no compiler makes.
 ghost use Rattle.pli_machine_step.specs.laws.Laws.{EveryRunEnds, OneFrameEach, OneOutcome, RunsGoOn};
+ghost use Rattle.pli_machine_step.specs.examples.MachineExamples.{SmallestStops, SmallestEnds, GotoLeaves};
+ghost use Rattle.pli_machine_step.specs.examples.MachineExamples.{GotoStops, CallStops, JumpsGoOn, JumpsFault};
+ghost use Rattle.pli_machine_step.specs.examples.MachineExamples.{TurnsStop, TooMany, ManyStop, EndFaults};
+ghost use Rattle.pli_machine_step.specs.examples.MachineExamples.{BeginEnds, BeginFaults, CallFaults};
+ghost use Rattle.pli_machine_step.specs.examples.MachineExamples.{GotosEnd, GotosFault, JumpsEnd};
+ghost use Rattle.pli_machine_step.specs.examples.MachineExamples.{ArgumentIsShared, FunctionGives, ValueFaults};
+ghost use Rattle.pli_machine_step.specs.examples.MachineExamples.{BeginsEnd};
 
 /// A law: a program's run gives one outcome.
 pub fn one_outcome()
@@ -19,4 +26,30 @@ pub fn one_frame_each()
 /// A law: every run of every program gives an outcome.
 pub fn every_run_ends()
     ensures { EveryRunEnds }
+{}
+
+/// Worked examples: steps, a GOTO out of a call, jumps without a step, the limit of activations, the kinds of
+/// blocks, the code's end, an argument by place, a function's value.
+pub fn worked_examples()
+    ensures smallest_stops { SmallestStops }
+    ensures smallest_ends { SmallestEnds }
+    ensures goto_leaves { GotoLeaves }
+    ensures goto_stops { GotoStops }
+    ensures call_stops { CallStops }
+    ensures jumps_go_on { JumpsGoOn }
+    ensures jumps_fault { JumpsFault }
+    ensures turns_stop { TurnsStop }
+    ensures too_many { TooMany }
+    ensures many_stop { ManyStop }
+    ensures begin_ends { BeginEnds }
+    ensures begin_faults { BeginFaults }
+    ensures call_faults { CallFaults }
+    ensures begins_end { BeginsEnd }
+    ensures end_faults { EndFaults }
+    ensures gotos_end { GotosEnd }
+    ensures gotos_fault { GotosFault }
+    ensures jumps_end { JumpsEnd }
+    ensures argument_is_shared { ArgumentIsShared }
+    ensures function_gives { FunctionGives }
+    ensures value_faults { ValueFaults }
 {}

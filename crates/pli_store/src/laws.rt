@@ -2,6 +2,7 @@
 ghost use Rattle.pli_store.specs.laws.Operations.{MakingKeeps, LoadingKeeps, StoringKeeps, WalkingKeeps};
 ghost use Rattle.pli_store.specs.laws.Operations.{SlotKeeps, DummyKeeps, EnteringAdds, LeavingTakes};
 ghost use Rattle.pli_store.specs.laws.Operations.{ClearingKeeps, StatementKeeps, PrintingKeeps, SteppingCounts};
+ghost use Rattle.pli_store.specs.examples.StorageExamples.{OuterVariable, DummyNumber, DummyEnds, TooLong};
 
 /// A law: no operation takes a step or prints over what was printed, and each leaves as many activations as it
 /// should.
@@ -18,4 +19,12 @@ pub fn operations_keep()
     ensures statement { StatementKeeps }
     ensures printing { PrintingKeeps }
     ensures stepping { SteppingCounts }
+{}
+
+/// Worked examples: static links, dummy arguments, and what ends with an activation.
+pub fn worked_examples()
+    ensures outer_variable { OuterVariable }
+    ensures dummy_number { DummyNumber }
+    ensures dummy_ends { DummyEnds }
+    ensures too_long { TooLong }
 {}

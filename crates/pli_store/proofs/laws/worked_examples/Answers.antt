@@ -1,5 +1,5 @@
 use Rattle.pli_store.proofs.StorageExamplesHold.{outer_variable, dummy_number, dummy_ends, too_long}
-use Rattle.pli_store.proofs.examples.worked_examples.Goals as goal
+use Rattle.pli_store.proofs.laws.worked_examples.Goals as goal
 
 pub returns-clause-outer_variable : goal.returns-clause-outer_variable
 returns-clause-outer_variable c = outer_variable

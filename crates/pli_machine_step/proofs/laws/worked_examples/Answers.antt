@@ -1,5 +1,5 @@
 use Rattle.pli_machine_step.proofs.ExamplesRun as run
-use Rattle.pli_machine_step.proofs.examples.worked_examples.Goals as goal
+use Rattle.pli_machine_step.proofs.laws.worked_examples.Goals as goal
 
 pub returns-clause-smallest_stops : goal.returns-clause-smallest_stops
 returns-clause-smallest_stops c = run.smallest_stops
