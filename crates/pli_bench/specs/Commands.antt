@@ -6,13 +6,13 @@ use Rattle.std.specs.Option.{option_and_then}
 use Rattle.std.specs.List.{list_all, position, before_first}
 use Rattle.std.specs.Str.{str_eq_ignore_ascii_case}
 use Rattle.pli_base.specs.Name.{Name, is_digit, name_of}
-use Rattle.pli_members.specs.declared.kind.Kind.{Kind}
-use Rattle.pli_members.specs.declared.kind.Kind.TheVariants.{Source, Include}
+use Rattle.pli_members.specs.declared.kind.MemberKind.{MemberKind}
+use Rattle.pli_members.specs.declared.kind.MemberKind.TheVariants.{Source, Include}
 
 -- a command
 pub data Command : Type 0 where
   -- a new member of this kind, without lines
-  Add : (name : Name) (kind : Kind) → Command
+  Add : (name : Name) (kind : MemberKind) → Command
   -- a member goes
   Delete : (name : Name) → Command
   -- a new line behind the line of this number, 0 for the front
@@ -68,13 +68,13 @@ alone command None = Some command
 alone command (Some rest) = None
 
 -- the kind that a word names
-abbrev pub kind_of_word : List ℕ → Option Kind
+abbrev pub kind_of_word : List ℕ → Option MemberKind
 kind_of_word word =
     if is_word (codes "SOURCE") word then Some Source
     else (if is_word (codes "INCLUDE") word then Some Include else None)
 
 -- the addition, where its name and its kind are of their form
-abbrev pub add_with : Option Name → Option Kind → Option Command
+abbrev pub add_with : Option Name → Option MemberKind → Option Command
 add_with (Some name) (Some kind) = Some (Add name kind)
 add_with name kind = None
 

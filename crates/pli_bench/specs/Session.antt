@@ -9,8 +9,8 @@ use Rattle.pli_members.specs.Refusals.{refusal_of_add, refusal_of_delete, refusa
 use Rattle.pli_members.specs.Refusals.{refusal_of_replace, refusal_of_remove, refusal_label, refusal_text}
 use Rattle.pli_members.specs.declared.refusal.Refusal.{Refusal}
 use Rattle.pli_members.specs.declared.refusal.Refusal.TheVariants.{NoSuchMember}
-use Rattle.pli_members.specs.declared.kind.Kind.{Kind}
-use Rattle.pli_members.specs.declared.kind.Kind.TheVariants.{Source, Include}
+use Rattle.pli_members.specs.declared.kind.MemberKind.{MemberKind}
+use Rattle.pli_members.specs.declared.kind.MemberKind.TheVariants.{Source, Include}
 use Rattle.pli_code.specs.Errors.{error_label, error_text}
 use Rattle.pli_machine_step.specs.Runs.{Outcome}
 use Rattle.pli_code.specs.declared.ending.Ending.{Ending}
@@ -135,7 +135,7 @@ Lists None e = Says (refused NoSuchMember) e
 Lists (Some lines) e = Says (numbered_lines 1 lines ++ okay) e
 
 -- the word for a kind of members
-abbrev pub kind_word : Kind → List ℕ
+abbrev pub kind_word : MemberKind → List ℕ
 kind_word Source = codes "SOURCE"
 kind_word Include = codes "INCLUDE"
 

@@ -17,7 +17,7 @@ use pli_base::{Failed, Name, Sink, Source};
 use pli_code::{Module, Ran};
 use pli_include::Expander;
 use pli_machine::{RunFault, run};
-use pli_members::{EditError, Kind, Members, Refusal};
+use pli_members::{EditError, MemberKind, Members, Refusal};
 use std::alloc::{AllocError, Global};
 use std::marker::Model;
 
@@ -130,7 +130,7 @@ impl Bench {
         serve(self, reader, writer, reads)
     }
 
-    fn add<W: Sink>(&mut self, name: Name, kind: Kind, writer: &mut W) -> Result<(), Failed>
+    fn add<W: Sink>(&mut self, name: Name, kind: MemberKind, writer: &mut W) -> Result<(), Failed>
         ensures answered { Does (Obeys (Some (spelt.Add name kind))) self.old self.new (W.contents writer.old) (W.contents writer.new) result }
         ensures mark { Marked (W.failed writer.old) (W.failed writer.new) result }
     {

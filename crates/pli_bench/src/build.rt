@@ -11,7 +11,7 @@ use pli_base::Code;
 use pli_code::Module;
 use pli_include::Expander;
 use pli_link::{Compiled, LinkError, LinkFault, LinkedProcedure, link};
-use pli_members::{Kind, Members, NamedMember};
+use pli_members::{MemberKind, Members, NamedMember};
 use std::alloc::{AllocError, Global};
 
 /// What a build gives: the text of its diagnostics, or a module.
@@ -51,13 +51,13 @@ fn compile_entry(
     ensures text { OnOk result (text.new.items ≡ text.old.items ++ text_in members.now.entries entry.now.0 entry.now.1.kind) }
 {
     match entry.kind() {
-        Kind::Source => {
+        MemberKind::Source => {
             if let Some(compiled) = compile(alloc, expander, members, entry.name(), text)? {
                 units.push(compiled)?;
             }
             Ok(())
         }
-        Kind::Include => Ok(()),
+        MemberKind::Include => Ok(()),
     }
 }
 

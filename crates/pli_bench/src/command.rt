@@ -7,7 +7,7 @@ ghost use Rattle.pli_bench.specs.Commands.{is_blank, first_word, behind_blank, i
 ghost use Rattle.pli_bench.specs.views.CommandView.{command_view};
 
 use pli_base::Name;
-use pli_members::Kind;
+use pli_members::MemberKind;
 
 /// The greatest number of bytes in a command (own).
 pub const LINE_LIMIT: usize = 200;
@@ -29,7 +29,7 @@ pub enum Command<'a> {
     /// A new member of this kind, without lines.
     Add {
         member: MemberName,
-        kind: Kind,
+        kind: MemberKind,
     },
     /// A member goes.
     Delete(MemberName),
@@ -166,13 +166,13 @@ fn read_number(digits: &[u8], limit: usize) -> Option<u64>
 }
 
 /// The kind that a word names.
-fn read_kind(word: &[u8]) -> Option<Kind>
+fn read_kind(word: &[u8]) -> Option<MemberKind>
     ensures { result ≡ kind_of_word word.now }
 {
     if is_word(b"SOURCE", word) {
-        Some(Kind::Source)
+        Some(MemberKind::Source)
     } else if is_word(b"INCLUDE", word) {
-        Some(Kind::Include)
+        Some(MemberKind::Include)
     } else {
         None
     }

@@ -8,7 +8,7 @@ ghost use Rattle.pli_bench.specs.Session.{numbered_lines, kind_word, member_line
 use crate::batch::Batch;
 use itoa::Buffer;
 use pli_base::{Failed, Line, Sink};
-use pli_members::{Kind, NamedMember};
+use pli_members::{MemberKind, NamedMember};
 
 /// Puts lines behind their numbers, from 1 on.
 pub fn put_lines<W: Sink>(writer: &mut W, lines: &[Line]) -> Result<(), Failed>
@@ -56,11 +56,11 @@ pub fn put_members<W: Sink>(writer: &mut W, entries: &[NamedMember]) -> Result<(
 }
 
 /// The word for a kind of members.
-fn kind_word(kind: Kind) -> &'static str
+fn kind_word(kind: MemberKind) -> &'static str
     ensures { result.now ≡ kind_word kind }
 {
     match kind {
-        Kind::Source => "SOURCE",
-        Kind::Include => "INCLUDE",
+        MemberKind::Source => "SOURCE",
+        MemberKind::Include => "INCLUDE",
     }
 }

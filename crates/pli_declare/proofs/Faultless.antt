@@ -18,7 +18,7 @@ use Rattle.pli_declare_variables.specs.Places.{own_code}
 use Rattle.pli_declare_variables.specs.Descriptions.{is_too_large_variable}
 use Rattle.pli_declare_variables.specs.Declarations.{returned_by, AreSound, IsGood, AreGood}
 use Rattle.pli_declare.specs.Resolution.{at_token, least, described_is_good, returned_are, names_nothing, heading_code, parameters_of, entity_codes, item_code, codes_from, parameter_faults, used_faults, mark_faults, declared_by, faults_after, heading_faults, unit_faults, outline_faults}
-use Rattle.pli_declare.proofs.Walked.{how_many_declared, counted_elsewhere, counted_here}
+use Rattle.pli_declare.proofs.MarkWalkLemmas.{how_many_declared, counted_elsewhere, counted_here}
 
 -- lists that make an empty one are empty
 both_empty : (xs ys : List Fault) → xs ++ ys ≡ [] → (xs ≡ []) × (ys ≡ [])

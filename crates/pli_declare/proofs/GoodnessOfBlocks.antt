@@ -12,9 +12,9 @@ use Rattle.pli_declare_scopes.specs.declared.level.Standing.{Standing}
 use Rattle.pli_declare_tables.specs.Tables.{Entry, named, item_entries, entries_of, entries_after, numbers_from}
 use Rattle.pli_declare.specs.Resolution.{attribute_is_good}
 use Rattle.pli_declare.specs.answers.Walks.{entity_is_good, item_goodness, mark_goodness}
-use Rattle.pli_declare.proofs.Numbers.{number_at, set_of_numbers}
-use Rattle.pli_declare.proofs.Gathered.{not_equal}
-use Rattle.pli_declare.proofs.Walked.{length_standings, entries_both}
+use Rattle.pli_declare.proofs.NumberLists.{number_at, set_of_numbers}
+use Rattle.pli_declare.proofs.ParametersOfBlocks.{not_equal}
+use Rattle.pli_declare.proofs.MarkWalkLemmas.{length_standings, entries_both}
 
 module _ (o : Outline) (b : ℕ) where
   abbrev of_named : Identifier × tree.Item → Bool

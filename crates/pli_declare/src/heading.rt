@@ -20,7 +20,7 @@ use pli_declare_attributes::{lesser, result_fault};
 const PARAMETER_LIMIT: usize = 64;
 
 /// How many parameters a procedure has.
-#[tactic(auto, using(crate::proofs::Headings::parameters_out))]
+#[tactic(auto, using(crate::proofs::HeadingLemmas::parameters_out))]
 fn parameter_count(procedure: &Procedure) -> usize
     ensures { result ≡ length (unit_view procedure.now).heading.parameters }
 {
@@ -28,7 +28,7 @@ fn parameter_count(procedure: &Procedure) -> usize
 }
 
 /// The options of a procedure.
-#[tactic(auto, using(crate::proofs::Headings::options_out))]
+#[tactic(auto, using(crate::proofs::HeadingLemmas::options_out))]
 pub(crate) fn options_of(procedure: &Procedure) -> &[ProcedureOption]
     ensures { map option_view result.now ≡ (unit_view procedure.now).heading.options }
 {

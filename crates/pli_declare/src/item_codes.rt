@@ -18,7 +18,7 @@ use std::alloc::{AllocError, Global};
 
 impl Known<'_> {
     /// The least code of what a name is declared as, apart from A2.
-    #[tactic(auto, using(crate::proofs::Headings::lesser_none))]
+    #[tactic(auto, using(crate::proofs::HeadingLemmas::lesser_none))]
     fn entity_code(
         &self,
         block: usize,
@@ -62,7 +62,7 @@ impl Known<'_> {
     }
 
     /// The least code of each name of a block, where it is known of each whether the names in its attributes are good.
-    #[tactic(auto, using(crate::proofs::Numbered::made_more))]
+    #[tactic(auto, using(crate::proofs::ListsByNumber::made_more))]
     pub(crate) fn codes_of_block(
         &self,
         alloc: Global,

@@ -133,7 +133,7 @@ fn parameter_code(is_new: bool, is_item: bool) -> Option<Code>
 }
 
 /// Tells the fault of a parameter of a procedure whose items at level 1 have these names, and puts its name to those before the next.
-#[tactic(auto, using(crate::proofs::Names::not_not))]
+#[tactic(auto, using(crate::proofs::ParameterNames::not_not))]
 fn tell_parameter(
     items: &IndexSet<Name>,
     before: &mut IndexSet<Name>,

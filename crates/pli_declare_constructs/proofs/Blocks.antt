@@ -8,7 +8,7 @@ use Rattle.pli_declare_outline.specs.Outlines.{Region}
 use Rattle.pli_declare_outline.specs.views.OutlineView.{region_view, regions_view}
 use Rattle.pli_declare_outline.specs.declared.region.Region.{Region as Written}
 use Rattle.pli_declare_constructs.specs.Regions.{round_of, rounds_after, outside, is_block, kind_at, blocks_round, first_of, innermost, blocks_from}
-use Rattle.pli_declare_constructs.specs.answers.Kept.{IsKept}
+use Rattle.pli_declare_constructs.specs.answers.Kept.{HasInnermost}
 use Rattle.pli_declare_constructs.proofs.Rounds.{before, round_step, round_past}
 
 -- the blocks round the outer region, if it stands before
@@ -204,7 +204,7 @@ pub told : (rs : List Region) (blocks : List (Option ℕ)) (found : Option ℕ) 
 told rs blocks found i count each here n lt =
     told_more rs blocks found (λ k front. each k (omega (arith, count, front))) (here ∙ ap (innermost rs) (sym count)) n (nat_lt n (length blocks)) refl (omega (arith, count, lt))
 
-pub told_all : (rs : List Region) (blocks : List (Option ℕ)) → length blocks ≡ length rs → ((n : ℕ) → n < length rs → get_or blocks n None ≡ innermost rs n) → IsKept rs blocks
+pub told_all : (rs : List Region) (blocks : List (Option ℕ)) → length blocks ≡ length rs → ((n : ℕ) → n < length rs → get_or blocks n None ≡ innermost rs n) → HasInnermost rs blocks
 told_all rs blocks count each = record { each = λ n. by n (nat_lt n (length rs)) refl; count = count }
   where
     by : (n : ℕ) (b : Bool) → nat_lt n (length rs) ≡ b → get_or blocks n None ≡ innermost rs n

@@ -1,7 +1,7 @@
 //! How regions nest.
 ghost use Rattle.std.specs.Prelude.{◌≡◌, ◌<◌, ◌∷◌, Some, length, IfOk, IfSome};
 ghost use Rattle.pli_declare_outline.specs.views.OutlineView.{regions_view};
-ghost use Rattle.pli_declare_constructs.specs.answers.Kept.{IsKept};
+ghost use Rattle.pli_declare_constructs.specs.answers.Kept.{HasInnermost};
 ghost use Rattle.pli_declare_constructs.specs.Regions.{innermost, blocks_round, blocks_from};
 ghost use Rattle.pli_declare_constructs.specs.Reach.{reaches};
 
@@ -21,18 +21,18 @@ impl Model for Nesting {
     ghost use Rattle.std.specs.Prelude.{List};
     ghost use Rattle.pli_declare_outline.specs.Outlines.{Region as Plain};
     ghost use Rattle.pli_declare_outline.specs.views.OutlineView.{regions_view};
-    ghost use Rattle.pli_declare_constructs.specs.answers.Kept.{IsKept};
+    ghost use Rattle.pli_declare_constructs.specs.answers.Kept.{HasInnermost};
 
     ghost Value = { List Plain };
 
     ghost view = { λ n. regions_view n.regions.items };
 
-    ghost invariant = { λ n. IsKept (regions_view n.regions.items) n.innermost.items };
+    ghost invariant = { λ n. HasInnermost (regions_view n.regions.items) n.innermost.items };
 }
 
 /// The innermost block round each region.
 fn blocks_of(alloc: Global, regions: &[Region]) -> Result<Vec<Option<usize>>, AllocError>
-    ensures { IfOk result (λ blocks. IsKept (regions_view regions.now) blocks.items) }
+    ensures { IfOk result (λ blocks. HasInnermost (regions_view regions.now) blocks.items) }
 {
     let mut blocks: Vec<Option<usize>> = Vec::new(alloc);
     for region in regions {

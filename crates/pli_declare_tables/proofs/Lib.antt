@@ -1,4 +1,4 @@
-pub mod Standings
-pub mod Behind
-pub mod Blocks
-pub mod Whole
+pub mod ItemsStandBehind
+pub mod MembersStandBehind
+pub mod BlocksByMarks
+pub mod TablesOfUnits

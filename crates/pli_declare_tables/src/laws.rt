@@ -2,7 +2,7 @@
 ghost use Rattle.pli_declare_tables.specs.laws.TableLaws.{OwnersStandBefore};
 
 /// A law: in each block each name stands behind the item that it is a member of.
-#[tactic(auto, using(crate::proofs::Behind::owners_stand_before))]
+#[tactic(auto, using(crate::proofs::MembersStandBehind::owners_stand_before))]
 pub fn owners_stand_before()
     ensures { OwnersStandBefore }
 {}

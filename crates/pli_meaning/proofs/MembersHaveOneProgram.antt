@@ -11,8 +11,8 @@ use Rattle.pli_base.specs.declared.token.Origin.{Origin}
 use Rattle.pli_include.specs.Expanded.{outcome_of}
 use Rattle.pli_include.specs.Expansion.{Outcome}
 use Rattle.pli_members.specs.Members.{Member}
-use Rattle.pli_members.specs.declared.kind.Kind.{Kind}
-use Rattle.pli_members.specs.declared.kind.Kind.TheVariants.{Source, Include}
+use Rattle.pli_members.specs.declared.kind.MemberKind.{MemberKind}
+use Rattle.pli_members.specs.declared.kind.MemberKind.TheVariants.{Source, Include}
 use Rattle.pli_lower.specs.LoweredNames.{declaration_faults}
 use Rattle.pli_code.specs.Link.{Compiled, Place, LinkFault, TwoMainProcedures, inserted, in_order_after, in_order, place_of_unit, mains, later, none_among, link_faults, module_or, link_of}
 use Rattle.pli_code.specs.views.ModuleView.{Module}
@@ -109,7 +109,7 @@ module _ (entries : List (Name × Member)) where
   abbrev is_main_unit : Name → Bool
   is_main_unit unit = has_main (parsed_of entries unit)
 
-  trees_in : (name : Name) (kind : Kind) (units : List Compiled) → text_in entries name kind ≡ [] → AreOfTrees units → AreOfTrees (units_in entries name kind ++ units)
+  trees_in : (name : Name) (kind : MemberKind) (units : List Compiled) → text_in entries name kind ≡ [] → AreOfTrees units → AreOfTrees (units_in entries name kind ++ units)
   trees_in name Source units h all =
       let clean = unit_clean entries name h in
       subst (λ r. AreOfTrees (units_of r ++ units)) (sym clean.code) (record { tree = clean.tree; spelled = clean.spelled; faultless = clean.faultless; code = refl }, all)
@@ -128,7 +128,7 @@ module _ (entries : List (Name × Member)) where
       by true rest = (all.0, rest)
       by false rest = rest
 
-  mains_in : (name : Name) (kind : Kind) (names : List Name) (units : List Compiled) → text_in entries name kind ≡ []
+  mains_in : (name : Name) (kind : MemberKind) (names : List Name) (units : List Compiled) → text_in entries name kind ≡ []
       → map (λ c. c.unit) (mains units) ≡ filter is_main_unit names
       → map (λ c. c.unit) (mains (units_in entries name kind ++ units)) ≡ filter is_main_unit (source_in name kind ++ names)
   mains_in name Source names units h e =

@@ -14,8 +14,8 @@ use Rattle.pli_include.specs.Expanded.{outcome_of}
 use Rattle.pli_include.specs.Expansion.{Outcome as Expansion}
 use Rattle.pli_lower.specs.Lowering.{lowered}
 use Rattle.pli_members.specs.Members.{Member}
-use Rattle.pli_members.specs.declared.kind.Kind.{Kind}
-use Rattle.pli_members.specs.declared.kind.Kind.TheVariants.{Source, Include}
+use Rattle.pli_members.specs.declared.kind.MemberKind.{MemberKind}
+use Rattle.pli_members.specs.declared.kind.MemberKind.TheVariants.{Source, Include}
 use Rattle.pli_parse_statement.specs.StatementReading.{unit_of}
 use Rattle.pli_base.specs.Statements.{ExternalProcedure}
 use Rattle.pli_declare.specs.Resolution.{resolution_faults}
@@ -112,7 +112,7 @@ unfoldable pub compiled_of : List (Name × Member) → Name → Result Compiled 
 compiled_of entries unit = compiled_from unit (outcome_of entries unit)
 
 -- a name, where its member is a SOURCE
-abbrev pub source_in : Name → Kind → List Name
+abbrev pub source_in : Name → MemberKind → List Name
 source_in name Source = name ∷ []
 source_in name Include = []
 
@@ -163,12 +163,12 @@ built [] units = linked (link_of units)
 built (b ∷ text) units = Diagnosed (b ∷ text)
 
 -- the diagnostics of a member among these: an INCLUDE member has none of its own
-abbrev pub text_in : List (Name × Member) → Name → Kind → List ℕ
+abbrev pub text_in : List (Name × Member) → Name → MemberKind → List ℕ
 text_in entries name Source = diagnostics_in name (compiled_of entries name)
 text_in entries name Include = []
 
 -- the unit that a member gives, if it has no diagnostics
-abbrev pub units_in : List (Name × Member) → Name → Kind → List Compiled
+abbrev pub units_in : List (Name × Member) → Name → MemberKind → List Compiled
 units_in entries name Source = units_of (compiled_of entries name)
 units_in entries name Include = []
 

@@ -9,7 +9,7 @@ use Rattle.pli_members.specs.answers.Kept.{IsKept}
 use Rattle.pli_members.specs.Members.{Member, Store, Change, added, is_named, member_of, name_order, with_change}
 use Rattle.pli_members.specs.Refusals.{or_exhausted, refusal_of_add, refusal_of_lines, refusal_in_member}
 use Rattle.pli_members.specs.Versions.{begun, adding, deleting, changing, RunsKeep}
-use Rattle.pli_members.specs.declared.kind.Kind.{Kind}
+use Rattle.pli_members.specs.declared.kind.MemberKind.{MemberKind}
 use Rattle.pli_members.specs.declared.refusal.Refusal.{Refusal}
 use Rattle.pli_members.proofs.EditsByKey.{length-put}
 use Rattle.pli_members.proofs.ChangeDoes.{kept_with_change}
@@ -20,7 +20,7 @@ use Rattle.pli_members.proofs.StaysKept.{kept_with_member, kept_deleted}
 room_to_add : (s : Store) (name : Name) → refusal_of_add s name ≡ None → record { few : length s.entries < 999; left : s.next < 2 ^ 64 }
 room_to_add s name none = record { few = grind (arith, nat_tests); left = grind (arith, nat_tests) }
 
-kept_added : (s : Store) (name : Name) (kind : Kind) → IsKept s → refusal_of_add s name ≡ None → IsKept (added s name kind)
+kept_added : (s : Store) (name : Name) (kind : MemberKind) → IsKept s → refusal_of_add s name ≡ None → IsKept (added s name kind)
 kept_added s name kind kept none =
     let room = room_to_add s name none in
     let m : Member = record { kind = kind; lines = []; version = s.next } in

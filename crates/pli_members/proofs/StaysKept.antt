@@ -17,7 +17,7 @@ use Rattle.std.proofs.lemmas.Map.Views.{All-values-insert_entry, All-map-remove_
 use Rattle.pli_base.specs.Name.{Name}
 use Rattle.pli_members.specs.Members.{Member, Store, name_order, is_named, with_member, added, deleted, empty_store, version_of, member_of}
 use Rattle.pli_members.specs.answers.Kept.{IsKept, IsKeptMember, IsLine}
-use Rattle.pli_members.specs.declared.kind.Kind.{Kind}
+use Rattle.pli_members.specs.declared.kind.MemberKind.{MemberKind}
 use Rattle.pli_members.proofs.EditsByKey.{sorted_none, sorted_put, sorted_taken, length-taken}
 
 -- no members
@@ -51,7 +51,7 @@ none_some : (n : ℕ) → None ≡ Some n → ⊥
 none_some n e = cc
 
 -- an edited member's version is its alone
-with_member_apart : (s : Store) (name : Name) (kind : Kind) (lines : List (List ℕ)) → IsKept s → (a b : Name) (version : ℕ) → version_of (with_member s name kind lines) a ≡ Some version → version_of (with_member s name kind lines) b ≡ Some version → a ≡ b
+with_member_apart : (s : Store) (name : Name) (kind : MemberKind) (lines : List (List ℕ)) → IsKept s → (a b : Name) (version : ℕ) → version_of (with_member s name kind lines) a ≡ Some version → version_of (with_member s name kind lines) b ≡ Some version → a ≡ b
 with_member_apart s name kind lines kept a b version at_a at_b =
     let new = with_member s name kind lines in
     let next_at = λ (q : Name) (e : q ≡ name) (at_q : version_of new q ≡ Some version). some_same s.next version (sym (ap (version_of new) e ∙ edit_gives_next s name kind lines) ∙ at_q) in
@@ -68,7 +68,7 @@ deleted_apart s name kept a b version at_a at_b =
     by_name a name (λ e. absurd (gone a e at_a)) (λ na. by_name b name (λ e. absurd (gone b e at_b)) (λ nb. kept.apart a b version (old_at a na at_a) (old_at b nb at_b)))
 
 -- a member under the next version
-pub kept_with_member : (s : Store) (name : Name) (kind : Kind) (lines : List (List ℕ)) → IsKept s → s.next < 2 ^ 64 → length (with_member s name kind lines).entries ≤ 999 → length lines ≤ 9999 → All IsLine lines → IsKept (with_member s name kind lines)
+pub kept_with_member : (s : Store) (name : Name) (kind : MemberKind) (lines : List (List ℕ)) → IsKept s → s.next < 2 ^ 64 → length (with_member s name kind lines).entries ≤ 999 → length lines ≤ 9999 → All IsLine lines → IsKept (with_member s name kind lines)
 kept_with_member s name kind lines kept left few_members few_lines clean =
     let m : Member = record { kind = kind; lines = lines; version = s.next } in
     record {
@@ -103,7 +103,7 @@ pub store-≡ : (es fs : List (Name × Member)) (m n : ℕ) → es ≡ fs → m 
 store-≡ es fs m n e h = cc
 
 -- a new entry at the gap is an addition
-pub inserted_is_added : (s : Store) (name : Name) (kind : Kind) (at : ℕ) → IsGap s name at → (es : List (Name × Member)) (lines : List (List ℕ)) (version next : ℕ) → es ≡ insert s.entries at (name, record { kind = kind; lines = lines; version = version }) → lines ≡ [] → s.next ≡ version → next ≡ version + 1 → store_of es next ≡ added s name kind
+pub inserted_is_added : (s : Store) (name : Name) (kind : MemberKind) (at : ℕ) → IsGap s name at → (es : List (Name × Member)) (lines : List (List ℕ)) (version next : ℕ) → es ≡ insert s.entries at (name, record { kind = kind; lines = lines; version = version }) → lines ≡ [] → s.next ≡ version → next ≡ version + 1 → store_of es next ≡ added s name kind
 inserted_is_added s name kind at gap es lines version next put none same raised =
     let entry = λ (l : List (List ℕ)) (v : ℕ). insert s.entries at (name, record { kind = kind; lines = l; version = v }) in
     let entries = put ∙ ap (λ (l : List (List ℕ)). entry l version) none ∙ ap (entry []) (sym same) ∙ gap.puts (record { kind = kind; lines = []; version = s.next }) in

@@ -8,11 +8,11 @@ use Rattle.std.specs.Cmp.Lexicographic.{slice_cmp}
 use Rattle.std.specs.Map.{keys_of, lookup, remove_entry}
 use Rattle.std.specs.BTreeMap.{is_at, insert_entry}
 use Rattle.pli_base.specs.Name.{Name}
-use Rattle.pli_members.specs.declared.kind.Kind.{Kind}
+use Rattle.pli_members.specs.declared.kind.MemberKind.{MemberKind}
 
 -- a kind, the lines, each a list of bytes, and the version that the last edit gave
 pub record Member : Type 0 where
-  pub kind : Kind
+  pub kind : MemberKind
   pub lines : List (List ℕ)
   pub version : ℕ
 
@@ -38,7 +38,7 @@ abbrev pub member_of : Store → Name → Option Member
 member_of s name = lookup (is_named name) s.entries
 
 -- the kind of the member of a name
-abbrev pub kind_of : Store → Name → Option Kind
+abbrev pub kind_of : Store → Name → Option MemberKind
 kind_of s name = option_map (λ m. m.kind) (member_of s name)
 
 -- the lines of the member of a name
@@ -54,7 +54,7 @@ abbrev pub empty_store : ℕ → Store
 empty_store first = record { entries = []; next = first }
 
 -- the store where the name has this kind and these lines, under the next version
-abbrev pub with_member : Store → Name → Kind → List (List ℕ) → Store
+abbrev pub with_member : Store → Name → MemberKind → List (List ℕ) → Store
 with_member s name kind lines =
     record {
       entries =
@@ -63,7 +63,7 @@ with_member s name kind lines =
     }
 
 -- a member without lines comes to the store
-abbrev pub added : Store → Name → Kind → Store
+abbrev pub added : Store → Name → MemberKind → Store
 added s name kind = with_member s name kind []
 
 -- the member of the name leaves the store

@@ -1,7 +1,7 @@
 //! A name with its member.
 ghost use Rattle.std.specs.Prelude.{◌≡◌, ◌≤◌, ◌<◌, ◌++◌, length, insert, slice_set, take, drop, OnOk, OnErr};
 
-use crate::kind::Kind;
+use crate::kind::MemberKind;
 use pli_base::{Line, Name};
 use std::alloc::AllocError;
 use std::marker::Model;
@@ -10,7 +10,7 @@ use std::marker::Model;
 #[derive(Drop)]
 pub struct NamedMember {
     name: Name,
-    kind: Kind,
+    kind: MemberKind,
     lines: Vec<Line>,
     version: u64,
 }
@@ -26,7 +26,7 @@ impl Model for NamedMember {
 
 impl NamedMember {
     // An entry of these parts.
-    pub(crate) fn new(name: Name, kind: Kind, lines: Vec<Line>, version: u64) -> NamedMember
+    pub(crate) fn new(name: Name, kind: MemberKind, lines: Vec<Line>, version: u64) -> NamedMember
         ensures { result ≡ (name, record { kind = kind; lines = lines.items; version = version }) }
     {
         NamedMember {
@@ -45,7 +45,7 @@ impl NamedMember {
     }
 
     /// What the member is for.
-    pub fn kind(&self) -> Kind
+    pub fn kind(&self) -> MemberKind
         ensures { result ≡ self.now.1.kind }
     {
         self.kind

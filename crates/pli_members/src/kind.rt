@@ -2,7 +2,7 @@
 
 /// What a member is for (own).
 #[derive(Clone, Copy, Debug, PartialEq, Eq)]
-pub enum Kind {
+pub enum MemberKind {
     /// A unit of its own, which a build compiles.
     Source,
     /// A text that others include.

@@ -10,7 +10,7 @@ mod names;
 mod refusal;
 
 pub use entry::NamedMember;
-pub use kind::Kind;
+pub use kind::MemberKind;
 pub use laws::{
     deletion_keeps_others, deletion_takes, edit_gives_next, edit_keeps_others, next_is_new,
     runs_keep, worked_examples,

@@ -11,7 +11,7 @@ ghost use Rattle.pli_members.specs.answers.Search.{IsPlace, IsGap, IsStep, CanCh
 ghost use Rattle.pli_members.specs.declared.refusal.Refusal.TheVariants.{VersionsExhausted};
 
 use crate::entry::NamedMember;
-use crate::kind::Kind;
+use crate::kind::MemberKind;
 use crate::lines::{Change, change_refusal};
 use crate::names::Names;
 use crate::refusal::{EditError, Refusal};
@@ -85,7 +85,7 @@ impl Members {
     }
 
     /// What the member is for, or `None` where there is none.
-    pub fn kind(&self, name: Name) -> Option<Kind>
+    pub fn kind(&self, name: Name) -> Option<MemberKind>
         ensures { result ≡ kind_of self.now name }
     {
         Some(self.find(name)?.kind())
@@ -106,7 +106,7 @@ impl Members {
     }
 
     /// Gives a new member without lines. Refused with M1, M7 and M8, in this order.
-    pub fn add(&mut self, name: Name, kind: Kind) -> Result<(), EditError>
+    pub fn add(&mut self, name: Name, kind: MemberKind) -> Result<(), EditError>
         ensures ok { OnOk result (self.new ≡ added self.old name kind) }
         ensures err { OnErr result (self.new ≡ self.old) }
         ensures refusal { refusal_in result ≡ refusal_of_add self.old name }

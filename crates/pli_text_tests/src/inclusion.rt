@@ -4,7 +4,7 @@ use pli_include::{
     Expander, Expansion, TraceEntry, level_is_never_met, texts_have_origins, trace_decides,
     worked_examples,
 };
-use pli_members::{EditError, Kind, Members};
+use pli_members::{EditError, MemberKind, Members};
 use std::alloc::{AllocError, Global};
 use std::fmt::Write;
 use std::process::Abort;
@@ -15,7 +15,7 @@ fn put(
     rt: &impl Abort,
     members: &mut Members,
     member: Name,
-    kind: Kind,
+    kind: MemberKind,
     lines: &[&str],
 ) -> Result<(), EditError> {
     members.add(member, kind)?;
@@ -99,11 +99,11 @@ static DIRECTIVES: [(&str, &str); 20] = [
 /// Member A of this line, and others: includes K and B, and the source W.
 fn with_others(rt: &impl Abort, alloc: Global, line: &str) -> Result<Members, EditError> {
     let mut members = Members::new(alloc, 1);
-    put(rt, &mut members, name(rt, "A"), Kind::Source, &[line])?;
-    put(rt, &mut members, name(rt, "K"), Kind::Include, &[";"])?;
-    put(rt, &mut members, name(rt, "W"), Kind::Source, &["1"])?;
+    put(rt, &mut members, name(rt, "A"), MemberKind::Source, &[line])?;
+    put(rt, &mut members, name(rt, "K"), MemberKind::Include, &[";"])?;
+    put(rt, &mut members, name(rt, "W"), MemberKind::Source, &["1"])?;
     let b = name(rt, "B");
-    put(rt, &mut members, b, Kind::Include, &["%X", "?"])?;
+    put(rt, &mut members, b, MemberKind::Include, &["%X", "?"])?;
     Ok(members)
 }
 
@@ -124,10 +124,16 @@ fn chain(rt: &impl Abort, alloc: Global) -> Result<Members, EditError> {
         let line = format!(in alloc; "{number} %INCLUDE M{};", number + 1)?;
         let member = format!(in alloc; "M{number}")?;
         let member = name(rt, member.as_str());
-        put(rt, &mut members, member, Kind::Include, &[line.as_str()])?;
+        put(
+            rt,
+            &mut members,
+            member,
+            MemberKind::Include,
+            &[line.as_str()],
+        )?;
     }
     let last = name(rt, "M999");
-    put(rt, &mut members, last, Kind::Source, &["END"])?;
+    put(rt, &mut members, last, MemberKind::Source, &["END"])?;
     Ok(members)
 }
 
@@ -169,10 +175,28 @@ fn diamond(rt: &impl Abort, alloc: Global) -> Result<Members, EditError> {
     let mut members = Members::new(alloc, 1);
     let around = ["%INCLUDE B;", "%INCLUDE C;"];
     let (b, c) = (name(rt, "B"), name(rt, "C"));
-    put(rt, &mut members, name(rt, "A"), Kind::Source, &around)?;
-    put(rt, &mut members, b, Kind::Include, &["B", "%INCLUDE D;"])?;
-    put(rt, &mut members, c, Kind::Include, &["%INCLUDE D;", "C"])?;
-    put(rt, &mut members, name(rt, "D"), Kind::Source, &["", "D"])?;
+    put(rt, &mut members, name(rt, "A"), MemberKind::Source, &around)?;
+    put(
+        rt,
+        &mut members,
+        b,
+        MemberKind::Include,
+        &["B", "%INCLUDE D;"],
+    )?;
+    put(
+        rt,
+        &mut members,
+        c,
+        MemberKind::Include,
+        &["%INCLUDE D;", "C"],
+    )?;
+    put(
+        rt,
+        &mut members,
+        name(rt, "D"),
+        MemberKind::Source,
+        &["", "D"],
+    )?;
     Ok(members)
 }
 
@@ -200,9 +224,15 @@ fn many_tokens(
     last: &str,
 ) -> Result<Members, EditError> {
     let mut members = Members::new(alloc, 1);
-    put(rt, &mut members, name(rt, "A"), Kind::Source, &["X", line])?;
+    put(
+        rt,
+        &mut members,
+        name(rt, "A"),
+        MemberKind::Source,
+        &["X", line],
+    )?;
     let k = name(rt, "K");
-    put(rt, &mut members, k, Kind::Include, &[last])?;
+    put(rt, &mut members, k, MemberKind::Include, &[last])?;
     for _ in 0..lines {
         members.insert_line(k, 0, FULL.as_bytes())?;
     }

@@ -1,7 +1,7 @@
 use pli_base::Name;
 use pli_members::{
-    EditError, Kind, Members, Refusal, deletion_keeps_others, deletion_takes, edit_gives_next,
-    edit_keeps_others, next_is_new, runs_keep, worked_examples,
+    EditError, MemberKind, Members, Refusal, deletion_keeps_others, deletion_takes,
+    edit_gives_next, edit_keeps_others, next_is_new, runs_keep, worked_examples,
 };
 use std::alloc::{AllocError, Global};
 use std::fmt::Write;
@@ -11,7 +11,7 @@ use std::test::Fail;
 /// An edit of a member.
 #[derive(Clone, Copy)]
 enum Edit {
-    Add(Kind),
+    Add(MemberKind),
     Insert(usize, &'static str),
     Replace(usize, &'static str),
     Remove(usize, usize),
@@ -80,7 +80,7 @@ fn shown(alloc: Global, members: &Members, name: Name) -> Result<String, AllocEr
         shown.push('-')?;
         return Ok(shown);
     };
-    shown.push(if kind == Kind::Source { 'S' } else { 'I' })?;
+    shown.push(if kind == MemberKind::Source { 'S' } else { 'I' })?;
     write!(shown, "{version}")?;
     for line in lines {
         shown.push('|')?;
@@ -110,7 +110,7 @@ fn agrees(
 fn member_of(rt: &impl Abort, alloc: Global, lines: &[&str]) -> Members {
     let mut members = Members::new(alloc, 1);
     let a = name(rt, "A");
-    assert_eq!(rt; members.add(a, Kind::Source), Ok(()));
+    assert_eq!(rt; members.add(a, MemberKind::Source), Ok(()));
     for (after, line) in lines.iter().enumerate() {
         assert_eq!(rt; members.insert_line(a, after, line.as_bytes()), Ok(()));
     }
@@ -118,8 +118,8 @@ fn member_of(rt: &impl Abort, alloc: Global, lines: &[&str]) -> Members {
 }
 
 static EDITS: [Row; 5] = [
-    ("b", Edit::Add(Kind::Source), "ok S1"),
-    ("A", Edit::Add(Kind::Include), "ok I2"),
+    ("b", Edit::Add(MemberKind::Source), "ok S1"),
+    ("A", Edit::Add(MemberKind::Include), "ok I2"),
     ("A", Edit::Insert(0, "Y = 2;"), "ok I3|Y = 2;"),
     ("A", Edit::Insert(0, ""), "ok I4||Y = 2;"),
     ("A", Edit::Insert(1, "\tX = 1;"), "ok I5||\tX = 1;|Y = 2;"),
@@ -127,7 +127,7 @@ static EDITS: [Row; 5] = [
 
 static DELETIONS: [Row; 2] = [
     ("A", Edit::Delete, "ok -"),
-    ("A", Edit::Add(Kind::Source), "ok S6"),
+    ("A", Edit::Add(MemberKind::Source), "ok S6"),
 ];
 
 #[test]
@@ -140,22 +140,33 @@ fn edits(rt: HostRuntime) -> Result<(), Fail> {
     assert!(rt; names.next() == Some(a) && names.next() == Some(b) && names.next().is_none());
     for entry in members.entries() {
         assert_eq!(rt; members.version(entry.name()), Some(entry.version()));
-        assert_eq!(rt; entry.kind() == Kind::Source, entry.lines().is_empty());
+        assert_eq!(rt;
+            entry.kind() == MemberKind::Source,
+            entry.lines().is_empty()
+        );
     }
     agrees(&rt, rt.alloc(), &mut members, &DELETIONS)?;
     Ok(())
 }
 
 static VERSIONS: [Row; 5] = [
-    ("A", Edit::Add(Kind::Source), "ok S18446744073709551615"),
+    (
+        "A",
+        Edit::Add(MemberKind::Source),
+        "ok S18446744073709551615",
+    ),
     ("A", Edit::Insert(0, "X"), "M8 S18446744073709551615"),
     ("A", Edit::Replace(1, "X"), "M3 S18446744073709551615"),
     ("A", Edit::Delete, "ok -"),
-    ("A", Edit::Add(Kind::Source), "M8 -"),
+    ("A", Edit::Add(MemberKind::Source), "M8 -"),
 ];
 
 static LAST_VERSIONS: [Row; 6] = [
-    ("A", Edit::Add(Kind::Include), "ok I18446744073709551614"),
+    (
+        "A",
+        Edit::Add(MemberKind::Include),
+        "ok I18446744073709551614",
+    ),
     ("A", Edit::Insert(0, "X"), "ok I18446744073709551615|X"),
     ("A", Edit::Replace(1, "Y"), "M8 I18446744073709551615|X"),
     ("A", Edit::Replace(1, "\x7f"), "M5 I18446744073709551615|X"),
@@ -184,8 +195,8 @@ fn laws(_rt: HostRuntime) {
 }
 
 static REFUSALS: [Row; 10] = [
-    ("A", Edit::Add(Kind::Source), "ok S1"),
-    ("A", Edit::Add(Kind::Include), "M1 S1"),
+    ("A", Edit::Add(MemberKind::Source), "ok S1"),
+    ("A", Edit::Add(MemberKind::Include), "M1 S1"),
     ("B", Edit::Delete, "M2 -"),
     ("B", Edit::Insert(5, TOO_LONG), "M2 -"),
     ("A", Edit::Insert(5, TOO_LONG), "M3 S1"),
@@ -264,10 +275,13 @@ fn the_limit_of_members(rt: HostRuntime) -> Result<(), Fail> {
     let mut members = Members::new(rt.alloc(), 1);
     for number in 0..999 {
         let text = format!(in rt.alloc(); "N{number}")?;
-        assert_eq!(rt; members.add(name(&rt, text.as_str()), Kind::Source), Ok(()));
+        assert_eq!(rt;
+            members.add(name(&rt, text.as_str()), MemberKind::Source),
+            Ok(())
+        );
     }
     for (text, wanted) in [("A", "M7"), ("N0", "M1")] {
-        let answer = answer(&mut members, name(&rt, text), Edit::Add(Kind::Source))?;
+        let answer = answer(&mut members, name(&rt, text), Edit::Add(MemberKind::Source))?;
         assert_eq!(rt; answer, wanted);
     }
     Ok(())
@@ -310,10 +324,10 @@ fn the_limit_of_lines(rt: HostRuntime) -> Result<(), Fail> {
 /// Adds a member, a second time where memory is refused.
 fn add_again(rt: &impl Abort, members: &mut Members, name: Name) {
     let count = members.count();
-    let mut answer = members.add(name, Kind::Source);
+    let mut answer = members.add(name, MemberKind::Source);
     if answer == Err(EditError::OutOfMemory) {
         assert!(rt; members.count() == count && members.version(name).is_none());
-        answer = members.add(name, Kind::Source);
+        answer = members.add(name, MemberKind::Source);
     }
     assert_eq!(rt; answer, Ok(()));
 }

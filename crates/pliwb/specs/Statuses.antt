@@ -5,8 +5,8 @@ use Rattle.std.specs.Io.KnownBytes.{Keeps, Appends}
 use Rattle.clap.specs.Words.{Text}
 use Rattle.pli_base.specs.Devices.{AppendsPrefix}
 use Rattle.pli_bench.specs.Session.{State, Step, quits, opened}
-use Rattle.pli_bench.specs.Exchanges.{span}
-use Rattle.pli_bench.specs.Runs.{Service, Served, Takes, Blames, piece_limit}
+use Rattle.pli_bench.specs.Exchanges.{Span, span}
+use Rattle.pli_bench.specs.Runs.{Bytes, Service, Served, Takes, Blames, piece_limit}
 use Rattle.pli_bench.specs.declared.serving.Next.{Next}
 use Rattle.pli_bench.specs.declared.serving.ServeFault.{ServeFault}
 use Rattle.pliwb.specs.CommandLine.{Refuses, faults}
@@ -17,37 +17,44 @@ use Rattle.pliwb.specs.declared.arguments.ArgumentsError.TheVariants.{Usage, Out
 abbrev pub reads_limit : ℕ
 reads_limit = 1000000000
 
--- a new workbench serves a reader on a writer, and this is its last state
-abbrev pub service_of : (steps reads : ℕ) (left left_after before after : Option (List ℕ)) (last : State)
-    → Service State
-service_of steps reads left left_after before after last =
+-- the devices that a program serves: what the reader has left, what was written, and whether each has failed
+-- behind that
+pub record Devices : Type 0 where
+  pub reader : Span Bytes
+  pub writer : Span Bytes
+  pub reader_failed : Bool
+  pub writer_failed : Bool
+
+-- these
+abbrev pub devices : (left left_after before after : Bytes) (reader_failed writer_failed : Bool) → Devices
+devices left left_after before after reader_failed writer_failed =
     record {
-      state = span (opened steps) last;
       reader = span left left_after;
       writer = span before after;
-      reads = reads;
+      reader_failed = reader_failed;
+      writer_failed = writer_failed;
     }
 
+-- a new workbench serves a reader on a writer, and this is its last state
+abbrev pub service_of : (steps reads : ℕ) → Devices → (last : State) → Service State
+service_of steps reads d last =
+    record { state = span (opened steps) last; reader = d.reader; writer = d.writer; reads = reads }
+
 -- a new workbench, with so many steps for a bare RUN, served a reader to a writer with at most so many reads,
--- and this came of it; the marks are those behind it
-pub record Serves (steps reads : ℕ) (left left_after before after : Option (List ℕ)) (reader writer : Bool)
-    (result : Result Next ServeFault) : Type 0 where
+-- and this came of it
+pub record Serves (steps reads : ℕ) (d : Devices) (result : Result Next ServeFault) : Type 0 where
   pub last : State
-  pub served : Served Step quits (service_of steps reads left left_after before after last) result
-  pub few : Takes quits piece_limit (service_of steps reads left left_after before after last) result
-  pub blamed : Blames result reader writer
+  pub served : Served Step quits (service_of steps reads d last) result
+  pub few : Takes quits piece_limit (service_of steps reads d last) result
+  pub blamed : Blames result d.reader_failed d.writer_failed
 
 -- status 0: all commands were answered, up to the end of the input or the first QUIT
-abbrev pub Answers : (steps reads : ℕ) (left left_after before after : Option (List ℕ)) (reader writer : Bool)
-    → Type 0
-Answers steps reads left left_after before after reader writer =
-    (next : Next) × Serves steps reads left left_after before after reader writer (Ok next)
+abbrev pub EndsServed : (steps reads : ℕ) → Devices → Type 0
+EndsServed steps reads d = (next : Next) × Serves steps reads d (Ok next)
 
 -- status 1: a device failed, whose mark is set, or there were too many reads
-abbrev pub Breaks : (steps reads : ℕ) (left left_after before after : Option (List ℕ)) (reader writer : Bool)
-    → Type 0
-Breaks steps reads left left_after before after reader writer =
-    (fault : ServeFault) × Serves steps reads left left_after before after reader writer (Err fault)
+abbrev pub BreaksOff : (steps reads : ℕ) → Devices → Type 0
+BreaksOff steps reads d = (fault : ServeFault) × Serves steps reads d (Err fault)
 
 -- the status where the words say nothing
 abbrev pub status_of : ArgumentsError → ℕ

@@ -2,7 +2,7 @@
 ghost use Rattle.std.specs.Prelude.{◌≡◌, ◌≢◌, ◌≤◌, ◌<◌, ◌+◌, ℕ, drop, map};
 ghost use Rattle.std.specs.String.{string_bytes};
 ghost use Rattle.pliwb.specs.CommandLine.{Gives};
-ghost use Rattle.pliwb.specs.Statuses.{Answers, Breaks, Refused, Tells, status_of, reads_limit};
+ghost use Rattle.pliwb.specs.Statuses.{EndsServed, BreaksOff, devices, Refused, Tells, status_of, reads_limit};
 
 use crate::arguments::{ArgumentsError, read_arguments};
 use pli_base::{Sink, Source, put_all};
@@ -29,10 +29,10 @@ pub fn serve<R: Source, W: Sink>(
     writer: &mut W,
     reads: u64,
 ) -> u8
-    ensures answered { result ≡ 0 → Answers steps reads (R.remaining reader.old) (R.remaining reader.new)
-        (W.contents writer.old) (W.contents writer.new) (R.failed reader.new) (W.failed writer.new) }
-    ensures broke { result ≡ 1 → Breaks steps reads (R.remaining reader.old) (R.remaining reader.new)
-        (W.contents writer.old) (W.contents writer.new) (R.failed reader.new) (W.failed writer.new) }
+    ensures answered { result ≡ 0 → EndsServed steps reads (devices (R.remaining reader.old) (R.remaining reader.new)
+        (W.contents writer.old) (W.contents writer.new) (R.failed reader.new) (W.failed writer.new)) }
+    ensures broke { result ≡ 1 → BreaksOff steps reads (devices (R.remaining reader.old) (R.remaining reader.new)
+        (W.contents writer.old) (W.contents writer.new) (R.failed reader.new) (W.failed writer.new)) }
     ensures range { result ≤ 1 }
     ensures takes { R.takes reader.new ≤ R.takes reader.old + reads }
 {
@@ -74,11 +74,11 @@ pub fn go<R: Source, W: Sink, F: Sink>(
     errors: &mut F,
 ) -> u8
     ensures answered { result ≡ 0 → (steps : ℕ) × Gives (map string_bytes (drop 1 words.now)) steps
-        × Answers steps reads_limit (R.remaining reader.old) (R.remaining reader.new)
-        (W.contents writer.old) (W.contents writer.new) (R.failed reader.new) (W.failed writer.new) }
+        × EndsServed steps reads_limit (devices (R.remaining reader.old) (R.remaining reader.new)
+        (W.contents writer.old) (W.contents writer.new) (R.failed reader.new) (W.failed writer.new)) }
     ensures broke { result ≡ 1 → (steps : ℕ) × Gives (map string_bytes (drop 1 words.now)) steps
-        × Breaks steps reads_limit (R.remaining reader.old) (R.remaining reader.new)
-        (W.contents writer.old) (W.contents writer.new) (R.failed reader.new) (W.failed writer.new) }
+        × BreaksOff steps reads_limit (devices (R.remaining reader.old) (R.remaining reader.new)
+        (W.contents writer.old) (W.contents writer.new) (R.failed reader.new) (W.failed writer.new)) }
     ensures refused { 1 < result → Refused (map string_bytes (drop 1 words.now)) result
         (F.contents errors.old) (F.contents errors.new) (F.failed errors.new) }
     ensures unserved { 1 < result → (reader.new ≡ reader.old) × (writer.new ≡ writer.old) }

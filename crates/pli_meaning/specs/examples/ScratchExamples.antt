@@ -4,7 +4,7 @@
 use Rattle.std.specs.Prelude.{◌≡◌, pos, List, [], ◌∷◌, ◌++◌, replicate, codes}
 use Rattle.pli_base.specs.Name.{Name}
 use Rattle.pli_members.specs.Members.{Member}
-use Rattle.pli_members.specs.declared.kind.Kind.TheVariants.{Source}
+use Rattle.pli_members.specs.declared.kind.MemberKind.TheVariants.{Source}
 use Rattle.pli_code.specs.views.ModuleView.{Module}
 use Rattle.pli_code.specs.declared.instruction.Description.TheVariants.{FixedBinary}
 use Rattle.pli_code.specs.declared.instruction.Instruction.TheVariants as op

@@ -1,4 +1,4 @@
-use Rattle.pli_declare.proofs.Answered.{faults_are_least_codes}
+use Rattle.pli_declare.proofs.FaultsAreExact.{faults_are_least_codes}
 use Rattle.pli_declare.proofs.laws.faults_are_least_codes.Goals as goal
 
 pub returns : goal.returns

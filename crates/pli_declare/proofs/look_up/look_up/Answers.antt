@@ -4,7 +4,7 @@ use Rattle.pli_declare_outline.specs.views.OutlineView.{outline_view}
 use Rattle.pli_declare_tables.specs.Tables.{scope_of, block_in, unit_block}
 use Rattle.pli_declare_scopes.specs.Scopes.{meant, declares, found_in}
 use Rattle.pli_declare.specs.answers.Answers.{IsLookedUp}
-use Rattle.pli_declare.proofs.Looks.{no_names, IsLeft, begun, found_here, found_further, found_last, found_nowhere, first_is, table_read, tables_length}
+use Rattle.pli_declare.proofs.LookUpLemmas.{no_names, IsLeft, begun, found_here, found_further, found_last, found_nowhere, first_is, table_read, tables_length}
 use Rattle.pli_declare.proofs.look_up.look_up.Goals as goal
 
 pub returns-in_default : goal.returns-in_default

@@ -1,5 +1,5 @@
 use Rattle.pli_declare_outline.specs.views.OutlineView.{outline_view}
-use Rattle.pli_declare.proofs.Looks.{IsLeft, rank}
+use Rattle.pli_declare.proofs.LookUpLemmas.{IsLeft, rank}
 use Rattle.pli_declare.proofs.look_up.look_up.Given as goal
 
 abbrev pub invariant-loop-here : goal.invariant-loop-here

@@ -1,7 +1,7 @@
 use Rattle.std.proofs.Common.{subst, sym, ap, ◌∙◌, arith}
 use Rattle.pli_declare_outline.specs.views.OutlineView.{outline_view}
 use Rattle.pli_declare.specs.answers.Answers.{IsWithin, entries_at}
-use Rattle.pli_declare.proofs.Looks.{table_read, tables_length}
+use Rattle.pli_declare.proofs.LookUpLemmas.{table_read, tables_length}
 use Rattle.pli_declare.proofs.look_up.table_at.Goals as goal
 
 pub index-requires : goal.index-requires

@@ -1,5 +1,5 @@
 use Rattle.std.proofs.Common.{◌<◌, length, arith}
-use Rattle.pli_declare.proofs.Walked.{counted_items, told_items}
+use Rattle.pli_declare.proofs.MarkWalkLemmas.{counted_items, told_items}
 use Rattle.pli_declare.proofs.marks.tell_items.Goals as goal
 
 pub loop-item-preserved : goal.loop-item-preserved

@@ -5,9 +5,9 @@ use Rattle.pli_declare_outline.specs.views.OutlineView.{outline_view, marks_view
 use Rattle.pli_declare_tables.specs.Tables.{entries_in, inner_marks}
 use Rattle.pli_declare.specs.Resolution.{item_code, declared_by, faults_after}
 use Rattle.pli_declare.specs.answers.Walks.{of_blocks, block_codes, declared_names, name_faults}
-use Rattle.pli_declare.proofs.Numbers.{replicate_numbers, length_of_numbers}
-use Rattle.pli_declare.proofs.Gathered.{marks_more}
-use Rattle.pli_declare.proofs.Walked.{room, marks_told, next_told, block_in, at_block, codes_at, left_marks, all_marks}
+use Rattle.pli_declare.proofs.NumberLists.{replicate_numbers, length_of_numbers}
+use Rattle.pli_declare.proofs.ParametersOfBlocks.{marks_more}
+use Rattle.pli_declare.proofs.MarkWalkLemmas.{room, marks_told, next_told, block_in, at_block, codes_at, left_marks, all_marks}
 use Rattle.pli_declare.proofs.marks.tell_marks.Goals as goal
 
 pub loop-placed-init : goal.loop-placed-init

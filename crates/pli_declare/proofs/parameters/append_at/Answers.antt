@@ -1,6 +1,6 @@
 use Rattle.std.proofs.Common.{map, refl, arith}
 use Rattle.std.proofs.lemmas.Result.{on_ok_weaker}
-use Rattle.pli_declare.proofs.Gathered.{put_behind}
+use Rattle.pli_declare.proofs.ParametersOfBlocks.{put_behind}
 use Rattle.pli_declare.proofs.parameters.append_at.Goals as goal
 
 pub returns : goal.returns

@@ -7,7 +7,7 @@ use Rattle.pli_declare_outline.specs.views.OutlineView.{outline_view}
 use Rattle.pli_declare_tables.specs.Tables.{Entry, entries_in}
 use Rattle.pli_declare_tables.specs.views.TableView.{entries_view}
 use Rattle.pli_declare.specs.Resolution.{is_item_named}
-use Rattle.pli_declare.proofs.TableAt.{table_at, none_declared}
+use Rattle.pli_declare.proofs.TablesOfBlocks.{table_at, none_declared}
 use Rattle.pli_declare.proofs.parameters.block_names.Goals as goal
 
 pub returns-in-Some : goal.returns-in-Some

@@ -6,8 +6,8 @@ use Rattle.pli_declare_tables.specs.views.TableView.{entries_view}
 use Rattle.pli_declare_tables.specs.answers.Answers.{AreBehindOwners}
 use Rattle.pli_declare_variables.specs.Judging.{all_judged}
 use Rattle.pli_declare.specs.Resolution.{parameters_of}
-use Rattle.pli_declare.proofs.Numbers.{number_at, length_of_numbers, one_more}
-use Rattle.pli_declare.proofs.TableAt.{how_many, table_at}
+use Rattle.pli_declare.proofs.NumberLists.{number_at, length_of_numbers, one_more}
+use Rattle.pli_declare.proofs.TablesOfBlocks.{how_many, table_at}
 use Rattle.pli_declare.proofs.parameters.judged_blocks.Goals as goal
 
 pub judge-requires : goal.judge-requires

@@ -8,8 +8,8 @@ use Rattle.pli_declare_outline.specs.declared.region.Mark as written
 use Rattle.pli_declare_outline.specs.declared.region.Mark.TheVariants as marks
 use Rattle.pli_declare.specs.Resolution.{headed}
 use Rattle.pli_declare_tables.specs.Tables.{numbers_from}
-use Rattle.pli_declare.proofs.Numbers.{replicate_numbers}
-use Rattle.pli_declare.proofs.Gathered.{gathered, marks_more, none_gathered, entered_gathered}
+use Rattle.pli_declare.proofs.NumberLists.{replicate_numbers}
+use Rattle.pli_declare.proofs.ParametersOfBlocks.{gathered, marks_more, none_gathered, entered_gathered}
 use Rattle.pli_declare.proofs.parameters.parameters.Goals as goal
 
 pub loop-placed-init : goal.loop-placed-init

@@ -2,7 +2,7 @@ use Rattle.std.proofs.Common.{◌<◌, length, arith, sym, ap, ◌∙◌}
 use Rattle.std.specs.List.{list_any}
 use Rattle.pli_base.specs.Words.{same_name}
 use Rattle.pli_declare_outline.specs.views.OutlineView.{outline_view}
-use Rattle.pli_declare.proofs.Names.{names_to, seen_more, names_more, told_more}
+use Rattle.pli_declare.proofs.ParameterNames.{names_to, seen_more, names_more, told_more}
 use Rattle.pli_declare.proofs.parameters.tell_parameters.Goals as goal
 
 pub loop-parameter-preserved : goal.loop-parameter-preserved

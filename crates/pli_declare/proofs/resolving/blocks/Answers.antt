@@ -3,7 +3,7 @@ use Rattle.std.proofs.lemmas.List.{map-append}
 use Rattle.pli_declare_outline.specs.views.OutlineView.{outline_view}
 use Rattle.pli_declare.specs.Resolved.{block_at}
 use Rattle.pli_declare.specs.views.BlockView.{block_view}
-use Rattle.pli_declare.proofs.Numbers.{one_more}
+use Rattle.pli_declare.proofs.NumberLists.{one_more}
 use Rattle.pli_declare.proofs.resolving.blocks.Goals as goal
 
 pub loop-block-preserved : goal.loop-block-preserved

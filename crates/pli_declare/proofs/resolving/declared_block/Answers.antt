@@ -7,7 +7,7 @@ use Rattle.pli_declare_tables.specs.answers.Answers.{AreBehindOwners}
 use Rattle.pli_declare_variables.specs.Declarations.{AreGood, declared_in}
 use Rattle.pli_declare_variables.specs.views.DeclarationView.{declaration_view}
 use Rattle.pli_declare.specs.Resolution.{parameters_of}
-use Rattle.pli_declare.proofs.OfBlocks.{tables_reach, entries_are, parameters_reach, parameters_are}
+use Rattle.pli_declare.proofs.RegionDeclarations.{tables_reach, entries_are, parameters_reach, parameters_are}
 use Rattle.pli_declare.proofs.Faultless.{block_good}
 use Rattle.pli_declare.proofs.resolving.declared_block.Goals as goal
 

@@ -2,8 +2,8 @@ use Rattle.std.proofs.Common.{◌≡◌, ◌∷◌, ◌+◌, [], length, map, sy
 use Rattle.std.proofs.lemmas.List.{map-append, length-map}
 use Rattle.pli_declare_outline.specs.views.OutlineView.{outline_view, region_view}
 use Rattle.pli_declare.specs.answers.Walks.{block_codes, block_goodness}
-use Rattle.pli_declare.proofs.Numbered.{seen_length, seen_at}
-use Rattle.pli_declare.proofs.Numbers.{one_more}
+use Rattle.pli_declare.proofs.ListsByNumber.{seen_length, seen_at}
+use Rattle.pli_declare.proofs.NumberLists.{one_more}
 use Rattle.pli_declare.proofs.unit.codes_of_blocks.Goals as goal
 
 pub index-requires : goal.index-requires

@@ -1,7 +1,7 @@
 use Rattle.std.proofs.Common.{List, sym, ◌∙◌, subst}
 use Rattle.pli_declare_scopes.specs.declared.level.Standing.{Standing}
 use Rattle.pli_declare_tables.specs.answers.Answers.{StandBehindOwners}
-use Rattle.pli_declare_tables.proofs.Standings.{stand_behind}
+use Rattle.pli_declare_tables.proofs.ItemsStandBehind.{stand_behind}
 use Rattle.pli_declare_tables.proofs.entries.declare_items.Goals as goal
 
 pub add_items-requires : goal.add_items-requires

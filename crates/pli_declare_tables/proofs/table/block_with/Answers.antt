@@ -6,8 +6,8 @@ use Rattle.pli_declare_scopes.specs.Scopes.{Block}
 use Rattle.pli_declare_tables.specs.Tables.{with_verdicts}
 use Rattle.pli_declare_tables.specs.views.TableView.{entries_view}
 use Rattle.pli_declare_tables.specs.declared.entry.Entry.{Entry}
-use Rattle.pli_declare_tables.proofs.Behind.{Behind, owners_behind}
-use Rattle.pli_declare_tables.proofs.Blocks.{none_left}
+use Rattle.pli_declare_tables.proofs.MembersStandBehind.{Behind, owners_behind}
+use Rattle.pli_declare_tables.proofs.BlocksByMarks.{none_left}
 use Rattle.pli_declare_tables.proofs.table.block_with.Goals as goal
 
 pub loop-entry-init : goal.loop-entry-init

@@ -3,7 +3,7 @@ use Rattle.std.specs.Iterator.Adapters.{zip_first, zip_second}
 use Rattle.std.specs.Slice.Iter.{iter_rest}
 use Rattle.pli_declare_tables.specs.Tables.{with_verdicts}
 use Rattle.pli_declare_tables.specs.views.TableView.{entries_view}
-use Rattle.pli_declare_tables.proofs.Behind.{Behind}
+use Rattle.pli_declare_tables.proofs.MembersStandBehind.{Behind}
 use Rattle.pli_declare_tables.proofs.table.block_with.Given as goal
 
 -- the block so far, and what is left of its names

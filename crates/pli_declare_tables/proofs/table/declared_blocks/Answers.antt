@@ -3,7 +3,7 @@ use Rattle.std.proofs.lemmas.List.{nil_from_length, length-map, length-replicate
 use Rattle.pli_declare_outline.specs.views.OutlineView.{outline_view, region_view, marks_view}
 use Rattle.pli_declare_tables.specs.Tables.{Entry, inner_marks, entries_after, entries_in}
 use Rattle.pli_declare_tables.specs.views.TableView.{blocks_view}
-use Rattle.pli_declare_tables.proofs.Blocks.{all_blocks}
+use Rattle.pli_declare_tables.proofs.BlocksByMarks.{all_blocks}
 use Rattle.pli_declare_tables.proofs.table.declared_blocks.Goals.{in-Some+in_ok-declare_all, in_default}
 use Rattle.pli_declare_tables.proofs.table.declared_blocks.Goals as goal
 

@@ -4,4 +4,4 @@ use Rattle.pliwb.proofs.go.serve.Goals as goal
 
 pub returns-clause-broke : goal.returns-clause-broke
 returns-clause-broke g c = λ _.
-    (c.in-Err.field-0, serves _ _ c.new.result c.serve.new.self _ _ _ _ _ _ (Err c.in-Err.field-0) c.new.ensures c.in-Err.ensures.served c.in-Err.ensures.few c.in-Err.ensures.blamed)
+    (c.in-Err.field-0, serves _ _ c.new.result c.serve.new.self _ (Err c.in-Err.field-0) c.new.ensures c.in-Err.ensures.served c.in-Err.ensures.few c.in-Err.ensures.blamed)

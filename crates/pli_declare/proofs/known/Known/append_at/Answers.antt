@@ -2,7 +2,7 @@ use Rattle.std.proofs.Common.{map, refl, arith}
 use Rattle.std.proofs.lemmas.Result.{on_ok_weaker}
 use Rattle.pli_declare_outline.specs.views.OutlineView.{outline_view, mark_view}
 use Rattle.pli_declare.specs.answers.Walks.{mark_goodness}
-use Rattle.pli_declare.proofs.Gathered.{put_behind}
+use Rattle.pli_declare.proofs.ParametersOfBlocks.{put_behind}
 use Rattle.pli_declare.proofs.known.Known.append_at.Goals as goal
 
 pub returns : goal.returns

@@ -4,7 +4,7 @@ use Rattle.pli_declare_outline.specs.views.OutlineView.{outline_view}
 use Rattle.pli_declare_tables.specs.Tables.{numbers_from}
 use Rattle.pli_declare_tables.specs.views.TableView.{entry_view}
 use Rattle.pli_declare.specs.Resolution.{item_code}
-use Rattle.pli_declare.proofs.Numbered.{made_more}
+use Rattle.pli_declare.proofs.ListsByNumber.{made_more}
 use Rattle.pli_declare.proofs.known.Known.codes_of_block.Goals as goal
 
 pub item_code-requires-clause-number : goal.item_code-requires-clause-number

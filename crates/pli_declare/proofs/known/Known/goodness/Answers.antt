@@ -3,9 +3,9 @@ use Rattle.std.proofs.lemmas.List.{length-map, nil_from_length}
 use Rattle.pli_declare_outline.specs.views.OutlineView.{outline_view, region_view, marks_view, placed_view}
 use Rattle.pli_declare_tables.specs.Tables.{entries_after, inner_marks, numbers_from}
 use Rattle.pli_declare.specs.answers.Walks.{of_blocks, entity_is_good}
-use Rattle.pli_declare.proofs.Numbers.{replicate_numbers}
-use Rattle.pli_declare.proofs.Gathered.{marks_more}
-use Rattle.pli_declare.proofs.TableAt.{block_within}
+use Rattle.pli_declare.proofs.NumberLists.{replicate_numbers}
+use Rattle.pli_declare.proofs.ParametersOfBlocks.{marks_more}
+use Rattle.pli_declare.proofs.TablesOfBlocks.{block_within}
 use Rattle.pli_declare.proofs.GoodnessOfBlocks.{so_far, mark_passed}
 use Rattle.pli_declare.proofs.known.Known.goodness.Goals as goal
 

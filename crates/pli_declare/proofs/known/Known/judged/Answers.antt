@@ -4,7 +4,7 @@ use Rattle.pli_declare_outline.specs.views.OutlineView.{outline_view, region_vie
 use Rattle.pli_declare_tables.specs.Tables.{entries_in}
 use Rattle.pli_declare_variables.specs.Judging.{all_judged, judged_at}
 use Rattle.pli_declare.specs.Resolution.{parameters_of}
-use Rattle.pli_declare.proofs.Numbered.{made_length, made_at, seen_length, seen_at}
+use Rattle.pli_declare.proofs.ListsByNumber.{made_length, made_at, seen_length, seen_at}
 use Rattle.pli_declare.proofs.known.Known.judged.Goals as goal
 
 pub index-requires : goal.index-requires

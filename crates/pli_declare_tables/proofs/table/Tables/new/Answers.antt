@@ -3,7 +3,7 @@ use Rattle.pli_declare_outline.specs.views.OutlineView.{outline_view}
 use Rattle.pli_declare_scopes.specs.Repeats.{verdicts_of}
 use Rattle.pli_declare_tables.specs.Tables.{Entry, written, with_verdicts, numbers_from, table_with}
 use Rattle.pli_declare_tables.specs.answers.Answers.{AllBehindOwners}
-use Rattle.pli_declare_tables.proofs.Whole.{all_behind, tables_in, unit_is}
+use Rattle.pli_declare_tables.proofs.TablesOfUnits.{all_behind, tables_in, unit_is}
 use Rattle.pli_declare_tables.proofs.table.Tables.new.Goals as goal
 
 pub tables_of-requires : goal.tables_of-requires

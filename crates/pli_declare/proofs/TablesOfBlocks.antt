@@ -7,8 +7,8 @@ use Rattle.pli_declare_constructs.proofs.Blocks.{finds}
 use Rattle.pli_declare_tables.specs.Tables.{Entry, entries_of, entries_after, entries_in, inner_marks, table_in, all_tables}
 use Rattle.pli_declare_tables.specs.views.TableView.{table_view}
 use Rattle.pli_declare_tables.specs.declared.table.Table.{Table}
-use Rattle.pli_declare.proofs.Numbers.{number_at, length_of_numbers}
-use Rattle.pli_declare.proofs.Gathered.{not_equal}
+use Rattle.pli_declare.proofs.NumberLists.{number_at, length_of_numbers}
+use Rattle.pli_declare.proofs.ParametersOfBlocks.{not_equal}
 
 pub how_many : (tables : List Table) (o : Outline) → map table_view tables ≡ all_tables o → length tables ≡ length o.regions + 1
 how_many tables o all = sym (length-map tables table_view) ∙ ap length all ∙ length_of_numbers (table_in o) 0 (length o.regions + 1)

@@ -5,7 +5,7 @@ use Rattle.pli_declare_scopes.specs.Repeats.{verdicts_of}
 use Rattle.pli_declare_scopes.specs.Scopes.{Block}
 use Rattle.pli_declare_tables.specs.Tables.{Entry, written, with_verdicts, entries_in, heading_entries, unit_entries, numbers_from, table_with, table_in}
 use Rattle.pli_declare_tables.specs.answers.Answers.{AllBehindOwners}
-use Rattle.pli_declare_tables.proofs.Behind.{owners_stand_before}
+use Rattle.pli_declare_tables.proofs.MembersStandBehind.{owners_stand_before}
 
 pub all_behind : (o : Outline) (first count : ℕ) → AllBehindOwners (map (entries_in o) (numbers_from first count))
 all_behind o first zero n lt = absurd (omega arith)

@@ -8,8 +8,8 @@ use Rattle.pli_declare_tables.specs.views.TableView.{entries_view, table_view}
 use Rattle.pli_declare_tables.specs.declared.table.Table.{Table}
 use Rattle.pli_declare.specs.Resolution.{parameters_of}
 use Rattle.pli_declare.specs.answers.Walks.{AreParameters}
-use Rattle.pli_declare.proofs.Numbers.{number_at, length_of_numbers}
-use Rattle.pli_declare.proofs.TableAt.{how_many, table_at}
+use Rattle.pli_declare.proofs.NumberLists.{number_at, length_of_numbers}
+use Rattle.pli_declare.proofs.TablesOfBlocks.{how_many, table_at}
 
 pub tables_reach : (tables : List Table) (o : Outline) (n : ℕ) → map table_view tables ≡ all_tables o → n < length o.regions → n < length tables
 tables_reach tables o n all within = omega (arith, within, how_many tables o all)

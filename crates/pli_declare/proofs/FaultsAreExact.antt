@@ -14,7 +14,7 @@ use Rattle.pli_declare_constructs.specs.Regions.{block_of}
 use Rattle.pli_declare_tables.specs.Tables.{Entry, no_entry, entries_of, entries_after, entries_in, inner_marks}
 use Rattle.pli_declare.specs.Resolution.{at_token, item_code, codes_from, parameter_code, parameter_codes, parameter_faults, used_faults, mark_faults, declared_by, faults_after, heading_faults, unit_faults, outline_faults, resolution_faults}
 use Rattle.pli_declare.specs.laws.FaultLaws.{AtName, no_identifier, HasParameter, AtParameter, HasUse, AtUse, HasHeading, AtUnit, FaultsAreLeastCodes}
-use Rattle.pli_declare.proofs.Walked.{how_many_declared, entries_both, entries_grow, counted_elsewhere, counted_here}
+use Rattle.pli_declare.proofs.MarkWalkLemmas.{how_many_declared, entries_both, entries_grow, counted_elsewhere, counted_here}
 
 -- a code at a token
 

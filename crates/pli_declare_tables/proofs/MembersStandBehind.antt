@@ -12,7 +12,7 @@ use Rattle.pli_declare_scopes.specs.declared.level.Standing.{Standing}
 use Rattle.pli_declare_tables.specs.Tables.{Entry, written, named, item_entries, entries_of, entries_after, inner_marks, heading_entries, unit_entries}
 use Rattle.pli_declare_tables.specs.answers.Answers.{AreBehindOwners}
 use Rattle.pli_declare_tables.specs.laws.TableLaws.{OwnersStandBefore}
-use Rattle.pli_declare_tables.proofs.Standings.{StandFrom, standings_stand}
+use Rattle.pli_declare_tables.proofs.ItemsStandBehind.{StandFrom, standings_stand}
 
 -- each of some names that stand behind so many others has its owner before it
 abbrev pub Behind : ℕ → List Entry → Type 0

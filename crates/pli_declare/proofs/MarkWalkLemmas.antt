@@ -19,9 +19,9 @@ use Rattle.pli_declare_scopes.specs.declared.level.Standing.{Standing}
 use Rattle.pli_declare_tables.specs.Tables.{Entry, named, item_entries, entries_of, entries_after, entries_in, inner_marks, numbers_from}
 use Rattle.pli_declare.specs.Resolution.{at_token, item_code, codes_from, parameter_faults, used_faults, declared_by, faults_after}
 use Rattle.pli_declare.specs.answers.Walks.{of_blocks, block_codes, declared_names, name_faults}
-use Rattle.pli_declare.proofs.Numbers.{number_at, length_of_numbers, set_of_numbers}
-use Rattle.pli_declare.proofs.Gathered.{not_equal}
-use Rattle.pli_declare.proofs.TableAt.{block_within}
+use Rattle.pli_declare.proofs.NumberLists.{number_at, length_of_numbers, set_of_numbers}
+use Rattle.pli_declare.proofs.ParametersOfBlocks.{not_equal}
+use Rattle.pli_declare.proofs.TablesOfBlocks.{block_within}
 
 pub faults_both : (codes : List (Option Code)) (number : ℕ) (xs ys : List Identifier)
     → name_faults codes number (xs ++ ys) ≡ name_faults codes number xs ++ name_faults codes (number + length xs) ys

@@ -12,7 +12,7 @@ use Rattle.pli_declare_outline.specs.views.OutlineView.{placed_view, marks_view}
 use Rattle.pli_declare_outline.specs.declared.region.Placed as written
 use Rattle.pli_declare_tables.specs.Tables.{numbers_from}
 use Rattle.pli_declare.specs.Resolution.{headed}
-use Rattle.pli_declare.proofs.Numbers.{number_at, length_of_numbers, same_of_numbers, set_of_numbers}
+use Rattle.pli_declare.proofs.NumberLists.{number_at, length_of_numbers, same_of_numbers, set_of_numbers}
 
 abbrev pub gathered : List Placed → ℕ → List Name
 gathered marks b = flat_map (λ p. headed b p.mark) marks
