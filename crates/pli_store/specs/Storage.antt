@@ -1,7 +1,7 @@
 -- Storage: a finite map from the numbers of generations to what each is. A generation is the storage of one
 -- variable of one activation or allocation, or of an argument that is no variable's (X3.53). Generations are
 -- numbered from 0 in the order in which they are made, and no number is used again.
-use Rattle.std.specs.Prelude.{ℕ, ◌+◌, nat_eq, Bool, not, Option, Some, None}
+use Rattle.std.specs.Prelude.{ℕ, ◌+◌, nat_eq, not, Option, Some, None}
 use Rattle.std.specs.Prelude.{List, [], ◌∷◌, ◌++◌, length, take, drop, if◌then◌else◌}
 use Rattle.std.specs.List.{filter, list_any}
 use Rattle.pli_map.specs.Description.{Description}

@@ -85,12 +85,12 @@ made_of d how vs w =
     else Raises StorageLimit w
 
 -- the generation of a place; a place whose generation has ended is dead
+abbrev pub unless_dead : Option Generation → World → Answer Generation
+unless_dead None w = Raises DeadLocator w
+unless_dead (Some g) w = Yields g w
+
 abbrev pub living : Place → World → Answer Generation
-living p w = found (generation_in w.storage p.generation)
-  where
-    found : Option Generation → Answer Generation
-    found None = Raises DeadLocator w
-    found (Some g) = Yields g w
+living p w = unless_dead (generation_in w.storage p.generation) w
 
 -- what the place of an aggregate or of a scalar holds, scalar by scalar
 unfoldable pub parts_held : Place → World → Answer (List Value)
@@ -105,7 +105,7 @@ parts_stored p vs w =
     further (living p w)
     (λ g w. further (known (scalar_at g p) w)
     (λ k w. Yields tt (record w {
-      storage = with_values w.storage p.generation (with_values_at k vs g.values)
+      storage = with_values w.storage p.generation (with_values_at k vs g.values);
     })))
 
 -- one value alone
@@ -115,11 +115,12 @@ single vs w = Wrong
 
 -- what the place of a scalar holds
 unfoldable pub held : Place → World → Answer Value
-held p w = if is_scalar p.description then further (parts_held p w) single else Wrong
+held p w = further (parts_held p w) (λ vs w. if is_scalar p.description then single vs w else Wrong)
 
 -- a value put at the place of a scalar that may hold it
 unfoldable pub stored : Place → Value → World → Answer Unit
-stored p v w = if holds p.description v then parts_stored p (v ∷ []) w else Wrong
+stored p v w =
+    further (living p w) (λ g w. if holds p.description v then parts_stored p (v ∷ []) w else Wrong)
 
 -- what one place holds put at another of an equal description: the source is looked at first
 unfoldable pub copied : (source target : Place) → World → Answer Unit
