@@ -2,9 +2,9 @@
 ghost use Rattle.std.specs.Prelude.{◌≡◌, ℕ, List, None, Some, IfOk, OnOk, option_map, slice_get};
 ghost use Rattle.pli_value.specs.Conversions.{number_characters};
 ghost use Rattle.pli_store.specs.World.{slot_place, known, printed};
-ghost use Rattle.pli_machine_step.specs.Machine.{added, loaded, kept, in_characters, put};
-ghost use Rattle.pli_machine_step.specs.views.ModuleProgram.{greatest_precision};
-ghost use Rattle.pli_machine.specs.views.View.{Acts, Works, push_or_raise, fitted_as, place_of_generation, world_of};
+ghost use Rattle.pli_machine_step.specs.Machine.{loaded, kept, put};
+ghost use Rattle.pli_machine.specs.views.View.{Acts, Works, push_or_raise, added, fitted_as, in_characters};
+ghost use Rattle.pli_machine.specs.views.View.{place_of_generation, world_of};
 
 use crate::numbers::{GREATEST_PRECISION, fitted, is_within, number_at};
 use crate::operands::{pop_characters, pop_number, pop_place, pop_value, push};
@@ -33,7 +33,7 @@ fn push_or_raise(
 /// Pops two numbers and pushes their sum.
 #[inline]
 pub fn add(operands: &mut Vec<Operand>) -> Result<Option<Stop>, AllocError>
-    ensures { IfOk result (Acts (added greatest_precision) operands.old.items operands.new.items) }
+    ensures { IfOk result (Acts added operands.old.items operands.new.items) }
 {
     let Some(y) = pop_number(operands) else {
         return Ok(Some(Stop::Fault));

@@ -3,7 +3,7 @@ ghost use Rattle.std.specs.Prelude.{◌≡◌, ◌∷◌, IfOk, MatchOption, ℕ
 ghost use Rattle.pli_value.specs.Conversions.{number_characters};
 ghost use Rattle.pli_value.specs.Value.{Number, Characters};
 ghost use Rattle.pli_machine_step.specs.Machine.{OfValue, AtPlace};
-ghost use Rattle.pli_machine.specs.views.View.{stack, operand_of, place_of_generation, IsValue, NoNumber, NoPlace, NoNewestValue, NoCharacters};
+ghost use Rattle.pli_machine.specs.views.View.{stack, operand_of, place_of_generation, IsValue, NoNumber, NoPlace, NoNewestValue, NothingToPut};
 
 use crate::world::{Operand, Stop};
 use std::alloc::AllocError;
@@ -51,7 +51,7 @@ pub fn pop_place(operands: &mut Vec<Operand>) -> Option<u32>
 #[tactic(auto, using(crate::proofs::Stack::stack_push))]
 #[inline]
 pub fn pop_characters(operands: &mut Vec<Operand>) -> Option<(i64, u16)>
-    ensures { MatchOption result (NoCharacters (stack operands.old.items))
+    ensures { MatchOption result (NothingToPut (stack operands.old.items))
         (λ c. stack operands.old.items ≡ OfValue (Characters (number_characters c.1 c.0)) ∷ stack operands.new.items) }
 {
     match operands.pop() {

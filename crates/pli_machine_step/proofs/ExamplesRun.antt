@@ -1,7 +1,8 @@
 -- The worked examples, each by computing it.
 use Rattle.std.specs.Prelude.{refl}
 use Rattle.std.specs.Fmt.{digits}
-use Rattle.pli_store.specs.World.{nothing, entered, made_of, left_by, held, stored, cleared, at_statement, stepped, height_of, slot_place, printed, error_at}
+use Rattle.pli_operation.specs.Operations.{calculated}
+use Rattle.pli_store.specs.World.{nothing, entered, made_of, left_by, parts_held, parts_stored, held, stored, cleared, at_statement, stepped, height_of, slot_place, static_place, printed, line_ended, error_at}
 use Rattle.pli_machine_step.specs.examples.MachineExamples as example
 
 pub smallest_stops : example.SmallestStops
@@ -73,7 +74,7 @@ unfolding nothing entered stepped left_by
 jumps_end = refl
 
 pub argument_is_shared : example.ArgumentIsShared
-unfolding nothing entered made_of stepped left_by held stored height_of slot_place printed digits
+unfolding nothing entered made_of stepped left_by parts_held parts_stored held stored height_of slot_place calculated printed digits
 argument_is_shared = refl
 
 pub function_gives : example.FunctionGives
@@ -87,3 +88,39 @@ value_faults = refl
 pub begins_end : example.BeginsEnd
 unfolding nothing entered stepped error_at
 begins_end = refl
+
+pub loop_ends : example.LoopEnds
+unfolding nothing entered made_of stepped left_by parts_held parts_stored held stored at_statement height_of slot_place calculated printed line_ended digits
+loop_ends = refl
+
+pub element_prints : example.ElementPrints
+unfolding nothing entered made_of stepped left_by parts_held held at_statement height_of slot_place calculated printed digits
+element_prints = refl
+
+pub element_fails : example.ElementFails
+unfolding nothing entered made_of stepped at_statement height_of slot_place error_at
+element_fails = refl
+
+pub part_prints : example.PartPrints
+unfolding nothing entered stepped left_by calculated printed
+part_prints = refl
+
+pub part_fails : example.PartFails
+unfolding nothing entered stepped calculated error_at
+part_fails = refl
+
+pub comparison_prints : example.ComparisonPrints
+unfolding nothing entered stepped left_by calculated printed
+comparison_prints = refl
+
+pub bits_print : example.BitsPrint
+unfolding nothing entered stepped left_by printed
+bits_print = refl
+
+pub skip_ends_line : example.SkipEndsLine
+unfolding nothing entered stepped left_by printed line_ended
+skip_ends_line = refl
+
+pub static_is_shared : example.StaticIsShared
+unfolding nothing entered made_of stepped left_by parts_held parts_stored held stored static_place calculated printed digits
+static_is_shared = refl

@@ -8,10 +8,10 @@ use Rattle.pli_store.specs.laws.Operations.{IsPrefix}
 use Rattle.pli_store.specs.laws.OperationLaws.{prefix_same, prefix_then}
 use Rattle.pli_machine_step.specs.Program.{Program}
 use Rattle.pli_machine_step.specs.Machine.{State, At, Over, Move, Goes, Stops, Steps, ahead, act_in, resume, next_of, iterate}
-use Rattle.pli_machine_step.specs.Runs.{Outcome, main_unit, outcome_of, start}
+use Rattle.pli_machine_step.specs.Runs.{Outcome, first_move, outcome_of, start}
 use Rattle.pli_machine_step.specs.laws.Laws.{GoesOn, RunsGoOn, OneFrameEach}
 use Rattle.pli_machine_step.specs.laws.Moves.{IsFramed, Adds, output_of}
-use Rattle.pli_machine_step.specs.laws.MoveLaws.{frame_leads, leads_add, resume_adds, main_adds}
+use Rattle.pli_machine_step.specs.laws.MoveLaws.{frame_leads, leads_add, resume_adds, first_adds}
 use Rattle.pli_machine_step.specs.laws.RunLaws.{over_stays, iterate_swap, next_adds, start_framed, stays_framed}
 
 -- one is the other with a step more; or the other has spent its steps, and what it has printed begins what the
@@ -40,9 +40,7 @@ iterate_ahead p zero s t h = h
 iterate_ahead p (suc count) s t h = iterate_ahead p count (next_of p s) (next_of p t) (next_ahead p s t h)
 
 start_ahead : (p : Program) (steps : ℕ) → Ahead (start p steps) (start p (suc steps))
-start_ahead p steps =
-    let u = slice_get p.units p.main in
-    resume_ahead (Unit {0}) nothing (main_unit p.main u nothing) steps (main_adds p.main u)
+start_ahead p steps = resume_ahead (Unit {0}) nothing (first_move p) steps (first_adds p)
 
 -- a run that has ended is over after more instructions too
 ended : (p : Program) (i j : ℕ) (s : State) (e : Ending) (w : World) → iterate p i s ≡ Over e w → iterate p j (iterate p i s) ≡ Over e w

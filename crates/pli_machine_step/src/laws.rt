@@ -6,7 +6,10 @@ ghost use Rattle.pli_machine_step.specs.examples.MachineExamples.{TurnsStop, Too
 ghost use Rattle.pli_machine_step.specs.examples.MachineExamples.{BeginEnds, BeginFaults, CallFaults};
 ghost use Rattle.pli_machine_step.specs.examples.MachineExamples.{GotosEnd, GotosFault, JumpsEnd};
 ghost use Rattle.pli_machine_step.specs.examples.MachineExamples.{ArgumentIsShared, FunctionGives, ValueFaults};
-ghost use Rattle.pli_machine_step.specs.examples.MachineExamples.{BeginsEnd};
+ghost use Rattle.pli_machine_step.specs.examples.MachineExamples.{BeginsEnd, LoopEnds, ElementPrints};
+ghost use Rattle.pli_machine_step.specs.examples.MachineExamples.{ElementFails, PartPrints, PartFails};
+ghost use Rattle.pli_machine_step.specs.examples.MachineExamples.{ComparisonPrints, BitsPrint, SkipEndsLine};
+ghost use Rattle.pli_machine_step.specs.examples.MachineExamples.{StaticIsShared};
 
 /// A law: a program's run gives one outcome.
 pub fn one_outcome()
@@ -29,7 +32,8 @@ pub fn every_run_ends()
 {}
 
 /// Worked examples: steps, a GOTO out of a call, jumps without a step, the limit of activations, the kinds of
-/// blocks, the code's end, an argument by place, a function's value.
+/// blocks, the code's end, an argument by place, a function's value, a loop, an element and a part of a string that are
+/// there and that are not, a comparison, bits printed, a line ended, a variable that is made once.
 pub fn worked_examples()
     ensures smallest_stops { SmallestStops }
     ensures smallest_ends { SmallestEnds }
@@ -52,4 +56,13 @@ pub fn worked_examples()
     ensures argument_is_shared { ArgumentIsShared }
     ensures function_gives { FunctionGives }
     ensures value_faults { ValueFaults }
+    ensures loop_ends { LoopEnds }
+    ensures element_prints { ElementPrints }
+    ensures element_fails { ElementFails }
+    ensures part_prints { PartPrints }
+    ensures part_fails { PartFails }
+    ensures comparison_prints { ComparisonPrints }
+    ensures bits_print { BitsPrint }
+    ensures skip_ends_line { SkipEndsLine }
+    ensures static_is_shared { StaticIsShared }
 {}

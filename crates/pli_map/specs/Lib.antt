@@ -2,6 +2,7 @@ pub mod Description
 pub mod Layouts
 pub mod Parts
 pub mod Same
+pub mod Scalars
 pub mod Sizes
 pub mod examples
 pub mod laws

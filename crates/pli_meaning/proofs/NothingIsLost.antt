@@ -1,6 +1,6 @@
 -- What a sound procedure does has a meaning: no effect is lost, and none is short of a level. A lemma for each combinator, and a clause for each form of the tree.
-use Rattle.std.specs.Prelude.{◌≡◌, ◌≢◌, ℕ, zero, suc, ◌<◌, ◌+ℤ◌, ℤ, unsigned_abs, ◌^◌, List, [], ◌∷◌, length, refl}
-use Rattle.std.proofs.Common.{ap, sym, subst}
+use Rattle.std.specs.Prelude.{◌≡◌, ◌≢◌, ℕ, zero, suc, ◌<◌, ◌+ℤ◌, ℤ, pos, unsigned_abs, ◌^◌, List, [], ◌∷◌, length, refl}
+use Rattle.std.proofs.Common.{sym, subst}
 use Rattle.pli_base.specs.Name.{Name}
 use Rattle.pli_lower.specs.LoweredTree.{LoweredReference, LoweredExpression, Variable, Constant, Sum, LoweredBody, Null, Declare, Assign, Put, LoweredStatement}
 use Rattle.pli_lower.specs.LoweredNames.{slot_of}
@@ -8,12 +8,12 @@ use Rattle.pli_lower.specs.LoweredTypes.{width}
 use Rattle.pli_code.specs.declared.ending.Ending.TheVariants.{MachineFault}
 use Rattle.pli_map.specs.Description.{FixedBinary}
 use Rattle.pli_value.specs.Numbers.{within}
-use Rattle.pli_value.specs.Value.{Value, Number}
+use Rattle.pli_operation.specs.Operations.{ToCharacters, Add, as_number, calculated}
+use Rattle.pli_value.specs.Value.{Value, Number, Characters}
 use Rattle.pli_store.specs.Storage.{Place, whole}
-use Rattle.pli_store.specs.World.{World, Answer, Yields, Raises, Wrong, known as there_is, or_raised, slot_place, held, stored, printed, stepped, at_statement}
-use Rattle.pli_machine_step.specs.Machine.{characters_of}
+use Rattle.pli_store.specs.World.{World, Answer, Yields, Raises, Wrong, calculation, slot_place, held, stored, printed, stepped, at_statement}
 use Rattle.pli_meaning.specs.Effects.{Effect, Gives, Jumps, Fails, Spent, Lost, Short, Flow, Next, Returned, Doing, and_then, after_flow, followed, answered, as_statement}
-use Rattle.pli_meaning.specs.Meaning.{Calls, number_of, place_at, value_of, assigns, puts, puts_all, does, does_all}
+use Rattle.pli_meaning.specs.Meaning.{Calls, place_at, value_of, fits, assigns, prints, puts, puts_all, does, does_all}
 use Rattle.pli_meaning.specs.Sound.{IsSoundExpression, AreSoundItems, IsSoundBody, AreSoundStatements}
 use Rattle.pli_meaning.proofs.UsesHaveSlots.{IsKnown, Knows, KnowsItems, KnowsBody, KnowsAll, slot_there}
 use Rattle.pli_meaning.proofs.ReadyLemmas.{IsReady, Lives, Answers, stepped_ready, at_statement_ready, printed_ready, place_there, held_there, stored_there, within_answers}
@@ -91,15 +91,16 @@ place_later : (p : Place) (v w : World) → Later v w → IsPlace p v → IsPlac
 place_later p v w later is = (is.0, is.1, later is.0 is.2)
 
 -- a number that an expression may have
-abbrev IsValueOf : LoweredExpression → ℤ → World → Type 0
-IsValueOf e x w = IsOf e x
+abbrev IsValueOf : LoweredExpression → Value → World → Type 0
+IsValueOf e v w = (x : ℤ) × (v ≡ Number x) × IsOf e x
 
 -- a value that is a number of 31 digits
 abbrev IsSmallNumber : Value → World → Type 0
 IsSmallNumber v w = (x : ℤ) × (v ≡ Number x) × (unsigned_abs x < 2 ^ 31)
 
-abbrev IsSmall : ℤ → World → Type 0
-IsSmall x w = unsigned_abs x < 2 ^ 31
+-- a value that is characters
+abbrev IsText : Value → World → Type 0
+IsText v w = (text : List ℕ) × (v ≡ Characters text)
 
 module _ (call : Calls) (names : List Name) (level : ℕ) where
   abbrev count : ℕ
@@ -117,50 +118,66 @@ module _ (call : Calls) (names : List Name) (level : ℕ) where
       subst (λ q. Means count w IsSmallNumber (answered (held q w) left)) (sym is.1)
       (yields_mean count IsSmallNumber (held (whole is.0 (FixedBinary 31)) w) (Number h.0) w left h.1 (h.0, refl, h.2) ready)
 
-  number_means : (r : LoweredReference) (v : Value) (w : World) (left : ℕ) → IsSmallNumber v w → IsReady count w → Means count w (IsValueOf (Variable r)) (answered (number_of v w) left)
-  number_means r v w left is ready =
-      yields_mean count (IsValueOf (Variable r)) (number_of v w) is.0 w left (ap (λ v. number_of v w) is.1) (variable_is (Variable r) refl is.0 is.2) ready
-
-  sum_means : (l r : LoweredExpression) (x y : ℤ) (w : World) (left : ℕ) → IsOf l x → IsOf r y → IsReady count w
-      → Means count w (IsValueOf (Sum l r)) (answered (or_raised (within 31 (x +ℤ y)) w) left)
-  sum_means l r x y w left hx hy ready = answer_means count w (IsValueOf (Sum l r)) o left (by o (within_answers count (x +ℤ y) w ready))
+  variable_means : (r : LoweredReference) (p : Place) (w : World) (left : ℕ) → IsPlace p w → IsReady count w → Means count w (IsValueOf (Variable r)) (answered (held p w) left)
+  variable_means r p w left is ready = by (answered (held p w) left) (held_means p w left is ready)
     where
-      o : Answer ℤ
-      o = or_raised (within 31 (x +ℤ y)) w
+      by : (o : Effect Value) → Means count w IsSmallNumber o → Means count w (IsValueOf (Variable r)) o
+      by (Gives v u left) h = ((h.0.0, h.0.1, variable_is (Variable r) refl h.0.0 h.0.2), h.1, h.2)
+      by (Jumps g k u left) h = h
+      by (Fails e u) h = h
+      by (Spent u) h = h
+      by Lost h = h
+      by Short h = h
 
-      by : (o : Answer ℤ) → Answers (λ z v. (x +ℤ y ≡ z) × (unsigned_abs (x +ℤ y) < 2 ^ 31) × (v ≡ w)) o → Answers (λ z v. IsOf (Sum l r) z × IsReady count v × Later w v) o
-      by (Yields z v) h = (subst (IsOf (Sum l r)) h.0 (sum_is l r x y hx hy h.1), subst (IsReady count) (sym h.2) ready, subst (Later w) (sym h.2) (no_later w))
-      by (Raises e v) h = h
+  -- a number held against 31 digits, from what is known of a number that has them
+  within_means : (P : Value → World → Type 0) (x : ℤ) (w : World) (left : ℕ) → (unsigned_abs x < 2 ^ 31 → P (Number x) w) → IsReady count w
+      → Means count w P (answered (calculation (as_number (within 31 x)) w) left)
+  within_means P x w left holds ready = answer_means count w P o left (by o (within_answers count x w ready))
+    where
+      o : Answer Value
+      o = calculation (as_number (within 31 x)) w
+
+      at : (v : Value) (u : World) → v ≡ Number x → u ≡ w → P (Number x) w → P v u
+      at v u e f h = subst (λ y. P y u) (sym e) (subst (P (Number x)) (sym f) h)
+
+      by : (o : Answer Value) → Answers (λ v u. (v ≡ Number x) × (unsigned_abs x < 2 ^ 31) × (u ≡ w)) o → Answers (λ v u. P v u × IsReady count u × Later w u) o
+      by (Yields v u) h = (at v u h.0 h.2 (holds h.1), subst (IsReady count) (sym h.2) ready, subst (Later w) (sym h.2) (no_later w))
+      by (Raises e u) h = h
       by Wrong h = h
 
-  fit_means : (x : ℤ) (w : World) (left : ℕ) → IsReady count w → Means count w IsSmall (answered (or_raised (within 31 x) w) left)
-  fit_means x w left ready = answer_means count w IsSmall o left (by o (within_answers count x w ready))
-    where
-      o : Answer ℤ
-      o = or_raised (within 31 x) w
+  sum_means : (l r : LoweredExpression) (v u : Value) (w : World) (left : ℕ) → IsValueOf l v w → IsValueOf r u w → IsReady count w
+      → Means count w (IsValueOf (Sum l r)) (answered (calculation (calculated 31 Add (v ∷ u ∷ [])) w) left)
+  unfolding calculated
+  sum_means l r v u w left hv hu ready =
+      let x = hv.0 in
+      let y = hu.0 in
+      subst (λ v. Means count w (IsValueOf (Sum l r)) (answered (calculation (calculated 31 Add (v ∷ u ∷ [])) w) left)) (sym hv.1)
+      (subst (λ u. Means count w (IsValueOf (Sum l r)) (answered (calculation (calculated 31 Add (Number x ∷ u ∷ [])) w) left)) (sym hu.1)
+      (within_means (IsValueOf (Sum l r)) (x +ℤ y) w left (λ small. (x +ℤ y, refl, sum_is l r x y hv.2 hu.2 small)) ready))
 
-      by : (o : Answer ℤ) → Answers (λ z v. (x ≡ z) × (unsigned_abs x < 2 ^ 31) × (v ≡ w)) o → Answers (λ z v. (unsigned_abs z < 2 ^ 31) × IsReady count v × Later w v) o
-      by (Yields z v) h = (subst (λ y. unsigned_abs y < 2 ^ 31) h.0 h.1, subst (IsReady count) (sym h.2) ready, subst (Later w) (sym h.2) (no_later w))
-      by (Raises e v) h = h
-      by Wrong h = h
+  fit_means : (e : LoweredExpression) (v : Value) (w : World) (left : ℕ) → IsValueOf e v w → IsReady count w → Means count w IsSmallNumber (fits call names level v w left)
+  unfolding calculated
+  fit_means e v w left hv ready =
+      subst (λ v. Means count w IsSmallNumber (fits call names level v w left)) (sym hv.1)
+      (within_means IsSmallNumber hv.0 w left (λ small. (hv.0, refl, small)) ready)
 
   value_means : (e : LoweredExpression) → Knows names e → IsSoundExpression e → (w : World) (left : ℕ) → IsReady count w → Means count w (IsValueOf e) (value_of call names level e w left)
   value_means (Variable r) known sound w left ready =
       then_means count IsPlace (IsValueOf (Variable r)) w (place_at call names level r w left) _ (place_means r known w left ready)
-      (λ p w left is ready later. then_means count IsSmallNumber (IsValueOf (Variable r)) w (answered (held p w) left) _
-      (held_means p w left is ready) (λ v w left is ready later. number_means r v w left is ready))
-  value_means (Constant v d) known sound w left ready = (constant_is v d sound.0 sound.1, ready, no_later w)
+      (λ p w left is ready later. variable_means r p w left is ready)
+  value_means (Constant v d) known sound w left ready = ((pos v, refl, constant_is v d sound.0 sound.1), ready, no_later w)
   value_means (Sum l r) known sound w left ready =
       then_means count (IsValueOf l) (IsValueOf (Sum l r)) w (value_of call names level l w left) _ (value_means l known.0 sound.0 w left ready)
       (λ x w left hx ready later. then_means count (IsValueOf r) (IsValueOf (Sum l r)) w (value_of call names level r w left) _ (value_means r known.1 sound.1 w left ready)
       (λ y w left hy ready later. sum_means l r x y w left hx hy ready))
 
   -- a number stored where a place lives
-  store_means : (p : Place) (x : ℤ) (w : World) (left : ℕ) → IsPlace p w → unsigned_abs x < 2 ^ 31 → IsReady count w → Means count w (Anything count) (answered (stored p (Number x) w) left)
-  store_means p x w left is small ready =
-      let n = stored_there count is.0 x w ready is.2 small in
-      subst (λ q. Means count w (Anything count) (answered (stored q (Number x) w) left)) (sym is.1)
-      (subst (λ a. Means count w (Anything count) (answered a left)) (sym n.1) (tt, n.2, n.3))
+  store_means : (p : Place) (v : Value) (w : World) (left : ℕ) → IsPlace p w → IsSmallNumber v w → IsReady count w → Means count w (Anything count) (answered (stored p v w) left)
+  store_means p v w left is small ready =
+      let n = stored_there count is.0 small.0 w ready is.2 small.2 in
+      subst (λ v. Means count w (Anything count) (answered (stored p v w) left)) (sym small.1)
+      (subst (λ q. Means count w (Anything count) (answered (stored q (Number small.0) w) left)) (sym is.1)
+      (subst (λ a. Means count w (Anything count) (answered a left)) (sym n.1) (tt, n.2, n.3)))
 
   assign_means : (target : LoweredReference) (e : LoweredExpression) → IsKnown names target → Knows names e → IsSoundExpression e
       → (w : World) (left : ℕ) → IsReady count w → Means count w (Anything count) (assigns call names level target e w left)
@@ -168,22 +185,34 @@ module _ (call : Calls) (names : List Name) (level : ℕ) where
       then_means count IsPlace (Anything count) w (place_at call names level target w left) _ (place_means target known w left ready)
       (λ p v left is ready later. then_means count (IsValueOf e) (Anything count) v (value_of call names level e v left) _ (value_means e knows sound v left ready)
       (λ x u left hx ready later. let is2 = place_later p v u later is in
-      then_means count IsSmall (Anything count) u (answered (or_raised (within 31 x) u) left) _ (fit_means x u left ready)
+      then_means count IsSmallNumber (Anything count) u (fits call names level x u left) _ (fit_means e x u left hx ready)
       (λ y t left small ready later. let is3 = place_later p u t later is2 in
-      then_means count (Anything count) (Anything count) t (answered (stored p (Number y) t) left) _ (store_means p y t left is3 small ready)
+      then_means count (Anything count) (Anything count) t (answered (stored p y t) left) _ (store_means p y t left is3 small ready)
       (λ _ w left any ready later. (tt, ready, no_later w)))))
 
   printed_later : (text : List ℕ) (w : World) → Later w (printed text w)
   unfolding printed
   printed_later text w g l = l
 
+  -- the characters of an item
+  text_means : (e : LoweredExpression) (v : Value) (w : World) (left : ℕ) → IsValueOf e v w → IsReady count w
+      → Means count w IsText (answered (calculation (calculated 31 (ToCharacters (width e)) (v ∷ [])) w) left)
+  unfolding calculated
+  text_means e v w left hv ready =
+      let t = text_there e hv.0 hv.2 in
+      subst (λ v. Means count w IsText (answered (calculation (calculated 31 (ToCharacters (width e)) (v ∷ [])) w) left)) (sym hv.1)
+      (subst (λ a. Means count w IsText (answered (calculation a w) left)) (sym t.1) ((t.0, refl), ready, no_later w))
+
+  print_means : (v : Value) (w : World) (left : ℕ) → IsText v w → IsReady count w → Means count w (Anything count) (prints call names level v w left)
+  print_means v w left is ready =
+      subst (λ v. Means count w (Anything count) (prints call names level v w left)) (sym is.1) (tt, printed_ready count is.0 w ready, printed_later is.0 w)
+
   put_means : (e : LoweredExpression) → Knows names e → IsSoundExpression e → (w : World) (left : ℕ) → IsReady count w → Means count w (Anything count) (puts call names level e w left)
   put_means e knows sound w left ready =
       then_means count (IsValueOf e) (Anything count) w (value_of call names level e w left) _ (value_means e knows sound w left ready)
-      (λ x w left hx ready later. let t = text_there e x hx in
-      then_means count (Anything count) (Anything count) w (answered (there_is (characters_of (width e) x) w) left) _
-      (yields_mean count (Anything count) (there_is (characters_of (width e) x) w) t.0 w left (ap (λ o. there_is o w) t.1) tt ready)
-      (λ text w left any ready later. (tt, printed_ready count text w ready, printed_later text w)))
+      (λ v w left hv ready later. then_means count IsText (Anything count) w (answered (calculation (calculated 31 (ToCharacters (width e)) (v ∷ [])) w) left) _
+      (text_means e v w left hv ready)
+      (λ v w left is ready later. print_means v w left is ready))
 
   puts_mean : (es : List LoweredExpression) → KnowsItems names es → AreSoundItems es → (w : World) (left : ℕ) → IsReady count w → Means count w (Anything count) (puts_all call names level es w left)
   puts_mean [] knows sound w left ready = (tt, ready, no_later w)

@@ -1,19 +1,18 @@
 -- The simulation: the module's run gives what the source means.
-use Rattle.std.specs.Prelude.{◌≡◌, ◌≢◌, ℕ, zero, suc, nat_eq, Bool, true, false, Option, Some, option_map, List, [], ◌∷◌, length, replicate, slice_get, if◌then◌else◌, refl}
-use Rattle.std.proofs.Common.{ap, ◌∙◌, sym, arith}
+use Rattle.std.specs.Prelude.{◌≡◌, ◌≢◌, ℕ, zero, suc, nat_eq, Bool, true, false, Option, Some, List, [], ◌∷◌, length, slice_get, if◌then◌else◌, refl}
+use Rattle.std.proofs.Common.{sym, arith}
 use Rattle.pli_base.specs.Name.{Name}
 use Rattle.pli_lower.specs.LoweredTree.{LoweredUnit}
 use Rattle.pli_lower.specs.LoweredNames.{declared_names, declaration_faults}
 use Rattle.pli_gen.specs.Translation.{code_of}
-use Rattle.pli_code.specs.declared.instruction.Instruction.TheVariants as op
 use Rattle.pli_code.specs.declared.ending.Ending.{Ending}
 use Rattle.pli_code.specs.declared.ending.Ending.TheVariants.{Ended, OutOfSteps, Error, MachineFault}
 use Rattle.pli_value.specs.Value.{Value}
-use Rattle.pli_store.specs.World.{World, Answer, Yields, Raises, Wrong, Variable, Head, nothing, entered, stepped, left_by, height, error_at}
-use Rattle.pli_machine_step.specs.Program.{Basic, UnitCode, Program, variables_in, head_of}
-use Rattle.pli_machine_step.specs.Machine.{Locals, Frame, State, Over, Goes, given, enters, fresh, resume, iterate}
+use Rattle.pli_store.specs.World.{World, Answer, Yields, Raises, Wrong, Head, nothing, entered, stepped, left_by, height, error_at}
+use Rattle.pli_machine_step.specs.Program.{Return, UnitCode, Program}
+use Rattle.pli_machine_step.specs.Machine.{Locals, Frame, State, Over, Goes, given, fresh, resume, iterate}
 use Rattle.pli_machine_step.specs.Runs.{Outcome, outcome_of}
-use Rattle.pli_machine_step.specs.views.ModuleProgram.{procedure_of, unit_code, program_of}
+use Rattle.pli_machine_step.specs.views.ModuleProgram.{unit_code, program_of}
 use Rattle.pli_meaning.specs.Effects.{Effect, Gives, Jumps, Fails, Spent, Lost, Short, Flow, Next, Returned, and_then, answered, leaving, procedure_end}
 use Rattle.pli_meaning.specs.Meaning as meaning
 use Rattle.pli_meaning.specs.Meaning.{Calls, SourceUnit, alone, calls, does_all, variable, ended_as, ran, run_effect, whole_run}
@@ -42,7 +41,7 @@ module _ (p : Program) where
 
   module _ (number : ℕ) (u : UnitCode) (there : slice_get p.units number ≡ Some u) (at : ℕ → ℕ) where
     -- the end of the main procedure
-    main_leaves : {c : Context} {s : State} {l : Locals} {a b : ℕ} (o : Effect Flow) → Is u (Basic (op.Return 0)) a b
+    main_leaves : {c : Context} {s : State} {l : Locals} {a b : ℕ} (o : Effect Flow) → Is u (Return 0) a b
         → Reaches p number u at c s l (flows p number u a []) [] o → Ends s (leaving o procedure_end)
     main_leaves {a} (Gives Next w left) is r = from p r.by.comes (goes p number u at there {ops = []} {l = r.by.locals} {fs = []} {w = w} {left = left} {t = Over Ended (left_by w)} is refl)
     main_leaves (Gives (Returned v) w left) is r = r.by.comes
@@ -51,11 +50,6 @@ module _ (p : Program) where
     main_leaves (Spent w) is r = r.by
     main_leaves Lost is r = tt
     main_leaves Short is r = tt
-
--- the variables of a procedure, from its only template
-variables_there : (v : Variable) (count : ℕ) → variables_in (v ∷ []) (replicate count 0) ≡ Some (replicate count v)
-variables_there v zero = refl
-variables_there v (suc count) = ap (λ o. option_map (λ vs. v ∷ vs) o) (variables_there v count)
 
 -- the effect of an activation, from that of its statements
 leaving_means : (count : ℕ) (u : World) (o : Effect Flow) → Means count u (Anything count) o → (outcome : Outcome) × (ran (leaving o procedure_end) ≡ Some outcome) × (outcome.ending ≢ MachineFault)
@@ -122,9 +116,6 @@ module _ (unit : Name) (u : LoweredUnit) (none : declaration_faults u ≡ []) (s
   abbrev state : Answer (Unit {0}) → State
   state o = resume (given (stepped nothing) o (λ _ w. Goes first [] w)) n
 
-  head_there : head_of c 0 (procedure_of (length names)) ≡ Some head
-  head_there = ap (λ o. option_map (λ vs. record { unit = unit; block = 0; statement = 1; variables = vs }) o) (variables_there variable (length names))
-
   main_run : (o : Answer (Unit {0})) → Answers (λ _ w. IsReady (length names) w) o
       → (outcome : Outcome) × (ran (effect o) ≡ Some outcome) × (outcome.ending ≢ MachineFault) × ReachesOutcome p (state o) outcome
   main_run (Yields x w) ready =
@@ -162,5 +153,4 @@ simulation unit u none sound (suc n) =
     let o = entered (head unit u none sound n) 0 [] (stepped nothing) in
     let r = main_run unit u none sound n o (entered_ready (head unit u none sound n) count (stepped nothing) refl none_held) in
     let run : ReachesOutcome (program_of (module_of unit u)) (state unit u none sound n o) r.0 = r.3 in
-    let there = ap (λ h. iterate (program_of (module_of unit u)) run.0 (resume (enters h 0 (procedure_of count) 0 [] [] (stepped nothing)) n)) (head_there unit u none sound n) in
-    record { outcome = r.0; means = r.1; runs = record { count = run.0; ending = run.1; world = run.2; over = there ∙ run.3; gives = run.4 }; no_fault = r.2 }
+    record { outcome = r.0; means = r.1; runs = record { count = run.0; ending = run.1; world = run.2; over = run.3; gives = run.4 }; no_fault = r.2 }

@@ -3,9 +3,8 @@
 use Rattle.std.specs.Prelude.{◌≡◌, ℕ, zero, suc, ◌<◌, ◌≤◌, nat_eq, Some, List, [], ◌∷◌, length, slice_get, if◌then◌else◌, refl}
 use Rattle.std.proofs.Common.{ap, ◌∙◌, subst, arith}
 use Rattle.pli_code.specs.declared.ending.Ending.TheVariants.{OutOfSteps}
-use Rattle.pli_code.specs.declared.instruction.Instruction.TheVariants as op
 use Rattle.pli_store.specs.World.{World, Answer, Yields, Raises, Wrong, height, at_statement, stepped, left_by, cleared}
-use Rattle.pli_machine_step.specs.Program.{Instruction, Basic, UnitCode, Program}
+use Rattle.pli_machine_step.specs.Program.{Instruction, Step, UnitCode, Program}
 use Rattle.pli_machine_step.specs.Machine.{Operand, Locals, Frame, State, At, Over, Goes, given, calm, lands, resumed, act, act_in, resume, iterate}
 use Rattle.pli_meaning.specs.Effects.{Effect, Gives, Jumps, Fails, Spent, Lost, Short, Flow, Next, Returned, Doing, and_then, after_flow, followed, answered, as_statement}
 
@@ -179,7 +178,7 @@ module _ (p : Program) (number : ℕ) (u : UnitCode) where
           }
 
       -- a statement is begun by the instruction that takes its step
-      pub begins : {A : Type 0} {c : Context} {s a b : ℕ} {ops : List Operand} {l : Locals} {fs : List Frame} {to : Target A} (go : Doing A) → Is u (Basic (op.Step s)) a b → Fine c l
+      pub begins : {A : Type 0} {c : Context} {s a b : ℕ} {ops : List Operand} {l : Locals} {fs : List Frame} {to : Target A} (go : Doing A) → Is u (Step s) a b → Fine c l
           → ((m : Locals) → Fine c m → (w : World) (left : ℕ) → Reaches c (At (frame b ops m) fs w left) m to fs (go w left))
           → (w : World) (left : ℕ) → Reaches c (At (frame a ops l) fs w left) l to fs (as_statement s go w left)
       begins go is fine f w zero = record { by = goes is refl }

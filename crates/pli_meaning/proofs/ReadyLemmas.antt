@@ -7,19 +7,20 @@ use Rattle.pli_code.specs.declared.ending.RunError.{RunError}
 use Rattle.pli_code.specs.declared.ending.RunError.TheVariants.{FixedOverflow, StorageLimit}
 use Rattle.pli_map.specs.Description.{FixedBinary}
 use Rattle.pli_value.specs.Numbers.{has_digits, within}
-use Rattle.pli_value.specs.Value.{Number}
+use Rattle.pli_operation.specs.Operations.{as_number}
+use Rattle.pli_value.specs.Value.{Value, Number}
 use Rattle.pli_value.specs.declared.number.Raised.TheVariants as raised
-use Rattle.pli_map.specs.Same.{same}
+use Rattle.pli_map.specs.Scalars.{first_scalar}
 use Rattle.pli_store.specs.Activations.{Activation, activation_at, outward_from, with_newest}
-use Rattle.pli_store.specs.Storage.{Generation, Automatic, Place, whole, generation_in, with_value, live_bytes, byte_limit, generation_limit}
-use Rattle.pli_store.specs.World.{World, Answer, Yields, Raises, Wrong, further, known, or_raised, Head, made_of, held, held_in, stored, stored_in, with_slot, in_newest, made_all, begun_in, entered, stepped, at_statement, height_of, slot_in, slot_place, printed, error_at}
+use Rattle.pli_store.specs.Storage.{Generation, Automatic, Place, whole, generation_in, scalar_at, values_from, with_values_at, with_values, live_bytes, byte_limit, generation_limit}
+use Rattle.pli_store.specs.World.{World, Answer, Yields, Raises, Wrong, further, known, calculation, Head, made_of, unless_dead, parts_held, parts_stored, single, held, stored, with_slot, in_newest, made_all, begun_in, entered, stepped, at_statement, height_of, slot_in, slot_place, printed, error_at}
 use Rattle.pli_meaning.specs.Meaning.{variable}
 
 -- a generation of FIXED BINARY(31) that holds a number
 pub record IsNumber (g : Generation) : Type 0 where
   pub described : g.description ≡ FixedBinary 31
   pub number : ℤ
-  pub held : g.value ≡ Number number
+  pub held : g.values ≡ Number number ∷ []
   pub small : unsigned_abs number < 2 ^ 31
 
 abbrev pub Numbers : List Generation → Type 0
@@ -79,22 +80,22 @@ changed_rest false x o q rest l = rest l
 
 -- a number stored
 module _ (stored_in_it : ℕ) (x : ℤ) (small : unsigned_abs x < 2 ^ 31) where
-  numbers_after : (gs : List Generation) → Numbers gs → Numbers (with_value gs stored_in_it (Number x))
+  numbers_after : (gs : List Generation) → Numbers gs → Numbers (with_values gs stored_in_it (Number x ∷ []))
   numbers_after [] all = tt
   numbers_after (g ∷ gs) all = by (nat_eq g.number stored_in_it) (numbers_after gs all.1)
     where
-      by : (b : Bool) → Numbers (with_value gs stored_in_it (Number x)) → Numbers (if b then record g { value = Number x } ∷ gs else g ∷ with_value gs stored_in_it (Number x))
+      by : (b : Bool) → Numbers (with_values gs stored_in_it (Number x ∷ [])) → Numbers (if b then record g { values = Number x ∷ [] } ∷ gs else g ∷ with_values gs stored_in_it (Number x ∷ []))
       by true rest = (record { described = all.0.described; number = x; held = refl; small = small }, all.1)
       by false rest = (all.0, rest)
 
-  lives_after : (gs : List Generation) (number : ℕ) → Lives gs number → Lives (with_value gs stored_in_it (Number x)) number
+  lives_after : (gs : List Generation) (number : ℕ) → Lives gs number → Lives (with_values gs stored_in_it (Number x ∷ [])) number
   lives_after [] number l = l
   lives_after (g ∷ gs) number l = by (nat_eq g.number stored_in_it) (lives_after gs number)
     where
-      by : (b : Bool) → (Lives gs number → Lives (with_value gs stored_in_it (Number x)) number)
-          → Lives (if b then record g { value = Number x } ∷ gs else g ∷ with_value gs stored_in_it (Number x)) number
-      by true rest = changed_first (nat_eq g.number number) g (record g { value = Number x }) (generation_in gs number) l
-      by false rest = changed_rest (nat_eq g.number number) g (generation_in gs number) (generation_in (with_value gs stored_in_it (Number x)) number) rest l
+      by : (b : Bool) → (Lives gs number → Lives (with_values gs stored_in_it (Number x ∷ [])) number)
+          → Lives (if b then record g { values = Number x ∷ [] } ∷ gs else g ∷ with_values gs stored_in_it (Number x ∷ [])) number
+      by true rest = changed_first (nat_eq g.number number) g (record g { values = Number x ∷ [] }) (generation_in gs number) l
+      by false rest = changed_rest (nat_eq g.number number) g (generation_in gs number) (generation_in (with_values gs stored_in_it (Number x ∷ [])) number) rest l
 
 -- a procedure of so many variables runs
 pub record IsReady (count : ℕ) (w : World) : Type 0 where
@@ -156,27 +157,39 @@ module _ (count : ℕ) where
         p.2,
       )
 
+  -- what is held in a generation, scalar by scalar
+  abbrev held_in : Generation → Place → World → Answer (List Value)
+  held_in g p w = further (known (scalar_at g p) w) (λ k w. Yields (values_from k 1 g.values) w)
+
   pub held_there : (g : ℕ) (w : World) → IsReady count w → Lives w.storage g → (x : ℤ) × (held (whole g (FixedBinary 31)) w ≡ Yields (Number x) w) × (unsigned_abs x < 2 ^ 31)
-  unfolding held
+  unfolding parts_held held
   held_there g w h l =
       let n = number_at w.storage g l.0 h.numbers l.1 in (
         n.number,
-        ap (λ o. held_in o (whole g (FixedBinary 31)) w) l.1
-            ∙ ap (λ d. if same d (FixedBinary 31) then Yields l.0.value w else Wrong) n.described
-            ∙ ap (λ v. Yields v w) n.held,
+        ap (λ o. further (further (unless_dead o w) (λ y w. held_in y (whole g (FixedBinary 31)) w)) single) l.1
+            ∙ ap (λ d. further (further (known (first_scalar d 0 (FixedBinary 31)) w) (λ k w. Yields (values_from k 1 l.0.values) w)) single) n.described
+            ∙ ap (λ vs. single (values_from 0 1 vs) w) n.held,
         n.small,
       )
 
+  -- a number put in a generation
+  abbrev put_in : (g : ℕ) (x : ℤ) → Option ℕ → List Value → World → Answer Unit
+  put_in g x first vs w =
+      further (known first w) (λ k w. Yields tt (record w { storage = with_values w.storage g (with_values_at k (Number x ∷ []) vs) }))
+
   pub stored_there : (g : ℕ) (x : ℤ) (w : World) → IsReady count w → Lives w.storage g → unsigned_abs x < 2 ^ 31
       → (new : World) × (stored (whole g (FixedBinary 31)) (Number x) w ≡ Yields tt new) × IsReady count new × ((k : ℕ) → Lives w.storage k → Lives new.storage k)
-  unfolding stored
+  unfolding parts_stored stored
   stored_there g x w h l small =
+      let p = whole g (FixedBinary 31) in
       let n = number_at w.storage g l.0 h.numbers l.1 in
-      let new = record w { storage = with_value w.storage g (Number x) } in (
+      let new = record w { storage = with_values w.storage g (Number x ∷ []) } in (
         new,
-        ap (λ o. stored_in o (whole g (FixedBinary 31)) (Number x) w) l.1
-            ∙ ap (λ d. if same d (FixedBinary 31) && has_digits 31 x then Yields tt new else Wrong) n.described
-            ∙ ap (λ b. if b then Yields tt new else Wrong) (lt-ltb (unsigned_abs x) (2 ^ 31) small),
+        ap (λ o. further (unless_dead o w) (λ y w. if has_digits 31 x then parts_stored p (Number x ∷ []) w else Wrong)) l.1
+            ∙ ap (λ b. if b then parts_stored p (Number x ∷ []) w else Wrong) (lt-ltb (unsigned_abs x) (2 ^ 31) small)
+            ∙ ap (λ o. further (unless_dead o w) (λ y w. put_in g x (scalar_at y p) y.values w)) l.1
+            ∙ ap (λ d. put_in g x (first_scalar d 0 (FixedBinary 31)) l.0.values w) n.described
+            ∙ ap (λ vs. put_in g x (Some 0) vs w) n.held,
         record {
           newest = h.newest;
           older = h.older;
@@ -191,10 +204,10 @@ module _ (count : ℕ) where
 abbrev IsSmall : ℤ → Type 0
 IsSmall x = unsigned_abs x < 2 ^ 31
 
-pub within_answers : (count : ℕ) (x : ℤ) (w : World) → IsReady count w → Answers (λ y v. (x ≡ y) × IsSmall x × (v ≡ w)) (or_raised (within 31 x) w)
+pub within_answers : (count : ℕ) (x : ℤ) (w : World) → IsReady count w → Answers (λ v u. (v ≡ Number x) × IsSmall x × (u ≡ w)) (calculation (as_number (within 31 x)) w)
 within_answers count x w h = by (has_digits 31 x) refl
   where
-    by : (b : Bool) → has_digits 31 x ≡ b → Answers (λ y v. (x ≡ y) × IsSmall x × (v ≡ w)) (or_raised (if b then Ok x else Err raised.Overflow) w)
+    by : (b : Bool) → has_digits 31 x ≡ b → Answers (λ v u. (v ≡ Number x) × IsSmall x × (u ≡ w)) (calculation (as_number (if b then Ok x else Err raised.Overflow)) w)
     by true e = (refl, ltb-true (unsigned_abs x) (2 ^ 31) e, refl)
     by false e = error_is count FixedOverflow w h
 
@@ -223,13 +236,13 @@ pub record HasSlots (count : ℕ) (w : World) : Type 0 where
 
 -- one variable more
 one_more : (count : ℕ) (w : World) → HasSlots count w
-    → Answers (λ p v. HasSlots (suc count) (in_newest (with_slot p) v)) (made_of (FixedBinary 31) Automatic (Number (pos 0)) w)
+    → Answers (λ p v. HasSlots (suc count) (in_newest (with_slot p) v)) (made_of (FixedBinary 31) Automatic (Number (pos 0) ∷ []) w)
 unfolding made_of
 one_more count w h =
     by (nat_lt w.made generation_limit && nat_le (live_bytes w.storage + 4) byte_limit)
   where
     g : Generation
-    g = record { number = w.made; description = FixedBinary 31; made = Automatic; value = Number (pos 0) }
+    g = record { number = w.made; description = FixedBinary 31; made = Automatic; values = Number (pos 0) ∷ [] }
 
     p : Place
     p = whole w.made (FixedBinary 31)
@@ -272,7 +285,7 @@ made_all_ready zero count w h = let e : count ≡ count + 0 = omega arith in sub
 made_all_ready (suc more) count w h =
     let e : suc count + more ≡ count + suc more = omega arith in
     further_answers (λ p v. HasSlots (suc count) (in_newest (with_slot p) v)) (HoldsSlots (count + suc more))
-    (made_of (FixedBinary 31) Automatic (Number (pos 0)) w) (λ p v. made_all (replicate more variable) (in_newest (with_slot p) v))
+    (made_of (FixedBinary 31) Automatic (Number (pos 0) ∷ []) w) (λ p v. made_all (replicate more variable) (in_newest (with_slot p) v))
     (one_more count w h)
     (λ p v ready. subst (λ k. Answers (HoldsSlots k) (made_all (replicate more variable) (in_newest (with_slot p) v))) e (made_all_ready more (suc count) (in_newest (with_slot p) v) ready))
 

@@ -24,7 +24,8 @@ use Rattle.pli_parse_expression.specs.Reading.{infix_from, expression_of, furthe
 use Rattle.pli_parse_statement.specs.StatementReading.{expression_in, reference_in, stopped, parenthesized, assignment_at, condition_at, optional_at, range_word, range_first, range_at, specified, control_at, place_word, place_first, places_from, allocation_at, put_word, put_first, put_from, put_at, call_at, option_word, option_first, main_at, options_from, heading_at, has_semicolon, label_at, ending_at, next_of, list_from, else_first, if_at, on_at, do_at, begin_at, procedure_at, statement_of, inside_of, external_at, unit_of}
 use Rattle.pli_parse_statement.specs.StatementWords.{keyword_of, condition_of, behind_word, up_to_semicolon, begins_assignment, first_kind, kind_of}
 use Rattle.std.specs.Fmt.{digits}
-use Rattle.pli_store.specs.World.{nothing, made_of, entered, left_by, stepped, at_statement, height_of, slot_place, held, stored, printed}
+use Rattle.pli_operation.specs.Operations.{calculated}
+use Rattle.pli_store.specs.World.{nothing, made_of, entered, left_by, stepped, at_statement, height_of, slot_place, parts_held, parts_stored, held, stored, printed}
 use Rattle.pli_code.specs.declared.ending.Ending.TheVariants.{Ended, OutOfSteps}
 use Rattle.pli_meaning.specs.examples.ScratchExamples.{FirstIsMade, RunsWithThree, RunsWithTwo}
 
@@ -33,9 +34,9 @@ unfolding misfit taken misplaced behind name_first resolution_faults set_agrees 
 first_is_made = refl
 
 pub runs_with_three : RunsWithThree
-unfolding nothing made_of entered left_by stepped at_statement height_of slot_place held stored printed digits
+unfolding nothing made_of entered left_by stepped at_statement height_of slot_place parts_held parts_stored held stored calculated printed digits
 runs_with_three = record { count = 13; ending = Ended; world = _; over = refl; gives = refl }
 
 pub runs_with_two : RunsWithTwo
-unfolding nothing made_of entered left_by stepped at_statement height_of slot_place held stored printed digits
+unfolding nothing made_of entered left_by stepped at_statement height_of slot_place parts_held parts_stored held stored calculated printed digits
 runs_with_two = record { count = 8; ending = OutOfSteps; world = _; over = refl; gives = refl }

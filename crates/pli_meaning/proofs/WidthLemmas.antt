@@ -1,5 +1,5 @@
 -- A number of a precision fits its columns, and a sum has the precision of sums.
-use Rattle.std.specs.Prelude.{◌≡◌, ℕ, ℤ, pos, negsuc, ◌+ℤ◌, unsigned_abs, suc, ◌+◌, ◌-◌, ◌*◌, ◌/◌, ◌^◌, ◌<◌, ◌≤◌, min, max, nat_le, true, Some, None, List, length, if◌then◌else◌, refl}
+use Rattle.std.specs.Prelude.{◌≡◌, ℕ, ℤ, pos, negsuc, ◌+ℤ◌, unsigned_abs, suc, ◌+◌, ◌-◌, ◌*◌, ◌/◌, ◌^◌, ◌<◌, ◌≤◌, min, max, nat_le, true, List, length, if◌then◌else◌, refl}
 use Rattle.std.proofs.Common.{arith, sym, ap, subst, ⊎_elim, pow_mono, pow-suc, lt_of_lt_of_le, leb-true, ltb-true, le-leb, ltb}
 use Rattle.std.proofs.lemmas.Bool.{agree_below_at, cases_lt, cond_both}
 use Rattle.std.proofs.lemmas.Fmt.{length_signed_le}
@@ -9,7 +9,8 @@ use lib.IntN.{sub_ℕ}
 use Rattle.pli_lower.specs.LoweredTree.{LoweredExpression, Variable, Constant, Sum}
 use Rattle.pli_lower.specs.LoweredTypes.{precision, decimal_digits, width}
 use Rattle.pli_value.specs.Conversions.{number_characters}
-use Rattle.pli_machine_step.specs.Machine.{characters_of}
+use Rattle.pli_value.specs.Value.{Characters}
+use Rattle.pli_operation.specs.Operations.{Calculates, Misfits, in_columns}
 
 -- a value of an expression: it has the expression's precision, and its decimal digits
 pub record IsOf (e : LoweredExpression) (x : ℤ) : Type 0 where
@@ -74,7 +75,7 @@ mag_le (pos n) = omega arith
 mag_le (negsuc n) = omega arith
 
 -- an item's value has room in the item's columns
-pub text_there : (e : LoweredExpression) (x : ℤ) → IsOf e x → (text : List ℕ) × (characters_of (width e) x ≡ Some text)
+pub text_there : (e : LoweredExpression) (x : ℤ) → IsOf e x → (text : List ℕ) × (in_columns (width e) x ≡ Calculates (Characters text))
 text_there e x h =
     let d = decimal_digits e in
     let least : 1 ≤ 10 ^ d = omega (arith, h.decimal) in
@@ -82,7 +83,7 @@ text_there e x h =
     let bound : 2 ^ precision e ≤ 2 ^ 31 = pow_mono (precision_le e) in
     let low : mag x < 2 ^ 63 = omega (arith, mag_le x, h.binary, bound) in
     let short : length (signed_decimal x) ≤ width e = omega (arith, length_signed_le (d + 1) x small low) in
-    (number_characters (width e) x, ap (λ b. if b then Some (number_characters (width e) x) else None) (le-leb (length (signed_decimal x)) (width e) short))
+    (number_characters (width e) x, ap (λ b. if b then Calculates (Characters (number_characters (width e) x)) else Misfits) (le-leb (length (signed_decimal x)) (width e) short))
   where
     one_more : (d : ℕ) → d + 1 ≡ suc d
     one_more d = omega arith

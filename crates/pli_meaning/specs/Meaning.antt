@@ -1,5 +1,5 @@
 -- Meaning: what a program does, by recursion on its trees (own). No instruction is mentioned.
-use Rattle.std.specs.Prelude.{ℕ, zero, suc, ℤ, pos, ◌+ℤ◌, Option, Some, None, List, [], ◌∷◌, length}
+use Rattle.std.specs.Prelude.{ℕ, zero, suc, pos, Option, Some, None, List, [], ◌∷◌, length}
 use Rattle.std.specs.Prelude.{replicate}
 use Rattle.std.specs.Prelude.{slice_get}
 use Rattle.pli_base.specs.Name.{Name}
@@ -11,14 +11,13 @@ use Rattle.pli_lower.specs.LoweredTypes.{greatest_precision, width}
 use Rattle.pli_code.specs.declared.ending.Ending.{Ending}
 use Rattle.pli_code.specs.declared.ending.Ending.TheVariants.{Ended, OutOfSteps, Error, MachineFault}
 use Rattle.pli_map.specs.Description.{FixedBinary}
-use Rattle.pli_value.specs.Numbers.{within}
+use Rattle.pli_operation.specs.Operations.{ToCharacters, Fit, Add, calculated}
 use Rattle.pli_value.specs.Value.{Value, Number, Characters, Bits}
 use Rattle.pli_store.specs.Storage.{Place}
 use Rattle.pli_store.specs.World as world
-use Rattle.pli_store.specs.World.{World, Answer, Yields, Wrong, known, or_raised, nothing, Head, entered}
+use Rattle.pli_store.specs.World.{World, Answer, Yields, Wrong, calculation, nothing, Head, entered}
 use Rattle.pli_store.specs.World.{slot_place}
 use Rattle.pli_store.specs.World.{held, stored, printed}
-use Rattle.pli_machine_step.specs.Machine.{characters_of}
 use Rattle.pli_machine_step.specs.Runs.{Outcome, outcome_of}
 use Rattle.pli_meaning.specs.Effects.{Effect, Gives, Jumps, Fails, Spent, Lost, Short, Flow, Next, Doing}
 use Rattle.pli_meaning.specs.Effects.{and_then, followed, answered, as_step, as_statement, unless_full}
@@ -44,11 +43,11 @@ alone unit u = record { units = record { name = unit; tree = u } ∷ []; main = 
 abbrev pub Calls : Type 0
 Calls = (unit block link : ℕ) → List Place → Doing (Option Value)
 
--- the number that a value is
-abbrev pub number_of : Value → World → Answer ℤ
-number_of (Number x) w = Yields x w
-number_of (Characters text) w = Wrong
-number_of (Bits bits) w = Wrong
+-- the characters that a value is
+abbrev pub text_of : Value → World → Answer (List ℕ)
+text_of (Number x) w = Wrong
+text_of (Characters text) w = Yields text w
+text_of (Bits bits) w = Wrong
 
 -- in a block that declares these names, where calls do so, at a level: what a turn or a repetition inside may
 -- do is the level below
@@ -58,30 +57,38 @@ module _ (call : Calls) (names : List Name) (level : ℕ) where
   place_at r w left = answered (slot_place 0 (slot_of names r.name) w) left
 
   -- the value of an expression; the operands of a sum from left to right
-  abbrev pub value_of : LoweredExpression → Doing ℤ
-  value_of (Variable r) w left =
-      and_then (place_at r w left)
-      (λ p w left. and_then (answered (held p w) left) (λ v w left. answered (number_of v w) left))
-  value_of (Constant v d) w left = Gives (pos v) w left
+  abbrev pub value_of : LoweredExpression → Doing Value
+  value_of (Variable r) w left = and_then (place_at r w left) (λ p w left. answered (held p w) left)
+  value_of (Constant v d) w left = Gives (Number (pos v)) w left
   value_of (Sum l r) w left =
       and_then (value_of l w left)
       (λ x w left. and_then (value_of r w left)
-      (λ y w left. answered (or_raised (within greatest_precision (x +ℤ y)) w) left))
+      (λ y w left. answered (calculation (calculated greatest_precision Add (x ∷ y ∷ [])) w) left))
+
+  -- a value as a number of the greatest precision
+  abbrev pub fits : Value → Doing Value
+  fits x w left =
+      answered (calculation (calculated greatest_precision (Fit (FixedBinary greatest_precision)) (x ∷ [])) w)
+      left
 
   -- an assignment: the target's place, then the value, then its conversion, then the store
   abbrev pub assigns : LoweredReference → LoweredExpression → Doing Flow
   assigns target e w left =
       and_then (place_at target w left)
       (λ p w left. and_then (value_of e w left)
-      (λ x w left. and_then (answered (or_raised (within greatest_precision x) w) left)
-      (λ y w left. and_then (answered (stored p (Number y) w) left) (λ _ w left. Gives Next w left))))
+      (λ x w left. and_then (fits x w left)
+      (λ y w left. and_then (answered (stored p y w) left) (λ _ w left. Gives Next w left))))
 
   -- an item of PUT LIST: its value, its characters, and the print of them
+  abbrev pub prints : Value → Doing Flow
+  prints v w left = and_then (answered (text_of v w) left) (λ text w left. Gives Next (printed text w) left)
+
   abbrev pub puts : LoweredExpression → Doing Flow
   puts e w left =
       and_then (value_of e w left)
-      (λ x w left. and_then (answered (known (characters_of (width e) x) w) left)
-      (λ text w left. Gives Next (printed text w) left))
+      (λ x w left. and_then
+      (answered (calculation (calculated greatest_precision (ToCharacters (width e)) (x ∷ [])) w) left)
+      prints)
 
   -- items one after another: each is written before the next is evaluated
   abbrev pub puts_all : List LoweredExpression → Doing Flow
@@ -103,7 +110,7 @@ module _ (call : Calls) (names : List Name) (level : ℕ) where
 -- what an activation of a unit's procedure begins with: its variables are FIXED BINARY of the greatest
 -- precision, and begin as zero
 abbrev pub variable : world.Variable
-variable = record { description = FixedBinary greatest_precision; initial = Number (pos 0) }
+variable = record { description = FixedBinary greatest_precision; initial = Number (pos 0) ∷ [] }
 
 abbrev pub head_of : SourceUnit → Head
 head_of u = record {

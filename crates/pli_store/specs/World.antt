@@ -1,33 +1,45 @@
 -- What the meaning of a program and the machine share: storage, activations, output and column, and the
 -- operations on them. An operation gives a result and a world; or it raises an error, in a world; or it is
 -- one that no well-typed program asks for.
-use Rattle.std.specs.Prelude.{ℕ, suc, ◌+◌, nat_eq, nat_le, nat_lt, Bool, ◌&&◌, not, Result, Ok, Err, Option}
-use Rattle.std.specs.Prelude.{Some, None, List, [], ◌∷◌, ◌++◌, length, slice_get, if◌then◌else◌}
+use Rattle.std.specs.Prelude.{ℕ, suc, ◌+◌, ◌*◌, nat_eq, nat_le, nat_lt, Bool, ◌&&◌, not, ℤ, ◌-ℤ◌, int_le}
+use Rattle.std.specs.Prelude.{unsigned_abs, Option, Some, None, List, [], ◌∷◌, ◌++◌, length, slice_get}
+use Rattle.std.specs.Prelude.{if◌then◌else◌}
 use Rattle.std.specs.List.{filter, list_any}
 use Rattle.pli_base.specs.Name.{Name}
+use Rattle.pli_base.specs.Words.{same_name}
 use Rattle.pli_code.specs.Print.{print}
 use Rattle.pli_code.specs.declared.ending.Ending.{Ending}
 use Rattle.pli_code.specs.declared.ending.Ending.TheVariants.{Error, MachineFault}
 use Rattle.pli_code.specs.declared.ending.RunError.{RunError}
-use Rattle.pli_code.specs.declared.ending.RunError.TheVariants.{DeadLocator, FixedOverflow, StorageLimit}
-use Rattle.pli_code.specs.declared.ending.RunError.TheVariants.{ZeroDivide}
+use Rattle.pli_code.specs.declared.ending.RunError.TheVariants.{SubscriptRange, StringRange, DeadLocator}
+use Rattle.pli_code.specs.declared.ending.RunError.TheVariants.{FixedOverflow, ZeroDivide, StorageLimit}
 use Rattle.pli_map.specs.Description.{Description}
+use Rattle.pli_map.specs.Same.{same}
+use Rattle.pli_map.specs.Scalars.{is_scalar, scalars_in}
 use Rattle.pli_map.specs.Sizes.{size_of}
 use Rattle.pli_value.specs.Value.{Value}
-use Rattle.pli_value.specs.declared.number.Raised.{Raised}
 use Rattle.pli_value.specs.declared.number.Raised.TheVariants as raised
+use Rattle.pli_operation.specs.Operations.{Calculation, Calculates, RaisesCondition, OutOfString, Misfits}
 use Rattle.pli_store.specs.Activations.{Activation, outward_from, with_newest, without_newest}
 use Rattle.pli_store.specs.Activations.{activation_at}
-use Rattle.pli_store.specs.Storage.{Generation, Made, Automatic, Dummy, Place, whole, generation_in}
-use Rattle.pli_store.specs.Storage.{is_whole_of}
-use Rattle.pli_store.specs.Storage.{with_value, without, live_bytes, byte_limit, generation_limit}
+use Rattle.pli_store.specs.Storage.{Generation, Made, Automatic, Static as AsStatic, Dummy, Place, whole}
+use Rattle.pli_store.specs.Storage.{field_of, generation_in, scalar_at, values_from, with_values_at}
+use Rattle.pli_store.specs.Storage.{with_values, without, live_bytes, byte_limit, generation_limit}
 use Rattle.pli_store.specs.Values.{holds}
 
--- storage with the number that the next generation gets; activations; what is printed, and the next column;
--- how many steps were taken
+-- a variable that is made once, before the program begins: the unit and the number among its variables of
+-- that kind, and its place
+pub record Static : Type 0 where
+  pub unit : Name
+  pub number : ℕ
+  pub place : Place
+
+-- storage with the number that the next generation gets; the variables made before the program began;
+-- activations; what is printed, and the next column; how many steps were taken
 pub record World : Type 0 where
   pub storage : List Generation
   pub made : ℕ
+  pub statics : List Static
   pub activations : List Activation
   pub output : List ℕ
   pub column : ℕ
@@ -35,7 +47,8 @@ pub record World : Type 0 where
 
 -- before a run
 unfoldable pub nothing : World
-nothing = record { storage = []; made = 0; activations = []; output = []; column = 1; steps = 0 }
+nothing =
+    record { storage = []; made = 0; statics = []; activations = []; output = []; column = 1; steps = 0 }
 
 -- what an operation gives
 pub data Answer (A : Type 0) : Type 0 where
@@ -54,12 +67,6 @@ abbrev pub known : {A : Type 0} → Option A → World → Answer A
 known (Some x) w = Yields x w
 known None w = Wrong
 
--- a result, or the condition that its operation raises
-abbrev pub or_raised : {A : Type 0} → Result A Raised → World → Answer A
-or_raised (Ok x) w = Yields x w
-or_raised (Err raised.Overflow) w = Raises FixedOverflow w
-or_raised (Err raised.ZeroDivide) w = Raises ZeroDivide w
-
 -- how many activations there are
 abbrev pub height : World → ℕ
 height w = length w.activations
@@ -67,40 +74,83 @@ height w = length w.activations
 -- storage
 
 -- a new generation, unless a limit is passed
-unfoldable pub made_of : Description → Made → Value → World → Answer Place
-made_of d how v w =
+unfoldable pub made_of : Description → Made → List Value → World → Answer Place
+made_of d how vs w =
     if nat_lt w.made generation_limit && nat_le (live_bytes w.storage + size_of d) byte_limit
     then Yields (whole w.made d) (record w {
       storage = w.storage
-          ++ record { number = w.made; description = d; made = how; value = v } ∷ [];
+          ++ record { number = w.made; description = d; made = how; values = vs } ∷ [];
       made = suc w.made;
     })
     else Raises StorageLimit w
 
--- what a place of a generation holds; a place whose generation has ended is dead
-abbrev pub held_in : Option Generation → Place → World → Answer Value
-held_in None p w = Raises DeadLocator w
-held_in (Some g) p w = if is_whole_of g p then Yields g.value w else Wrong
+-- the generation of a place; a place whose generation has ended is dead
+abbrev pub unless_dead : Option Generation → World → Answer Generation
+unless_dead None w = Raises DeadLocator w
+unless_dead (Some g) w = Yields g w
 
+abbrev pub living : Place → World → Answer Generation
+living p w = unless_dead (generation_in w.storage p.generation) w
+
+-- what the place of an aggregate or of a scalar holds, scalar by scalar
+unfoldable pub parts_held : Place → World → Answer (List Value)
+parts_held p w =
+    further (living p w)
+    (λ g w. further (known (scalar_at g p) w)
+    (λ k w. Yields (values_from k (scalars_in p.description) g.values) w))
+
+-- values put there
+unfoldable pub parts_stored : Place → List Value → World → Answer Unit
+parts_stored p vs w =
+    further (living p w)
+    (λ g w. further (known (scalar_at g p) w)
+    (λ k w. Yields tt (record w {
+      storage = with_values w.storage p.generation (with_values_at k vs g.values);
+    })))
+
+-- one value alone
+abbrev pub single : List Value → World → Answer Value
+single (v ∷ []) w = Yields v w
+single vs w = Wrong
+
+-- what the place of a scalar holds
 unfoldable pub held : Place → World → Answer Value
-held p w = held_in (generation_in w.storage p.generation) p w
+held p w = further (parts_held p w) (λ vs w. if is_scalar p.description then single vs w else Wrong)
 
--- a value put at a place of a generation that holds it
-abbrev pub stored_in : Option Generation → Place → Value → World → Answer Unit
-stored_in None p v w = Raises DeadLocator w
-stored_in (Some g) p v w =
-    if is_whole_of g p && holds p.description v
-    then Yields tt (record w { storage = with_value w.storage p.generation v }) else Wrong
-
+-- a value put at the place of a scalar that may hold it
 unfoldable pub stored : Place → Value → World → Answer Unit
-stored p v w = stored_in (generation_in w.storage p.generation) p v w
+stored p v w =
+    further (living p w) (λ g w. if holds p.description v then parts_stored p (v ∷ []) w else Wrong)
+
+-- what one place holds put at another of an equal description: the source is looked at first
+unfoldable pub copied : (source target : Place) → World → Answer Unit
+copied source target w =
+    if same source.description target.description
+    then further (parts_held source w) (λ vs w. parts_stored target vs w)
+    else Wrong
+
+-- a subscript of a place: it is within the bounds, and leads on by so many bytes for each number over the
+-- low one; the description stays, as the field before has it
+abbrev pub subscripted : (low high : ℤ) (multiplier : ℕ) → ℤ → Place → World → Answer Place
+subscripted low high multiplier x p w =
+    if int_le low x && int_le x high
+    then Yields (field_of (unsigned_abs (x -ℤ low) * multiplier) p.description p) w
+    else Raises SubscriptRange w
+
+-- what an operation comes to
+abbrev pub calculation : Calculation → World → Answer Value
+calculation (Calculates v) w = Yields v w
+calculation (RaisesCondition raised.Overflow) w = Raises FixedOverflow w
+calculation (RaisesCondition raised.ZeroDivide) w = Raises ZeroDivide w
+calculation OutOfString w = Raises StringRange w
+calculation Misfits w = Wrong
 
 -- activations
 
--- a variable of a block: its description, and the value with which it begins
+-- a variable: its description, and the values with which its scalars begin
 pub record Variable : Type 0 where
   pub description : Description
-  pub initial : Value
+  pub initial : List Value
 
 -- what an activation of a block begins with: the unit and the block, its statement, and its AUTOMATIC
 -- variables in the order of the text
@@ -206,15 +256,46 @@ slot_place outward slot w =
 unfoldable pub dummy_of : Description → Value → World → Answer Place
 dummy_of d v w =
     if holds d v
-    then further (made_of d Dummy v w)
+    then further (made_of d Dummy (v ∷ []) w)
     (λ p w. Yields p (in_newest (λ a. record a { pending = a.pending ++ p.generation ∷ [] }) w))
     else Wrong
+
+-- variables that are made before the program begins
+
+-- the place of the one of a number of a unit
+abbrev pub static_in : List Static → (unit : Name) (number : ℕ) → Option Place
+static_in [] unit number = None
+static_in (s ∷ ss) unit number =
+    if same_name s.unit unit && nat_eq s.number number then Some s.place else static_in ss unit number
+
+-- the unit of the newest activation
+abbrev pub newest_unit : List Activation → Option Name
+newest_unit [] = None
+newest_unit (a ∷ older) = Some a.unit
+
+-- the place of the one of a number of the newest activation's unit
+unfoldable pub static_place : (number : ℕ) → World → Answer Place
+static_place number w =
+    further (known (newest_unit w.activations) w)
+    (λ unit w. known (static_in w.statics unit number) w)
+
+-- those of a unit are made, one after another, from a number on
+abbrev pub statics_made : (unit : Name) (number : ℕ) → List Variable → World → Answer Unit
+statics_made unit number [] w = Yields tt w
+statics_made unit number (v ∷ vs) w =
+    further (made_of v.description AsStatic v.initial w)
+    (λ p w. statics_made unit (suc number) vs
+    (record w { statics = w.statics ++ record { unit = unit; number = number; place = p } ∷ [] }))
 
 -- output
 
 -- characters printed at the next column
 unfoldable pub printed : List ℕ → World → World
 printed item w = let p = print w.column item in record w { output = w.output ++ p.bytes; column = p.column }
+
+-- a line ended
+unfoldable pub line_ended : World → World
+line_ended w = record w { output = w.output ++ 10 ∷ []; column = 1 }
 
 -- ends
 

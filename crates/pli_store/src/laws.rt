@@ -2,7 +2,12 @@
 ghost use Rattle.pli_store.specs.laws.Operations.{MakingKeeps, LoadingKeeps, StoringKeeps, WalkingKeeps};
 ghost use Rattle.pli_store.specs.laws.Operations.{SlotKeeps, DummyKeeps, EnteringAdds, LeavingTakes};
 ghost use Rattle.pli_store.specs.laws.Operations.{ClearingKeeps, StatementKeeps, PrintingKeeps, SteppingCounts};
+ghost use Rattle.pli_store.specs.laws.Operations.{PartsHeldKeep, PartsStoredKeep, CopyingKeeps, SubscriptKeeps};
+ghost use Rattle.pli_store.specs.laws.Operations.{CalculatingKeeps, StaticKeeps, StaticsKeep, LineKeeps};
 ghost use Rattle.pli_store.specs.examples.StorageExamples.{OuterVariable, DummyNumber, DummyEnds, TooLong};
+ghost use Rattle.pli_store.specs.examples.StorageExamples.{DummyDead, PartStored, PartHeld, ElementCopied};
+ghost use Rattle.pli_store.specs.examples.StorageExamples.{AggregateHeld, NoElement, NoPart, StaticStays};
+ghost use Rattle.pli_store.specs.examples.StorageExamples.{StaticOfOther};
 
 /// A law: no operation takes a step or prints over what was printed, and each leaves as many activations as it
 /// should.
@@ -10,21 +15,39 @@ pub fn operations_keep()
     ensures making { MakingKeeps }
     ensures loading { LoadingKeeps }
     ensures storing { StoringKeeps }
+    ensures parts_held { PartsHeldKeep }
+    ensures parts_stored { PartsStoredKeep }
+    ensures copying { CopyingKeeps }
+    ensures subscript { SubscriptKeeps }
+    ensures calculating { CalculatingKeeps }
     ensures walking { WalkingKeeps }
     ensures slot { SlotKeeps }
+    ensures one_static { StaticKeeps }
+    ensures statics { StaticsKeep }
     ensures dummy { DummyKeeps }
     ensures entering { EnteringAdds }
     ensures leaving { LeavingTakes }
     ensures clearing { ClearingKeeps }
     ensures statement { StatementKeeps }
     ensures printing { PrintingKeeps }
+    ensures line { LineKeeps }
     ensures stepping { SteppingCounts }
 {}
 
-/// Worked examples: static links, dummy arguments, and what ends with an activation.
+/// Worked examples: static links, dummy arguments, what ends with an activation, parts of aggregates, variables that
+/// are made once.
 pub fn worked_examples()
     ensures outer_variable { OuterVariable }
     ensures dummy_number { DummyNumber }
     ensures dummy_ends { DummyEnds }
     ensures too_long { TooLong }
+    ensures dummy_dead { DummyDead }
+    ensures part_stored { PartStored }
+    ensures part_held { PartHeld }
+    ensures element_copied { ElementCopied }
+    ensures aggregate_held { AggregateHeld }
+    ensures no_element { NoElement }
+    ensures no_part { NoPart }
+    ensures static_stays { StaticStays }
+    ensures static_of_other { StaticOfOther }
 {}

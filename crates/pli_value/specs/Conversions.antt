@@ -1,5 +1,5 @@
 -- Numbers and bits as characters, by their codes.
-use Rattle.std.specs.Prelude.{ℕ, ◌-◌, Bool, ℤ, List, ◌++◌, length, map, replicate, if◌then◌else◌}
+use Rattle.std.specs.Prelude.{ℕ, ◌-◌, Bool, ℤ, List, [], ◌∷◌, ◌++◌, length, map, replicate, if◌then◌else◌}
 use Rattle.std.specs.Fmt.{signed_decimal}
 
 -- a number at the right of so many characters, behind blanks: its digits without leading zeros, behind a
@@ -14,3 +14,7 @@ bit_character b = if b then 49 else 48
 -- a character for each bit
 abbrev pub bit_characters : List Bool → List ℕ
 bit_characters bits = map bit_character bits
+
+-- bits as they are printed: as a constant of the language
+abbrev pub bit_constant : List Bool → List ℕ
+bit_constant bits = 39 ∷ bit_characters bits ++ 39 ∷ 66 ∷ []

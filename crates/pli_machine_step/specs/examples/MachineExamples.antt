@@ -1,15 +1,20 @@
 -- Worked examples: small programs, each with what its run gives after so many instructions.
-use Rattle.std.specs.Prelude.{◌≡◌, ℕ, zero, suc, pos, Option, Some, None, List, [], ◌∷◌, codes}
+use Rattle.std.specs.Prelude.{◌≡◌, ℕ, zero, suc, true, false, pos, Option, Some, None, List, [], ◌∷◌, ◌++◌}
+use Rattle.std.specs.Prelude.{codes}
 use Rattle.pli_code.specs.declared.ending.Ending.{Ending}
 use Rattle.pli_code.specs.declared.ending.Ending.TheVariants.{Ended, OutOfSteps, Error, MachineFault}
-use Rattle.pli_code.specs.declared.ending.RunError.TheVariants.{TooManyActivations}
-use Rattle.pli_code.specs.declared.instruction.Instruction.TheVariants.{Step, Constant, Load, Local, Put}
-use Rattle.pli_code.specs.declared.instruction.Instruction.TheVariants.{Return, Store, ToCharacters}
+use Rattle.pli_code.specs.declared.ending.RunError.TheVariants.{TooManyActivations, SubscriptRange}
+use Rattle.pli_code.specs.declared.ending.RunError.TheVariants.{StringRange}
+use Rattle.pli_code.specs.declared.instruction.Instruction.TheVariants as today
 use Rattle.pli_code.specs.views.ModuleView.{Module}
-use Rattle.pli_map.specs.Description.{FixedBinary}
-use Rattle.pli_value.specs.Value.{Value, Number, Characters}
-use Rattle.pli_machine_step.specs.Program.{Instruction, Basic, Line, Jump, Goto, Call, Begin}
-use Rattle.pli_machine_step.specs.Program.{ReturnValue}
+use Rattle.pli_map.specs.Description.{FixedBinary, Array}
+use Rattle.pli_operation.specs.Operations.{Operation, ToCharacters, Add, Compare, AtMost, Less, Substring}
+use Rattle.pli_value.specs.Value.{Value, Number, Characters, Bits}
+use Rattle.pli_store.specs.Values.{first_values}
+use Rattle.pli_store.specs.World.{Variable}
+use Rattle.pli_machine_step.specs.Program.{Instruction, Step, Line, Jump, JumpUnless, Goto, Call, Begin}
+use Rattle.pli_machine_step.specs.Program.{Return, ReturnValue, Local, Global, Field, Subscript, Constant}
+use Rattle.pli_machine_step.specs.Program.{Load, Store, Operate, Put, Skip}
 use Rattle.pli_machine_step.specs.Program.{BlockKind, Procedure, BeginBlock, Block, Program}
 use Rattle.pli_machine_step.specs.Machine.{State, At, Over, iterate}
 use Rattle.pli_machine_step.specs.Runs.{Outcome, outcome_of, start}
@@ -31,7 +36,7 @@ after p steps instructions = outcome_at (iterate p instructions (start p steps))
 abbrev pub smallest : Module
 smallest = record {
   unit = codes "M";
-  code = record { slots = 0; descriptions = []; values = []; instructions = Return 0 ∷ [] };
+  code = record { slots = 0; descriptions = []; values = []; instructions = today.Return 0 ∷ [] };
 }
 
 -- its one step is the activation of its procedure
@@ -54,14 +59,12 @@ block kind parent entry statement = record {
   statement = statement;
 }
 
-abbrev pub program : List Value → List Block → List Instruction → Program
-program values inner instructions = record {
+abbrev pub program : List Block → List Instruction → Program
+program inner instructions = record {
   units =
       record {
         name = codes "M";
-        descriptions = [];
-        templates = [];
-        values = values;
+        statics = [];
         blocks = block Procedure None 0 1 ∷ inner;
         instructions = instructions;
       } ∷ [];
@@ -69,12 +72,19 @@ program values inner instructions = record {
   greatest = 31;
 }
 
+-- constants
+abbrev pub text : List ℕ → Instruction
+text characters = Constant (Characters characters)
+
+abbrev pub number : ℕ → Instruction
+number n = Constant (Number (pos n))
+
 -- a procedure calls one within it, which leaves by a GOTO to a statement of the first
 abbrev pub left_by_goto : Program
 left_by_goto =
-    program (Characters (codes "NO") ∷ Characters (codes "YES") ∷ []) (block Procedure (Some 0) 9 5 ∷ [])
-    (Basic (Step 2) ∷ Call 1 0 ∷ Basic (Constant 0) ∷ Basic Put ∷ Basic (Return 0) ∷ Basic (Step 3)
-    ∷ Basic (Constant 1) ∷ Basic Put ∷ Basic (Return 0) ∷ Basic (Step 6) ∷ Goto 1 5 ∷ Basic (Return 0) ∷ [])
+    program (block Procedure (Some 0) 9 5 ∷ [])
+    (Step 2 ∷ Call 1 0 ∷ text (codes "NO") ∷ Put ∷ Return 0 ∷ Step 3 ∷ text (codes "YES") ∷ Put ∷ Return 0
+    ∷ Step 6 ∷ Goto 1 5 ∷ Return 0 ∷ [])
 
 -- five steps: two activations and three statements; a blank follows what is printed
 abbrev pub GotoLeaves : Type 0
@@ -89,7 +99,7 @@ CallStops = after left_by_goto 2 2 ≡ Some (gives [] OutOfSteps 1)
 
 -- a jump to itself: with no step between, the 65th is a fault
 abbrev pub turning : Program
-turning = program [] [] (Jump 0 ∷ [])
+turning = program [] (Jump 0 ∷ [])
 
 abbrev pub JumpsGoOn : Type 0
 JumpsGoOn = after turning 1 64 ≡ None
@@ -99,21 +109,21 @@ JumpsFault = after turning 1 65 ≡ Some (gives [] MachineFault 1)
 
 -- each instruction leads to the next one; a GOTO counts there too, a jump does not
 abbrev pub chain : (ℕ → Instruction) → (count from : ℕ) → List Instruction
-chain lead zero from = Basic (Return 0) ∷ []
+chain lead zero from = Return 0 ∷ []
 chain lead (suc count) from = lead (suc from) ∷ chain lead count (suc from)
 
 abbrev pub GotosEnd : Type 0
-GotosEnd = after (program [] [] (chain (Goto 0) 64 0)) 1 65 ≡ Some (gives [] Ended 1)
+GotosEnd = after (program [] (chain (Goto 0) 64 0)) 1 65 ≡ Some (gives [] Ended 1)
 
 abbrev pub GotosFault : Type 0
-GotosFault = after (program [] [] (chain (Goto 0) 65 0)) 1 65 ≡ Some (gives [] MachineFault 1)
+GotosFault = after (program [] (chain (Goto 0) 65 0)) 1 65 ≡ Some (gives [] MachineFault 1)
 
 abbrev pub JumpsEnd : Type 0
-JumpsEnd = after (program [] [] (chain Jump 65 0)) 1 66 ≡ Some (gives [] Ended 1)
+JumpsEnd = after (program [] (chain Jump 65 0)) 1 66 ≡ Some (gives [] Ended 1)
 
 -- where each turn takes a step, it goes on until no step is left
 abbrev pub stepping : Program
-stepping = program [] [] (Basic (Step 2) ∷ Jump 0 ∷ [])
+stepping = program [] (Step 2 ∷ Jump 0 ∷ [])
 
 abbrev pub TurnsStop : Type 0
 TurnsStop = after stepping 101 201 ≡ Some (gives [] OutOfSteps 1)
@@ -121,7 +131,7 @@ TurnsStop = after stepping 101 201 ≡ Some (gives [] OutOfSteps 1)
 -- a procedure that calls itself: the call of the activation that would be one too many is an error, also
 -- where no step is left for it
 abbrev pub recursive : Program
-recursive = program [] [] (Call 0 0 ∷ [])
+recursive = program [] (Call 0 0 ∷ [])
 
 abbrev pub TooMany : Type 0
 TooMany = after recursive 1000 1000 ≡ Some (gives [] (Error TooManyActivations (codes "M") 1) 1)
@@ -132,7 +142,7 @@ ManyStop = after recursive 999 999 ≡ Some (gives [] OutOfSteps 1)
 -- a block is entered by an instruction of its kind: a BEGIN block by BEGIN, which is no step
 abbrev pub entering : BlockKind → Instruction → Program
 entering kind instruction =
-    program [] (block kind (Some 0) 2 3 ∷ []) (instruction ∷ Basic (Return 0) ∷ Basic (Return 0) ∷ [])
+    program (block kind (Some 0) 2 3 ∷ []) (instruction ∷ Return 0 ∷ Return 0 ∷ [])
 
 abbrev pub BeginEnds : Type 0
 BeginEnds = after (entering BeginBlock (Begin 1)) 1 3 ≡ Some (gives [] Ended 1)
@@ -149,15 +159,15 @@ shared = record {
   units =
       record {
         name = codes "M";
-        descriptions = [];
-        templates = record { description = FixedBinary 15; initial = Number (pos 0) } ∷ [];
-        values = Number (pos 7) ∷ [];
+        statics = [];
         blocks =
-            record (block Procedure None 0 1) { variables = 0 ∷ [] }
+            record (block Procedure None 0 1) {
+              variables = record { description = FixedBinary 15; initial = Number (pos 0) ∷ [] } ∷ [];
+            }
             ∷ record (block Procedure (Some 0) 7 4) { parameters = 1 } ∷ [];
         instructions =
-            Basic (Local 0 0) ∷ Call 1 1 ∷ Basic (Local 0 0) ∷ Basic Load ∷ Basic (ToCharacters 1) ∷ Basic Put
-            ∷ Basic (Return 0) ∷ Basic (Local 0 0) ∷ Basic (Constant 0) ∷ Basic Store ∷ Basic (Return 0) ∷ [];
+            Local 0 0 ∷ Call 1 1 ∷ Local 0 0 ∷ Load ∷ Operate (ToCharacters 1) ∷ Put ∷ Return 0 ∷ Local 0 0
+            ∷ number 7 ∷ Store ∷ Return 0 ∷ [];
       } ∷ [];
   main = 0;
   greatest = 31;
@@ -170,21 +180,121 @@ ArgumentIsShared = after shared 2 11 ≡ Some (gives (codes "7 ") Ended 3)
 abbrev pub FunctionGives : Type 0
 FunctionGives =
     after
-    (program (Characters (codes "YES") ∷ []) (block Procedure (Some 0) 3 2 ∷ [])
-    (Call 1 0 ∷ Basic Put ∷ Basic (Return 0) ∷ Basic (Constant 0) ∷ ReturnValue 0 ∷ [])) 2 5
+    (program (block Procedure (Some 0) 3 2 ∷ [])
+    (Call 1 0 ∷ Put ∷ Return 0 ∷ text (codes "YES") ∷ ReturnValue 0 ∷ [])) 2 5
     ≡ Some (gives (codes "YES ") Ended 5)
 
 abbrev pub ValueFaults : Type 0
 ValueFaults =
-    after (program (Characters (codes "YES") ∷ []) [] (Basic (Constant 0) ∷ ReturnValue 0 ∷ [])) 1 2
+    after (program [] (text (codes "YES") ∷ ReturnValue 0 ∷ [])) 1 2
     ≡ Some (gives [] MachineFault 1)
 
 -- a BEGIN block that enters itself: no step is taken, and still there is an end
 abbrev pub BeginsEnd : Type 0
 BeginsEnd =
-    after (program [] (block BeginBlock None 0 2 ∷ []) (Begin 1 ∷ [])) 1 1000
+    after (program (block BeginBlock None 0 2 ∷ []) (Begin 1 ∷ [])) 1 1000
     ≡ Some (gives [] (Error TooManyActivations (codes "M") 2) 1)
 
 -- the code's end is a fault
 abbrev pub EndFaults : Type 0
-EndFaults = after (program [] [] (Line 7 ∷ [])) 1 2 ≡ Some (gives [] MachineFault 1)
+EndFaults = after (program [] (Line 7 ∷ [])) 1 2 ≡ Some (gives [] MachineFault 1)
+
+-- a program of one procedure with one variable
+abbrev pub with_variable : Variable → List Instruction → Program
+with_variable v instructions = record {
+  units =
+      record {
+        name = codes "M";
+        statics = [];
+        blocks = record (block Procedure None 0 1) { variables = v ∷ [] } ∷ [];
+        instructions = instructions;
+      } ∷ [];
+  main = 0;
+  greatest = 31;
+}
+
+-- a variable counts from 1 to 3, on a line for each number; as the test fails the fourth time it goes on
+-- behind the loop
+abbrev pub counting : Program
+counting =
+    with_variable (record { description = FixedBinary 15; initial = Number (pos 1) ∷ [] })
+    (Step 2 ∷ Local 0 0 ∷ Load ∷ number 3 ∷ Operate (Compare AtMost) ∷ JumpUnless 19 ∷ Step 3 ∷ Local 0 0
+    ∷ Load ∷ Operate (ToCharacters 1) ∷ Put ∷ Skip ∷ Local 0 0 ∷ Local 0 0 ∷ Load ∷ number 1 ∷ Operate Add
+    ∷ Store ∷ Jump 1 ∷ Return 0 ∷ [])
+
+abbrev pub LoopEnds : Type 0
+LoopEnds =
+    after counting 5 61
+    ≡ Some (gives (codes "1 " ++ 10 ∷ codes "2 " ++ 10 ∷ codes "3 " ++ 10 ∷ []) Ended 1)
+
+-- an element of an array (3) of FIXED BINARY(15) that there is not
+abbrev pub row : Variable
+row =
+    let d = Array (record { low = pos 1; high = pos 3 } ∷ []) (FixedBinary 15) in
+    record { description = d; initial = first_values d }
+
+abbrev pub element : (subscript : ℕ) → Program
+element subscript =
+    with_variable row
+    (Line 2 ∷ Local 0 0 ∷ Field 0 (FixedBinary 15) ∷ number subscript ∷ Subscript (pos 1) (pos 3) 2 ∷ Load
+    ∷ Operate (ToCharacters 1) ∷ Put ∷ Return 0 ∷ [])
+
+abbrev pub ElementPrints : Type 0
+ElementPrints = after (element 3) 1 9 ≡ Some (gives (codes "0 ") Ended 3)
+
+abbrev pub ElementFails : Type 0
+ElementFails = after (element 4) 1 5 ≡ Some (gives [] (Error SubscriptRange (codes "M") 2) 1)
+
+-- an operation on constants, printed
+abbrev pub printing : List Value → Operation → Program
+printing operands operation = program [] (constants operands)
+  where
+    constants : List Value → List Instruction
+    constants [] = Operate operation ∷ Put ∷ Return 0 ∷ []
+    constants (v ∷ vs) = Constant v ∷ constants vs
+
+-- SUBSTR of a part that the string has, and of one that it has not
+abbrev pub part : (count : ℕ) → Program
+part count = printing (Characters (codes "ABC") ∷ Number (pos 2) ∷ Number (pos count) ∷ []) Substring
+
+abbrev pub PartPrints : Type 0
+PartPrints = after (part 2) 1 6 ≡ Some (gives (codes "BC ") Ended 4)
+
+abbrev pub PartFails : Type 0
+PartFails = after (part 3) 1 4 ≡ Some (gives [] (Error StringRange (codes "M") 1) 1)
+
+-- a comparison gives a bit, which is printed as a constant; the shorter string is extended with blanks
+abbrev pub ComparisonPrints : Type 0
+ComparisonPrints =
+    after (printing (Characters (codes "A") ∷ Characters (codes "A B") ∷ []) (Compare Less)) 1 5
+    ≡ Some (gives (codes "'1'B ") Ended 6)
+
+abbrev pub BitsPrint : Type 0
+BitsPrint =
+    after (program [] (Constant (Bits (true ∷ false ∷ true ∷ [])) ∷ Put ∷ Return 0 ∷ [])) 1 3
+    ≡ Some (gives (codes "'101'B ") Ended 8)
+
+-- a line is ended between two items
+abbrev pub SkipEndsLine : Type 0
+SkipEndsLine =
+    after (program [] (text (codes "A") ∷ Put ∷ Skip ∷ text (codes "B") ∷ Put ∷ Return 0 ∷ [])) 1 6
+    ≡ Some (gives (codes "A " ++ 10 ∷ codes "B ") Ended 3)
+
+-- two activations of a procedure each add 1 to a variable that is made once
+abbrev pub twice : Program
+twice = record {
+  units =
+      record {
+        name = codes "M";
+        statics = record { description = FixedBinary 15; initial = Number (pos 5) ∷ [] } ∷ [];
+        blocks = block Procedure None 0 1 ∷ block Procedure (Some 0) 7 4 ∷ [];
+        instructions =
+            Call 1 0 ∷ Call 1 0 ∷ Global 0 ∷ Load ∷ Operate (ToCharacters 1) ∷ Put ∷ Return 0 ∷ Global 0
+            ∷ Global 0 ∷ Load ∷ number 1 ∷ Operate Add ∷ Store ∷ Return 0 ∷ [];
+      } ∷ [];
+  main = 0;
+  greatest = 31;
+}
+
+abbrev pub StaticIsShared : Type 0
+StaticIsShared = after twice 3 21 ≡ Some (gives (codes "7 ") Ended 3)

@@ -1,12 +1,16 @@
--- Worked examples: two activations, the static link between them, and what ends with each.
-use Rattle.std.specs.Prelude.{◌≡◌, pos, Option, Some, None, [], ◌∷◌, codes}
-use Rattle.pli_map.specs.Description.{FixedBinary, Character}
-use Rattle.pli_value.specs.Value.{Number, Characters}
+-- Worked examples: two activations, the static link between them, and what ends with each; parts of
+-- aggregates; variables that are made once.
+use Rattle.std.specs.Prelude.{◌≡◌, ℕ, ℤ, pos, negsuc, Option, Some, None, List, [], ◌∷◌, codes}
+use Rattle.pli_map.specs.Description.{Description, FixedBinary, Character, Array, Structure, NoMembers}
+use Rattle.pli_map.specs.Description.{MemberThen}
+use Rattle.pli_value.specs.Value.{Value, Number, Characters}
 use Rattle.pli_code.specs.declared.ending.RunError.{RunError}
-use Rattle.pli_code.specs.declared.ending.RunError.TheVariants.{DeadLocator}
-use Rattle.pli_store.specs.Storage.{whole}
-use Rattle.pli_store.specs.World.{World, nothing, Answer, Yields, Raises, Wrong, further, Head, entered}
-use Rattle.pli_store.specs.World.{cleared, dummy_of, held, slot_place, stored}
+use Rattle.pli_code.specs.declared.ending.RunError.TheVariants.{DeadLocator, SubscriptRange}
+use Rattle.pli_store.specs.Storage.{Automatic, Place, whole, field_of}
+use Rattle.pli_store.specs.Values.{first_values}
+use Rattle.pli_store.specs.World.{World, nothing, Answer, Yields, Raises, Wrong, further, Variable, Head}
+use Rattle.pli_store.specs.World.{made_of, entered, left_by, cleared, dummy_of, parts_held, held, slot_place}
+use Rattle.pli_store.specs.World.{stored, copied, subscripted, static_place, statics_made}
 
 -- a procedure with one variable, FIXED BINARY(15), and a block of it with none
 abbrev pub procedure : Head
@@ -14,7 +18,7 @@ procedure = record {
   unit = codes "M";
   block = 0;
   statement = 1;
-  variables = record { description = FixedBinary 15; initial = Number (pos 0) } ∷ [];
+  variables = record { description = FixedBinary 15; initial = Number (pos 0) ∷ [] } ∷ [];
 }
 
 abbrev pub inner : Head
@@ -56,3 +60,96 @@ DummyEnds =
 -- and a value that its description does not hold makes none
 abbrev pub TooLong : Type 0
 TooLong = within (dummy_of (Character 2) (Characters (codes "ABC"))) ≡ Wrong
+
+-- a place that has ended is dead, also for a value that it would not hold
+abbrev pub DummyDead : Type 0
+DummyDead =
+    error_of (within (λ w. further (dummy_of (Character 2) (Characters (codes "AB")) w)
+    (λ p w. stored p (Number (pos 1)) (cleared w)))) ≡ Some DeadLocator
+
+-- a structure of a FIXED BINARY(15) and of an array (3) of structures, each of a CHARACTER(1) and, two bytes
+-- behind its beginning, a FIXED BINARY(15); the array begins two bytes behind the structure's beginning, and
+-- its elements are four bytes apart
+abbrev pub element : Description
+element = Structure (MemberThen (Character 1) (MemberThen (FixedBinary 15) NoMembers))
+
+abbrev pub elements : Description
+elements = Array (record { low = pos 1; high = pos 3 } ∷ []) element
+
+abbrev pub aggregate : Description
+aggregate = Structure (MemberThen (FixedBinary 15) (MemberThen elements NoMembers))
+
+-- a variable of it, before which there is another
+abbrev pub with_aggregate : {A : Type 0} → (Place → World → Answer A) → Answer A
+with_aggregate go =
+    further (made_of (FixedBinary 15) Automatic (Number (pos 7) ∷ []) nothing)
+    (λ _ w. further (made_of aggregate Automatic (first_values aggregate) w) go)
+
+-- the element of a subscript, and the number of such an element
+abbrev pub at_element : ℤ → Place → World → Answer Place
+at_element x p w = subscripted (pos 1) (pos 3) 4 x (field_of 2 element p) w
+
+abbrev pub at_number : ℤ → Place → World → Answer Place
+at_number x p w = subscripted (pos 1) (pos 3) 4 x (field_of 4 (FixedBinary 15) p) w
+
+abbrev pub fifth_stored : Place → World → Answer (Unit {0})
+fifth_stored p w = further (at_number (pos 2) p w) (λ q w. stored q (Number (pos 5)) w)
+
+-- the scalars, in the order of the members, element by element
+abbrev pub scalars : (second third : ℕ) → List Value
+scalars second third =
+    Number (pos 0) ∷ Characters (codes " ") ∷ Number (pos 0) ∷ Characters (codes " ") ∷ Number (pos second)
+    ∷ Characters (codes " ") ∷ Number (pos third) ∷ []
+
+-- a part is stored and held by its place
+abbrev pub PartStored : Type 0
+PartStored =
+    result_of (with_aggregate (λ p w. further (fifth_stored p w) (λ _ w. parts_held p w)))
+    ≡ Some (scalars 5 0)
+
+abbrev pub PartHeld : Type 0
+PartHeld =
+    result_of (with_aggregate (λ p w. further (fifth_stored p w)
+    (λ _ w. further (at_number (pos 2) p w) held))) ≡ Some (Number (pos 5))
+
+-- an element is copied to another, with all that it has; an aggregate is not held as one value
+abbrev pub ElementCopied : Type 0
+ElementCopied =
+    result_of (with_aggregate (λ p w. further (fifth_stored p w)
+    (λ _ w. further (at_element (pos 2) p w)
+    (λ source w. further (at_element (pos 3) p w)
+    (λ target w. further (copied source target w) (λ _ w. parts_held p w))))))
+    ≡ Some (scalars 5 5)
+
+abbrev pub AggregateHeld : Type 0
+AggregateHeld = with_aggregate (λ p w. held p w) ≡ Wrong
+
+-- there is no element 4, nor -1; and behind a character there is none
+abbrev pub NoElement : Type 0
+NoElement =
+    (error_of (with_aggregate (at_element (pos 4))) ≡ Some SubscriptRange)
+    × (error_of (with_aggregate (at_element (negsuc 0))) ≡ Some SubscriptRange)
+
+abbrev pub NoPart : Type 0
+NoPart = with_aggregate (λ p w. held (field_of 3 (Character 1) p) w) ≡ Wrong
+
+-- a variable that is made once is there in each activation of its unit, and keeps what it holds
+abbrev pub once : List Variable
+once = record { description = FixedBinary 15; initial = Number (pos 3) ∷ [] } ∷ []
+
+abbrev pub StaticStays : Type 0
+StaticStays =
+    result_of
+    (further (statics_made (codes "M") 0 once nothing)
+    (λ _ w. further (entered inner 0 [] w)
+    (λ _ w. further (static_place 0 w)
+    (λ p w. further (stored p (Number (pos 8)) w)
+    (λ _ w. further (entered inner 0 [] (left_by w))
+    (λ _ w. further (static_place 0 w) held))))))
+    ≡ Some (Number (pos 8))
+
+-- that of another unit is not
+abbrev pub StaticOfOther : Type 0
+StaticOfOther =
+    further (statics_made (codes "N") 0 once nothing)
+    (λ _ w. further (entered inner 0 [] w) (λ _ w. static_place 0 w)) ≡ Wrong

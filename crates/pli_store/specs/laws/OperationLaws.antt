@@ -1,22 +1,32 @@
 -- Each operation keeps what it should: a lemma for each.
-use Rattle.std.specs.Prelude.{ℕ, suc, ◌+◌, ◌-◌, nat_le, nat_lt, Bool, true, false, ◌&&◌, Option, Some, None}
-use Rattle.std.specs.Prelude.{List, [], ◌∷◌, ◌++◌, length, slice_get, if◌then◌else◌, refl}
+use Rattle.std.specs.Prelude.{ℕ, suc, ◌+◌, ◌-◌, nat_le, nat_lt, Bool, true, false, ◌&&◌, int_le, Option}
+use Rattle.std.specs.Prelude.{Some, None, List, [], ◌∷◌, ◌++◌, length, slice_get, if◌then◌else◌, refl}
 use Rattle.std.proofs.Common.{◌≡◌, sym, ap, ◌∙◌, subst, arith, append_assoc, append-nil}
 use Rattle.pli_code.specs.Print.{print}
-use Rattle.pli_code.specs.declared.ending.RunError.TheVariants.{StorageLimit}
+use Rattle.pli_code.specs.declared.ending.RunError.TheVariants.{StorageLimit, SubscriptRange}
+use Rattle.pli_map.specs.Same.{same}
+use Rattle.pli_map.specs.Scalars.{is_scalar}
 use Rattle.pli_map.specs.Sizes.{size_of}
+use Rattle.pli_value.specs.Value.{Value}
+use Rattle.pli_value.specs.declared.number.Raised.TheVariants as raised
+use Rattle.pli_operation.specs.Operations.{Calculates, RaisesCondition, OutOfString, Misfits}
 use Rattle.pli_store.specs.Activations.{Activation, activation_at, outward_from, with_newest, without_newest}
-use Rattle.pli_store.specs.Storage.{Generation, Automatic, Dummy, Place, whole, generation_in, is_whole_of}
-use Rattle.pli_store.specs.Storage.{live_bytes, byte_limit, generation_limit}
+use Rattle.pli_store.specs.Storage.{Generation, Automatic, Static as AsStatic, Dummy, Place, whole}
+use Rattle.pli_store.specs.Storage.{generation_in, scalar_at, live_bytes, byte_limit, generation_limit}
 use Rattle.pli_store.specs.Values.{holds}
 use Rattle.pli_store.specs.World.{World, Answer, Yields, Raises, Wrong, further, known, Variable, height}
-use Rattle.pli_store.specs.World.{made_of, held_in, held, stored_in, stored, made_all, in_newest, with_slot}
-use Rattle.pli_store.specs.World.{begun_in, without_handed, entered, left_by, cleared, at_statement, stepped}
-use Rattle.pli_store.specs.World.{height_of, slot_in, slot_place, dummy_of, printed}
+use Rattle.pli_store.specs.World.{made_of, unless_dead, living, parts_held, parts_stored, single, held}
+use Rattle.pli_store.specs.World.{stored}
+use Rattle.pli_store.specs.World.{copied, made_all, in_newest, with_slot, begun_in}
+use Rattle.pli_store.specs.World.{without_handed, entered, left_by, cleared, at_statement, stepped, height_of}
+use Rattle.pli_store.specs.World.{slot_in, slot_place, newest_unit, static_in, static_place, statics_made}
+use Rattle.pli_store.specs.World.{dummy_of, printed, line_ended}
 use Rattle.pli_store.specs.laws.Operations.{IsPrefix, Follows, AnswerFollows, MakingKeeps, LoadingKeeps}
-use Rattle.pli_store.specs.laws.Operations.{StoringKeeps, WalkingKeeps, SlotKeeps, DummyKeeps, EnteringAdds}
+use Rattle.pli_store.specs.laws.Operations.{StoringKeeps, PartsHeldKeep, PartsStoredKeep, CopyingKeeps}
+use Rattle.pli_store.specs.laws.Operations.{SubscriptKeeps, CalculatingKeeps, WalkingKeeps, SlotKeeps}
+use Rattle.pli_store.specs.laws.Operations.{StaticKeeps, StaticsKeep, DummyKeeps, EnteringAdds}
 use Rattle.pli_store.specs.laws.Operations.{LeavingTakes, ClearingKeeps, StatementKeeps, PrintingKeeps}
-use Rattle.pli_store.specs.laws.Operations.{SteppingCounts}
+use Rattle.pli_store.specs.laws.Operations.{LineKeeps, SteppingCounts}
 
 -- prefixes
 
@@ -64,7 +74,7 @@ known_follows None w = tt
 
 pub making_keeps : MakingKeeps
 unfolding made_of
-making_keeps d how v w =
+making_keeps d how vs w =
     by _ (nat_lt w.made generation_limit && nat_le (live_bytes w.storage + size_of d) byte_limit)
     (record { steps = refl; heights = refl; output = prefix_same w.output })
   where
@@ -73,33 +83,83 @@ making_keeps d how v w =
     by new true f = f
     by new false f = follows_same w
 
+-- what is done only where it may be
+guarded : {A : Type 0} (n : ℕ) (w : World) (b : Bool) (a : Answer A) → AnswerFollows n w a
+    → AnswerFollows n w (if b then a else Wrong)
+guarded n w true a f = f
+guarded n w false a f = tt
+
+-- an operation in the world that another has left
+behind : {A : Type 0} (n : ℕ) (u v : World) (a : Answer A) → Follows n u v → AnswerFollows (height v) v a
+    → AnswerFollows n u a
+behind n u v a f answer = answer_then n n u v a f (subst (λ k. AnswerFollows k v a) f.heights answer)
+
+living_keeps : (p : Place) (w : World) → AnswerFollows (height w) w (living p w)
+living_keeps p w = found (generation_in w.storage p.generation)
+  where
+    found : (o : Option Generation) → AnswerFollows (height w) w (unless_dead o w)
+    found None = follows_same w
+    found (Some g) = follows_same w
+
+pub parts_held_keep : PartsHeldKeep
+unfolding parts_held
+parts_held_keep p w =
+    further_follows (height w) (height w) w (living p w) _ (living_keeps p w) refl
+    (λ g v f. behind (height w) w v _ f
+    (further_follows (height v) (height v) v (known (scalar_at g p) v) _
+    (known_follows (scalar_at g p) v) refl
+    (λ k u h. h)))
+
+pub parts_stored_keep : PartsStoredKeep
+unfolding parts_stored
+parts_stored_keep p vs w =
+    further_follows (height w) (height w) w (living p w) _ (living_keeps p w) refl
+    (λ g v f. behind (height w) w v _ f
+    (further_follows (height v) (height v) v (known (scalar_at g p) v) _
+    (known_follows (scalar_at g p) v) refl
+    (λ k u h. record { steps = h.steps; heights = h.heights; output = h.output })))
+
+single_keeps : (vs : List Value) (w : World) → AnswerFollows (height w) w (single vs w)
+single_keeps [] w = tt
+single_keeps (v ∷ []) w = follows_same w
+single_keeps (v ∷ x ∷ vs) w = tt
+
 pub loading_keeps : LoadingKeeps
 unfolding held
-loading_keeps p w = found (generation_in w.storage p.generation)
-  where
-    by : (g : Generation) (fits : Bool)
-        → AnswerFollows (height w) w (if fits then Yields g.value w else Wrong)
-    by g true = follows_same w
-    by g false = tt
-
-    found : (o : Option Generation) → AnswerFollows (height w) w (held_in o p w)
-    found None = follows_same w
-    found (Some g) = by g (is_whole_of g p)
+loading_keeps p w =
+    further_follows (height w) (height w) w (parts_held p w) _ (parts_held_keep p w) refl
+    (λ vs v f. behind (height w) w v _ f
+    (guarded (height v) v (is_scalar p.description) (single vs v) (single_keeps vs v)))
 
 pub storing_keeps : StoringKeeps
 unfolding stored
-storing_keeps p v w = found (generation_in w.storage p.generation)
-  where
-    by : (new : World) (fits : Bool) → Follows (height w) w new
-        → AnswerFollows {A = Unit} (height w) w (if fits then Yields tt new else Wrong)
-    by new true f = f
-    by new false f = tt
+storing_keeps p x w =
+    further_follows (height w) (height w) w (living p w) _ (living_keeps p w) refl
+    (λ g v f. behind (height w) w v _ f
+    (guarded (height v) v (holds p.description x) (parts_stored p (x ∷ []) v)
+    (parts_stored_keep p (x ∷ []) v)))
 
-    found : (o : Option Generation) → AnswerFollows (height w) w (stored_in o p v w)
-    found None = follows_same w
-    found (Some g) =
-        by _ (is_whole_of g p && holds p.description v)
-        (record { steps = refl; heights = refl; output = prefix_same w.output })
+pub copying_keeps : CopyingKeeps
+unfolding copied
+copying_keeps source target w =
+    guarded (height w) w (same source.description target.description) _
+    (further_follows (height w) (height w) w (parts_held source w) _ (parts_held_keep source w) refl
+    (λ vs v f. behind (height w) w v _ f (parts_stored_keep target vs v)))
+
+pub subscript_keeps : SubscriptKeeps
+subscript_keeps low high multiplier x p w = by _ (int_le low x && int_le x high)
+  where
+    by : (q : Place) (within : Bool)
+        → AnswerFollows (height w) w (if within then Yields q w else Raises SubscriptRange w)
+    by q true = follows_same w
+    by q false = follows_same w
+
+pub calculating_keeps : CalculatingKeeps
+calculating_keeps (Calculates v) w = follows_same w
+calculating_keeps (RaisesCondition raised.Overflow) w = follows_same w
+calculating_keeps (RaisesCondition raised.ZeroDivide) w = follows_same w
+calculating_keeps OutOfString w = follows_same w
+calculating_keeps Misfits w = tt
 
 -- activations
 
@@ -129,13 +189,8 @@ making_all_keeps (v ∷ vs) w =
     further_follows (height w) (height w) w (made_of v.description Automatic v.initial w) _
     (making_keeps v.description Automatic v.initial w) refl
     (λ p u f. let slotted = in_newest (with_slot p) u in
-    behind slotted (newest_behind (height w) (with_slot p) w u f) (making_all_keeps vs slotted))
-  where
-    behind : (u : World) → Follows (height w) w u → AnswerFollows (height u) u (made_all vs u)
-        → AnswerFollows (height w) w (made_all vs u)
-    behind u f answer =
-        answer_then (height w) (height w) w u (made_all vs u) f
-        (subst (λ k. AnswerFollows k u (made_all vs u)) f.heights answer)
+    behind (height w) w slotted (made_all vs slotted) (newest_behind (height w) (with_slot p) w u f)
+    (making_all_keeps vs slotted))
 
 pub entering_adds : EnteringAdds
 unfolding entered
@@ -191,14 +246,28 @@ slot_keeps outward slot w = walked (outward_from w.activations (height w) outwar
 pub dummy_keeps : DummyKeeps
 unfolding dummy_of
 dummy_keeps d v w =
-    by _ (holds d v)
-    (further_follows (height w) (height w) w (made_of d Dummy v w) _ (making_keeps d Dummy v w) refl
+    guarded (height w) w (holds d v) _
+    (further_follows (height w) (height w) w (made_of d Dummy (v ∷ []) w) _ (making_keeps d Dummy (v ∷ []) w)
+    refl
     (λ p u f. newest_behind (height w) _ w u f))
-  where
-    by : (answer : Answer Place) (fits : Bool) → AnswerFollows (height w) w answer
-        → AnswerFollows (height w) w (if fits then answer else Wrong)
-    by answer true f = f
-    by answer false f = tt
+
+pub static_keeps : StaticKeeps
+unfolding static_place
+static_keeps number w =
+    further_follows (height w) (height w) w (known (newest_unit w.activations) w) _
+    (known_follows (newest_unit w.activations) w) refl
+    (λ unit v f. behind (height w) w v _ f (known_follows (static_in v.statics unit number) v))
+
+pub statics_keep : StaticsKeep
+statics_keep unit number [] w = follows_same w
+statics_keep unit number (x ∷ xs) w =
+    further_follows (height w) (height w) w (made_of x.description AsStatic x.initial w) _
+    (making_keeps x.description AsStatic x.initial w) refl
+    (λ p v f.
+    let new = record v { statics = v.statics ++ record { unit = unit; number = number; place = p } ∷ [] } in
+    behind (height w) w new (statics_made unit (suc number) xs new)
+    (record { steps = f.steps; heights = f.heights; output = f.output })
+    (statics_keep unit (suc number) xs new))
 
 -- output
 
@@ -210,3 +279,8 @@ printing_keeps item w =
       heights = refl;
       output = record { rest = (print w.column item).bytes; whole = refl };
     }
+
+pub line_keeps : LineKeeps
+unfolding line_ended
+line_keeps w =
+    record { steps = refl; heights = refl; output = record { rest = 10 ∷ []; whole = refl } }

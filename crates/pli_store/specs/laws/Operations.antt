@@ -1,12 +1,15 @@
 -- What every operation on the world keeps: it takes no step, adds to the output, and leaves as many
 -- activations as it should.
-use Rattle.std.specs.Prelude.{◌≡◌, ℕ, suc, ◌-◌, List, ◌++◌}
+use Rattle.std.specs.Prelude.{◌≡◌, ℕ, suc, ◌-◌, ℤ, List, ◌++◌}
+use Rattle.pli_base.specs.Name.{Name}
 use Rattle.pli_map.specs.Description.{Description}
 use Rattle.pli_value.specs.Value.{Value}
+use Rattle.pli_operation.specs.Operations.{Calculation}
 use Rattle.pli_store.specs.Storage.{Made, Place}
-use Rattle.pli_store.specs.World.{World, Answer, Yields, Raises, Wrong, Head, height, made_of, held, stored}
+use Rattle.pli_store.specs.World.{World, Answer, Yields, Raises, Wrong, Variable, Head, height, made_of}
+use Rattle.pli_store.specs.World.{parts_held, parts_stored, held, stored, copied, subscripted, calculation}
 use Rattle.pli_store.specs.World.{entered, left_by, cleared, at_statement, stepped, height_of, slot_place}
-use Rattle.pli_store.specs.World.{dummy_of, printed}
+use Rattle.pli_store.specs.World.{static_place, statics_made, dummy_of, printed, line_ended}
 
 -- a list begins another
 pub record IsPrefix (short long : List ℕ) : Type 0 where
@@ -31,13 +34,30 @@ abbrev pub Keeps : {A : Type 0} → (World → Answer A) → Type 0
 Keeps operation = (w : World) → AnswerFollows (height w) w (operation w)
 
 abbrev pub MakingKeeps : Type 0
-MakingKeeps = (d : Description) (how : Made) (v : Value) → Keeps (made_of d how v)
+MakingKeeps = (d : Description) (how : Made) (vs : List Value) → Keeps (made_of d how vs)
 
 abbrev pub LoadingKeeps : Type 0
 LoadingKeeps = (p : Place) → Keeps (held p)
 
 abbrev pub StoringKeeps : Type 0
 StoringKeeps = (p : Place) (v : Value) → Keeps (stored p v)
+
+-- the same of aggregates
+abbrev pub PartsHeldKeep : Type 0
+PartsHeldKeep = (p : Place) → Keeps (parts_held p)
+
+abbrev pub PartsStoredKeep : Type 0
+PartsStoredKeep = (p : Place) (vs : List Value) → Keeps (parts_stored p vs)
+
+abbrev pub CopyingKeeps : Type 0
+CopyingKeeps = (source target : Place) → Keeps (copied source target)
+
+abbrev pub SubscriptKeeps : Type 0
+SubscriptKeeps =
+    (low high : ℤ) (multiplier : ℕ) (x : ℤ) (p : Place) → Keeps (subscripted low high multiplier x p)
+
+abbrev pub CalculatingKeeps : Type 0
+CalculatingKeeps = (c : Calculation) → Keeps (calculation c)
 
 abbrev pub WalkingKeeps : Type 0
 WalkingKeeps = (outward : ℕ) → Keeps (height_of outward)
@@ -47,6 +67,12 @@ SlotKeeps = (outward slot : ℕ) → Keeps (slot_place outward slot)
 
 abbrev pub DummyKeeps : Type 0
 DummyKeeps = (d : Description) (v : Value) → Keeps (dummy_of d v)
+
+abbrev pub StaticKeeps : Type 0
+StaticKeeps = (number : ℕ) → Keeps (static_place number)
+
+abbrev pub StaticsKeep : Type 0
+StaticsKeep = (unit : Name) (number : ℕ) (vs : List Variable) → Keeps (statics_made unit number vs)
 
 -- entering a block adds an activation, also where there is no room for its variables
 abbrev pub EnteringAdds : Type 0
@@ -66,6 +92,9 @@ StatementKeeps = (statement : ℕ) (w : World) → Follows (height w) w (at_stat
 
 abbrev pub PrintingKeeps : Type 0
 PrintingKeeps = (item : List ℕ) (w : World) → Follows (height w) w (printed item w)
+
+abbrev pub LineKeeps : Type 0
+LineKeeps = (w : World) → Follows (height w) w (line_ended w)
 
 -- a step is one step, and nothing else
 pub record TakesStep (before after : World) : Type 0 where

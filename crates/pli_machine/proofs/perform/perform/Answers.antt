@@ -2,7 +2,7 @@ use Rattle.std.proofs.Common.{rules, refl, sym, ap, ◌∙◌, w64, SFits}
 use Rattle.pli_code.specs.views.ModuleView.{code_view}
 use Rattle.std.proofs.lemmas.Int.{to_z-of_z}
 use Rattle.std.specs.Prelude.{slice_get}
-use Rattle.pli_machine.proofs.Performed.{performs_as, store_performs, put_performs, fit_performs, constant_performs, constant_stops}
+use Rattle.pli_machine.proofs.Performed.{performs_as, store_performs, put_performs, add_performs, characters_perform, fit_performs, constant_performs, constant_stops}
 use Rattle.pli_machine.proofs.perform.perform.Goals as goal
 
 pub returns-in-Step : goal.returns-in-Step
@@ -44,3 +44,15 @@ returns-in-Put c =
     (record { operands = c.put_characters.new.operands; world = c.put_characters.new.world; limit = c.args.machine.now.limit })
     c.put_characters.result c.in-Put.is refl c.put_characters.ensures.steps
     c.put_characters.ensures.works
+
+pub returns-in-Add : goal.returns-in-Add
+returns-in-Add c =
+    add_performs (code_view c.args.code.now) c.args.instruction c.args.machine.now
+    (record { operands = c.add.new.operands; world = c.args.machine.now.world; limit = c.args.machine.now.limit })
+    c.add.result c.in-Add.is refl refl c.add.ensures
+
+pub returns-in-ToCharacters : goal.returns-in-ToCharacters
+returns-in-ToCharacters c =
+    characters_perform (code_view c.args.code.now) c.args.instruction c.in-ToCharacters.width c.args.machine.now
+    (record { operands = c.to_characters.new.operands; world = c.args.machine.now.world; limit = c.args.machine.now.limit })
+    c.to_characters.result c.in-ToCharacters.is refl refl c.to_characters.ensures

@@ -63,3 +63,30 @@ returns-clause-value_faults c = run.value_faults
 
 pub returns-clause-begins_end : goal.returns-clause-begins_end
 returns-clause-begins_end c = run.begins_end
+
+pub returns-clause-loop_ends : goal.returns-clause-loop_ends
+returns-clause-loop_ends c = run.loop_ends
+
+pub returns-clause-element_prints : goal.returns-clause-element_prints
+returns-clause-element_prints c = run.element_prints
+
+pub returns-clause-element_fails : goal.returns-clause-element_fails
+returns-clause-element_fails c = run.element_fails
+
+pub returns-clause-part_prints : goal.returns-clause-part_prints
+returns-clause-part_prints c = run.part_prints
+
+pub returns-clause-part_fails : goal.returns-clause-part_fails
+returns-clause-part_fails c = run.part_fails
+
+pub returns-clause-comparison_prints : goal.returns-clause-comparison_prints
+returns-clause-comparison_prints c = run.comparison_prints
+
+pub returns-clause-bits_print : goal.returns-clause-bits_print
+returns-clause-bits_print c = run.bits_print
+
+pub returns-clause-skip_ends_line : goal.returns-clause-skip_ends_line
+returns-clause-skip_ends_line c = run.skip_ends_line
+
+pub returns-clause-static_is_shared : goal.returns-clause-static_is_shared
+returns-clause-static_is_shared c = run.static_is_shared

@@ -36,3 +36,27 @@ returns-clause-printing c = law.printing_keeps
 
 pub returns-clause-stepping : goal.returns-clause-stepping
 returns-clause-stepping c = law.stepping_counts
+
+pub returns-clause-parts_held : goal.returns-clause-parts_held
+returns-clause-parts_held c = law.parts_held_keep
+
+pub returns-clause-parts_stored : goal.returns-clause-parts_stored
+returns-clause-parts_stored c = law.parts_stored_keep
+
+pub returns-clause-copying : goal.returns-clause-copying
+returns-clause-copying c = law.copying_keeps
+
+pub returns-clause-subscript : goal.returns-clause-subscript
+returns-clause-subscript c = law.subscript_keeps
+
+pub returns-clause-calculating : goal.returns-clause-calculating
+returns-clause-calculating c = law.calculating_keeps
+
+pub returns-clause-one_static : goal.returns-clause-one_static
+returns-clause-one_static c = law.static_keeps
+
+pub returns-clause-statics : goal.returns-clause-statics
+returns-clause-statics c = law.statics_keep
+
+pub returns-clause-line : goal.returns-clause-line
+returns-clause-line c = law.line_keeps

@@ -1,0 +1,55 @@
+-- The scalars of a description: the types that are no arrays and no structures, in the order in which they
+-- stand, those of an array in row-major order. What an aggregate holds is the list of what they hold.
+use Rattle.std.specs.Prelude.{ℕ, ◌+◌, ◌-◌, ◌*◌, ◌/◌, ◌%◌, nat_eq, nat_lt, ◌&&◌, Option, Some, None, option_map}
+use Rattle.std.specs.Prelude.{Bool, true, false, if◌then◌else◌}
+use Rattle.std.specs.Int.{next_multiple_of}
+use Rattle.pli_map.specs.Description.{Description, Array, Structure, Members, NoMembers, MemberThen}
+use Rattle.pli_map.specs.Same.{same}
+use Rattle.pli_map.specs.Sizes.{count_of, alignment_of, size_of, stride_of}
+
+-- no array and no structure
+abbrev pub is_scalar : Description → Bool
+is_scalar (Array bounds element) = false
+is_scalar (Structure members) = false
+is_scalar scalar = true
+
+-- how many scalars a description has
+abbrev mutual
+  pub scalars_in : Description → ℕ
+  scalars_in (Array bounds element) = count_of bounds * scalars_in element
+  scalars_in (Structure members) = scalars_among members
+  scalars_in scalar = 1
+
+  pub scalars_among : Members → ℕ
+  scalars_among NoMembers = 0
+  scalars_among (MemberThen d ds) = scalars_in d + scalars_among ds
+
+-- a description stands here itself: at no distance, and the same
+abbrev pub stands_here : Description → (offset : ℕ) → (part : Description) → Bool
+stands_here whole offset part = nat_eq offset 0 && same whole part
+
+-- which scalar of a description is the first of the part that stands so many bytes behind its beginning and
+-- has this description; none where no such part stands there
+abbrev mutual
+  pub first_scalar : Description → (offset : ℕ) → (part : Description) → Option ℕ
+  first_scalar (Array bounds element) offset part =
+      if stands_here (Array bounds element) offset part then Some 0
+      else if nat_lt (offset / stride_of element) (count_of bounds)
+      then option_map (λ k. offset / stride_of element * scalars_in element + k)
+      (first_scalar element (offset % stride_of element) part)
+      else None
+  first_scalar (Structure members) offset part =
+      if stands_here (Structure members) offset part then Some 0
+      else scalar_behind 0 members offset part
+  first_scalar scalar offset part = if stands_here scalar offset part then Some 0 else None
+
+  -- the same among members, each at its next aligned place behind the one before, and the first behind this
+  -- byte
+  pub scalar_behind : (at : ℕ) → Members → (offset : ℕ) → (part : Description) → Option ℕ
+  scalar_behind at NoMembers offset part = None
+  scalar_behind at (MemberThen d ds) offset part =
+      if nat_lt offset (next_multiple_of at (alignment_of d) + size_of d)
+      then (if nat_lt offset (next_multiple_of at (alignment_of d)) then None
+      else first_scalar d (offset - next_multiple_of at (alignment_of d)) part)
+      else option_map (λ k. scalars_in d + k)
+      (scalar_behind (next_multiple_of at (alignment_of d) + size_of d) ds offset part)

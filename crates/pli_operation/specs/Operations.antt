@@ -1,0 +1,177 @@
+-- The operations of expressions: prefix and infix operators, built-in functions of values, and conversions.
+use Rattle.std.specs.Prelude.{ℕ, nat_le, Bool, true, false, ◌||◌, ℤ, pos, neg_ℤ}
+use Rattle.std.specs.Prelude.{◌+ℤ◌, ◌-ℤ◌, ◌*ℤ◌, int_lt, int_le, unsigned_abs, Result, Ok, Err, Option, Some}
+use Rattle.std.specs.Prelude.{None}
+use Rattle.std.specs.Prelude.{List, [], ◌∷◌, length, take, if◌then◌else◌}
+use Rattle.std.specs.Ordering.{int_cmp, nat_cmp, bool_cmp}
+use Rattle.std.specs.Fmt.{signed_decimal}
+use Rattle.std.specs.declared.cmp.Ordering.{Ordering}
+use Rattle.std.specs.declared.cmp.Ordering.TheVariants as orders
+use Rattle.pli_map.specs.Description.{Description, FixedBinary, Character, Varying, Bit}
+use Rattle.pli_value.specs.Conversions.{number_characters, bit_characters}
+use Rattle.pli_value.specs.Numbers.{within, quotient, remainder}
+use Rattle.pli_value.specs.Strings.{order_of, conjunction, disjunction, negation, concatenation, substring}
+use Rattle.pli_value.specs.Strings.{substring_from, fitted, index_of}
+use Rattle.pli_value.specs.Value.{Value, Number, Characters, Bits}
+use Rattle.pli_value.specs.declared.number.Raised.{Raised}
+
+-- what a comparison asks
+pub data Relation : Type 0 where
+  Equal Unequal Less AtMost Greater AtLeast : Relation
+
+-- with one operand: prefix `-`, ABS, SIGN, `^`, LENGTH; bits as characters; a number as characters of so many
+-- columns; a value fitted to a description. With two: `+`, `-`, `*`, DIVIDE to so many binary digits, MOD,
+-- MAX, MIN, a comparison, `||`, `&`, `|`, INDEX, and SUBSTR without a length. With three: SUBSTR.
+pub data Operation : Type 0 where
+  Negate Absolute Sign Not LengthOf FromBits : Operation
+  ToCharacters : (width : ℕ) → Operation
+  Fit : (description : Description) → Operation
+  Add Subtract Multiply Modulo Greatest Least : Operation
+  Divide : (precision : ℕ) → Operation
+  Compare : (relation : Relation) → Operation
+  Concatenate And Or Index Rest Substring : Operation
+
+-- how many operands it has
+abbrev pub operands_of : Operation → ℕ
+operands_of Negate = 1
+operands_of Absolute = 1
+operands_of Sign = 1
+operands_of Not = 1
+operands_of LengthOf = 1
+operands_of FromBits = 1
+operands_of (ToCharacters width) = 1
+operands_of (Fit description) = 1
+operands_of Add = 2
+operands_of Subtract = 2
+operands_of Multiply = 2
+operands_of Modulo = 2
+operands_of Greatest = 2
+operands_of Least = 2
+operands_of (Divide precision) = 2
+operands_of (Compare relation) = 2
+operands_of Concatenate = 2
+operands_of And = 2
+operands_of Or = 2
+operands_of Index = 2
+operands_of Rest = 2
+operands_of Substring = 3
+
+-- what an operation comes to: a value; a condition; a string over the limit, or a part that a string has not;
+-- or nothing, where operands are not of its kinds
+pub data Calculation : Type 0 where
+  Calculates : (value : Value) → Calculation
+  RaisesCondition : (condition : Raised) → Calculation
+  OutOfString : Calculation
+  Misfits : Calculation
+
+-- a number, or the condition that is raised
+abbrev pub as_number : Result ℤ Raised → Calculation
+as_number (Ok x) = Calculates (Number x)
+as_number (Err condition) = RaisesCondition condition
+
+-- a string, where there is one
+abbrev pub as_characters : Option (List ℕ) → Calculation
+as_characters None = OutOfString
+as_characters (Some text) = Calculates (Characters text)
+
+abbrev pub as_bits : Option (List Bool) → Calculation
+as_bits None = OutOfString
+as_bits (Some bits) = Calculates (Bits bits)
+
+-- a bit: the answer of a comparison
+abbrev pub as_bit : Bool → Calculation
+as_bit b = Calculates (Bits (b ∷ []))
+
+-- a number from -1 to 1
+abbrev pub sign_of : ℤ → ℤ
+sign_of x = if int_lt x (pos 0) then neg_ℤ (pos 1) else if int_lt (pos 0) x then pos 1 else pos 0
+
+-- two strings, or numbers, stand so
+abbrev pub stands : Relation → Ordering → Bool
+stands Equal orders.Equal = true
+stands Unequal orders.Less = true
+stands Unequal orders.Greater = true
+stands Less orders.Less = true
+stands AtMost orders.Less = true
+stands AtMost orders.Equal = true
+stands Greater orders.Greater = true
+stands AtLeast orders.Greater = true
+stands AtLeast orders.Equal = true
+stands relation order = false
+
+-- the greater and the lesser of two numbers
+abbrev pub greatest_of : ℤ → ℤ → ℤ
+greatest_of x y = if int_le x y then y else x
+
+abbrev pub least_of : ℤ → ℤ → ℤ
+least_of x y = if int_le x y then x else y
+
+-- a number at the right of so many columns, where they hold it
+abbrev pub in_columns : (width : ℕ) → ℤ → Calculation
+in_columns width x =
+    if nat_le (length (signed_decimal x)) width then Calculates (Characters (number_characters width x))
+    else Misfits
+
+-- a value fitted to a description: a number held against its precision, a string cut or extended on the right
+abbrev pub fitted_to : Description → Value → Calculation
+fitted_to (FixedBinary precision) (Number x) = as_number (within precision x)
+fitted_to (Character n) (Characters text) = Calculates (Characters (fitted 32 n text))
+fitted_to (Varying n) (Characters text) = Calculates (Characters (take n text))
+fitted_to (Bit n) (Bits bits) = Calculates (Bits (fitted false n bits))
+fitted_to description v = Misfits
+
+-- operations on one value
+abbrev pub calculated_from : Operation → Value → Calculation
+calculated_from Negate (Number x) = Calculates (Number (neg_ℤ x))
+calculated_from Absolute (Number x) = Calculates (Number (pos (unsigned_abs x)))
+calculated_from Sign (Number x) = Calculates (Number (sign_of x))
+calculated_from Not (Bits s) = Calculates (Bits (negation s))
+calculated_from LengthOf (Characters s) = Calculates (Number (pos (length s)))
+calculated_from LengthOf (Bits s) = Calculates (Number (pos (length s)))
+calculated_from FromBits (Bits s) = Calculates (Characters (bit_characters s))
+calculated_from (ToCharacters width) (Number x) = in_columns width x
+calculated_from (Fit description) v = fitted_to description v
+calculated_from operation v = Misfits
+
+-- on two; numbers have at most so many binary digits
+abbrev pub calculated_with : (greatest : ℕ) → Operation → (left right : Value) → Calculation
+calculated_with n Add (Number x) (Number y) = as_number (within n (x +ℤ y))
+calculated_with n Subtract (Number x) (Number y) = as_number (within n (x -ℤ y))
+calculated_with n Multiply (Number x) (Number y) = as_number (within n (x *ℤ y))
+calculated_with n (Divide precision) (Number x) (Number y) = as_number (quotient precision x y)
+calculated_with n Modulo (Number x) (Number y) = as_number (remainder x y)
+calculated_with n Greatest (Number x) (Number y) = Calculates (Number (greatest_of x y))
+calculated_with n Least (Number x) (Number y) = Calculates (Number (least_of x y))
+calculated_with n (Compare relation) (Number x) (Number y) = as_bit (stands relation (int_cmp x y))
+calculated_with n (Compare relation) (Characters s) (Characters t) =
+    as_bit (stands relation (order_of 32 nat_cmp s t))
+calculated_with n (Compare relation) (Bits s) (Bits t) =
+    as_bit (stands relation (order_of false bool_cmp s t))
+calculated_with n Concatenate (Characters s) (Characters t) = as_characters (concatenation s t)
+calculated_with n Concatenate (Bits s) (Bits t) = as_bits (concatenation s t)
+calculated_with n And (Bits s) (Bits t) = Calculates (Bits (conjunction s t))
+calculated_with n Or (Bits s) (Bits t) = Calculates (Bits (disjunction s t))
+calculated_with n Index (Characters s) (Characters t) = Calculates (Number (pos (index_of s t)))
+calculated_with n Index (Bits s) (Bits t) =
+    Calculates (Number (pos (index_of (bit_characters s) (bit_characters t))))
+calculated_with n Rest (Characters s) (Number i) = as_characters (substring_from s i)
+calculated_with n Rest (Bits s) (Number i) = as_bits (substring_from s i)
+calculated_with n operation v w = Misfits
+
+-- and on three
+abbrev pub calculated_by : Operation → (first second third : Value) → Calculation
+calculated_by Substring (Characters s) (Number i) (Number k) = as_characters (substring s i k)
+calculated_by Substring (Bits s) (Number i) (Number k) = as_bits (substring s i k)
+calculated_by operation u v w = Misfits
+
+-- an operation on its operands, from left to right
+unfoldable pub calculated : (greatest : ℕ) → Operation → List Value → Calculation
+calculated n operation (v ∷ []) = calculated_from operation v
+calculated n operation (v ∷ w ∷ []) = calculated_with n operation v w
+calculated n operation (u ∷ v ∷ w ∷ []) = calculated_by operation u v w
+calculated n operation other = Misfits
+
+-- a condition of IF or WHILE: a bit of the string is one
+abbrev pub is_true : List Bool → Bool
+is_true [] = false
+is_true (b ∷ bits) = b || is_true bits

@@ -1,0 +1,2 @@
+//! The operations of expressions.
+#![tactic(auto)]

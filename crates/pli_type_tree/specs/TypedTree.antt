@@ -1,0 +1,111 @@
+-- Typed trees: a unit with what each name means and with the type of each part worked out, as definitions
+-- speak of them. There is one form for each form of the language; a conversion is a form of its own, and so is
+-- the reading of bits as characters. A block is a procedure or a BEGIN block; an activation is reached by how
+-- many static links outward it is.
+use Rattle.std.specs.Prelude.{ℕ, ℤ, Bool, Option, List}
+use Rattle.pli_base.specs.Name.{Name}
+use Rattle.pli_map.specs.Description.{Description}
+use Rattle.pli_operation.specs.Operations.{Operation}
+use Rattle.pli_value.specs.Value.{Value}
+use Rattle.pli_store.specs.World.{Variable}
+
+-- where a reference begins: at a parameter or an AUTOMATIC variable, or at a variable that is made before the
+-- program begins
+pub data Root : Type 0 where
+  InSlot : (outward slot : ℕ) → Root
+  OfProgram : (number : ℕ) → Root
+
+-- a subscript's bounds, and how many bytes each number over the low one leads on
+pub record Stride : Type 0 where
+  pub low : ℤ
+  pub high : ℤ
+  pub multiplier : ℕ
+
+mutual
+  -- a constant, what a variable holds, an operation on its operands, or a call of a function
+  pub data TypedExpression : Type 0 where
+    Literal : (value : Value) → TypedExpression
+    Held : (variable : TypedReference) → TypedExpression
+    Calculated : (operation : Operation) (operands : Operands) → TypedExpression
+    Called : (block : ℕ) (arguments : TypedArguments) → TypedExpression
+
+  -- a whole variable; or a part, with its offset where all its subscripts are the lowest, its description, and
+  -- the subscripts of all its levels in turn
+  pub data TypedReference : Type 0 where
+    Whole : (root : Root) → TypedReference
+    Part : (root : Root) (offset : ℕ) (description : Description) (subscripts : Subscripts) → TypedReference
+
+  pub data Operands : Type 0 where
+    NoOperand : Operands
+    OperandThen : (first : TypedExpression) (more : Operands) → Operands
+
+  pub data Subscripts : Type 0 where
+    NoSubscript : Subscripts
+    SubscriptThen : (stride : Stride) (value : TypedExpression) (more : Subscripts) → Subscripts
+
+  -- an argument is handed over as a place, or as a dummy variable of this description for its value
+  pub data TypedArguments : Type 0 where
+    NoArgument : TypedArguments
+    ByPlace : (variable : TypedReference) (more : TypedArguments) → TypedArguments
+    ByDummy : (description : Description) (value : TypedExpression) (more : TypedArguments) → TypedArguments
+
+-- what limits or continues an iteration, with the types of the control variable; TO and BY in the order of the
+-- text
+pub data TypedRange : Type 0 where
+  Once : TypedRange
+  ToBy : (to : TypedExpression) (by : Option TypedExpression) → TypedRange
+  ByTo : (by : TypedExpression) (to : Option TypedExpression) → TypedRange
+  Repeated : (next : TypedExpression) → TypedRange
+
+-- an activation of a block begins with these variables; its temporaries are numbered
+pub record BlockHead : Type 0 where
+  pub number : ℕ
+  pub statement : ℕ
+  pub variables : List Variable
+  pub temporaries : ℕ
+
+mutual
+  -- a statement with its number, and the numbers of its labels' statements are its own
+  pub data TypedStatement : Type 0 where
+    Statement : (number : ℕ) (form : Form) → TypedStatement
+
+  -- values stand converted to what they are put into; outward is how many BEGIN blocks a RETURN leaves, and
+  -- how many links outward a GOTO's label is
+  pub data Form : Type 0 where
+    Null : Form
+    Assign : (target : TypedReference) (value : TypedExpression) → Form
+    AssignAggregate : (target source : TypedReference) → Form
+    Put : (skip : Bool) (items : List TypedExpression) → Form
+    If : (condition : TypedExpression) (consequence : TypedStatement) (alternative : OtherWise) → Form
+    Begin : (head : BlockHead) (statements : TypedStatements) → Form
+    Group : (statements : TypedStatements) → Form
+    While : (condition : TypedExpression) (statements : TypedStatements) → Form
+    Call : (block : ℕ) (arguments : TypedArguments) → Form
+    Goto : (outward label : ℕ) → Form
+    Return : (outward : ℕ) → Form
+    ReturnValue : (outward : ℕ) (value : TypedExpression) → Form
+    Stop : Form
+
+  pub data OtherWise : Type 0 where
+    NoElse : OtherWise
+    Else : (statement : TypedStatement) → OtherWise
+
+  pub data TypedStatements : Type 0 where
+    NoStatement : TypedStatements
+    StatementThen : (first : TypedStatement) (more : TypedStatements) → TypedStatements
+
+-- a procedure: its block; how many parameters it has; the number of its END if it is a function, which must not
+-- be reached
+pub record TypedProcedure : Type 0 where
+  pub head : BlockHead
+  pub parent : Option ℕ
+  pub parameters : ℕ
+  pub function_end : Option ℕ
+  pub statements : TypedStatements
+
+-- a unit: the variables that are made before the program begins, and its procedures, the external one first
+pub record TypedUnit : Type 0 where
+  pub name : Name
+  pub is_main : Bool
+  pub statics : List Variable
+  pub procedures : List TypedProcedure

@@ -1,0 +1,2 @@
+//! Typed trees.
+#![tactic(auto)]
