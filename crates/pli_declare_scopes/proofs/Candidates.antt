@@ -1,7 +1,9 @@
 -- Only items of a reference's last name fit it, and how they are found.
-use Rattle.std.proofs.Common.{◌≡◌, ℕ, zero, suc, ◌+◌, ◌-◌, ◌<◌, ◌≤◌, Bool, true, false, ◌&&◌, List, [], ◌∷◌, length, get_or, take, Option, None, Some, IfSome, if◌then◌else◌, refl, sym, ap, subst, ◌∙◌, arith}
+use Rattle.std.proofs.Common.{◌≡◌, ℕ, zero, suc, ◌+◌, ◌-◌, ◌<◌, ◌≤◌, min, inl, inr, Bool, true, false, nat_eq, ◌&&◌, List, [], ◌∷◌, length, get_or, take, Option, None, Some, IfSome, if◌then◌else◌, refl, sym, ap, subst, ◌∙◌, arith}
 use Rattle.std.specs.Prelude.{reverse}
 use Rattle.std.proofs.Math.Seq.{take-length}
+use Rattle.std.proofs.lemmas.Bool.Decides.{nat_tests}
+use Rattle.std.specs.Option.{option_eq}
 use Rattle.std.specs.Cmp.Lexicographic.{same_text}
 use Rattle.pli_base.specs.Name.{Name}
 use Rattle.pli_base.specs.laws.NameLaws.{pointwise-refl}
@@ -10,8 +12,10 @@ use Rattle.pli_declare_scopes.specs.declared.found.Found.{Found}
 use Rattle.pli_declare_scopes.specs.declared.found.Found.TheVariants.{Nothing, One, Several}
 use Rattle.pli_declare_scopes.specs.Scopes.{Block, item_at, is_named, chain_at, chain_over, is_part, fits_chain, is_chain, fits, fits_fully, with_number, found_below}
 use Rattle.pli_declare_scopes.specs.answers.Indexes.{last_below, OwnersBefore}
-use Rattle.pli_declare_scopes.proofs.IndexKept.{both_true}
-use Rattle.pli_declare_scopes.proofs.Chains.{rank, chain_is, backwards}
+use Rattle.pli_declare_scopes.proofs.IndexKept.{both_true, below_or_last}
+use Rattle.pli_declare_scopes.specs.answers.Leaps.{rank, IsLastUpTo}
+use Rattle.pli_declare_scopes.specs.answers.Reaches.{IsReach, IsCandidate}
+use Rattle.pli_declare_scopes.proofs.Chains.{chain_is, backwards}
 
 and_false : (b : Bool) → (b && false) ≡ false
 and_false true = refl
@@ -222,9 +226,77 @@ module _ (items : Block) (owners : OwnersBefore items) (names : List Name) (some
                 ∙ ap (λ a. found_below (fits items names) (rank a) found) (sym is) ∙ so_far.part;
           })
 
+-- numbers that do not pass are left out
+between : (test : ℕ → Bool) (k m : ℕ) (found : Found) → m ≤ k → ((j : ℕ) → m ≤ j → j < k → test j ≡ false) → found_below test k found ≡ found_below test m found
+between test zero m found le none = let same : zero ≡ m = omega (arith, le) in ap (λ n. found_below test n found) same
+between test (suc k) m found le none = elim (below_or_last m (suc k) (omega (arith, le))) [
+  | inl less ↦ ap (λ b. found_below test k (if b then with_number k found else found)) (none k (omega (arith, less)) (omega arith))
+      ∙ between test k m found (omega (arith, less)) (λ j low lt. none j low (omega (arith, lt)))
+  | inr same ↦ ap (λ n. found_below test n found) (sym same)
+]
+
+-- items that can't fit are leapt over
+pub looking_leap : (items : Block) (names : List Name) (at : Option ℕ) (n : ℕ) (found : Found) → Looking items names at found → at ≡ Some n
+    → (next : Option ℕ) → IsCandidate items names n next → Looking items names next found
+looking_leap items names at n found so_far is next leap = record {
+  within = leap.within;
+  named = leap.named;
+  part = sym (between (fits items names) (n + 1) (rank next) found (short next leap.bounded) fails)
+      ∙ ap (λ a. found_below (fits items names) (rank a) found) (sym is) ∙ so_far.part;
+}
+  where
+    stands : n < length items
+    stands = subst (λ a. IfSome a (λ o. o < length items)) is so_far.within
+
+    short : (o : Option ℕ) → IfSome o (λ m. m ≤ n) → rank o ≤ n + 1
+    short None h = omega arith
+    short (Some m) h = omega (arith, h)
+
+    fails : (j : ℕ) → rank next ≤ j → j < n + 1 → fits items names j ≡ false
+    fails j le lt = by (fits items names j) refl
+      where
+        by : (b : Bool) → fits items names j ≡ b → fits items names j ≡ false
+        by true e = absurd (let bad : j < rank next = leap.last j (omega (arith, stands, lt)) (omega (arith, lt)) e in omega (arith, bad, le))
+        by false e = e
+
+pub leap_ends : (next : Option ℕ) (n : ℕ) → IfSome next (λ m. m ≤ n) → option_eq nat_eq next (Some n) ≡ false → rank next < n + 1
+leap_ends None n h e = omega arith
+leap_ends (Some m) n h e = let other : m ≤ n = h in grind (arith, nat_tests, other, e)
+
 -- a branch taken or not
 pub if_taken : (b : Bool) (x y z : Found) → b ≡ true → z ≡ x → z ≡ (if b then x else y)
 if_taken b x y z e f = f ∙ sym (ap (λ c. if c then x else y) e)
 
 pub if_passed : (b : Bool) (x y z : Found) → b ≡ false → z ≡ y → z ≡ (if b then x else y)
 if_passed b x y z e f = f ∙ sym (ap (λ c. if c then x else y) e)
+
+-- the last item of a reference's last name, up to where items may have the names before it above them
+module _ (items : Block) (owners : OwnersBefore items) (names : List Name) (some : 0 < length names) (number : ℕ) where
+  pub candidate_none : IsReach items names number None → IsCandidate items names number None
+  candidate_none reach = record {
+    within = tt;
+    bounded = tt;
+    named = tt;
+    last = λ n lt le h.
+        let named = only_named items owners names some n lt h in
+        reach n lt le (both_true (item_at items n).counts (same_name (item_at items n).name (get_or names (length names - 1) [])) named).0
+        (sym (fits_named items owners names some n lt named) ∙ h);
+  }
+
+  pub candidate_some : (bound upto : ℕ) → IsReach items names number (Some bound) → upto ≡ min bound number → (result : Option ℕ)
+      → IsLastUpTo items (get_or names (length names - 1) []) upto result → IsCandidate items names number result
+  candidate_some bound upto reach e result is = record {
+    within = is.within;
+    bounded = by result is.bounded;
+    named = is.named;
+    last = λ n lt le h.
+        let named = only_named items owners names some n lt h in
+        let reached : n < bound + 1 =
+        reach n lt le (both_true (item_at items n).counts (same_name (item_at items n).name (get_or names (length names - 1) [])) named).0
+        (sym (fits_named items owners names some n lt named) ∙ h) in
+        is.last n lt (omega (arith, reached, le, e)) named;
+  }
+    where
+      by : (o : Option ℕ) → IfSome o (λ n. n ≤ upto) → IfSome o (λ n. n ≤ number)
+      by None h = tt
+      by (Some n) h = omega (arith, h, e)

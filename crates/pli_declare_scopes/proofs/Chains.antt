@@ -10,11 +10,6 @@ use Rattle.pli_declare_scopes.specs.declared.block.Declared.{Declared}
 use Rattle.pli_declare_scopes.specs.Scopes.{Block, item_at, chain_above, chains_after, chain_over, chain_at, is_part}
 use Rattle.pli_declare_scopes.specs.answers.Indexes.{OwnersBefore}
 
--- how far up an owner stands
-abbrev pub rank : Option ℕ → ℕ
-rank None = 0
-rank (Some n) = n + 1
-
 pub chains_kept : (is : Block) (chains : List (List Name)) (n : ℕ) → n < length chains → get_or (chains_after chains is) n [] ≡ get_or chains n []
 chains_kept [] chains n lt = refl
 chains_kept (i ∷ is) chains n lt =

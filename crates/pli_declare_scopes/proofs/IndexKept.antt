@@ -37,7 +37,7 @@ module _ (items : Block) (i : Declared) where
   pub item_last : item_at more (length items) ≡ i
   item_last = get_or-append_seam items i [] no_item
 
-  named_front : (name : Name) (k : ℕ) → k < length items → is_named more name k ≡ is_named items name k
+  pub named_front : (name : Name) (k : ℕ) → k < length items → is_named more name k ≡ is_named items name k
   named_front name k lt = ap (λ (j : Declared). j.counts && same_name j.name name) (item_front k lt)
 
   named_last : (name : Name) → is_named more name (length items) ≡ (i.counts && same_name i.name name)

@@ -8,4 +8,5 @@ pub mod Outwards
 pub mod Repeated
 pub mod Judged
 pub mod PathsKept
-pub mod RootsKept
+pub mod LeapsKept
+pub mod ReachesKept

@@ -1,3 +1,4 @@
 pub mod Indexes
 pub mod Paths
-pub mod Roots
+pub mod Leaps
+pub mod Reaches

@@ -1,16 +1,18 @@
 //! The items that a block declares.
-ghost use Rattle.std.specs.Prelude.{◌≡◌, ◌<◌, ◌-◌, reverse, take, ◌++◌, ◌&&◌, [], ◌∷◌, true, length, if◌then◌else◌, Some, IfSome, IfOk, OnOk, OnErr};
+ghost use Rattle.std.specs.Prelude.{◌≡◌, ◌<◌, ◌-◌, reverse, take, ◌++◌, ◌&&◌, [], ◌∷◌, true, false, length, if◌then◌else◌, None, Some, IfSome, IfOk, OnOk, OnErr};
 ghost use Rattle.indexmap.specs.IndexMap.{get, IsUnchanged};
 ghost use Rattle.pli_base.specs.Name.{Name as Characters};
 ghost use Rattle.pli_base.specs.Words.{same_name};
 ghost use Rattle.pli_declare_scopes.specs.Scopes.{declares, item_at, chain_over, is_part, fits, fits_fully, found_below, found_in};
 ghost use Rattle.pli_declare_scopes.specs.declared.found.Found.TheVariants as variants;
 ghost use Rattle.pli_declare_scopes.specs.answers.Indexes.{OwnersBefore};
-ghost use Rattle.pli_declare_scopes.specs.answers.Roots.{RootIsOf};
+ghost use Rattle.pli_declare_scopes.specs.answers.Leaps.{IsLastUpTo};
+ghost use Rattle.pli_declare_scopes.specs.answers.Reaches.{IsReach, IsCandidate};
 
 use crate::found::Found;
+use crate::leap::{Leap, leap_from};
 use crate::path::{Step, note_end, path_above, path_of};
-use crate::root::{note_root, root_of};
+use crate::reach::{close, is_in_order, outermost};
 use indexmap::{IndexMap, IndexSet};
 use pli_base::Name;
 use std::alloc::{AllocError, AllocFailed, Global};
@@ -40,10 +42,14 @@ pub struct Block {
     paths: Vec<usize>,
     /// Which items have each path.
     ended: Vec<Found>,
-    /// The root of each item.
-    roots: Vec<usize>,
-    /// The root of all items of a name, if they have one root.
-    shared: IndexMap<Name, Option<usize>>,
+    /// For each item a leap back along those of its name.
+    leaps: Vec<Leap>,
+    /// The last number within each item, where no more will come.
+    lasts: Vec<Option<usize>>,
+    /// The outermost item of its name that each item is within.
+    tops: Vec<usize>,
+    /// Whether all items stand in order: each behind what its owner has so far, and one that counts within one that counts.
+    is_ordered: bool,
 }
 
 impl Model for Block {
@@ -51,13 +57,14 @@ impl Model for Block {
     ghost use Rattle.pli_declare_scopes.specs.declared.block.Declared.{Declared as Item};
     ghost use Rattle.pli_declare_scopes.specs.answers.Indexes.{IsIndexed};
     ghost use Rattle.pli_declare_scopes.specs.answers.Paths.{ArePaths};
-    ghost use Rattle.pli_declare_scopes.specs.answers.Roots.{AreRooted};
+    ghost use Rattle.pli_declare_scopes.specs.answers.Leaps.{AreLeaps};
+    ghost use Rattle.pli_declare_scopes.specs.answers.Reaches.{AreReaching};
 
     ghost Value = { List Item };
 
     ghost view = { λ b. b.items.items };
 
-    ghost invariant = { λ b. IsIndexed b.items.items b.earlier.items b.latest × ArePaths b.items.items b.steps.keys b.paths.items b.ended.items × AreRooted b.items.items b.shared b.roots.items };
+    ghost invariant = { λ b. IsIndexed b.items.items b.earlier.items b.latest × ArePaths b.items.items b.steps.keys b.paths.items b.ended.items × AreLeaps b.items.items b.leaps.items × AreReaching b.items.items b.lasts.items b.tops.items b.is_ordered };
 }
 
 /// Whether names fit the item of this number, where the last of them is its own name. No more levels are looked at than it takes.
@@ -81,40 +88,6 @@ fn fits(items: &[Declared], names: &[Name], number: usize) -> bool
     true
 }
 
-/// The root of the items of the first of several names, if they have one root. One name alone tells nothing.
-fn shared_root(shared: &IndexMap<Name, Option<usize>>, names: &[Name]) -> Option<usize>
-    ensures { RootIsOf shared.now names.now result }
-{
-    match names {
-        [first, _, ..] => match shared.get(first) {
-            Some(root) => *root,
-            None => None,
-        },
-        _ => None,
-    }
-}
-
-/// Whether names fit the item of this number and root, where the items of the first name are known to have one root, or not.
-fn fits_at(
-    items: &[Declared],
-    names: &[Name],
-    number: usize,
-    root: usize,
-    shared: Option<usize>,
-) -> bool
-    requires within { number < length items.now }
-    requires owners { OwnersBefore items.now }
-    requires some { 0 < length names.now }
-    requires rooted { is_part (reverse (take (length names.now - 1) names.now)) (chain_over items.now (item_at items.now number).owner) ≡ true
-        → IfSome shared (λ r. r ≡ root) }
-    ensures { result ≡ is_part (reverse (take (length names.now - 1) names.now)) (chain_over items.now (item_at items.now number).owner) }
-{
-    match shared {
-        Some(other) if other != root => false,
-        _ => fits(items, names, number),
-    }
-}
-
 /// Notes an item that counts as the last of its name. Gives the one before it.
 fn note(
     latest: &mut IndexMap<Name, usize>,
@@ -122,6 +95,7 @@ fn note(
     number: usize,
 ) -> Result<Option<usize>, AllocError>
     ensures before { IfOk result (λ before. item.now.counts ≡ true → before ≡ get same_name latest.old item.now.name) }
+    ensures none { IfOk result (λ before. item.now.counts ≡ false → before ≡ None) }
     ensures found { OnOk result ((name : Characters) → get same_name latest.new name ≡ (if item.now.counts && same_name item.now.name name then Some number else get same_name latest.old name)) }
     ensures err { OnErr result (IsUnchanged latest.old latest.new) }
 {
@@ -143,8 +117,10 @@ impl Block {
             steps: IndexSet::new(alloc),
             paths: Vec::new(alloc),
             ended: Vec::new(alloc),
-            roots: Vec::new(alloc),
-            shared: IndexMap::new(alloc),
+            leaps: Vec::new(alloc),
+            lasts: Vec::new(alloc),
+            tops: Vec::new(alloc),
+            is_ordered: true,
         }
     }
 
@@ -167,18 +143,23 @@ impl Block {
         self.items.reserve(1)?;
         self.earlier.reserve(1)?;
         self.paths.reserve(1)?;
-        self.roots.reserve(1)?;
+        self.leaps.reserve(1)?;
+        self.lasts.reserve(1)?;
+        self.tops.reserve(1)?;
         let step = Step {
             name: item.name,
             above: path_above(&self.paths, item.owner),
         };
         let path = path_of(&mut self.steps, &mut self.ended, step)?;
-        let root = root_of(&self.roots, item.owner, number);
-        note_root(&mut self.shared, item.name, root)?;
         let before = note(&mut self.latest, &item, number)?;
         self.earlier.push(before)?;
         self.paths.push(path)?;
-        self.roots.push(root)?;
+        self.leaps.push(leap_from(&self.leaps, before, number))?;
+        let is_behind = close(&self.items, &mut self.lasts, item.owner);
+        self.is_ordered = is_in_order(&self.items, &item, self.is_ordered, is_behind);
+        let top = outermost(&self.lasts, &self.tops, before, number);
+        self.lasts.push(None)?;
+        self.tops.push(top)?;
         note_end(&mut self.ended, path, item.counts, number);
         self.items.push(item)?;
         Ok(number)
@@ -209,6 +190,53 @@ impl Block {
         }
     }
 
+    /// The last item of a name up to a bound.
+    fn last_up_to(&self, name: Name, bound: usize) -> Option<usize>
+        ensures { IsLastUpTo self.now name bound result }
+    {
+        let mut next = self.latest.get(&name).copied();
+        while let Some(number) = next {
+            if number <= bound {
+                return next;
+            }
+            let leap = self.leaps[number].to;
+            next = if bound < leap && leap < number {
+                Some(leap)
+            } else {
+                self.earlier[number]
+            };
+        }
+        None
+    }
+
+    /// How far back from a number the next item stands that may have the names before the last of a reference above it.
+    fn reached(&self, names: &[Name], number: usize) -> Option<usize>
+        requires { 0 < length names.now }
+        ensures { IsReach self.now names.now number result }
+    {
+        let mut bound = number;
+        if !self.is_ordered {
+            return Some(bound);
+        }
+        for name in &names[..names.len() - 1] {
+            let above = self.last_up_to(*name, number)?;
+            if let Some(last) = self.lasts[self.tops[above]] {
+                bound = bound.min(last);
+            }
+        }
+        Some(bound)
+    }
+
+    /// The last item up to a number that a reference may fit.
+    fn candidate(&self, names: &[Name], number: usize) -> Option<usize>
+        ensures { IsCandidate self.now names.now number result }
+    {
+        let _ = &self.items;
+        let last = names.last()?;
+        let bound = self.reached(names, number)?;
+        self.last_up_to(*last, bound.min(number))
+    }
+
     /// What items a reference qualifies, in part or fully. Two of them are enough.
     fn found_partly(&self, names: &[Name]) -> Found
         ensures { result ≡ found_below (fits self.now names.now) (length self.now) variants.Nothing }
@@ -217,17 +245,19 @@ impl Block {
         let Some(last) = names.last() else {
             return Found::Nothing;
         };
-        let shared = shared_root(&self.shared, names);
         let mut found = Found::Nothing;
         let mut next = self.latest.get(last).copied();
         while let Some(number) = next {
-            if fits_at(items, names, number, self.roots[number], shared) {
-                found = found.with_number(number);
+            next = self.candidate(names, number);
+            if next == Some(number) {
+                if fits(items, names, number) {
+                    found = found.with_number(number);
+                }
+                if let Found::Several = found {
+                    return Found::Several;
+                }
+                next = self.earlier[number];
             }
-            if let Found::Several = found {
-                return Found::Several;
-            }
-            next = self.earlier[number];
         }
         found
     }

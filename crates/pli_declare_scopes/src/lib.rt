@@ -4,10 +4,11 @@
 mod block;
 mod found;
 mod laws;
+mod leap;
 mod level;
 mod path;
+mod reach;
 mod repeat;
-mod root;
 mod scope;
 
 pub use block::{Block, Declared};

@@ -1,7 +1,7 @@
 use Rattle.std.proofs.Common.{◌≡◌, ◌-◌, ◌<◌, length, take, IfSome}
 use Rattle.std.specs.Prelude.{reverse}
 use Rattle.pli_declare_scopes.specs.Scopes.{item_at, chain_over, is_part}
-use Rattle.pli_declare_scopes.proofs.Chains.{rank}
+use Rattle.pli_declare_scopes.specs.answers.Leaps.{rank}
 use Rattle.pli_declare_scopes.proofs.block.fits.Given as goal
 
 abbrev pub invariant-loop-left : goal.invariant-loop-left

@@ -1,14 +1,14 @@
-use Rattle.std.specs.Prelude.{reverse, take, ℕ, IfSome}
-use Rattle.std.proofs.Common.{subst, ◌≡◌, ◌-◌, ◌<◌, [], length, get_or, None, if◌then◌else◌, sym, ap, ◌∙◌, arith}
+use Rattle.std.proofs.Common.{subst, ◌≡◌, ◌-◌, ◌<◌, [], length, get_or, None, Some, if◌then◌else◌, sym, ap, ◌∙◌, arith}
 use Rattle.std.proofs.lemmas.List.{nil_from_length, get_or_default}
 use Rattle.indexmap.specs.IndexMap.{get}
 use Rattle.pli_base.specs.Words.{same_name}
-use Rattle.pli_declare_scopes.specs.Scopes.{fits, chain_over, item_at, is_part, found_below, with_number}
+use Rattle.pli_declare_scopes.specs.Scopes.{fits, found_below, with_number}
 use Rattle.pli_declare_scopes.specs.declared.found.Found.TheVariants.{Nothing}
-use Rattle.pli_declare_scopes.proofs.RootsKept.{root_is}
-use Rattle.pli_declare_scopes.proofs.Candidates.{no_names, stands, is_there, looking_first, looking_several, looking_on, looking_ends, if_taken, if_passed}
+use Rattle.pli_declare_scopes.specs.answers.Leaps.{rank}
+use Rattle.pli_declare_scopes.specs.answers.Reaches.{IsCandidate}
+use Rattle.pli_declare_scopes.proofs.Candidates.{no_names, stands, is_there, looking_first, looking_several, looking_on, looking_ends, looking_leap, leap_ends, if_taken, if_passed}
 use Rattle.pli_declare_scopes.proofs.block.Block.found_partly.Goals as goal
-use Rattle.pli_declare_scopes.proofs.block.Block.found_partly.Goals.{then-fits_at, else-fits_at}
+use Rattle.pli_declare_scopes.proofs.block.Block.found_partly.Goals.{then-fits, else-fits}
 
 pub returns-in_default : goal.returns-in_default
 returns-in_default c =
@@ -30,56 +30,55 @@ returns-in-Several c =
     let names = c.args.names.now in
     let n = c.in-Some-next.number in
     let some = c.in-Some.ensures.item.3.0 in
-    let told : c.if-fits_at.found ≡ (if c.fits_at.result then with_number n c.loop-next.found else c.loop-next.found) = elim c.if-fits_at.branch [
-      | then-fits_at w ↦ if_taken _ _ _ _ w.if-fits_at.true (w.found-is ∙ w.with_number-found.ensures)
-      | else-fits_at w ↦ if_passed _ _ _ _ w.if-fits_at.false w.found-is
+    let h = c.loop-next.invariant in
+    let told : c.if-fits.found ≡ (if c.fits.result then with_number n c.loop-next.found else c.loop-next.found) = elim c.if-fits.branch [
+      | then-fits w ↦ if_taken _ _ _ _ w.if-fits.true (w.found-is ∙ w.with_number-found.ensures)
+      | else-fits w ↦ if_passed _ _ _ _ w.if-fits.false w.found-is
     ] in
-    looking_several items c.self.invariant.0.owners names some c.loop-next.next n c.loop-next.found c.if-fits_at.found c.fits_at.result c.loop-next.invariant c.in-Some-next.is
-    (rw c.as_slice-items.ensures.value at c.fits_at.ensures) told c.in-Several.is
+    looking_several items c.self.invariant.0.owners names some c.loop-next.next n c.loop-next.found c.if-fits.found c.fits.result h c.in-Some-next.is
+    (rw c.as_slice-items.ensures.value at c.fits.ensures) told c.in-Several.is
     ∙ ap (λ block. found_below (fits block names) (length block) Nothing) c.self.view_is
+
+pub loop-next-smaller-then-eq : goal.loop-next-smaller-then-eq
+loop-next-smaller-then-eq c =
+    let items = c.self.inside.items.items in
+    let names = c.args.names.now in
+    let n = c.in-Some-next.number in
+    let some = c.in-Some.ensures.item.3.0 in
+    let h = c.loop-next.invariant in
+    let here : n < length items = stands items c.self.invariant.0.owners names some c.loop-next.next n c.loop-next.found h c.in-Some-next.is in
+    let there = is_there items c.self.invariant.0.owners names some c.loop-next.next n c.loop-next.found h c.in-Some-next.is in
+    looking_ends items c.self.invariant.0.owners names some c.loop-next.next n c.loop-next.found h c.in-Some-next.is c.index.result.now
+    (c.index.ensures ∙ get_or_default c.self.inside.earlier.items n c.index.result.now None (omega (arith, here, c.self.invariant.0.count))
+    ∙ c.self.invariant.0.links (get_or names (length names - 1) []) n here there)
+
+pub loop-next-preserved-then-eq : goal.loop-next-preserved-then-eq
+loop-next-preserved-then-eq c =
+    let items = c.self.inside.items.items in
+    let names = c.args.names.now in
+    let n = c.in-Some-next.number in
+    let some = c.in-Some.ensures.item.3.0 in
+    let h = c.loop-next.invariant in
+    let here : n < length items = stands items c.self.invariant.0.owners names some c.loop-next.next n c.loop-next.found h c.in-Some-next.is in
+    let there = is_there items c.self.invariant.0.owners names some c.loop-next.next n c.loop-next.found h c.in-Some-next.is in
+    let told : c.if-fits.found ≡ (if c.fits.result then with_number n c.loop-next.found else c.loop-next.found) = elim c.if-fits.branch [
+      | then-fits w ↦ if_taken _ _ _ _ w.if-fits.true (w.found-is ∙ w.with_number-found.ensures)
+      | else-fits w ↦ if_passed _ _ _ _ w.if-fits.false w.found-is
+    ] in
+    looking_on items c.self.invariant.0.owners names some c.loop-next.next n c.loop-next.found h c.in-Some-next.is c.index.result.now
+    (c.index.ensures ∙ get_or_default c.self.inside.earlier.items n c.index.result.now None (omega (arith, here, c.self.invariant.0.count))
+    ∙ c.self.invariant.0.links (get_or names (length names - 1) []) n here there)
+    c.if-fits.found c.fits.result
+    (rw c.as_slice-items.ensures.value at c.fits.ensures)
+    told
 
 pub loop-next-smaller : goal.loop-next-smaller
 loop-next-smaller c =
-    let items = c.self.inside.items.items in
-    let names = c.args.names.now in
-    let n = c.in-Some-next.number in
-    let some = c.in-Some.ensures.item.3.0 in
-    let h = c.loop-next.invariant in
-    let here : n < length items = stands items c.self.invariant.0.owners names some c.loop-next.next n c.loop-next.found h c.in-Some-next.is in
-    let there = is_there items c.self.invariant.0.owners names some c.loop-next.next n c.loop-next.found h c.in-Some-next.is in
-    looking_ends items c.self.invariant.0.owners names some c.loop-next.next n c.loop-next.found h c.in-Some-next.is c.index-next.result.now
-    (c.index-next.ensures ∙ get_or_default c.self.inside.earlier.items n c.index-next.result.now None (omega (arith, here, c.self.invariant.0.count))
-    ∙ c.self.invariant.0.links (get_or names (length names - 1) []) n here there)
+    let less : rank c.candidate-next.result < rank (Some c.in-Some-next.number) =
+    leap_ends c.candidate-next.result c.in-Some-next.number c.candidate-next.ensures.bounded (sym c.eq.ensures ∙ c.if-eq.false) in
+    subst (λ o. rank c.candidate-next.result < rank o) (sym c.in-Some-next.is) less
 
 pub loop-next-preserved : goal.loop-next-preserved
 loop-next-preserved c =
-    let items = c.self.inside.items.items in
-    let names = c.args.names.now in
-    let n = c.in-Some-next.number in
-    let some = c.in-Some.ensures.item.3.0 in
-    let h = c.loop-next.invariant in
-    let here : n < length items = stands items c.self.invariant.0.owners names some c.loop-next.next n c.loop-next.found h c.in-Some-next.is in
-    let there = is_there items c.self.invariant.0.owners names some c.loop-next.next n c.loop-next.found h c.in-Some-next.is in
-    let told : c.if-fits_at.found ≡ (if c.fits_at.result then with_number n c.loop-next.found else c.loop-next.found) = elim c.if-fits_at.branch [
-      | then-fits_at w ↦ if_taken _ _ _ _ w.if-fits_at.true (w.found-is ∙ w.with_number-found.ensures)
-      | else-fits_at w ↦ if_passed _ _ _ _ w.if-fits_at.false w.found-is
-    ] in
-    looking_on items c.self.invariant.0.owners names some c.loop-next.next n c.loop-next.found h c.in-Some-next.is c.index-next.result.now
-    (c.index-next.ensures ∙ get_or_default c.self.inside.earlier.items n c.index-next.result.now None (omega (arith, here, c.self.invariant.0.count))
-    ∙ c.self.invariant.0.links (get_or names (length names - 1) []) n here there)
-    c.if-fits_at.found c.fits_at.result
-    (rw c.as_slice-items.ensures.value at c.fits_at.ensures)
-    told
-
-pub fits_at-requires-clause-rooted : goal.fits_at-requires-clause-rooted
-fits_at-requires-clause-rooted c = λ part.
-    let items = c.self.inside.items.items in
-    let roots = c.self.inside.roots.items in
-    let names = c.args.names.now in
-    let n = c.in-Some-next.number in
-    let some = c.in-Some.ensures.item.3.0 in
-    let here : n < length items = stands items c.self.invariant.0.owners names some c.loop-next.next n c.loop-next.found c.loop-next.invariant c.in-Some-next.is in
-    let read : get_or roots n 0 ≡ c.index.result.now = sym (c.index.ensures ∙ get_or_default roots n c.index.result.now 0 (omega (arith, here, c.self.invariant.2.all))) in
-    subst (λ (k : ℕ). IfSome c.shared_root-shared.result (λ r. r ≡ k)) read
-    (root_is items c.self.invariant.0.owners c.self.inside.shared roots c.self.invariant.2 names c.shared_root-shared.result c.shared_root-shared.ensures n here
-    (sym (ap (λ is. is_part (reverse (take (length names - 1) names)) (chain_over is (item_at is n).owner)) c.as_slice-items.ensures.value) ∙ part))
+    looking_leap c.self.inside.items.items c.args.names.now c.loop-next.next c.in-Some-next.number c.loop-next.found c.loop-next.invariant c.in-Some-next.is c.candidate-next.result
+    (subst (λ is. IsCandidate is c.args.names.now c.in-Some-next.number c.candidate-next.result) (sym c.self.view_is) c.candidate-next.ensures)

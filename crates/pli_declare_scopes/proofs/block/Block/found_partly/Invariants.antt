@@ -1,4 +1,4 @@
-use Rattle.pli_declare_scopes.proofs.Chains.{rank}
+use Rattle.pli_declare_scopes.specs.answers.Leaps.{rank}
 use Rattle.pli_declare_scopes.proofs.Candidates.{Looking}
 use Rattle.pli_declare_scopes.proofs.block.Block.found_partly.Given as goal
 

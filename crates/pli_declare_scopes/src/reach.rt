@@ -1,0 +1,79 @@
+//! How far items reach: the last number within an item, and the outermost item of its name that an item is within.
+ghost use Rattle.std.specs.Prelude.{◌≡◌, ◌<◌, ◌≤◌, ℕ, true, false, get_or, length, IfSome};
+ghost use Rattle.std.specs.Vec.{vec_capacity};
+ghost use Rattle.pli_declare_scopes.specs.Scopes.{item_at};
+ghost use Rattle.pli_declare_scopes.specs.answers.Indexes.{OwnersBefore};
+ghost use Rattle.pli_declare_scopes.specs.answers.Reaches.{AreClosed, outermost_of};
+
+use crate::block::Declared;
+
+/// Whether a number is no greater than that of an owner, if there is one.
+fn is_up_to(number: usize, owner: Option<usize>) -> bool
+    ensures { result ≡ false → IfSome owner (λ o. o < number) }
+{
+    match owner {
+        Some(owner) => number <= owner,
+        None => false,
+    }
+}
+
+/// Closes the items that the last one is within, up to the owner of a new one: their last number is that of the last item. Tells
+/// whether the last item is within that owner, as items that stand in order are.
+pub(crate) fn close(
+    items: &[Declared],
+    lasts: &mut Vec<Option<usize>>,
+    owner: Option<usize>,
+) -> bool
+    requires all { length lasts.old.items ≡ length items.now }
+    requires owners { OwnersBefore items.now }
+    ensures closed { AreClosed items.now lasts.old.items owner lasts.new.items result }
+    ensures room { vec_capacity lasts.new ≡ vec_capacity lasts.old }
+{
+    let mut at = items.len().checked_sub(1);
+    while let Some(number) = at {
+        if is_up_to(number, owner) {
+            return at == owner;
+        }
+        lasts[number] = Some(items.len() - 1);
+        at = items[number].owner;
+    }
+    owner.is_none()
+}
+
+/// Whether items still stand in order with one more: they did so far, it stands behind what its owner has so far, and where it counts
+/// its owner does.
+pub(crate) fn is_in_order(
+    items: &[Declared],
+    item: &Declared,
+    is_ordered: bool,
+    is_behind: bool,
+) -> bool
+    requires { IfSome item.now.owner (λ o. o < length items.now) }
+    ensures so_far { result ≡ true → is_ordered ≡ true }
+    ensures behind { result ≡ true → is_behind ≡ true }
+    ensures counted { result ≡ true → item.now.counts ≡ true → IfSome item.now.owner (λ o. (item_at items.now o).counts ≡ true) }
+{
+    let counts = match item.owner {
+        Some(owner) => !item.counts || items[owner].counts,
+        None => true,
+    };
+    is_ordered && is_behind && counts
+}
+
+/// The outermost item of its name that one is within, which has the item of its name before it.
+pub(crate) fn outermost(
+    lasts: &[Option<usize>],
+    tops: &[usize],
+    before: Option<usize>,
+    number: usize,
+) -> usize
+    requires within { IfSome before (λ b. b < length tops.now) }
+    requires tops { (n : ℕ) → n < length tops.now → get_or tops.now n 0 ≤ n }
+    requires all { length lasts.now ≡ length tops.now }
+    ensures { result ≡ outermost_of lasts.now tops.now before number }
+{
+    match before {
+        Some(before) if lasts[tops[before]].is_none() => tops[before],
+        _ => number,
+    }
+}
