@@ -7,3 +7,7 @@ pub mod Multiples
 pub mod Paths
 pub mod PlaceLaws
 pub mod Places
+pub mod ScalarLawsHold
+pub mod ScalarParts
+pub mod ScalarPlaces
+pub mod SubscriptLawsHold

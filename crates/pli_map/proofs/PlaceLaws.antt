@@ -97,7 +97,7 @@ steps_are_apart d s t p q other e f = elim (step_is d s p e) [
 -- ---- the parts of a path
 
 -- how a path that is not empty leads to its part
-record Leads (d : Description) (s : PathStep) (path : List PathStep) (p : PlacedPart) : Type 0 where
+pub record Leads (d : Description) (s : PathStep) (path : List PathStep) (p : PlacedPart) : Type 0 where
   pub first : PlacedPart
   pub rest : PlacedPart
   pub first_is : part_at d s ≡ Some first
@@ -113,7 +113,7 @@ leads_of : (d : Description) (s : PathStep) (path : List PathStep) (p : PlacedPa
 leads_of d s path p None o_is e = absurd (none-some p e)
 leads_of d s path p (Some a) o_is e = leads_on d s path p a (place_of a.description path) o_is refl e
 
-leads : (d : Description) (s : PathStep) (path : List PathStep) (p : PlacedPart) → place_of d (s ∷ path) ≡ Some p → Leads d s path p
+pub leads : (d : Description) (s : PathStep) (path : List PathStep) (p : PlacedPart) → place_of d (s ∷ path) ≡ Some p → Leads d s path p
 leads d s path p e = leads_of d s path p (part_at d s) refl e
 
 pub lie_within : PartsLieWithin
@@ -166,7 +166,7 @@ rounded_twice n = omega arith
 pub areas_are_rounded : AreasAreRounded
 areas_are_rounded n = ap Area (rounded_twice n)
 
-at_most : (l x : ℤ) → int_le l x ≡ true → l ≤ℤ x
+pub at_most : (l x : ℤ) → int_le l x ≡ true → l ≤ℤ x
 at_most l x e = omega (arith, ints)
 
 test_passes : (l x : ℤ) → l ≤ℤ x → int_le l x ≡ true
@@ -181,7 +181,7 @@ within_from_index (b ∷ bs) (x ∷ xs) k e =
     let m = met b x t.distance t.distance_is in
     (at_most b.low x m.0, at_most x b.high m.1, within_from_index bs xs t.behind t.behind_is)
 
-index_from_within : (bs : List Bounds) (xs : List ℤ) → WithinBounds bs xs → (k : ℕ) × (index_of bs xs ≡ Some k)
+pub index_from_within : (bs : List Bounds) (xs : List ℤ) → WithinBounds bs xs → (k : ℕ) × (index_of bs xs ≡ Some k)
 index_from_within [] [] h = (0, refl)
 index_from_within [] (x ∷ xs) h = absurd h
 index_from_within (b ∷ bs) [] h = absurd h

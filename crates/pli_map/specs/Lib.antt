@@ -2,8 +2,10 @@ pub mod Description
 pub mod Layouts
 pub mod Parts
 pub mod Same
+pub mod ScalarPaths
 pub mod Scalars
 pub mod Sizes
+pub mod Subscripts
 pub mod examples
 pub mod laws
 pub mod views

@@ -1,2 +1,4 @@
 pub mod Laws
 pub mod SameLaws
+pub mod ScalarLaws
+pub mod SubscriptLaws

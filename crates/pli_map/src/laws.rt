@@ -1,6 +1,9 @@
-//! Laws and worked examples of sizes and places.
+//! Laws and worked examples of sizes and places, of scalars and of subscripts.
 ghost use Rattle.pli_map.specs.examples.Examples.{ScalarSizes, MixedMembers, RowMajorOrder, StridesAreAligned, NoElements};
 ghost use Rattle.pli_map.specs.laws.Laws.{PartsDoNotMeet, PartsLieWithin, PartsStandAligned, FourAlignments, AreasAreRounded, ElementsAreWithinBounds, ElementsAreInRowMajorOrder, ElementsAreCounted, SameIsEqual};
+ghost use Rattle.pli_map.specs.examples.ScalarExamples.{CountedScalars, FoundScalars, NamedSubscripts};
+ghost use Rattle.pli_map.specs.laws.ScalarLaws.{PartsAreFound, PartsAreDetermined, FoundIsPlaced, ScalarsLieWithin, PartsOfParts, FilledPartsTakeBytes};
+ghost use Rattle.pli_map.specs.laws.SubscriptLaws.{OffsetsAreSums, SubscriptsWithinLead};
 
 /// A law: two different members or elements of one whole have no byte in common, nor have parts of them.
 #[tactic(auto, using(crate::proofs::PlaceLaws::do_not_meet))]
@@ -51,11 +54,44 @@ pub fn same_is_equal()
     ensures { SameIsEqual }
 {}
 
-/// Worked examples of sizes, alignments and places.
+/// A law: which scalars a part has is determined by where it stands and by its description, and only parts are found.
+#[tactic(auto, using(crate::proofs::ScalarLawsHold::parts_are_found, crate::proofs::ScalarLawsHold::parts_are_determined, crate::proofs::ScalarLawsHold::found_is_placed))]
+pub fn parts_have_their_scalars()
+    ensures found { PartsAreFound }
+    ensures determined { PartsAreDetermined }
+    ensures only { FoundIsPlaced }
+{}
+
+/// A law: the scalars and the bytes of a part are of the whole.
+pub fn scalars_lie_within()
+    ensures { ScalarsLieWithin }
+{}
+
+/// A law: a part of a part is a part of the whole, at the sum of both distances.
+pub fn parts_of_parts()
+    ensures { PartsOfParts }
+{}
+
+/// A law: where no length, size and number of elements is 0 each part takes bytes and has a scalar.
+pub fn filled_parts_take_bytes()
+    ensures { FilledPartsTakeBytes }
+{}
+
+/// A law: a part stands behind the first element by what its subscripts, of all levels in turn, pass.
+#[tactic(auto, using(crate::proofs::SubscriptLawsHold::offsets_are_sums, crate::proofs::SubscriptLawsHold::subscripts_within_lead))]
+pub fn offsets_are_sums()
+    ensures sums { OffsetsAreSums }
+    ensures lead { SubscriptsWithinLead }
+{}
+
+/// Worked examples of sizes, alignments and places, of scalars and of subscripts.
 pub fn worked_examples()
     ensures scalars { ScalarSizes }
     ensures members { MixedMembers }
     ensures elements { RowMajorOrder }
     ensures strides { StridesAreAligned }
     ensures no_elements { NoElements }
+    ensures counted_scalars { CountedScalars }
+    ensures found_scalars { FoundScalars }
+    ensures named_subscripts { NamedSubscripts }
 {}

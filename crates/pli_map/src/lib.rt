@@ -10,8 +10,9 @@ mod sizes;
 pub use description::{Bounds, Description};
 pub use laws::{
     areas_are_rounded, elements_are_in_row_major_order, elements_are_within_bounds,
-    four_alignments, parts_do_not_meet, parts_lie_within, parts_stand_aligned, same_is_equal,
-    worked_examples,
+    filled_parts_take_bytes, four_alignments, offsets_are_sums, parts_do_not_meet,
+    parts_have_their_scalars, parts_lie_within, parts_of_parts, parts_stand_aligned, same_is_equal,
+    scalars_lie_within, worked_examples,
 };
 pub use layout::{Layout, SIZE_LIMIT};
 pub use parts::{PathStep, PlacedPart, place};
