@@ -3,13 +3,14 @@ use Rattle.std.proofs.Common.{◌<◌, ◌≤◌, nat_le, if◌then◌else◌, B
 use Rattle.pli_map.specs.Description.{Description, FixedBinary, Character, Varying, Bit, Pointer, Offset, Area, Array, Structure, Members, NoMembers, MemberThen}
 use Rattle.pli_map.specs.Sizes.{alignment_of, greatest_alignment}
 
-between : (b : Bool) → (0 < (if b then 2 else 4)) × ((if b then 2 else 4) ≤ 8)
-between true = (omega arith, omega arith)
-between false = (omega arith, omega arith)
+between : (b c : Bool) → (0 < (if b then 2 else (if c then 4 else 8))) × ((if b then 2 else (if c then 4 else 8)) ≤ 8)
+between true c = (omega arith, omega arith)
+between false true = (omega arith, omega arith)
+between false false = (omega arith, omega arith)
 
 mutual
   in_range : (d : Description) → (0 < alignment_of d) × (alignment_of d ≤ 8)
-  in_range (FixedBinary p) = between (nat_le p 15)
+  in_range (FixedBinary p) = between (nat_le p 15) (nat_le p 31)
   in_range (Character n) = (omega arith, omega arith)
   in_range (Varying n) = (omega arith, omega arith)
   in_range (Bit n) = (omega arith, omega arith)

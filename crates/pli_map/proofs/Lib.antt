@@ -10,4 +10,6 @@ pub mod Places
 pub mod ScalarLawsHold
 pub mod ScalarParts
 pub mod ScalarPlaces
+pub mod StoredLawsHold
+pub mod StoredNumbers
 pub mod SubscriptLawsHold

@@ -15,13 +15,14 @@ use Rattle.pli_map.proofs.Places.{met, turns, MemberStep, ElementStep, element_p
 
 -- ---- alignments
 
-fixed_binary : (b : Bool) → IsAlignment (if b then 2 else 4)
-fixed_binary true = inr (inl refl)
-fixed_binary false = inr (inr (inl refl))
+fixed_binary : (b c : Bool) → IsAlignment (if b then 2 else (if c then 4 else 8))
+fixed_binary true c = inr (inl refl)
+fixed_binary false true = inr (inr (inl refl))
+fixed_binary false false = inr (inr (inr refl))
 
 mutual
   pub four_alignments : (d : Description) → IsAlignment (alignment_of d)
-  four_alignments (FixedBinary p) = fixed_binary (nat_le p 15)
+  four_alignments (FixedBinary p) = fixed_binary (nat_le p 15) (nat_le p 31)
   four_alignments (Character n) = inl refl
   four_alignments (Varying n) = inr (inl refl)
   four_alignments (Bit n) = inl refl

@@ -245,9 +245,10 @@ found_is_placed whole offset description k e = is_placed whole offset descriptio
 abbrev pub TakesBytes : Description → Type 0
 TakesBytes d = (0 < size_of d) × (0 < scalars_in d)
 
-number_takes : (b : Bool) → 0 < (if b then 2 else 4)
-number_takes true = omega arith
-number_takes false = omega arith
+number_takes : (b c : Bool) → 0 < (if b then 2 else (if c then 4 else 8))
+number_takes true c = omega arith
+number_takes false true = omega arith
+number_takes false false = omega arith
 
 positive_product : (n m : ℕ) → 0 < n → 0 < m → 0 < n * m
 positive_product (suc n) (suc m) p q = omega arith
@@ -256,7 +257,7 @@ positive_product (suc n) zero p q = absurd (none_below_0 0 q)
 
 mutual
   pub takes_bytes : (d : Description) → is_filled d ≡ true → TakesBytes d
-  takes_bytes (FixedBinary p) e = (number_takes (nat_le p 15), omega arith)
+  takes_bytes (FixedBinary p) e = (number_takes (nat_le p 15) (nat_le p 31), omega arith)
   takes_bytes (Character n) e = (ltb-true 0 n e, omega arith)
   takes_bytes (Varying n) e = (omega arith, omega arith)
   takes_bytes (Bit n) e = (omega (arith, ltb-true 0 n e), omega arith)

@@ -5,7 +5,9 @@ pub mod Same
 pub mod ScalarPaths
 pub mod Scalars
 pub mod Sizes
+pub mod StoredValues
 pub mod Subscripts
+pub mod Values
 pub mod examples
 pub mod laws
 pub mod views

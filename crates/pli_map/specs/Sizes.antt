@@ -15,10 +15,14 @@ abbrev pub count_of : List Bounds → ℕ
 count_of [] = 1
 count_of (b ∷ bs) = extent_of b * count_of bs
 
+-- how many bytes a number of so many binary digits takes (own)
+abbrev pub number_bytes : (precision : ℕ) → ℕ
+number_bytes p = if nat_le p 15 then 2 else (if nat_le p 31 then 4 else 8)
+
 -- a description stands on a byte whose number is a multiple of its alignment
 abbrev mutual
   pub alignment_of : Description → ℕ
-  alignment_of (FixedBinary p) = if nat_le p 15 then 2 else 4
+  alignment_of (FixedBinary p) = number_bytes p
   alignment_of (Character n) = 1
   alignment_of (Varying n) = 2
   alignment_of (Bit n) = 1
@@ -36,7 +40,7 @@ abbrev mutual
 -- member
 abbrev mutual
   pub size_of : Description → ℕ
-  size_of (FixedBinary p) = if nat_le p 15 then 2 else 4
+  size_of (FixedBinary p) = number_bytes p
   size_of (Character n) = n
   size_of (Varying n) = 2 + n
   size_of (Bit n) = div_ceil n 8

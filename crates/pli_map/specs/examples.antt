@@ -1,2 +1,3 @@
 pub mod Examples
 pub mod ScalarExamples
+pub mod StoredExamples

@@ -1,4 +1,5 @@
 pub mod Laws
 pub mod SameLaws
 pub mod ScalarLaws
+pub mod StoredLaws
 pub mod SubscriptLaws

@@ -1,8 +1,10 @@
-//! Laws and worked examples of sizes and places, of scalars and of subscripts.
+//! Laws and worked examples of sizes and places, of scalars, of subscripts and of stored values.
 ghost use Rattle.pli_map.specs.examples.Examples.{ScalarSizes, MixedMembers, RowMajorOrder, StridesAreAligned, NoElements};
 ghost use Rattle.pli_map.specs.laws.Laws.{PartsDoNotMeet, PartsLieWithin, PartsStandAligned, FourAlignments, AreasAreRounded, ElementsAreWithinBounds, ElementsAreInRowMajorOrder, ElementsAreCounted, SameIsEqual};
 ghost use Rattle.pli_map.specs.examples.ScalarExamples.{CountedScalars, FoundScalars, NamedSubscripts};
 ghost use Rattle.pli_map.specs.laws.ScalarLaws.{PartsAreFound, PartsAreDetermined, FoundIsPlaced, ScalarsLieWithin, PartsOfParts, FilledPartsTakeBytes};
+ghost use Rattle.pli_map.specs.examples.StoredExamples.{StoredNumbers, StoredStrings};
+ghost use Rattle.pli_map.specs.laws.StoredLaws.{StoredBytesFill, StoredIsLoaded, BytesAreOfOneValue};
 ghost use Rattle.pli_map.specs.laws.SubscriptLaws.{OffsetsAreSums, SubscriptsWithinLead};
 
 /// A law: two different members or elements of one whole have no byte in common, nor have parts of them.
@@ -84,7 +86,15 @@ pub fn offsets_are_sums()
     ensures lead { SubscriptsWithinLead }
 {}
 
-/// Worked examples of sizes, alignments and places, of scalars and of subscripts.
+/// A law: the bytes of a value are as many as its description takes, and hold that value and no other.
+#[tactic(auto, using(crate::proofs::StoredLawsHold::stored_bytes_fill, crate::proofs::StoredLawsHold::stored_is_loaded, crate::proofs::StoredLawsHold::bytes_are_of_one_value))]
+pub fn stored_is_loaded()
+    ensures fill { StoredBytesFill }
+    ensures loaded { StoredIsLoaded }
+    ensures one { BytesAreOfOneValue }
+{}
+
+/// Worked examples of sizes, alignments and places, of scalars, of subscripts and of stored values.
 pub fn worked_examples()
     ensures scalars { ScalarSizes }
     ensures members { MixedMembers }
@@ -94,4 +104,6 @@ pub fn worked_examples()
     ensures counted_scalars { CountedScalars }
     ensures found_scalars { FoundScalars }
     ensures named_subscripts { NamedSubscripts }
+    ensures stored_numbers { StoredNumbers }
+    ensures stored_strings { StoredStrings }
 {}

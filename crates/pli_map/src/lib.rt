@@ -1,4 +1,5 @@
-//! Descriptions of storage, and what they take: sizes, alignments, and where the parts of an array or a structure stand.
+//! Descriptions of storage, and what they take: sizes, alignments, where the parts of an array or a structure stand, and the bytes
+//! of values.
 #![tactic(auto)]
 
 mod description;
@@ -6,14 +7,16 @@ mod laws;
 mod layout;
 mod parts;
 mod sizes;
+mod stored;
 
 pub use description::{Bounds, Description};
 pub use laws::{
     areas_are_rounded, elements_are_in_row_major_order, elements_are_within_bounds,
     filled_parts_take_bytes, four_alignments, offsets_are_sums, parts_do_not_meet,
     parts_have_their_scalars, parts_lie_within, parts_of_parts, parts_stand_aligned, same_is_equal,
-    scalars_lie_within, worked_examples,
+    scalars_lie_within, stored_is_loaded, worked_examples,
 };
 pub use layout::{Layout, SIZE_LIMIT};
 pub use parts::{PathStep, PlacedPart, place};
 pub use sizes::{alignment, measure, size};
+pub use stored::{load_value, store_value};

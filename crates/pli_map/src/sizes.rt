@@ -1,7 +1,7 @@
 //! How many bytes a description takes, and on which bytes it may stand (own).
-ghost use Rattle.std.specs.Prelude.{◌≡◌, ◌<◌, ◌≤◌, ◌+◌, ◌*◌, min, max, nat_le, if◌then◌else◌, SomeIff};
+ghost use Rattle.std.specs.Prelude.{◌≡◌, ◌<◌, ◌≤◌, ◌+◌, ◌*◌, min, max, SomeIff};
 ghost use Rattle.std.specs.Int.{next_multiple_of};
-ghost use Rattle.pli_map.specs.Sizes.{count_of, alignment_of, greatest_alignment, size_of, end_behind, stride_of};
+ghost use Rattle.pli_map.specs.Sizes.{count_of, alignment_of, greatest_alignment, size_of, end_behind, stride_of, number_bytes};
 ghost use Rattle.pli_map.specs.views.DescriptionView.{description_view, members_view};
 ghost use Rattle.pli_map.specs.Layouts.{IsLayout};
 
@@ -48,9 +48,13 @@ fn members_alignment(members: &[Description]) -> u32
 }
 
 fn fixed_binary_size(precision: u8) -> u32
-    ensures { result ≡ (if nat_le precision 15 then 2 else 4) }
+    ensures { result ≡ number_bytes precision }
 {
-    if precision <= 15 { 2 } else { 4 }
+    match precision {
+        0..=15 => 2,
+        16..=31 => 4,
+        _ => 8,
+    }
 }
 
 /// What a description takes, or `None` where its size is over SIZE_LIMIT.

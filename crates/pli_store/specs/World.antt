@@ -25,7 +25,7 @@ use Rattle.pli_store.specs.Activations.{activation_at}
 use Rattle.pli_store.specs.Storage.{Generation, Made, Automatic, Static as AsStatic, Dummy, Place, whole}
 use Rattle.pli_store.specs.Storage.{field_of, generation_in, scalar_at, values_from, with_values_at}
 use Rattle.pli_store.specs.Storage.{with_values, without, live_bytes, byte_limit, generation_limit}
-use Rattle.pli_store.specs.Values.{holds}
+use Rattle.pli_map.specs.Values.{holds}
 
 -- a variable that is made once, before the program begins: the unit and the number among its variables of
 -- that kind, and its place

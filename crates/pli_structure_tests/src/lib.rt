@@ -7,3 +7,5 @@ mod layouts;
 mod regions;
 #[cfg(test)]
 mod scopes;
+#[cfg(test)]
+mod stored;

@@ -1,6 +1,6 @@
 -- Bit strings packed, eight bits to a byte, the first bit highest.
-use Rattle.std.specs.Prelude.{◌≡◌, ℕ, ◌+◌, ◌-◌, ◌/◌, ◌%◌, ◌≤◌, nat_eq, Bool, false, List, length, map}
-use Rattle.std.specs.Prelude.{slice_index}
+use Rattle.std.specs.Prelude.{◌≡◌, ℕ, ◌+◌, ◌-◌, ◌*◌, ◌/◌, ◌%◌, ◌≤◌, nat_eq, Bool, false, List, length, map}
+use Rattle.std.specs.Prelude.{slice_index, slice_index_or, if◌then◌else◌}
 use Rattle.std.specs.Int.{bit_at}
 use Rattle.std.specs.List.{range_with_len}
 
@@ -17,3 +17,18 @@ pub record IsPacked (bits : ℕ) (bytes : List ℕ) : Type 0 where
   pub needed : length bytes ≡ (bits + 7) / 8
   pub blank : (place : ℕ) → bits ≤ place → packed_bit bytes place ≡ false
   pub limit : bits ≤ 32767
+
+-- what a bit adds to its byte
+abbrev pub worth : (value : ℕ) → Bool → ℕ
+worth value bit = if bit then value else 0
+
+-- the byte whose bits these are, the bit of place 0 highest
+abbrev pub byte_of : (ℕ → Bool) → ℕ
+byte_of bit =
+    worth 128 (bit 0) + worth 64 (bit 1) + worth 32 (bit 2) + worth 16 (bit 3) + worth 8 (bit 4)
+    + worth 4 (bit 5) + worth 2 (bit 6) + worth 1 (bit 7)
+
+-- the bytes of a bit string, with zeros behind the last bit
+abbrev pub packed : List Bool → List ℕ
+packed bits =
+    map (λ k. byte_of (λ i. slice_index_or bits (8 * k + i) false)) (range_with_len 0 ((length bits + 7) / 8))

@@ -1,5 +1,5 @@
 //! Strings of bits (X3.74), packed eight to a byte.
-ghost use Rattle.std.specs.Prelude.{◌≡◌, ◌≤◌, ◌<◌, ◌+◌, ◌++◌, ◌∷◌, [], length, slice_index_or, take, drop, false, IfOk, OnErr, MatchOption, Some, None};
+ghost use Rattle.std.specs.Prelude.{◌≡◌, ◌≤◌, ◌<◌, ◌+◌, ◌*◌, ◌++◌, ◌∷◌, [], length, slice_index_or, take, drop, false, IfOk, OnErr, MatchOption, Some, None};
 ghost use Rattle.std.specs.Ordering.{bool_cmp};
 ghost use Rattle.pli_value.specs.Strings.{order_of, concatenation, substring, substring_from, fitted, conjunction, disjunction, negation, index_of};
 ghost use Rattle.pli_value.specs.Conversions.{bit_character, bit_characters};
@@ -85,6 +85,19 @@ impl Bits {
         }
         self.count += 1;
         Ok(())
+    }
+
+    /// The first so many of the bits that stand in bytes, of each byte the highest first.
+    pub fn unpack(alloc: Global, bytes: &[u8], count: usize) -> Result<Bits, AllocError>
+        requires limit { count ≤ 32767 }
+        requires within { count ≤ 8 * length bytes.now }
+        ensures { IfOk result (λ bits. bits ≡ unpacked count bytes.now) }
+    {
+        let mut bits = Bits::new(alloc);
+        for place in 0..count {
+            bits.push(bytes[place / 8] >> (7 - place % 8) & 1 == 1)?;
+        }
+        Ok(bits)
     }
 
     /// An equal string.

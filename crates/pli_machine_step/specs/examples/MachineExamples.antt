@@ -10,7 +10,7 @@ use Rattle.pli_code.specs.views.ModuleView.{Module}
 use Rattle.pli_map.specs.Description.{FixedBinary, Array}
 use Rattle.pli_operation.specs.Operations.{Operation, ToCharacters, Add, Compare, AtMost, Less, Substring}
 use Rattle.pli_value.specs.Value.{Value, Number, Characters, Bits}
-use Rattle.pli_store.specs.Values.{first_values}
+use Rattle.pli_map.specs.Values.{first_values}
 use Rattle.pli_store.specs.World.{Variable}
 use Rattle.pli_machine_step.specs.Program.{Instruction, Step, Line, Jump, JumpUnless, Goto, Call, Begin}
 use Rattle.pli_machine_step.specs.Program.{Return, ReturnValue, Local, Global, Field, Subscript, Constant}

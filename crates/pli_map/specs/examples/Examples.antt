@@ -26,6 +26,7 @@ Takes d size alignment = (size_of d ≡ size) × (alignment_of d ≡ alignment)
 abbrev pub ScalarSizes : Type 0
 ScalarSizes =
     Takes (FixedBinary 15) 2 2 × Takes (FixedBinary 16) 4 4 × Takes (FixedBinary 31) 4 4
+    × Takes (FixedBinary 32) 8 8 × Takes (FixedBinary 63) 8 8
     × Takes (Character 3) 3 1 × Takes (Varying 3) 5 2
     × Takes (Bit 8) 1 1 × Takes (Bit 9) 2 1 × Takes Pointer 8 4 × Takes Offset 4 4 × Takes (area 9) 16 8
     × Takes (area 16) 16 8

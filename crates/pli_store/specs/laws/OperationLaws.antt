@@ -13,7 +13,7 @@ use Rattle.pli_operation.specs.Operations.{Calculates, RaisesCondition, OutOfStr
 use Rattle.pli_store.specs.Activations.{Activation, activation_at, outward_from, with_newest, without_newest}
 use Rattle.pli_store.specs.Storage.{Generation, Automatic, Static as AsStatic, Dummy, Place, whole}
 use Rattle.pli_store.specs.Storage.{generation_in, scalar_at, live_bytes, byte_limit, generation_limit}
-use Rattle.pli_store.specs.Values.{holds}
+use Rattle.pli_map.specs.Values.{holds}
 use Rattle.pli_store.specs.World.{World, Answer, Yields, Raises, Wrong, further, known, Variable, height}
 use Rattle.pli_store.specs.World.{made_of, unless_dead, living, parts_held, parts_stored, single, held}
 use Rattle.pli_store.specs.World.{stored}

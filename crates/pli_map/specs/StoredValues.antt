@@ -1,0 +1,40 @@
+-- The bytes of a value under the description of a scalar, and which value bytes hold (own).
+use Rattle.std.specs.Prelude.{ℕ, ◌-◌, nat_le, Bool, false, Option, Some, None, List, [], ◌++◌, length, take}
+use Rattle.std.specs.Prelude.{drop, replicate, if◌then◌else◌}
+use Rattle.std.specs.Int.{Width, w16, w32, w64, cast_signed, cast_unsigned}
+use Rattle.byteorder.specs.Endian.{big_bytes, big_number}
+use Rattle.pli_map.specs.Description.{Description, FixedBinary, Character, Varying, Bit}
+use Rattle.pli_map.specs.Sizes.{number_bytes}
+use Rattle.pli_value.specs.Packing.{packed, unpacked}
+use Rattle.pli_value.specs.Value.{Value, Number, Characters, Bits}
+
+-- numbers of at most 63 binary digits, and strings of at most 32,767 elements: values of these are stored
+abbrev pub is_storable : Description → Bool
+is_storable (FixedBinary precision) = nat_le precision 63
+is_storable (Character n) = nat_le n 32767
+is_storable (Varying n) = nat_le n 32767
+is_storable (Bit n) = nat_le n 32767
+is_storable d = false
+
+-- the bits of a number of so many binary digits with its sign
+abbrev pub width_of : (precision : ℕ) → Width
+width_of p = if nat_le p 15 then w16 else (if nat_le p 31 then w32 else w64)
+
+-- a number in two's complement, the highest byte first; characters, a byte each; for VARYING the length in
+-- two bytes, the highest first, then the characters, then zeros; bits packed eight to a byte, then zeros
+abbrev pub stored_bytes : Description → Value → List ℕ
+stored_bytes (FixedBinary p) (Number x) = big_bytes (number_bytes p) (cast_unsigned (width_of p) x)
+stored_bytes (Character n) (Characters text) = text
+stored_bytes (Varying n) (Characters text) =
+    big_bytes 2 (length text) ++ (text ++ replicate (n - length text) 0)
+stored_bytes (Bit n) (Bits bits) = packed bits
+stored_bytes d v = []
+
+-- the value that bytes hold, as many as the description takes
+abbrev pub loaded_value : Description → List ℕ → Option Value
+loaded_value (FixedBinary p) bytes =
+    Some (Number (cast_signed (width_of p) (big_number (number_bytes p) bytes)))
+loaded_value (Character n) bytes = Some (Characters bytes)
+loaded_value (Varying n) bytes = Some (Characters (take (big_number 2 bytes) (drop 2 bytes)))
+loaded_value (Bit n) bytes = Some (Bits (unpacked n bytes))
+loaded_value d bytes = None
