@@ -9,6 +9,8 @@ use Rattle.pli_base.specs.Words.{same_name}
 use Rattle.pli_declare_scopes.specs.declared.block.Declared.{Declared}
 use Rattle.pli_declare_scopes.specs.Scopes.{Block, item_at, chain_above, chains_after, chain_over, chain_at, is_part}
 use Rattle.pli_declare_scopes.specs.answers.Indexes.{OwnersBefore}
+use Rattle.pli_declare_scopes.specs.answers.Leaps.{rank}
+use Rattle.pli_declare_scopes.specs.laws.ScopeLaws.{NamesUpwards, ChainsAreNames}
 
 pub chains_kept : (is : Block) (chains : List (List Name)) (n : ℕ) → n < length chains → get_or (chains_after chains is) n [] ≡ get_or chains n []
 chains_kept [] chains n lt = refl
@@ -141,3 +143,33 @@ none_is (Some n) h = absurd (h n refl)
 -- names that are read are compared
 pub same_read : (a x b y : Name) (r t : Bool) → r ≡ same_name x y → r ≡ t → x ≡ a → y ≡ b → same_name a b ≡ t
 same_read a x b y r t e f p q = sym (ap (λ n. same_name n y) p ∙ ap (same_name a) q) ∙ sym e ∙ f
+
+-- a chain is the names upwards, both ways
+upwards : (items : Block) → OwnersBefore items → (m : ℕ) (o : Option ℕ) → IfSome o (λ n. n < length items) → rank o ≤ m → NamesUpwards items o (chain_over items o)
+upwards items owners m None h le = refl
+upwards items owners zero (Some n) h le = absurd (omega (arith, le))
+upwards items owners (suc m) (Some n) h le =
+    subst (NamesUpwards items (Some n)) (sym (chain_is items n owners h))
+    (refl, upwards items owners m (item_at items n).owner (further (item_at items n).owner (owners n h)) (lower (item_at items n).owner (owners n h)))
+  where
+    further : (o : Option ℕ) → IfSome o (λ k. k < n) → IfSome o (λ k. k < length items)
+    further None g = tt
+    further (Some k) g = omega (arith, g, h)
+
+    lower : (o : Option ℕ) → IfSome o (λ k. k < n) → rank o ≤ m
+    lower None g = omega arith
+    lower (Some k) g = omega (arith, g, le)
+
+-- names upwards are one list
+upwards_one : (items : Block) (o : Option ℕ) (xs ys : List Name) → NamesUpwards items o xs → NamesUpwards items o ys → xs ≡ ys
+upwards_one items None xs ys g h = g ∙ sym h
+upwards_one items (Some n) [] ys g h = absurd g
+upwards_one items (Some n) (x ∷ xs) [] g h = absurd h
+upwards_one items (Some n) (x ∷ xs) (y ∷ ys) g h =
+    ap (λ z. z ∷ xs) (sym g.0 ∙ h.0) ∙ ap (λ zs. y ∷ zs) (upwards_one items (item_at items n).owner xs ys g.1 h.1)
+
+pub chains_are_names : ChainsAreNames
+chains_are_names items n names owners lt = (
+  λ e. subst (NamesUpwards items (Some n)) e (upwards items owners (n + 1) (Some n) lt (omega arith)),
+  λ h. upwards_one items (Some n) (chain_at items n) names (upwards items owners (n + 1) (Some n) lt (omega arith)) h,
+)

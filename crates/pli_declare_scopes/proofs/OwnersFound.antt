@@ -7,7 +7,7 @@ use Rattle.std.specs.Option.{is_none}
 use Rattle.pli_declare_scopes.specs.declared.level.Numbered.{Numbered}
 use Rattle.pli_declare_scopes.specs.declared.level.Standing.{Standing}
 use Rattle.pli_declare_scopes.specs.Levels.{level_of, nearest_after, nearest, owner_of, is_bad, standing, standings_after}
-use Rattle.pli_declare_scopes.specs.laws.LevelLaws.{level_at, stands_at, Belongs, IsLeast, HasNoOwner, IsBadLevel, AllStand, OwnersAreNearest, OwnersAreMissed, BadLevelsAreFound, LevelOneHasNoOwner}
+use Rattle.pli_declare_scopes.specs.laws.LevelLaws.{level_at, stands_at, Belongs, IsLeast, HasNoOwner, IsBadLevel, AllStand, OwnersAreNearest, OwnersAreMissed, BadLevelsAreFound, LevelOneHasNoOwner, LevelsFall}
 
 -- levels with the numbers of their items
 abbrev pub numbered : ℕ → List ℕ → List Numbered
@@ -247,3 +247,12 @@ level_one_has_no_owner levels n lt good = (to, from)
 
     from : level_at levels n ≡ 1 → (stands_at levels n).owner ≡ None
     from one = (owners_are_missed levels n lt).1 (inl (omega (arith, one)))
+
+pub levels_fall : LevelsFall
+levels_fall levels zero n owner lt c =
+    let b = (owners_are_nearest levels n c.0 lt).0 c.1 in
+    (omega (arith, b.before, c.2), subst (λ (o : ℕ). level_at levels o < level_at levels n) (sym c.2) b.lesser)
+levels_fall levels (suc k) n owner lt c =
+    let b = (owners_are_nearest levels n c.0 lt).0 c.1 in
+    let rest = levels_fall levels k c.0 owner (omega (arith, b.before, lt)) c.2 in
+    (omega (arith, b.before, rest.0), omega (arith, b.lesser, rest.1))

@@ -1,8 +1,8 @@
 //! Laws and worked examples of levels and references.
-ghost use Rattle.pli_declare_scopes.specs.laws.ScopeLaws.{MeantIsMeans, MeansOne};
+ghost use Rattle.pli_declare_scopes.specs.laws.ScopeLaws.{MeantIsMeans, MeansOne, ChainsAreNames};
 ghost use Rattle.pli_declare_scopes.specs.examples.Examples.{MembersOfMembers, LevelZero, LevelOneAfterZero, NoLesserLevel, LevelsOver255, PartialQualification, FullBeforePartial, InnermostBlock, ItemsThatCount, SecondIsTwice, MembersOfSecond};
 ghost use Rattle.pli_declare_scopes.specs.laws.RepeatLaws.{AllAreJudged, CountsOnce, LaterIsFault, MembersArePassedOver};
-ghost use Rattle.pli_declare_scopes.specs.laws.LevelLaws.{AllStand, OwnersAreNearest, OwnersAreMissed, BadLevelsAreFound, LevelOneHasNoOwner};
+ghost use Rattle.pli_declare_scopes.specs.laws.LevelLaws.{AllStand, OwnersAreNearest, OwnersAreMissed, BadLevelsAreFound, LevelOneHasNoOwner, LevelsFall};
 
 /// A law: the owner of an item of a level over 1 is the nearest item before it with a lesser level, and else it has none; where
 /// levels are not bad, the items of level 1 are those without one.
@@ -12,6 +12,11 @@ pub fn owners_are_nearest()
     ensures found { OwnersAreNearest }
     ensures missed { OwnersAreMissed }
     ensures one { LevelOneHasNoOwner }
+{}
+
+/// A law: from an item to the one that it belongs to, and on to that one's owner, levels fall, whatever levels are written.
+pub fn levels_fall()
+    ensures { LevelsFall }
 {}
 
 /// A law: a level is bad that is 0, over 255, or over 1 with no lesser level before it.
@@ -25,6 +30,12 @@ pub fn bad_levels_are_found()
 pub fn meant_is_means()
     ensures both_ways { MeantIsMeans }
     ensures one { MeansOne }
+{}
+
+/// A law: an item's chain of names is its own name and then the names of the items that it belongs to, the nearest first.
+#[tactic(auto, using(crate::proofs::Chains::chains_are_names))]
+pub fn chains_are_names()
+    ensures { ChainsAreNames }
 {}
 
 /// Worked examples of levels.

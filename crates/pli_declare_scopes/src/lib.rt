@@ -14,8 +14,8 @@ mod scope;
 pub use block::{Block, Declared};
 pub use found::{Found, Meant};
 pub use laws::{
-    bad_levels_are_found, examples_of_levels, examples_of_references, examples_of_repeats,
-    later_is_fault, meant_is_means, owners_are_nearest,
+    bad_levels_are_found, chains_are_names, examples_of_levels, examples_of_references,
+    examples_of_repeats, later_is_fault, levels_fall, meant_is_means, owners_are_nearest,
 };
 pub use level::{Numbered, Standing, standings};
 pub use repeat::{Verdict, Written, verdicts};

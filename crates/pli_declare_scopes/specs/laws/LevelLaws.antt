@@ -1,5 +1,5 @@
 -- What levels amount to: which item an item of a list belongs to, and which levels are bad.
-use Rattle.std.specs.Prelude.{◌≡◌, ℕ, ◌<◌, ◌≤◌, ◌⊎◌, ◌↔◌, false, IsTrue, List, length, get_or, Option, None}
+use Rattle.std.specs.Prelude.{◌≡◌, ℕ, zero, suc, ◌<◌, ◌≤◌, ◌⊎◌, ◌↔◌, false, IsTrue, List, length, get_or, Option, None}
 use Rattle.std.specs.Prelude.{Some}
 use Rattle.pli_declare_scopes.specs.declared.level.Standing.{Standing}
 use Rattle.pli_declare_scopes.specs.Levels.{level_of, standing, standings_of}
@@ -59,3 +59,16 @@ abbrev pub LevelOneHasNoOwner : Type 0
 LevelOneHasNoOwner =
     (levels : List (Option ℕ)) (n : ℕ) → n < length levels → (stands_at levels n).is_bad ≡ false
     → ((stands_at levels n).owner ≡ None) ↔ (level_at levels n ≡ 1)
+
+-- an item belongs to another through so many levels
+abbrev pub IsOwned : List (Option ℕ) → ℕ → (owner n : ℕ) → Type 0
+IsOwned levels zero owner n = owner ≡ n
+IsOwned levels (suc k) owner n =
+    (next : ℕ) × ((stands_at levels n).owner ≡ Some next) × IsOwned levels k owner next
+
+-- the items that an item belongs to, through one level or more, stand before it and have lesser levels: so
+-- levels fall from each item of a chain of owners to the next
+abbrev pub LevelsFall : Type 0
+LevelsFall =
+    (levels : List (Option ℕ)) (k n owner : ℕ) → n < length levels → IsOwned levels (suc k) owner n
+    → (owner < n) × (level_at levels owner < level_at levels n)

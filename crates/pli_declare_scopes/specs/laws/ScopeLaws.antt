@@ -1,5 +1,6 @@
 -- What the meaning of references amounts to, without a way to find it.
 use Rattle.std.specs.Prelude.{◌≡◌, ◌≢◌, ℕ, ◌+◌, ◌<◌, ◌⊎◌, ◌↔◌, true, List, [], ◌∷◌, reverse, length}
+use Rattle.std.specs.Prelude.{Option, None, Some, IfSome}
 use Rattle.pli_base.specs.Name.{Name}
 use Rattle.pli_declare_scopes.specs.declared.found.Found.{Found}
 use Rattle.pli_declare_scopes.specs.declared.found.Found.TheVariants.{Nothing, One, Several}
@@ -88,3 +89,20 @@ MeansOne =
 -- what is looked up is what they mean, both ways
 abbrev pub MeantIsMeans : Type 0
 MeantIsMeans = (scope : Scope) (names : List Name) (m : Meant) → (meant scope names ≡ m) ↔ Means scope names m
+
+-- the names of an item and of the items that it belongs to, its own name first
+abbrev pub NamesUpwards : Block → Option ℕ → List Name → Type 0
+NamesUpwards block None names = names ≡ []
+NamesUpwards block (Some n) [] = ⊥
+NamesUpwards block (Some n) (own ∷ above) =
+    ((item_at block n).name ≡ own) × NamesUpwards block (item_at block n).owner above
+
+-- each item belongs to one before it, if to any
+abbrev pub OwnersStandBefore : Block → Type 0
+OwnersStandBefore block = (n : ℕ) → n < length block → IfSome (item_at block n).owner (λ o. o < n)
+
+-- an item's chain is its own name and the names of the items that it belongs to, and no other list is
+abbrev pub ChainsAreNames : Type 0
+ChainsAreNames =
+    (block : Block) (n : ℕ) (names : List Name) → OwnersStandBefore block → n < length block
+    → (chain_at block n ≡ names) ↔ NamesUpwards block (Some n) names
