@@ -1,2 +1,6 @@
-//! The operations of expressions.
+//! The operations of expressions, and what they come to.
 #![tactic(auto)]
+
+mod operation;
+
+pub use operation::{Operation, Relation};

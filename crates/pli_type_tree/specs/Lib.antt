@@ -1,1 +1,3 @@
+pub mod Templates
 pub mod TypedTree
+pub mod views

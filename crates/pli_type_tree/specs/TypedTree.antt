@@ -7,7 +7,7 @@ use Rattle.pli_base.specs.Name.{Name}
 use Rattle.pli_map.specs.Description.{Description}
 use Rattle.pli_operation.specs.Operations.{Operation}
 use Rattle.pli_value.specs.Value.{Value}
-use Rattle.pli_store.specs.World.{Variable}
+use Rattle.pli_type_tree.specs.Templates.{Template}
 
 -- where a reference begins: at a parameter or an AUTOMATIC variable, or at a variable that is made before the
 -- program begins
@@ -61,7 +61,7 @@ pub data TypedRange : Type 0 where
 pub record BlockHead : Type 0 where
   pub number : ℕ
   pub statement : ℕ
-  pub variables : List Variable
+  pub variables : List Template
   pub temporaries : ℕ
 
 mutual
@@ -107,5 +107,5 @@ pub record TypedProcedure : Type 0 where
 pub record TypedUnit : Type 0 where
   pub name : Name
   pub is_main : Bool
-  pub statics : List Variable
+  pub statics : List Template
   pub procedures : List TypedProcedure

@@ -1,2 +1,14 @@
-//! Typed trees.
+//! Typed trees: a unit with what each name means, and with the type of each part worked out.
 #![tactic(auto)]
+
+mod expression;
+mod statement;
+mod template;
+mod unit;
+
+pub use expression::{
+    Root, Stride, TypedArgument, TypedExpression, TypedReference, TypedSubscript,
+};
+pub use statement::{BlockHead, Form, TypedStatement};
+pub use template::{InitialScalar, Template, VariableGroup};
+pub use unit::{TypedProcedure, TypedUnit};

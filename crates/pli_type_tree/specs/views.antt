@@ -1,0 +1,2 @@
+pub mod TypedView
+pub mod TemplateView

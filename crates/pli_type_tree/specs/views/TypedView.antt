@@ -1,0 +1,147 @@
+-- What a typed tree says, apart from where it lies in memory.
+use Rattle.std.specs.Prelude.{List, [], ◌∷◌, map}
+use Rattle.pli_map.specs.views.DescriptionView.{description_view}
+use Rattle.pli_operation.specs.views.OperationView.{operation_view}
+use Rattle.pli_value.specs.Value.{value_view}
+use Rattle.pli_type_tree.specs.TypedTree as plain
+use Rattle.pli_type_tree.specs.views.TemplateView.{groups_view}
+use Rattle.pli_type_tree.specs.declared.expression.Root.{Root}
+use Rattle.pli_type_tree.specs.declared.expression.Root.TheVariants as roots
+use Rattle.pli_type_tree.specs.declared.expression.Stride.{Stride}
+use Rattle.pli_type_tree.specs.declared.expression.TypedExpression.{TypedExpression, Literal, Held, Calculated'}
+use Rattle.pli_type_tree.specs.declared.expression.TypedExpression.{Called'}
+use Rattle.pli_type_tree.specs.declared.expression.TypedArgument.TheBlock.{Row_of-TypedExpression}
+use Rattle.pli_type_tree.specs.declared.expression.TypedArgument.TheBlock.{end_of-TypedExpression}
+use Rattle.pli_type_tree.specs.declared.expression.TypedArgument.TheBlock.{more_of-TypedExpression}
+use Rattle.pli_type_tree.specs.declared.expression.TypedArgument.TheBlock.{Row_of-TypedSubscript}
+use Rattle.pli_type_tree.specs.declared.expression.TypedArgument.TheBlock.{end_of-TypedSubscript}
+use Rattle.pli_type_tree.specs.declared.expression.TypedArgument.TheBlock.{more_of-TypedSubscript}
+use Rattle.pli_type_tree.specs.declared.expression.TypedArgument.TheBlock.{Row_of-TypedArgument}
+use Rattle.pli_type_tree.specs.declared.expression.TypedArgument.TheBlock.{end_of-TypedArgument}
+use Rattle.pli_type_tree.specs.declared.expression.TypedArgument.TheBlock.{more_of-TypedArgument}
+use Rattle.pli_type_tree.specs.declared.expression.TypedSubscript.{TypedSubscript}
+use Rattle.pli_type_tree.specs.declared.expression.TypedReference.{TypedReference, Whole, Part'}
+use Rattle.pli_type_tree.specs.declared.expression.TypedArgument.{TypedArgument, ByPlace, ByDummy}
+use Rattle.pli_type_tree.specs.declared.statement.BlockHead.{BlockHead}
+use Rattle.pli_type_tree.specs.declared.statement.TypedStatement.{TypedStatement}
+use Rattle.pli_type_tree.specs.declared.statement.Form.{Form, Null, Assign, AssignAggregate, Put, If', Begin'}
+use Rattle.pli_type_tree.specs.declared.statement.Form.{Group', While', Call, Goto, Return, ReturnValue, Stop}
+use Rattle.pli_type_tree.specs.declared.statement.Form.{Held-Form-If-2, None', Some', Row_of-TypedStatement}
+use Rattle.pli_type_tree.specs.declared.statement.Form.{end_of-TypedStatement, more_of-TypedStatement}
+use Rattle.pli_type_tree.specs.declared.unit.TypedProcedure.{TypedProcedure}
+use Rattle.pli_type_tree.specs.declared.unit.TypedUnit.{TypedUnit}
+
+abbrev pub root_view : Root → plain.Root
+root_view (roots.InSlot outward slot) = plain.InSlot outward slot
+root_view (roots.OfProgram number) = plain.OfProgram number
+
+abbrev pub stride_view : Stride → plain.Stride
+stride_view s = record { low = s.low; high = s.high; multiplier = s.multiplier }
+
+abbrev mutual
+  pub expression_view : TypedExpression → plain.TypedExpression
+  expression_view (Literal value) = plain.Literal (value_view value)
+  expression_view (Held variable) = plain.Held (reference_view variable)
+  expression_view (Calculated' operation shape operands) =
+      plain.Calculated (operation_view operation) (operand_row operands)
+  expression_view (Called' block shape arguments) = plain.Called block (argument_row arguments)
+
+  pub reference_view : TypedReference → plain.TypedReference
+  reference_view (Whole root) = plain.Whole (root_view root)
+  reference_view (Part' root offset description shape subscripts) =
+      plain.Part (root_view root) offset (description_view description) (subscript_row subscripts)
+
+  pub operand_row : {m : _} → Row_of-TypedExpression m → plain.Operands
+  operand_row end_of-TypedExpression = plain.NoOperand
+  operand_row (more_of-TypedExpression e more) = plain.OperandThen (expression_view e) (operand_row more)
+
+  pub subscript_row : {m : _} → Row_of-TypedSubscript m → plain.Subscripts
+  subscript_row end_of-TypedSubscript = plain.NoSubscript
+  subscript_row (more_of-TypedSubscript stride value more) =
+      plain.SubscriptThen (stride_view stride) (expression_view value) (subscript_row more)
+
+  pub argument_row : {m : _} → Row_of-TypedArgument m → plain.TypedArguments
+  argument_row end_of-TypedArgument = plain.NoArgument
+  argument_row (more_of-TypedArgument a more) = argument_before a (argument_row more)
+
+  pub argument_before : TypedArgument → plain.TypedArguments → plain.TypedArguments
+  argument_before (ByPlace variable) more = plain.ByPlace (reference_view variable) more
+  argument_before (ByDummy description value) more =
+      plain.ByDummy (description_view description) (expression_view value) more
+
+-- lists as they stand in vectors
+abbrev pub operands_view : List TypedExpression → plain.Operands
+operands_view [] = plain.NoOperand
+operands_view (e ∷ es) = plain.OperandThen (expression_view e) (operands_view es)
+
+abbrev pub subscripts_view : List TypedSubscript → plain.Subscripts
+subscripts_view [] = plain.NoSubscript
+subscripts_view (s ∷ ss) =
+    plain.SubscriptThen (stride_view s.stride) (expression_view s.value) (subscripts_view ss)
+
+abbrev pub arguments_view : List TypedArgument → plain.TypedArguments
+arguments_view [] = plain.NoArgument
+arguments_view (a ∷ more) = argument_before a (arguments_view more)
+
+abbrev pub head_view : BlockHead → plain.BlockHead
+head_view h =
+    record {
+      number = h.number;
+      statement = h.statement;
+      variables = groups_view h.variables.items;
+      temporaries = h.temporaries;
+    }
+
+abbrev mutual
+  pub form_view : Form → plain.Form
+  form_view Null = plain.Null
+  form_view (Assign target value) = plain.Assign (reference_view target) (expression_view value)
+  form_view (AssignAggregate target source) =
+      plain.AssignAggregate (reference_view target) (reference_view source)
+  form_view (Put skip items) = plain.Put skip (map expression_view items.items)
+  form_view (If' condition p number form alternative) =
+      plain.If (expression_view condition) (plain.Statement number (form_view form)) (else_view alternative)
+  form_view (Begin' head shape statements) = plain.Begin (head_view head) (statement_row statements)
+  form_view (Group' shape statements) = plain.Group (statement_row statements)
+  form_view (While' condition shape statements) =
+      plain.While (expression_view condition) (statement_row statements)
+  form_view (Call block arguments) = plain.Call block (arguments_view arguments.items)
+  form_view (Goto outward label) = plain.Goto outward label
+  form_view (Return outward) = plain.Return outward
+  form_view (ReturnValue outward value) = plain.ReturnValue outward (expression_view value)
+  form_view Stop = plain.Stop
+
+  pub else_view : Held-Form-If-2 → plain.OtherWise
+  else_view None' = plain.NoElse
+  else_view (Some' p number form) = plain.Else (plain.Statement number (form_view form))
+
+  pub statement_row : {m : _} → Row_of-TypedStatement m → plain.TypedStatements
+  statement_row end_of-TypedStatement = plain.NoStatement
+  statement_row (more_of-TypedStatement number form more) =
+      plain.StatementThen (plain.Statement number (form_view form)) (statement_row more)
+
+abbrev pub statement_view : TypedStatement → plain.TypedStatement
+statement_view s = plain.Statement s.number (form_view s.form)
+
+abbrev pub statements_view : List TypedStatement → plain.TypedStatements
+statements_view [] = plain.NoStatement
+statements_view (s ∷ ss) = plain.StatementThen (statement_view s) (statements_view ss)
+
+abbrev pub procedure_view : TypedProcedure → plain.TypedProcedure
+procedure_view p =
+    record {
+      head = head_view p.head;
+      parent = p.parent;
+      parameters = p.parameters;
+      function_end = p.function_end;
+      statements = statements_view p.statements.items;
+    }
+
+abbrev pub unit_view : TypedUnit → plain.TypedUnit
+unit_view u =
+    record {
+      name = u.name;
+      is_main = u.is_main;
+      statics = groups_view u.statics.items;
+      procedures = map procedure_view u.procedures.items;
+    }

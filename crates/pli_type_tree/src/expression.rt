@@ -1,0 +1,79 @@
+//! Typed references and expressions. A conversion is an operation like any other.
+use pli_map::Description;
+use pli_operation::Operation;
+use pli_value::Value;
+
+/// Where a reference begins.
+#[derive(Clone, Copy, Debug, PartialEq, Eq)]
+pub enum Root {
+    /// At a parameter or an AUTOMATIC variable of the activation so many static links outward. Slots are counted from 0,
+    /// the parameters first.
+    InSlot { outward: u32, slot: u32 },
+    /// At a variable that is made before the program begins. Those of a unit are counted from 0.
+    OfProgram { number: u32 },
+}
+
+/// The bounds of a subscript, from -32,767 to 32,767, and how many bytes each number over the low one leads on.
+#[derive(Clone, Copy, Debug, PartialEq, Eq)]
+pub struct Stride {
+    pub low: i32,
+    pub high: i32,
+    pub multiplier: u32,
+}
+
+/// A subscript: a FIXED BINARY value, and what it does to a place.
+#[cycle(typed_expression)]
+#[derive(Drop)]
+pub struct TypedSubscript {
+    pub stride: Stride,
+    pub value: TypedExpression,
+}
+
+/// A reference to a variable (X3.74).
+#[cycle(typed_expression)]
+#[derive(Drop)]
+pub enum TypedReference {
+    /// A whole variable at level 1.
+    Whole(Root),
+    /// A part of one: its first byte where all its subscripts are the lowest, its description, and the subscripts of all its
+    /// levels in turn.
+    Part {
+        root: Root,
+        offset: u32,
+        description: Description,
+        subscripts: Vec<TypedSubscript>,
+    },
+}
+
+/// An argument (X3.74).
+#[cycle(typed_expression)]
+#[derive(Drop)]
+pub enum TypedArgument {
+    /// A variable, which is handed over as its place.
+    ByPlace(TypedReference),
+    /// A value, which is handed over as a dummy argument of this description.
+    ByDummy {
+        description: Description,
+        value: TypedExpression,
+    },
+}
+
+/// An expression, which has a value (X3.74).
+#[cycle(typed_expression)]
+#[derive(Drop)]
+pub enum TypedExpression {
+    /// A constant.
+    Literal(Value),
+    /// What a variable holds.
+    Held(TypedReference),
+    /// An operation on as many operands as it takes.
+    Calculated {
+        operation: Operation,
+        operands: Vec<TypedExpression>,
+    },
+    /// A call of the function whose block has this number.
+    Called {
+        block: u32,
+        arguments: Vec<TypedArgument>,
+    },
+}

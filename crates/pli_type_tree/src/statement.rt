@@ -1,0 +1,80 @@
+//! Typed statements. Statements of a unit are numbered from 1 in the order in which they begin, its blocks from 0 in the
+//! order of the text (own).
+use crate::expression::{TypedArgument, TypedExpression, TypedReference};
+use crate::template::VariableGroup;
+
+/// What an activation of a block begins with.
+#[derive(Drop)]
+pub struct BlockHead {
+    /// The block.
+    pub number: u32,
+    /// Its PROCEDURE or BEGIN.
+    pub statement: u32,
+    /// Its AUTOMATIC variables in the order of the text.
+    pub variables: Vec<VariableGroup>,
+    /// How many temporaries its code has.
+    pub temporaries: u32,
+}
+
+/// A statement, with all the statements inside it.
+#[cycle(typed_statement)]
+#[derive(Drop)]
+pub struct TypedStatement {
+    pub number: u32,
+    pub form: Form,
+}
+
+/// What a statement does (X3.74). Values stand converted to what they are put into.
+#[cycle(typed_statement)]
+#[derive(Drop)]
+pub enum Form {
+    Null,
+    /// A value assigned to a scalar.
+    Assign {
+        target: TypedReference,
+        value: TypedExpression,
+    },
+    /// An aggregate assigned to one of an equal description.
+    AssignAggregate {
+        target: TypedReference,
+        source: TypedReference,
+    },
+    /// Items are characters or bits.
+    Put {
+        skip: bool,
+        items: Vec<TypedExpression>,
+    },
+    If {
+        condition: TypedExpression,
+        consequence: Box<TypedStatement>,
+        alternative: Option<Box<TypedStatement>>,
+    },
+    Begin {
+        head: BlockHead,
+        statements: Vec<TypedStatement>,
+    },
+    Group(Vec<TypedStatement>),
+    While {
+        condition: TypedExpression,
+        statements: Vec<TypedStatement>,
+    },
+    /// A call of the procedure whose block has this number.
+    Call {
+        block: u32,
+        arguments: Vec<TypedArgument>,
+    },
+    /// The label is that of the statement of this number, in the block so many static links outward.
+    Goto {
+        outward: u32,
+        label: u32,
+    },
+    /// RETURN out of so many BEGIN blocks.
+    Return {
+        outward: u32,
+    },
+    ReturnValue {
+        outward: u32,
+        value: TypedExpression,
+    },
+    Stop,
+}
