@@ -1,0 +1,139 @@
+-- What doing something comes to, and how one thing is done after another. A level bounds the recursion of a
+-- definition; the steps left are what the language counts, and go from one thing to the next.
+use Rattle.std.specs.Prelude.{ℕ, zero, suc, nat_eq, nat_lt, Bool, true, false, ◌&&◌, Option, Some, None}
+use Rattle.std.specs.Prelude.{if◌then◌else◌}
+use Rattle.pli_code.specs.declared.ending.Ending.{Ending}
+use Rattle.pli_code.specs.declared.ending.RunError.TheVariants.{NoReturnedValue, TooManyActivations}
+use Rattle.pli_operation.specs.Operations.{is_true}
+use Rattle.pli_store.specs.Activations.{activation_limit}
+use Rattle.pli_store.specs.World.{World, Answer, Yields, Raises, Wrong, height, at_statement, stepped}
+use Rattle.pli_store.specs.World.{left_by, cleared, error_at}
+use Rattle.pli_value.specs.Value.{Value, Bits}
+
+-- it gives a result and leaves so many steps; it jumps to a label of an activation, which is named by its
+-- height; it ends the run; it has spent the steps; it has no meaning; or the level was too low for it, which
+-- never comes
+pub data Effect (A : Type 0) : Type 0 where
+  Gives : (result : A) (world : World) (left : ℕ) → Effect A
+  Jumps : (activation label : ℕ) (world : World) (left : ℕ) → Effect A
+  Fails : (ending : Ending) (world : World) → Effect A
+  Spent : (world : World) → Effect A
+  Lost : Effect A
+  Short : Effect A
+
+-- how a statement goes on: to the next one; or out of its procedure, with a value if it is a function, once
+-- so many BEGIN blocks around it are left
+pub data Flow : Type 0 where
+  Next : Flow
+  Returned : (outward : ℕ) (value : Option Value) → Flow
+
+-- what is done from a world with so many steps left
+abbrev pub Doing : Type 0 → Type 0
+Doing A = World → (left : ℕ) → Effect A
+
+-- goes on with the result
+abbrev pub and_then : {A B : Type 0} → Effect A → (A → Doing B) → Effect B
+and_then (Gives x w left) go = go x w left
+and_then (Jumps h k w left) go = Jumps h k w left
+and_then (Fails e w) go = Fails e w
+and_then (Spent w) go = Spent w
+and_then Lost go = Lost
+and_then Short go = Short
+
+-- nothing is done
+abbrev pub nothing_done : Doing Flow
+nothing_done w left = Gives Next w left
+
+-- goes on with the next statement, unless the procedure is being left
+abbrev pub after_flow : Doing Flow → Flow → Doing Flow
+after_flow go Next w left = go w left
+after_flow go (Returned outward v) w left = Gives (Returned outward v) w left
+
+abbrev pub followed : Effect Flow → Doing Flow → Effect Flow
+followed o go = and_then o (after_flow go)
+
+-- what an operation gives; to what is wrong the language gives no meaning; no unit takes a condition yet, so
+-- each ends the run
+abbrev pub answered : {A : Type 0} → Answer A → (left : ℕ) → Effect A
+answered (Yields x w) left = Gives x w left
+answered (Raises e w) left = Fails (error_at e w) w
+answered Wrong left = Lost
+
+-- takes a step, if one is left
+abbrev pub as_step : {A : Type 0} → Doing A → Doing A
+as_step go w zero = Spent w
+as_step go w (suc left) = go (stepped w) left
+
+-- begins a statement, or a turn of a group, which is a step
+abbrev pub as_statement : {A : Type 0} → (number : ℕ) → Doing A → Doing A
+as_statement s go = as_step (λ w left. go (at_statement s w) left)
+
+-- at a statement, with no step: what belongs to a group after its list has run
+abbrev pub back_at : {A : Type 0} → (number : ℕ) → Doing A → Doing A
+back_at s go w left = go (at_statement s w) left
+
+-- a condition is a string of bits, and true if one of them is
+abbrev pub truth : Value → Doing Bool
+truth (Bits bits) w left = Gives (is_true bits) w left
+truth v w left = Lost
+
+-- one of two
+abbrev pub chosen : {A : Type 0} → Bool → (if_true if_false : Doing A) → Doing A
+chosen true if_true if_false w left = if_true w left
+chosen false if_true if_false w left = if_false w left
+
+-- a group's turns: the test; while it holds, the list, then what comes between two turns, and the test again
+abbrev pub turns : (level : ℕ) → (test : Doing Bool) → (list between : Doing Flow) → Doing Flow
+turns zero test list between w left = Short
+turns (suc level) test list between w left =
+    and_then (test w left)
+    (λ b. chosen b (λ w left. followed (list w left)
+    (λ w left. followed (between w left) (turns level test list between))) nothing_done)
+
+-- a jump to a label of the newest activation that a list holds goes on there; the calls that the activation
+-- prepares are given up. Any other goes on out
+abbrev pub on_jump : (held : ℕ → Bool) → Effect Flow → (ℕ → Doing Flow) → Effect Flow
+on_jump held (Gives x w left) go = Gives x w left
+on_jump held (Jumps h k w left) go =
+    if nat_eq h (height w) && held k then go k (cleared w) left else Jumps h k w left
+on_jump held (Fails e w) go = Fails e w
+on_jump held (Spent w) go = Spent w
+on_jump held Lost go = Lost
+on_jump held Short go = Short
+
+-- a list runs from its front or from a label, and again from a label as often as a jump leads to one that it
+-- holds
+abbrev pub caught : (level : ℕ) → (held : ℕ → Bool) → (Option ℕ → Doing Flow) → Option ℕ → Doing Flow
+caught zero held run from w left = Short
+caught (suc level) held run from w left =
+    on_jump held (run from w left) (λ k. caught level held run (Some k))
+
+-- unless there are as many activations as there may be
+abbrev pub unless_full : {A : Type 0} → Doing A → Doing A
+unless_full go w left =
+    if nat_lt (height w) activation_limit then go w left else Fails (error_at TooManyActivations w) w
+
+-- the newest activation ends; a jump to a label of it is lost, as none of its lists has held it, and any
+-- other goes on outside
+abbrev pub leaving : {A B : Type 0} → Effect A → (A → Doing B) → Effect B
+leaving (Gives x w left) go = go x w left
+leaving (Jumps h k w left) go = if nat_eq h (height w) then Lost else Jumps h k (left_by w) left
+leaving (Fails e w) go = Fails e w
+leaving (Spent w) go = Spent w
+leaving Lost go = Lost
+leaving Short go = Short
+
+-- a BEGIN block ends behind its last statement, or by the RETURN of its procedure
+abbrev pub block_end : Flow → Doing Flow
+block_end Next w left = Gives Next (left_by w) left
+block_end (Returned zero v) w left = Lost
+block_end (Returned (suc outward) v) w left = Gives (Returned outward v) (left_by w) left
+
+-- a procedure ends by RETURN, or behind its last statement with no value; a function that reaches its END is
+-- in error there
+abbrev pub procedure_end : (function_end : Option ℕ) → Flow → Doing (Option Value)
+procedure_end None Next w left = Gives None (left_by w) left
+procedure_end (Some s) Next w left =
+    Fails (error_at NoReturnedValue (at_statement s w)) (at_statement s w)
+procedure_end function_end (Returned zero v) w left = Gives v (left_by w) left
+procedure_end function_end (Returned (suc outward) v) w left = Lost

@@ -1,0 +1,334 @@
+-- Meaning: what a program of typed units does, by recursion on its trees (own). No instruction is mentioned.
+use Rattle.std.specs.Prelude.{ℕ, ℤ, zero, suc, nat_eq, Bool, true, false, ◌||◌, ◌&&◌, Option, Some, None}
+use Rattle.std.specs.Prelude.{List, [], ◌∷◌, length, map, slice_get, if◌then◌else◌}
+use Rattle.pli_base.specs.Name.{Name}
+use Rattle.pli_code.specs.declared.ending.Ending.{Ending}
+use Rattle.pli_code.specs.declared.ending.Ending.TheVariants.{Ended, OutOfSteps, Error, MachineFault}
+use Rattle.pli_machine_step.specs.Runs.{Outcome, outcome_of}
+use Rattle.pli_operation.specs.Operations.{Operation, calculated}
+use Rattle.pli_store.specs.Activations.{nearest_of}
+use Rattle.pli_store.specs.Storage.{Place, field_of}
+use Rattle.pli_store.specs.World.{World, Answer, Yields, further, nothing, height, held, stored, copied}
+use Rattle.pli_store.specs.World.{subscripted, calculation, Head, entered, height_of, slot_place, static_place}
+use Rattle.pli_store.specs.World.{dummy_of, printed, line_ended, statics_made}
+use Rattle.pli_type_tree.specs.Templates.{variable_of}
+use Rattle.pli_type_tree.specs.TypedTree.{Root, InSlot, OfProgram, TypedExpression, Literal, Held, Calculated}
+use Rattle.pli_type_tree.specs.TypedTree.{Called, TypedReference, Whole, Part, Operands, NoOperand}
+use Rattle.pli_type_tree.specs.TypedTree.{OperandThen, Subscripts, NoSubscript, SubscriptThen, TypedArguments}
+use Rattle.pli_type_tree.specs.TypedTree.{NoArgument, ByPlace, ByDummy, BlockHead, TypedStatement, Statement}
+use Rattle.pli_type_tree.specs.TypedTree.{Form, Null, Assign, AssignAggregate, Put, If, Begin, Group, While}
+use Rattle.pli_type_tree.specs.TypedTree.{Call, Goto, Return, ReturnValue, Stop, OtherWise, NoElse, Else}
+use Rattle.pli_type_tree.specs.TypedTree.{TypedStatements, NoStatement, StatementThen, TypedProcedure}
+use Rattle.pli_type_tree.specs.TypedTree.{TypedUnit}
+use Rattle.pli_value.specs.Conversions.{bit_constant}
+use Rattle.pli_value.specs.Value.{Value, Number, Characters, Bits}
+use Rattle.pli_meaning_tree.specs.Effects.{Effect, Gives, Jumps, Fails, Spent, Lost, Short, Flow, Next}
+use Rattle.pli_meaning_tree.specs.Effects.{Returned, Doing, and_then, nothing_done, followed, answered, as_step}
+use Rattle.pli_meaning_tree.specs.Effects.{as_statement, back_at, truth, chosen, turns, caught, unless_full}
+use Rattle.pli_meaning_tree.specs.Effects.{leaving, block_end, procedure_end}
+
+-- a program: its units, and which of them is the main one; no number has more binary digits than the greatest
+-- precision
+pub record TypedProgram : Type 0 where
+  pub units : List TypedUnit
+  pub main : ℕ
+  pub greatest : ℕ
+
+-- what calls do: a procedure, by its block, runs with its arguments, and gives a value if it is a function
+abbrev pub Calls : Type 0
+Calls = (block : ℕ) → List Place → Doing (Option Value)
+
+-- the value of a function; a procedure has none
+abbrev pub a_value : Option Value → Doing Value
+a_value None w left = Lost
+a_value (Some v) w left = Gives v w left
+
+abbrev pub no_value : Option Value → Doing Flow
+no_value None w left = Gives Next w left
+no_value (Some v) w left = Lost
+
+-- a list of which the last stands first, in its order, before these
+abbrev pub in_order : {A : Type 0} → (last_first behind : List A) → List A
+in_order [] behind = behind
+in_order (x ∷ xs) behind = in_order xs (x ∷ behind)
+
+-- the place where a reference begins
+abbrev pub root_place : Root → Doing Place
+root_place (InSlot outward slot) w left = answered (slot_place outward slot w) left
+root_place (OfProgram number) w left = answered (static_place number w) left
+
+-- a subscript is a number, tested against its bounds
+abbrev pub element_of : (low high : ℤ) (multiplier : ℕ) → Place → Value → Doing Place
+element_of low high multiplier p (Number x) w left =
+    answered (subscripted low high multiplier x p w) left
+element_of low high multiplier p v w left = Lost
+
+-- an item is printed: characters, or bits as a constant
+abbrev pub printed_item : Value → Doing Flow
+printed_item (Characters text) w left = Gives Next (printed text w) left
+printed_item (Bits bits) w left = Gives Next (printed (bit_constant bits) w) left
+printed_item v w left = Lost
+
+-- expressions and references, with numbers of at most so many digits, where calls do so
+module _ (greatest : ℕ) (call : Calls) where
+  abbrev mutual
+    -- the value of an expression
+    pub value_of : TypedExpression → Doing Value
+    value_of (Literal v) w left = Gives v w left
+    value_of (Held r) w left = and_then (place_of r w left) (λ p w left. answered (held p w) left)
+    value_of (Calculated operation operands) w left = operated operation operands [] w left
+    value_of (Called block arguments) w left = and_then (called_with block arguments [] w left) a_value
+
+    -- an operation on its operands, which are evaluated from left to right; those before, the last first
+    pub operated : Operation → Operands → (before : List Value) → Doing Value
+    operated operation NoOperand before w left =
+        answered (calculation (calculated greatest operation (in_order before [])) w) left
+    operated operation (OperandThen e more) before w left =
+        and_then (value_of e w left) (λ v w left. operated operation more (v ∷ before) w left)
+
+    -- the place of a reference: that of its variable, then the part, then a subscript after the other
+    pub place_of : TypedReference → Doing Place
+    place_of (Whole root) w left = root_place root w left
+    place_of (Part root offset description subscripts) w left =
+        and_then (root_place root w left)
+        (λ p w left. element_at subscripts (field_of offset description p) w left)
+
+    -- each subscript is evaluated, and tested before the next one is evaluated
+    pub element_at : Subscripts → Place → Doing Place
+    element_at NoSubscript p w left = Gives p w left
+    element_at (SubscriptThen stride e more) p w left =
+        and_then (value_of e w left)
+        (λ v w left. and_then (element_of stride.low stride.high stride.multiplier p v w left)
+        (λ q w left. element_at more q w left))
+
+    -- a procedure called with arguments, one after the other: a place is handed over as it is, and a value
+    -- becomes a dummy argument before the next is looked at; the places before, the last first
+    pub called_with : (block : ℕ) → TypedArguments → (before : List Place) → Doing (Option Value)
+    called_with block NoArgument before w left = call block (in_order before []) w left
+    called_with block (ByPlace r more) before w left =
+        and_then (place_of r w left) (λ p w left. called_with block more (p ∷ before) w left)
+    called_with block (ByDummy description e more) before w left =
+        and_then (value_of e w left)
+        (λ v w left. and_then (answered (dummy_of description v w) left)
+        (λ p w left. called_with block more (p ∷ before) w left))
+
+  -- a condition of IF or WHILE
+  abbrev pub condition : TypedExpression → Doing Bool
+  condition e w left = and_then (value_of e w left) truth
+
+  -- an assignment: the target's place, the value, the store
+  abbrev pub assigns : TypedReference → TypedExpression → Doing Flow
+  assigns target e w left =
+      and_then (place_of target w left)
+      (λ p w left. and_then (value_of e w left)
+      (λ v w left. and_then (answered (stored p v w) left) (λ _ w left. Gives Next w left)))
+
+  -- of an aggregate: the target's place, the source's, then what the source holds is copied
+  abbrev pub assigns_aggregate : (target source : TypedReference) → Doing Flow
+  assigns_aggregate target source w left =
+      and_then (place_of target w left)
+      (λ p w left. and_then (place_of source w left)
+      (λ q w left. and_then (answered (copied q p w) left) (λ _ w left. Gives Next w left)))
+
+  -- each item of PUT is evaluated and written before the next one is evaluated
+  abbrev pub puts : List TypedExpression → Doing Flow
+  puts [] w left = Gives Next w left
+  puts (e ∷ es) w left =
+      followed (and_then (value_of e w left) (λ v w left. printed_item v w left)) (puts es)
+
+  -- a line is ended before the first item
+  abbrev pub skips : (skip : Bool) → Doing Flow → Doing Flow
+  skips true go w left = go (line_ended w) left
+  skips false go w left = go w left
+
+  -- a call, of what is no function
+  abbrev pub does_call : (block : ℕ) → TypedArguments → Doing Flow
+  does_call block arguments w left = and_then (called_with block arguments [] w left) no_value
+
+  -- RETURN with a value
+  abbrev pub returns_value : (outward : ℕ) → TypedExpression → Doing Flow
+  returns_value outward e w left =
+      and_then (value_of e w left) (λ v w left. Gives (Returned outward (Some v)) w left)
+
+-- a jump to a label of the activation so many static links outward
+abbrev pub jumps_to : (outward label : ℕ) → Doing Flow
+jumps_to outward label w left =
+    and_then (answered (height_of outward w) left) (λ h w left. Jumps h label w left)
+
+-- labels
+
+-- a label is the number of its statement
+abbrev pub number_of : TypedStatement → ℕ
+number_of (Statement number form) = number
+
+-- a list holds the labels of its own statements
+abbrev pub labels_in : TypedStatements → (label : ℕ) → Bool
+labels_in NoStatement label = false
+labels_in (StatementThen s more) label = nat_eq (number_of s) label || labels_in more label
+
+-- a list catches the jumps to its labels
+abbrev pub as_list : (level : ℕ) → TypedStatements → (Option ℕ → Doing Flow) → Doing Flow
+as_list level ss run = caught level (labels_in ss) run None
+
+-- blocks
+
+-- what an activation of a block begins with
+abbrev pub head_in : (unit : Name) → BlockHead → Head
+head_in unit head = record {
+  unit = unit;
+  block = head.number;
+  statement = head.statement;
+  variables = map variable_of head.variables;
+}
+
+-- the static link of a block: the nearest activation outward of the block around it, none for an external
+-- procedure
+abbrev pub static_link : (unit : Name) → (parent : Option ℕ) → World → Option ℕ
+static_link unit None w = Some 0
+static_link unit (Some parent) w = nearest_of unit parent w.activations (height w)
+
+-- an activation begins with its variables, runs and ends
+abbrev pub activation_of : {A : Type 0} → Head → (link : ℕ) → List Place → Doing Flow → (Flow → Doing A)
+    → Doing A
+activation_of head link places run end w left =
+    and_then (answered (entered head link places w) left) (λ _ w left. leaving (run w left) end)
+
+-- a BEGIN block is activated, unless there are too many activations; that is no step beside its statement's
+abbrev pub in_block : Head → (link : Option ℕ) → Doing Flow → Doing Flow
+in_block head None run w left = Lost
+in_block head (Some link) run w left = unless_full (activation_of head link [] run block_end) w left
+
+-- statements, in a unit, at a level: what a turn, a jump or a call inside may do is the level below
+module _ (greatest : ℕ) (call : Calls) (unit : Name) (level : ℕ) where
+  abbrev mutual
+    -- a statement in a block is a step and what its form says
+    pub does : (block : ℕ) → TypedStatement → Doing Flow
+    does block (Statement number form) w left = as_statement number (does_form block number form) w left
+
+    pub does_form : (block number : ℕ) → Form → Doing Flow
+    does_form block number Null w left = Gives Next w left
+    does_form block number (Assign target e) w left = assigns greatest call target e w left
+    does_form block number (AssignAggregate target source) w left =
+        assigns_aggregate greatest call target source w left
+    does_form block number (Put skip items) w left =
+        skips greatest call skip (puts greatest call items) w left
+    does_form block number (If e consequence alternative) w left =
+        and_then (condition greatest call e w left)
+        (λ b w left. chosen b (does block consequence) (does_else block alternative) w left)
+    does_form block number (Begin head statements) w left =
+        in_block (head_in unit head) (static_link unit (Some block) w)
+        (as_list level statements (does_from head.number statements)) w left
+    does_form block number (Group statements) w left =
+        as_list level statements (does_from block statements) w left
+    does_form block number (While e statements) w left =
+        turns level (back_at number (condition greatest call e))
+        (as_statement number (as_list level statements (does_from block statements))) nothing_done w left
+    does_form block number (Call called arguments) w left = does_call greatest call called arguments w left
+    does_form block number (Goto outward label) w left = jumps_to outward label w left
+    does_form block number (Return outward) w left = Gives (Returned outward None) w left
+    does_form block number (ReturnValue outward e) w left = returns_value greatest call outward e w left
+    does_form block number Stop w left = Fails Ended w
+
+    pub does_else : (block : ℕ) → OtherWise → Doing Flow
+    does_else block NoElse w left = Gives Next w left
+    does_else block (Else s) w left = does block s w left
+
+    -- the statements of a list one after the other, from the first one or from a label
+    pub does_from : (block : ℕ) → TypedStatements → (from : Option ℕ) → Doing Flow
+    does_from block NoStatement None w left = Gives Next w left
+    does_from block NoStatement (Some label) w left = Lost
+    does_from block (StatementThen s more) None w left =
+        followed (does block s w left) (does_from block more None)
+    does_from block (StatementThen s more) (Some label) w left =
+        if nat_eq (number_of s) label then followed (does block s w left) (does_from block more None)
+        else does_from block more (Some label) w left
+
+  abbrev pub does_list : (block : ℕ) → TypedStatements → Doing Flow
+  does_list block ss = as_list level ss (does_from block ss)
+
+-- procedures
+
+-- an activation of a procedure is a step, which is taken before its variables are made
+abbrev pub procedure_run : (greatest : ℕ) → Calls → (level : ℕ) → (unit : Name) → TypedProcedure → (link : ℕ)
+    → List Place → Doing (Option Value)
+procedure_run greatest call level unit f link places =
+    as_step
+    (activation_of (head_in unit f.head) link places
+    (does_list greatest call unit level f.head.number f.statements) (procedure_end f.function_end))
+
+-- a call, with as many arguments as there are parameters; the limit of activations is tested before the step
+abbrev pub activates_in : (greatest : ℕ) → Calls → (level : ℕ) → (unit : Name) → TypedProcedure
+    → (link : Option ℕ) → List Place → Doing (Option Value)
+activates_in greatest call level unit f None places w left = Lost
+activates_in greatest call level unit f (Some link) places w left =
+    if nat_eq f.parameters (length places)
+    then unless_full (procedure_run greatest call level unit f link places) w left else Lost
+
+abbrev pub activates : (greatest : ℕ) → Calls → (level : ℕ) → (unit : Name) → Option TypedProcedure
+    → List Place → Doing (Option Value)
+activates greatest call level unit None places w left = Lost
+activates greatest call level unit (Some f) places w left =
+    activates_in greatest call level unit f (static_link unit f.parent w) places w left
+
+-- the procedure of a block
+abbrev pub procedure_in : List TypedProcedure → (block : ℕ) → Option TypedProcedure
+procedure_in [] block = None
+procedure_in (f ∷ fs) block = if nat_eq f.head.number block then Some f else procedure_in fs block
+
+-- the calls within a unit, at a level: what is called inside may do is the level below
+abbrev pub calls : (greatest : ℕ) → TypedUnit → (level : ℕ) → Calls
+calls greatest u zero block places w left = Short
+calls greatest u (suc level) block places w left =
+    activates greatest (calls greatest u level) level u.name (procedure_in u.procedures block) places w left
+
+-- programs
+
+-- the variables of all units that are made before the program begins
+abbrev pub all_made : List TypedUnit → World → Answer Unit
+all_made [] w = Yields tt w
+all_made (u ∷ us) w = further (statics_made u.name 0 (map variable_of u.statics) w) (λ _ w. all_made us w)
+
+-- the main procedure has no parameters and stands in no block
+abbrev pub is_outermost : Option ℕ → Bool
+is_outermost None = true
+is_outermost (Some parent) = false
+
+abbrev pub main_run : (greatest : ℕ) → TypedUnit → (level : ℕ) → Option TypedProcedure → Doing (Option Value)
+main_run greatest u level None w left = Lost
+main_run greatest u level (Some f) w left =
+    if is_outermost f.parent && nat_eq f.parameters 0
+    then procedure_run greatest (calls greatest u level) level u.name f 0 [] w left else Lost
+
+abbrev pub unit_run : (greatest level : ℕ) → Option TypedUnit → Doing (Option Value)
+unit_run greatest level None w left = Lost
+unit_run greatest level (Some u) w left =
+    main_run greatest u level (procedure_in u.procedures 0) w left
+
+-- what a program does with so many steps, at one level more than steps: the variables that are made once,
+-- and then block 0 of the main unit
+abbrev pub run_effect : TypedProgram → (steps : ℕ) → Effect (Option Value)
+run_effect p n =
+    and_then (answered (all_made p.units nothing) n)
+    (λ _ w left. unit_run p.greatest (suc n) (slice_get p.units p.main) w left)
+
+-- an end that a program may come to: not the machine's fault
+abbrev pub ended_as : Ending → World → Option Outcome
+ended_as (Error e unit s) w = Some (outcome_of (Error e unit s) w)
+ended_as Ended w = Some (outcome_of Ended w)
+ended_as OutOfSteps w = Some (outcome_of OutOfSteps w)
+ended_as MachineFault w = None
+
+-- how a run has ended, if it has a meaning: it gives no value, it does not jump out of the program, it is not
+-- lost, and the level was high enough
+abbrev pub ran : Effect (Option Value) → Option Outcome
+ran (Gives None w left) = Some (outcome_of Ended w)
+ran (Gives (Some v) w left) = None
+ran (Jumps h k w left) = None
+ran (Fails e w) = ended_as e w
+ran (Spent w) = Some (outcome_of OutOfSteps w)
+ran Lost = None
+ran Short = None
+
+-- Whole run: the output, the ending and the next column
+abbrev pub whole_run : TypedProgram → (steps : ℕ) → Option Outcome
+whole_run p n = ran (run_effect p n)

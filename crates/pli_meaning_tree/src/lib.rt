@@ -1,0 +1,2 @@
+//! What typed units mean.
+#![tactic(auto)]
