@@ -1,0 +1,245 @@
+-- The code of typed units, as a relation: which instructions stand from a place up to a place for each form.
+-- The inner places are parts of it.
+use Rattle.std.specs.Prelude.{◌≡◌, ℕ, zero, suc, ◌+◌, ◌-◌, ◌≤◌, Bool, true, false, Option, Some, None}
+use Rattle.std.specs.Prelude.{List, [], ◌∷◌, map, slice_get}
+use Rattle.pli_code.specs.declared.ending.RunError.TheVariants.{NoReturnedValue}
+use Rattle.pli_machine_step.specs.Program as op
+use Rattle.pli_machine_step.specs.Program.{Instruction, BlockKind, Procedure, BeginBlock, Block, UnitCode, Program}
+use Rattle.pli_type_tree.specs.Templates.{variable_of}
+use Rattle.pli_type_tree.specs.TypedTree.{Root, InSlot, OfProgram, TypedExpression, Literal, Held, Calculated}
+use Rattle.pli_type_tree.specs.TypedTree.{Called, TypedReference, Whole, Part, Operands, NoOperand}
+use Rattle.pli_type_tree.specs.TypedTree.{OperandThen, Subscripts, NoSubscript, SubscriptThen, TypedArguments}
+use Rattle.pli_type_tree.specs.TypedTree.{NoArgument, ByPlace, ByDummy, BlockHead, TypedStatement, Statement}
+use Rattle.pli_type_tree.specs.TypedTree.{Form, Null, Assign, AssignAggregate, Put, If, Begin, Group, While}
+use Rattle.pli_type_tree.specs.TypedTree.{Call, Goto, Return, ReturnValue, Stop, OtherWise, NoElse, Else}
+use Rattle.pli_type_tree.specs.TypedTree.{TypedStatements, NoStatement, StatementThen, TypedProcedure}
+use Rattle.pli_type_tree.specs.TypedTree.{TypedUnit}
+use Rattle.pli_meaning_tree.specs.TreeMeaning.{TypedProgram, number_of}
+
+-- what stands from a place up to a place
+abbrev pub Span : Type 1
+Span = ℕ → ℕ → Type 0
+
+-- nothing
+abbrev pub Empty : Span
+Empty p q = p ≡ q
+
+-- one thing, and from where it ends another
+pub record Then (A B : Span) (p q : ℕ) : Type 0 where
+  pub middle : ℕ
+  pub fst : A p middle
+  pub snd : B middle q
+
+-- where a statement stands in its block: how many temporaries the block has, how many of them are in use, and
+-- how many backward jumps the activation may have made since the last step
+pub record Context : Type 0 where
+  pub size : ℕ
+  pub depth : ℕ
+  pub bound : ℕ
+
+-- in the list of an iterative group with so many temporaries more: the jump to its next turn is yet to come
+abbrev pub deeper : ℕ → Context → Context
+deeper more c = record { size = c.size; depth = c.depth + more; bound = c.bound - 1 }
+
+-- there is room for such a group; an activation makes at most 64 backward jumps between two steps
+pub record Nests (more : ℕ) (c : Context) : Type 0 where
+  pub least : 2 ≤ c.bound
+  pub most : c.bound ≤ 64
+  pub room : c.depth + more ≤ c.size
+
+-- how many arguments there are
+abbrev pub arguments_in : TypedArguments → ℕ
+arguments_in NoArgument = 0
+arguments_in (ByPlace r more) = suc (arguments_in more)
+arguments_in (ByDummy d e more) = suc (arguments_in more)
+
+-- the block of a head
+abbrev pub block_of : BlockKind → (parent : Option ℕ) → (parameters : ℕ) → BlockHead → (entry : ℕ) → Block
+block_of kind parent parameters head entry =
+    record {
+      kind = kind;
+      parent = parent;
+      parameters = parameters;
+      variables = map variable_of head.variables;
+      temporaries = head.temporaries;
+      entry = entry;
+      statement = head.statement;
+    }
+
+module _ (u : UnitCode) where
+  -- this instruction stands here
+  pub record Is (i : Instruction) (p q : ℕ) : Type 0 where
+    pub here : slice_get u.instructions p ≡ Some i
+    pub ends : suc p ≡ q
+
+  -- a jump forward to a place
+  pub record Forward (jump : ℕ → Instruction) (target p q : ℕ) : Type 0 where
+    pub is : Is (jump target) p q
+    pub on : q ≤ target
+
+  -- references and expressions
+
+  abbrev pub RootStands : Root → Span
+  RootStands (InSlot outward slot) = Is (op.Local outward slot)
+  RootStands (OfProgram number) = Is (op.Global number)
+
+  abbrev mutual
+    pub ValueStands : TypedExpression → Span
+    ValueStands (Literal v) = Is (op.Constant v)
+    ValueStands (Held r) = Then (PlaceStands r) (Is op.Load)
+    ValueStands (Calculated operation operands) = Then (OperandsStand operands) (Is (op.Operate operation))
+    ValueStands (Called block arguments) =
+        Then (ArgumentsStand arguments) (Is (op.Call block (arguments_in arguments)))
+
+    pub OperandsStand : Operands → Span
+    OperandsStand NoOperand = Empty
+    OperandsStand (OperandThen e more) = Then (ValueStands e) (OperandsStand more)
+
+    pub PlaceStands : TypedReference → Span
+    PlaceStands (Whole root) = RootStands root
+    PlaceStands (Part root offset d subscripts) =
+        Then (RootStands root) (Then (Is (op.Field offset d)) (SubscriptsStand subscripts))
+
+    pub SubscriptsStand : Subscripts → Span
+    SubscriptsStand NoSubscript = Empty
+    SubscriptsStand (SubscriptThen s e more) =
+        Then (ValueStands e) (Then (Is (op.Subscript s.low s.high s.multiplier)) (SubscriptsStand more))
+
+    pub ArgumentsStand : TypedArguments → Span
+    ArgumentsStand NoArgument = Empty
+    ArgumentsStand (ByPlace r more) = Then (PlaceStands r) (ArgumentsStand more)
+    ArgumentsStand (ByDummy d e more) =
+        Then (ValueStands e) (Then (Is (op.MakeDummy d)) (ArgumentsStand more))
+
+  -- a condition, which jumps to a place unless it holds
+  abbrev pub ConditionStands : TypedExpression → (target : ℕ) → Span
+  ConditionStands e target = Then (ValueStands e) (Forward op.JumpUnless target)
+
+  -- an item of PUT, and all of them
+  abbrev pub ItemsStand : List TypedExpression → Span
+  ItemsStand [] = Empty
+  ItemsStand (e ∷ es) = Then (Then (ValueStands e) (Is op.Put)) (ItemsStand es)
+
+  abbrev pub SkipStands : Bool → Span
+  SkipStands true = Is op.Skip
+  SkipStands false = Empty
+
+  -- forms with jumps
+
+  -- a test that jumps behind a part unless it holds, and the part
+  pub record Guarded (test : (target : ℕ) → Span) (part : Span) (p q : ℕ) : Type 0 where
+    pub start : ℕ
+    pub holds : test q p start
+    pub does : part start q
+
+  -- and with another part behind it
+  pub record Choice (test : (target : ℕ) → Span) (part other : Span) (p q : ℕ) : Type 0 where
+    pub start : ℕ
+    pub finish : ℕ
+    pub target : ℕ
+    pub holds : test target p start
+    pub does : part start finish
+    pub over : Forward op.Jump q finish target
+    pub does_other : other target q
+
+  -- a test that jumps out of a loop unless it holds, the list, what comes between two turns, and the jump to
+  -- the test
+  pub record Loop (test : (target : ℕ) → Span) (list between : Span) (p q : ℕ) : Type 0 where
+    pub start : ℕ
+    pub finish : ℕ
+    pub behind : ℕ
+    pub holds : test q p start
+    pub does : list start finish
+    pub does_between : between finish behind
+    pub back : Is (op.Jump p) behind q
+
+  -- a block's code stands elsewhere, from its entry; its own count of backward jumps begins anew
+  pub record BlockStands (block : ℕ → Block) (number temporaries : ℕ) (list : Context → Span) (end : Span)
+    : Type 0 where
+    pub entry : ℕ
+    pub there : slice_get u.blocks number ≡ Some (block entry)
+    pub bound : ℕ
+    pub some : 1 ≤ bound
+    pub finish : ℕ
+    pub behind : ℕ
+    pub does : list (record { size = temporaries; depth = 0; bound = bound }) entry finish
+    pub ends : end finish behind
+
+  -- a BEGIN block of a block
+  pub record BeginStands (head : BlockHead) (parent : ℕ) (list : Context → Span) (p q : ℕ) : Type 0 where
+    pub begins : Is (op.Begin head.number) p q
+    pub block : BlockStands
+        (block_of BeginBlock (Some parent) 0 head) head.number head.temporaries list (Is (op.Return 0))
+
+  -- statements, where labels stand at these places
+
+  module _ (at : (label : ℕ) → ℕ) where
+    abbrev mutual
+      pub StatementStands : (block : ℕ) → TypedStatement → Context → Span
+      StatementStands block (Statement number form) c = Then (Is (op.Step number)) (FormStands block number form c)
+
+      pub FormStands : (block number : ℕ) → Form → Context → Span
+      FormStands block number Null c = Empty
+      FormStands block number (Assign target e) c =
+          Then (PlaceStands target) (Then (ValueStands e) (Is op.Store))
+      FormStands block number (AssignAggregate target source) c =
+          Then (PlaceStands target) (Then (PlaceStands source) (Is op.Copy))
+      FormStands block number (Put skip items) c = Then (SkipStands skip) (ItemsStand items)
+      FormStands block number (If e consequence alternative) c =
+          IfStands block (ConditionStands e) (StatementStands block consequence c) alternative c
+      FormStands block number (Begin head statements) c =
+          BeginStands head block (ListStands head.number statements)
+      FormStands block number (Group statements) c = ListStands block statements c
+      FormStands block number (While e statements) c =
+          λ p q. Nests 0 c × Loop
+          (λ target. Then (Is (op.Line number)) (ConditionStands e target))
+          (Then (Is (op.Step number)) (ListStands block statements (deeper 0 c))) Empty p q
+      FormStands block number (Call called arguments) c =
+          Then (ArgumentsStand arguments) (Is (op.Call called (arguments_in arguments)))
+      FormStands block number (Goto outward label) c = Is (op.Goto outward (at label))
+      FormStands block number (Return outward) c = Is (op.Return outward)
+      FormStands block number (ReturnValue outward e) c = Then (ValueStands e) (Is (op.ReturnValue outward))
+      FormStands block number Stop c = Is op.Stop
+
+      pub IfStands : (block : ℕ) → (test : (target : ℕ) → Span) → (part : Span) → OtherWise → Context → Span
+      IfStands block test part NoElse c = Guarded test part
+      IfStands block test part (Else s) c = Choice test part (StatementStands block s c)
+
+      pub ListStands : (block : ℕ) → TypedStatements → Context → Span
+      ListStands block NoStatement c = Empty
+      ListStands block (StatementThen s more) c =
+          λ p q. (at (number_of s) ≡ p) × Then (StatementStands block s c) (ListStands block more c) p q
+
+    -- the end of a procedure, and of a function, which must not reach it
+    abbrev pub EndStands : (function_end : Option ℕ) → Span
+    EndStands None = Is (op.Return 0)
+    EndStands (Some s) = Then (Is (op.Line s)) (Is (op.Raise NoReturnedValue))
+
+    abbrev pub ProcedureStands : TypedProcedure → Type 0
+    ProcedureStands f =
+        BlockStands
+        (block_of Procedure f.parent f.parameters f.head)
+        f.head.number f.head.temporaries (ListStands f.head.number f.statements) (EndStands f.function_end)
+
+    abbrev pub ProceduresStand : List TypedProcedure → Type 0
+    ProceduresStand [] = Unit
+    ProceduresStand (f ∷ fs) = ProcedureStands f × ProceduresStand fs
+
+-- the code of a unit
+pub record UnitStands (t : TypedUnit) (u : UnitCode) : Type 0 where
+  pub at : (label : ℕ) → ℕ
+  pub names : u.name ≡ t.name
+  pub statics : u.statics ≡ map variable_of t.statics
+  pub procedures : ProceduresStand u at t.procedures
+
+abbrev pub UnitsStand : List TypedUnit → List UnitCode → Type 0
+UnitsStand [] [] = Unit
+UnitsStand (t ∷ ts) (u ∷ us) = UnitStands t u × UnitsStand ts us
+UnitsStand [] (u ∷ us) = ⊥
+UnitsStand (t ∷ ts) [] = ⊥
+
+-- the code of a program
+pub record ProgramStands (t : TypedProgram) (p : Program) : Type 0 where
+  pub units : UnitsStand t.units p.units
+  pub main : p.main ≡ t.main
+  pub greatest : p.greatest ≡ t.greatest

@@ -1,0 +1,2 @@
+//! The machine's run of a program's code gives what its typed units mean.
+#![tactic(auto)]
