@@ -1,1 +1,3 @@
+pub mod Arity
+pub mod ExpressionsReach
 pub mod ReachesLemmas

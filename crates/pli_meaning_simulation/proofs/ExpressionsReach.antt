@@ -1,0 +1,147 @@
+-- The machine does what expressions and references mean, for any operands and frames beneath.
+use Rattle.std.specs.Prelude.{◌≡◌, ℕ, ℤ, zero, suc, ◌+◌, Bool, true, false, Option, Some, None, List, [], ◌∷◌, length, slice_get, refl}
+use Rattle.std.proofs.Common.{ap, ◌∙◌, sym, subst, arith}
+use Rattle.pli_operation.specs.Operations.{Operation, operands_of, calculated, Misfits}
+use Rattle.pli_store.specs.Storage.{Place, field_of}
+use Rattle.pli_store.specs.World.{World, Answer, held, slot_place, static_place, subscripted, calculation, dummy_of}
+use Rattle.pli_value.specs.Value.{Value, Number, Characters, Bits}
+use Rattle.pli_machine_step.specs.Program as op
+use Rattle.pli_machine_step.specs.Program.{UnitCode, Program}
+use Rattle.pli_machine_step.specs.Machine.{Operand, OfValue, AtPlace, Locals, Frame, State, At, Goes, given, values_off, places_off, operated, called, resume}
+use Rattle.pli_type_tree.specs.TypedTree.{Root, InSlot, OfProgram, TypedExpression, Literal, Held, Calculated, Called, TypedReference, Whole, Part, Operands, NoOperand, OperandThen, Subscripts, NoSubscript, SubscriptThen, TypedArguments, NoArgument, ByPlace, ByDummy}
+use Rattle.pli_meaning_tree.specs.Effects.{Effect, Gives, Lost, Doing, and_then, answered}
+use Rattle.pli_meaning_tree.specs.TreeMeaning as meaning
+use Rattle.pli_meaning_tree.specs.TreeMeaning.{Calls, a_value, in_order, root_place, element_of, value_of, place_of, element_at, called_with}
+use Rattle.pli_meaning_simulation.specs.CodeStands.{Then, Context, arguments_in, Is, RootStands, ValueStands, OperandsStand, PlaceStands, SubscriptsStand, ArgumentsStand}
+use Rattle.pli_meaning_simulation.proofs.ReachesLemmas.{Fine, Kept, Comes, stays, frame, pushes, returns, Reaches, gives, then_reaches, bound, goes, answers}
+use Rattle.pli_meaning_simulation.proofs.Arity.{Arity, Full, Misfit, arity}
+
+-- operands of which the last stands first, above others
+abbrev pub values_above : List Value → List Operand → List Operand
+values_above [] ops = ops
+values_above (v ∷ vs) ops = OfValue v ∷ values_above vs ops
+
+abbrev pub places_above : List Place → List Operand → List Operand
+places_above [] ops = ops
+places_above (p ∷ ps) ops = AtPlace p ∷ places_above ps ops
+
+values_come_off : (vs behind : List Value) (ops : List Operand) → values_off (length vs) behind (values_above vs ops) ≡ Some (in_order vs behind, ops)
+values_come_off [] behind ops = refl
+values_come_off (v ∷ vs) behind ops = values_come_off vs (v ∷ behind) ops
+
+pub places_come_off : (ps behind : List Place) (ops : List Operand) → places_off (length ps) behind (places_above ps ops) ≡ Some (in_order ps behind, ops)
+places_come_off [] behind ops = refl
+places_come_off (p ∷ ps) behind ops = places_come_off ps (p ∷ behind) ops
+
+pub as_long : {A : Type 0} (xs behind : List A) → length (in_order xs behind) ≡ length xs + length behind
+as_long [] behind = omega arith
+as_long (x ∷ xs) behind = let e = as_long xs (x ∷ behind) in omega arith
+
+module _ (p : Program) (number : ℕ) (u : UnitCode) (at : ℕ → ℕ) where
+  -- a call does what it means, from behind the test of its instruction
+  abbrev pub CallsRun : Calls → Type 0
+  CallsRun call =
+      (block : ℕ) (before : List Place) (c : Context) (b : ℕ) (ops : List Operand) (l : Locals) (fs : List Frame) → Fine c l → (w : World) (left : ℕ)
+      → Reaches p number u at c (resume (called u block (length before) (slice_get u.blocks block) (frame p number u b (places_above before ops) l) fs w) left) l
+      (returns p number u b ops fs) fs (call block (in_order before []) w left)
+
+  module _ (there : slice_get p.units number ≡ Some u) (call : Calls) (calls_run : CallsRun call) (c : Context) where
+    -- what a thing pushes when it stands from a to b
+    abbrev Pushes : {A : Type 0} → (A → Operand) → Doing A → (a b : ℕ) → Type 0
+    Pushes f go a b =
+        (ops : List Operand) (l : Locals) → Fine c l → (fs : List Frame) (w : World) (left : ℕ)
+        → Reaches p number u at c (At (frame p number u a ops l) fs w left) l (pushes p number u f b ops fs) fs (go w left)
+
+    root_run : (r : Root) {a b : ℕ} → RootStands u r a b → Pushes AtPlace (root_place r) a b
+    root_run (InSlot outward slot) is ops l fine fs w left = answers p number u at there (λ x. AtPlace x ∷ ops) (slot_place outward slot w) is fine w left refl
+    root_run (OfProgram n) is ops l fine fs w left = answers p number u at there (λ x. AtPlace x ∷ ops) (static_place n w) is fine w left refl
+
+    subscript_run : (low high : ℤ) (multiplier : ℕ) {a b : ℕ} → Is u (op.Subscript low high multiplier) a b → (q : Place) (v : Value) (ops : List Operand) (l : Locals) → Fine c l
+        → (fs : List Frame) (w : World) (left : ℕ)
+        → Reaches p number u at c (At (frame p number u a (OfValue v ∷ AtPlace q ∷ ops) l) fs w left) l (pushes p number u AtPlace b ops fs) fs (element_of low high multiplier q v w left)
+    subscript_run low high multiplier is q (Number x) ops l fine fs w left =
+        answers p number u at there (λ x. AtPlace x ∷ ops) (subscripted low high multiplier x q w) is fine w left refl
+    subscript_run low high multiplier is q (Characters text) ops l fine fs w left = record { by = tt }
+    subscript_run low high multiplier is q (Bits bits) ops l fine fs w left = record { by = tt }
+
+    -- an operation on what lies above
+    operation_run : (operation : Operation) {a b : ℕ} → Is u (op.Operate operation) a b → (before : List Value) (ops : List Operand) (l : Locals) → Fine c l
+        → (fs : List Frame) (w : World) (left : ℕ)
+        → Reaches p number u at c (At (frame p number u a (values_above before ops) l) fs w left) l (pushes p number u OfValue b ops fs) fs
+        (answered (calculation (calculated p.greatest operation (in_order before [])) w) left)
+    operation_run operation {a} {b} is before ops l fine fs w left = by (arity p.greatest operation (in_order before []))
+      where
+        o : Answer Value
+        o = calculation (calculated p.greatest operation (in_order before [])) w
+
+        by : Arity p.greatest operation (in_order before [])
+            → Reaches p number u at c (At (frame p number u a (values_above before ops) l) fs w left) l (pushes p number u OfValue b ops fs) fs (answered o left)
+        by (Full e) =
+            let n : length before ≡ operands_of operation = let f = as_long before [] in omega arith in
+            answers p number u at there (λ x. OfValue x ∷ ops) o is fine w left
+            (ap (λ k. operated p.greatest operation (values_off k [] (values_above before ops)) (frame p number u b (values_above before ops) l) fs w) (sym n)
+            ∙ ap (λ t. operated p.greatest operation t (frame p number u b (values_above before ops) l) fs w) (values_come_off before [] ops))
+        by (Misfit e) =
+            subst (λ x. Reaches p number u at c (At (frame p number u a (values_above before ops) l) fs w left) l (pushes p number u OfValue b ops fs) fs (answered (calculation x w) left)) (sym e) (record { by = tt })
+
+    value_given : (v : Option Value) {b : ℕ} (ops : List Operand) (l : Locals) → Fine c l → (fs : List Frame) (w : World) (left : ℕ)
+        → Reaches p number u at c (returns p number u b ops fs l v w left) l (pushes p number u OfValue b ops fs) fs (a_value v w left)
+    value_given None ops l fine fs w left = record { by = tt }
+    value_given (Some v) {b} ops l fine fs w left = gives p number u at v w left fine (stays p (At (frame p number u b (OfValue v ∷ ops) l) fs w left))
+
+    mutual
+      pub value_run : (e : TypedExpression) {a b : ℕ} → ValueStands u e a b → Pushes OfValue (value_of p.greatest call e) a b
+      value_run (Literal v) is ops l fine fs w left = gives p number u at v w left fine (goes p number u at there is refl)
+      value_run (Held r) is ops l fine fs w left =
+          bound p number u at (place_of p.greatest call r w left) _ (place_run r is.fst ops l fine fs w left)
+          (λ m k q w left. answers p number u at there (λ v. OfValue v ∷ ops) (held q w) is.snd k.fine w left refl)
+      value_run (Calculated operation operands) is ops l fine fs w left = operated_run operands operation is [] ops l fine fs w left
+      value_run (Called block arguments) {a} {b} is ops l fine fs w left =
+          bound p number u at {to = returns p number u b ops fs} (called_with p.greatest call block arguments [] w left) _
+          (called_run arguments block (arguments_in arguments) is [] (omega arith) ops l fine fs w left)
+          (λ m k v w left. value_given v ops m k.fine fs w left)
+
+      pub operated_run : (operands : Operands) (operation : Operation) {a b : ℕ} → Then (OperandsStand u operands) (Is u (op.Operate operation)) a b
+          → (before : List Value) (ops : List Operand) (l : Locals) → Fine c l → (fs : List Frame) (w : World) (left : ℕ)
+          → Reaches p number u at c (At (frame p number u a (values_above before ops) l) fs w left) l (pushes p number u OfValue b ops fs) fs
+          (meaning.operated p.greatest call operation operands before w left)
+      operated_run NoOperand operation {a} {b} is before ops l fine fs w left =
+          operation_run operation (subst (λ q. Is u (op.Operate operation) q b) (sym is.fst) is.snd) before ops l fine fs w left
+      operated_run (OperandThen e more) operation is before ops l fine fs w left =
+          bound p number u at (value_of p.greatest call e w left) _ (value_run e is.fst.fst (values_above before ops) l fine fs w left)
+          (λ m k v w left. operated_run more operation (record { middle = is.middle; fst = is.fst.snd; snd = is.snd }) (v ∷ before) ops m k.fine fs w left)
+
+      pub place_run : (r : TypedReference) {a b : ℕ} → PlaceStands u r a b → Pushes AtPlace (place_of p.greatest call r) a b
+      place_run (Whole root) is ops l fine fs w left = root_run root is ops l fine fs w left
+      place_run (Part root offset d subscripts) is ops l fine fs w left =
+          bound p number u at (root_place root w left) _ (root_run root is.fst ops l fine fs w left)
+          (λ m k q w left. then_reaches p number u at (goes p number u at there is.snd.fst refl)
+          (element_run subscripts is.snd.snd (field_of offset d q) ops m k.fine fs w left))
+
+      pub element_run : (subscripts : Subscripts) {a b : ℕ} → SubscriptsStand u subscripts a b → (q : Place) (ops : List Operand) (l : Locals) → Fine c l
+          → (fs : List Frame) (w : World) (left : ℕ)
+          → Reaches p number u at c (At (frame p number u a (AtPlace q ∷ ops) l) fs w left) l (pushes p number u AtPlace b ops fs) fs (element_at p.greatest call subscripts q w left)
+      element_run NoSubscript {a} {b} is q ops l fine fs w left =
+          gives p number u at q w left fine
+          (subst (λ m. Comes p (At (frame p number u a (AtPlace q ∷ ops) l) fs w left) (At (frame p number u m (AtPlace q ∷ ops) l) fs w left)) is (stays p _))
+      element_run (SubscriptThen s e more) is q ops l fine fs w left =
+          bound p number u at (value_of p.greatest call e w left) _ (value_run e is.fst (AtPlace q ∷ ops) l fine fs w left)
+          (λ m k v w left. bound p number u at (element_of s.low s.high s.multiplier q v w left) _ (subscript_run s.low s.high s.multiplier is.snd.fst q v ops m k.fine fs w left)
+          (λ m k q w left. element_run more is.snd.snd q ops m k.fine fs w left))
+
+      pub called_run : (arguments : TypedArguments) (block count : ℕ) {a b : ℕ} → Then (ArgumentsStand u arguments) (Is u (op.Call block count)) a b
+          → (before : List Place) → arguments_in arguments + length before ≡ count → (ops : List Operand) (l : Locals) → Fine c l → (fs : List Frame) (w : World) (left : ℕ)
+          → Reaches p number u at c (At (frame p number u a (places_above before ops) l) fs w left) l (returns p number u b ops fs) fs
+          (called_with p.greatest call block arguments before w left)
+      called_run NoArgument block count {a} {b} is before all ops l fine fs w left =
+          let n : count ≡ length before = omega arith in
+          let here : Is u (op.Call block (length before)) a b = subst (λ k. Is u (op.Call block k) a b) n (subst (λ q. Is u (op.Call block count) q b) (sym is.fst) is.snd) in
+          then_reaches p number u at (goes p number u at there here refl) (calls_run block before c b ops l fs fine w left)
+      called_run (ByPlace r more) block count is before all ops l fine fs w left =
+          bound p number u at (place_of p.greatest call r w left) _ (place_run r is.fst.fst (places_above before ops) l fine fs w left)
+          (λ m k q w left. called_run more block count (record { middle = is.middle; fst = is.fst.snd; snd = is.snd }) (q ∷ before) (omega arith) ops m k.fine fs w left)
+      called_run (ByDummy d e more) block count is before all ops l fine fs w left =
+          bound p number u at (value_of p.greatest call e w left) _ (value_run e is.fst.fst (places_above before ops) l fine fs w left)
+          (λ m k v w left. bound p number u at (answered (dummy_of d v w) left) _
+          (answers p number u at there (λ x. AtPlace x ∷ places_above before ops) (dummy_of d v w) is.fst.snd.fst k.fine w left refl)
+          (λ m k q w left. called_run more block count (record { middle = is.middle; fst = is.fst.snd.snd; snd = is.snd }) (q ∷ before) (omega arith) ops m k.fine fs w left))
