@@ -1,3 +1,4 @@
 pub mod Arity
+pub mod ControlReaches
 pub mod ExpressionsReach
 pub mod ReachesLemmas

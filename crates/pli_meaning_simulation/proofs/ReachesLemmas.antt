@@ -179,6 +179,21 @@ module _ (p : Program) (number : ℕ) (u : UnitCode) where
     bound Lost go r f = record { by = tt }
     bound Short go r f = record { by = tt }
 
+    -- and where the first part runs in a context within
+    pub bound_in : {A B : Type 0} {d c : Context} {s : State} {l : Locals} {to : Target A} {to2 : Target B} {fs : List Frame} → WithinContext d c → (o : Effect A) (go : A → Doing B)
+        → Reaches d s l to fs o
+        → ((m : Locals) → Kept d l m → (x : A) (w : World) (left : ℕ) → Reaches c (to m x w left) m to2 fs (go x w left))
+        → Reaches c s l to2 fs (and_then o go)
+    bound_in {d} {c} {l} {to} {to2} {fs} inner (Gives x w left) go r f =
+        let a = r.by in
+        let n = f a.locals a.kept x w left in
+        record { by = reach_from c l to2 fs (go x w left) a.comes (reach_kept c (to a.locals x w left) l a.locals to2 fs (go x w left) (kept_out d c l a.locals inner a.kept) n.by) }
+    bound_in {d} {c} {s} {l} {to2} {fs} inner (Jumps h k w left) go r f = record { by = reach_out d c s l to2 fs (Jumps h k w left) inner r.by }
+    bound_in inner (Fails e w) go r f = record { by = r.by }
+    bound_in inner (Spent w) go r f = record { by = r.by }
+    bound_in inner Lost go r f = record { by = tt }
+    bound_in inner Short go r f = record { by = tt }
+
     -- the next statement
     pub goes_on : {c : Context} {s : State} {l : Locals} {a b : ℕ} {fs : List Frame} (o : Effect Flow) (go : Doing Flow)
         → Reaches c s l (flows a fs) fs o
@@ -189,6 +204,16 @@ module _ (p : Program) (number : ℕ) (u : UnitCode) where
         by_flow : (m : Locals) → Kept c l m → (x : Flow) (w : World) (left : ℕ) → Reaches c (flows a fs m x w left) m (flows b fs) fs (after_flow go x w left)
         by_flow m kept Next w left = f m kept w left
         by_flow m kept (Returned d v) w left = gives (Returned d v) w left kept.fine (stays p (flows a fs m (Returned d v) w left))
+
+    pub goes_on_in : {d c : Context} {s : State} {l : Locals} {a b : ℕ} {fs : List Frame} → WithinContext d c → (o : Effect Flow) (go : Doing Flow)
+        → Reaches d s l (flows a fs) fs o
+        → ((m : Locals) → Kept d l m → (w : World) (left : ℕ) → Reaches c (At (frame a [] m) fs w left) m (flows b fs) fs (go w left))
+        → Reaches c s l (flows b fs) fs (followed o go)
+    goes_on_in {d} {c} {l} {a} {b} {fs} inner o go r f = bound_in {to = flows a fs} {to2 = flows b fs} inner o (after_flow go) r by_flow
+      where
+        by_flow : (m : Locals) → Kept d l m → (x : Flow) (w : World) (left : ℕ) → Reaches c (flows a fs m x w left) m (flows b fs) fs (after_flow go x w left)
+        by_flow m kept Next w left = f m kept w left
+        by_flow m kept (Returned d v) w left = gives (Returned d v) w left (fine_out _ c m inner kept.fine) (stays p (flows a fs m (Returned d v) w left))
 
     module _ (there : slice_get p.units number ≡ Some u) where
       -- one instruction
@@ -205,14 +230,14 @@ module _ (p : Program) (number : ℕ) (u : UnitCode) where
           }
 
       -- a statement, or a turn, is begun by the instruction that takes its step
-      pub begins : {A : Type 0} {c : Context} {s a b : ℕ} {ops : List Operand} {l : Locals} {fs : List Frame} {to : Target A} (go : Doing A) → Is u (op.Step s) a b → Fine c l
+      pub begins : {A : Type 0} {c : Context} {s a b : ℕ} {ops : List Operand} {l : Locals} {fs : List Frame} {to : Target A} (go : Doing A) → Is u (op.Step s) a b → Kept c l (calm l)
           → ((w : World) (left : ℕ) → Reaches c (At (frame b ops (calm l)) fs w left) (calm l) to fs (go w left))
           → (w : World) (left : ℕ) → Reaches c (At (frame a ops l) fs w left) l to fs (as_statement s go w left)
-      begins go is fine f w zero = record { by = goes is refl }
-      begins {c} {s} {ops} {l} {fs} {to} go is fine f w (suc left) =
+      begins go is kept f w zero = record { by = goes is refl }
+      begins {c} {s} {ops} {l} {fs} {to} go is kept f w (suc left) =
           let v = at_statement s (stepped w) in
           let r = f v left in
-          then_reaches (goes is refl) (keeping (calm_kept c l fine) r)
+          then_reaches (goes is refl) (keeping kept r)
 
       -- an instruction that asks for an operation
       pub answers : {A : Type 0} {c : Context} {i : Instruction} {a b : ℕ} {old : List Operand} {l : Locals} {fs : List Frame} (f : A → List Operand) (o : Answer A) → Is u i a b → Fine c l

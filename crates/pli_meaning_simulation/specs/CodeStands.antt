@@ -37,15 +37,18 @@ pub record Context : Type 0 where
   pub depth : ℕ
   pub bound : ℕ
 
--- in the list of an iterative group with so many temporaries more: the jump to its next turn is yet to come
-abbrev pub deeper : ℕ → Context → Context
-deeper more c = record { size = c.size; depth = c.depth + more; bound = c.bound - 1 }
+-- with so many temporaries more in use
+abbrev pub longer : (more : ℕ) → Context → Context
+longer more c = record { size = c.size; depth = c.depth + more; bound = c.bound }
 
--- there is room for such a group; an activation makes at most 64 backward jumps between two steps
-pub record Nests (more : ℕ) (c : Context) : Type 0 where
+-- in the list of an iterative group: the jump to its next turn is yet to come
+abbrev pub deeper : Context → Context
+deeper c = record { size = c.size; depth = c.depth; bound = c.bound - 1 }
+
+-- there is room for such a group: an activation makes at most 64 backward jumps between two steps
+pub record Nests (c : Context) : Type 0 where
   pub least : 2 ≤ c.bound
   pub most : c.bound ≤ 64
-  pub room : c.depth + more ≤ c.size
 
 -- how many arguments there are
 abbrev pub arguments_in : TypedArguments → ℕ
@@ -191,9 +194,9 @@ module _ (u : UnitCode) where
           BeginStands head block (ListStands head.number statements)
       FormStands block number (Group statements) c = ListStands block statements c
       FormStands block number (While e statements) c =
-          λ p q. Nests 0 c × Loop
+          λ p q. Nests c × Loop
           (λ target. Then (Is (op.Line number)) (ConditionStands e target))
-          (Then (Is (op.Step number)) (ListStands block statements (deeper 0 c))) Empty p q
+          (Then (Is (op.Step number)) (ListStands block statements (deeper c))) Empty p q
       FormStands block number (Call called arguments) c =
           Then (ArgumentsStand arguments) (Is (op.Call called (arguments_in arguments)))
       FormStands block number (Goto outward label) c = Is (op.Goto outward (at label))
