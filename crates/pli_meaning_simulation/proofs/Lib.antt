@@ -1,4 +1,5 @@
 pub mod Arity
+pub mod CallsReach
 pub mod ControlReaches
 pub mod ExpressionsReach
 pub mod ReachesLemmas

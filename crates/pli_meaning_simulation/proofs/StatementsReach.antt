@@ -164,7 +164,7 @@ module _ (p : Program) (number : ℕ) (u : UnitCode) (at : ℕ → ℕ) where
           (other_run is.target b is.does_other m k.fine fs w left))
 
       -- a list, from the run of its statements
-      list_run : (ss : TypedStatements) (run : Option ℕ → Doing Flow) {c : Context} {a b : ℕ}
+      pub list_run : (ss : TypedStatements) (run : Option ℕ → Doing Flow) {c : Context} {a b : ℕ}
           → ((start : Option ℕ) (l : Locals) → Fine c l → (fs : List Frame) (w : World) (left : ℕ)
           → Reaches p number u at c (At (frame p number u (start_of p number u at a start) [] l) fs w left) l (flows p number u b fs) fs (run start w left))
           → Runs c (as_list level ss run) a b

@@ -1,1 +1,2 @@
 pub mod CodeStands
+pub mod laws

@@ -4,7 +4,7 @@ use Rattle.std.specs.Prelude.{List, [], ◌∷◌, length, map, slice_get, if◌
 use Rattle.pli_base.specs.Name.{Name}
 use Rattle.pli_code.specs.declared.ending.Ending.{Ending}
 use Rattle.pli_code.specs.declared.ending.Ending.TheVariants.{Ended, OutOfSteps, Error, MachineFault}
-use Rattle.pli_machine_step.specs.Runs.{Outcome, outcome_of}
+use Rattle.pli_machine_step.specs.Runs.{Outcome, outcome_of, is_external}
 use Rattle.pli_operation.specs.Operations.{Operation, calculated}
 use Rattle.pli_store.specs.Activations.{nearest_of}
 use Rattle.pli_store.specs.Storage.{Place, field_of}
@@ -289,14 +289,10 @@ all_made [] w = Yields tt w
 all_made (u ∷ us) w = further (statics_made u.name 0 (map variable_of u.statics) w) (λ _ w. all_made us w)
 
 -- the main procedure has no parameters and stands in no block
-abbrev pub is_outermost : Option ℕ → Bool
-is_outermost None = true
-is_outermost (Some parent) = false
-
 abbrev pub main_run : (greatest : ℕ) → TypedUnit → (level : ℕ) → Option TypedProcedure → Doing (Option Value)
 main_run greatest u level None w left = Lost
 main_run greatest u level (Some f) w left =
-    if is_outermost f.parent && nat_eq f.parameters 0
+    if is_external f.parent && nat_eq f.parameters 0
     then procedure_run greatest (calls greatest u level) level u.name f 0 [] w left else Lost
 
 abbrev pub unit_run : (greatest level : ℕ) → Option TypedUnit → Doing (Option Value)

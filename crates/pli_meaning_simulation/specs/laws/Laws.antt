@@ -1,0 +1,18 @@
+-- The law: the code of a program does what the program means.
+use Rattle.std.specs.Prelude.{◌≡◌, ◌≢◌, ℕ, Some}
+use Rattle.pli_code.specs.declared.ending.Ending.TheVariants.{MachineFault}
+use Rattle.pli_machine_step.specs.Program.{Program}
+use Rattle.pli_machine_step.specs.Runs.{Outcome, ProgramRunsTo}
+use Rattle.pli_meaning_tree.specs.TreeMeaning.{TypedProgram, whole_run}
+use Rattle.pli_meaning_simulation.specs.CodeStands.{ProgramStands}
+
+-- Simulation: what a program means with so many steps, the run of its code gives with so many steps
+abbrev pub Simulation : Type 0
+Simulation =
+    (t : TypedProgram) (p : Program) → ProgramStands t p → (n : ℕ) (o : Outcome) → whole_run t n ≡ Some o
+    → ProgramRunsTo p n o
+
+-- no meaning is a fault of the machine
+abbrev pub NoFault : Type 0
+NoFault =
+    (t : TypedProgram) (n : ℕ) (o : Outcome) → whole_run t n ≡ Some o → o.ending ≢ MachineFault
