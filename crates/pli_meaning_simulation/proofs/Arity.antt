@@ -1,7 +1,7 @@
 -- An operation on another number of operands than it has misfits.
-use Rattle.std.specs.Prelude.{◌≡◌, ℕ, suc, List, [], ◌∷◌, length, refl}
+use Rattle.std.specs.Prelude.{◌≡◌, ℕ, List, [], ◌∷◌, length, refl}
 use Rattle.pli_operation.specs.Operations.{Operation, Negate, Absolute, Sign, Not, LengthOf, FromBits, ToCharacters, Fit, Add, Subtract, Multiply, Modulo, Greatest, Least, Divide, Compare, Concatenate, And, Or, Index, Rest, Substring}
-use Rattle.pli_operation.specs.Operations.{operands_of, Calculation, Misfits, calculated}
+use Rattle.pli_operation.specs.Operations.{operands_of, Misfits, calculated}
 use Rattle.pli_value.specs.Value.{Value}
 
 -- there are as many operands as it has, or it misfits

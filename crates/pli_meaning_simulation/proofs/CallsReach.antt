@@ -1,13 +1,9 @@
 -- The machine does what calls mean, at each level.
-use Rattle.std.specs.Prelude.{◌≡◌, ℕ, zero, suc, ◌+◌, nat_eq, ◌&&◌, Bool, true, false, Option, Some, None, List, [], ◌∷◌, length, slice_get, if◌then◌else◌, refl}
+use Rattle.std.specs.Prelude.{◌≡◌, ℕ, zero, suc, nat_eq, Bool, true, false, Option, Some, None, List, [], ◌∷◌, length, slice_get, if◌then◌else◌, refl}
 use Rattle.std.proofs.Common.{ap, ◌∙◌, sym, subst, arith}
 use Rattle.std.proofs.lemmas.Bool.{eqb-true}
-use Rattle.pli_base.specs.Name.{Name}
-use Rattle.pli_code.specs.declared.ending.RunError.TheVariants.{NoReturnedValue}
 use Rattle.pli_store.specs.Storage.{Place}
-use Rattle.pli_store.specs.World.{World, entered, left_by, at_statement, error_at, stepped}
-use Rattle.pli_value.specs.Value.{Value}
-use Rattle.pli_machine_step.specs.Program as op
+use Rattle.pli_store.specs.World.{World, entered, left_by, stepped}
 use Rattle.pli_machine_step.specs.Program.{Procedure, Block, UnitCode, Program, head_of}
 use Rattle.pli_machine_step.specs.Machine as machine
 use Rattle.pli_machine_step.specs.Machine.{Operand, Locals, Frame, State, At, Over, Move, Steps, calm, fresh, called, link_of, enters, faulty, resume}
@@ -15,8 +11,8 @@ use Rattle.pli_type_tree.specs.TypedTree.{TypedProcedure, TypedUnit}
 use Rattle.pli_meaning_tree.specs.Effects as effect
 use Rattle.pli_meaning_tree.specs.Effects.{Effect, Gives, Jumps, Fails, Spent, Lost, Short, Flow, Next, Returned, Doing, leaving, procedure_end}
 use Rattle.pli_meaning_tree.specs.TreeMeaning.{Calls, in_order, head_in, static_link, activation_of, does_from, does_list, procedure_run, activates_in, activates, procedure_in, calls}
-use Rattle.pli_meaning_simulation.specs.CodeStands.{Context, block_of, ListStands, EndStands, ProcedureStands, ProceduresStand}
-use Rattle.pli_meaning_simulation.proofs.ReachesLemmas.{Fine, Kept, calm_kept, calm_fine, stays, from, frame, flows, returns, Reaches, gives, then_reaches, keeping, goes}
+use Rattle.pli_meaning_simulation.specs.CodeStands.{Context, block_of, EndStands, ProcedureStands, ProceduresStand}
+use Rattle.pli_meaning_simulation.proofs.ReachesLemmas.{Fine, calm_kept, calm_fine, stays, from, frame, flows, returns, Reaches, gives, keeping, goes}
 use Rattle.pli_meaning_simulation.proofs.ExpressionsReach.{CallsRun, places_above, places_come_off, as_long}
 use Rattle.pli_meaning_simulation.proofs.ControlReaches.{fresh_fine, leaves, full_run, step_run, enters_run}
 use Rattle.pli_meaning_simulation.proofs.StatementsReach.{list_run, from_run}
@@ -112,10 +108,10 @@ module _ (p : Program) (number : ℕ) (u : UnitCode) (at : ℕ → ℕ) where
             let here = frame p number u b (places_above before ops) l in
             let count : length before ≡ length places = let e = as_long before [] in omega arith in
             let same =
-                ap (λ x. resume (called u f.head.number (length before) x here fs w) left) is.there
-                ∙ ap (λ x. resume (machine.called_with u f.head.number code (length before) x here fs w) left) (places_come_off before [] ops)
-                ∙ ap (λ n. resume (if nat_eq f.parameters n then machine.calls u f.head.number code (link_of u f.parent w) places (frame p number u b ops l) fs w else faulty w) left) count
-                ∙ ap (λ x. resume (if nat_eq f.parameters (length places) then machine.calls u f.head.number code x places (frame p number u b ops l) fs w else faulty w) left) (links_same f.parent w) in
+            ap (λ x. resume (called u f.head.number (length before) x here fs w) left) is.there
+            ∙ ap (λ x. resume (machine.called_with u f.head.number code (length before) x here fs w) left) (places_come_off before [] ops)
+            ∙ ap (λ n. resume (if nat_eq f.parameters n then machine.calls u f.head.number code (link_of u f.parent w) places (frame p number u b ops l) fs w else faulty w) left) count
+            ∙ ap (λ x. resume (if nat_eq f.parameters (length places) then machine.calls u f.head.number code x places (frame p number u b ops l) fs w else faulty w) left) (links_same f.parent w) in
             subst (λ s. Reaches p number u at c s l (returns p number u b ops fs) fs (activates_in p.greatest call level u.name f (static_link u.name f.parent w) places w left)) (sym same)
             (tested_run (static_link u.name f.parent w) places w left (nat_eq f.parameters (length places)) refl)
 

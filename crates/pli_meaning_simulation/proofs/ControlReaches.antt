@@ -1,5 +1,5 @@
 -- Jumps: what the combinators of control say of the machine, over variables.
-use Rattle.std.specs.Prelude.{◌≡◌, ℕ, zero, suc, ◌+◌, ◌-◌, ◌<◌, ◌≤◌, nat_eq, nat_lt, ◌&&◌, Bool, true, false, Option, Some, None, List, [], ◌∷◌, length, replicate, slice_get, if◌then◌else◌, refl}
+use Rattle.std.specs.Prelude.{◌≡◌, ℕ, zero, suc, ◌<◌, ◌≤◌, nat_eq, nat_lt, ◌&&◌, Bool, true, false, Option, Some, None, List, [], ◌∷◌, length, replicate, slice_get, if◌then◌else◌, refl}
 use Rattle.std.proofs.Common.{ap, ◌∙◌, sym, subst, arith}
 use Rattle.std.proofs.lemmas.Bool.{le-ltb, lt-ltb}
 use Rattle.pli_store.specs.Activations.{activation_limit}
@@ -15,7 +15,7 @@ use Rattle.pli_meaning_tree.specs.Effects as effect
 use Rattle.pli_meaning_tree.specs.Effects.{Effect, Gives, Jumps, Fails, Spent, Lost, Short, Flow, Next, Returned, Doing, and_then, nothing_done, followed, answered, as_step, chosen, truth, turns, on_jump, caught, leaving}
 use Rattle.pli_meaning_tree.specs.TreeMeaning.{jumps_to}
 use Rattle.pli_meaning_simulation.specs.CodeStands.{Context, deeper, Nests, Is, Forward}
-use Rattle.pli_meaning_simulation.proofs.ReachesLemmas.{Fine, Kept, kept_on, kept_out, kept_same, calm_kept, WithinContext, Target, Comes, stays, from, Arrives, arrives_from, frame, flows, tested, landed, Reach, Reaches, gives, reach_from, then_reaches, keeping, bound, goes_on_in, goes}
+use Rattle.pli_meaning_simulation.proofs.ReachesLemmas.{Fine, Kept, kept_out, kept_same, WithinContext, Target, Comes, stays, Arrives, arrives_from, frame, flows, tested, landed, Reaches, gives, then_reaches, keeping, bound, goes_on_in, goes}
 
 -- an activation has made at most as many jumps since the last step as it has counted
 few_jumps : (w : World) (l : Locals) → jumps_at w l ≤ l.jumps
@@ -229,10 +229,10 @@ module _ (p : Program) (number : ℕ) (u : UnitCode) where
         back_run l fine w left f =
             let j = hops first q [] l fs w (let a = fine.few in let b = nests.most in let d = nests.least in omega arith) in
             let k : Kept c l j.locals =
-                record {
-                  agree = λ i lt. ap (λ ts. slice_get ts i) j.same;
-                  fine = record { room = ap length j.same ∙ fine.room; few = let a = fine.few in let b = j.few in let d = nests.least in omega arith; some = let a = nests.least in omega arith };
-                } in
+            record {
+              agree = λ i lt. ap (λ ts. slice_get ts i) j.same;
+              fine = record { room = ap length j.same ∙ fine.room; few = let a = fine.few in let b = j.few in let d = nests.least in omega arith; some = let a = nests.least in omega arith };
+            } in
             then_reaches p number u at (goes p number u at there back (ap (λ m. resume m left) j.goes)) (keeping p number u at k (f j.locals k))
 
         pub turns_run : (level : ℕ) (l : Locals) → Fine c l → Holds l → (w : World) (left : ℕ)

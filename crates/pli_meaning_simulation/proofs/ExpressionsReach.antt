@@ -1,19 +1,19 @@
 -- The machine does what expressions and references mean, for any operands and frames beneath.
-use Rattle.std.specs.Prelude.{◌≡◌, ℕ, ℤ, zero, suc, ◌+◌, Bool, true, false, Option, Some, None, List, [], ◌∷◌, length, slice_get, refl}
+use Rattle.std.specs.Prelude.{◌≡◌, ℕ, ℤ, ◌+◌, Option, Some, None, List, [], ◌∷◌, length, slice_get, refl}
 use Rattle.std.proofs.Common.{ap, ◌∙◌, sym, subst, arith}
-use Rattle.pli_operation.specs.Operations.{Operation, operands_of, calculated, Misfits}
+use Rattle.pli_operation.specs.Operations.{Operation, operands_of, calculated}
 use Rattle.pli_store.specs.Storage.{Place, field_of}
 use Rattle.pli_store.specs.World.{World, Answer, held, slot_place, static_place, subscripted, calculation, dummy_of}
 use Rattle.pli_value.specs.Value.{Value, Number, Characters, Bits}
 use Rattle.pli_machine_step.specs.Program as op
 use Rattle.pli_machine_step.specs.Program.{UnitCode, Program}
-use Rattle.pli_machine_step.specs.Machine.{Operand, OfValue, AtPlace, Locals, Frame, State, At, Goes, given, values_off, places_off, operated, called, resume}
+use Rattle.pli_machine_step.specs.Machine.{Operand, OfValue, AtPlace, Locals, Frame, At, values_off, places_off, operated, called, resume}
 use Rattle.pli_type_tree.specs.TypedTree.{Root, InSlot, OfProgram, TypedExpression, Literal, Held, Calculated, Called, TypedReference, Whole, Part, Operands, NoOperand, OperandThen, Subscripts, NoSubscript, SubscriptThen, TypedArguments, NoArgument, ByPlace, ByDummy}
-use Rattle.pli_meaning_tree.specs.Effects.{Effect, Gives, Lost, Doing, and_then, answered}
+use Rattle.pli_meaning_tree.specs.Effects.{Doing, answered}
 use Rattle.pli_meaning_tree.specs.TreeMeaning as meaning
 use Rattle.pli_meaning_tree.specs.TreeMeaning.{Calls, a_value, in_order, root_place, element_of, value_of, place_of, element_at, called_with}
 use Rattle.pli_meaning_simulation.specs.CodeStands.{Then, Context, arguments_in, Is, RootStands, ValueStands, OperandsStand, PlaceStands, SubscriptsStand, ArgumentsStand}
-use Rattle.pli_meaning_simulation.proofs.ReachesLemmas.{Fine, Kept, Comes, stays, frame, pushes, returns, Reaches, gives, then_reaches, bound, goes, answers}
+use Rattle.pli_meaning_simulation.proofs.ReachesLemmas.{Fine, Comes, stays, frame, pushes, returns, Reaches, gives, then_reaches, bound, goes, answers}
 use Rattle.pli_meaning_simulation.proofs.Arity.{Arity, Full, Misfit, arity}
 
 -- operands of which the last stands first, above others

@@ -2,5 +2,6 @@ pub mod Arity
 pub mod CallsReach
 pub mod ControlReaches
 pub mod ExpressionsReach
+pub mod ProgramsSimulate
 pub mod ReachesLemmas
 pub mod StatementsReach

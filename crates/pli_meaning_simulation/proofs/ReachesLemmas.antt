@@ -1,18 +1,15 @@
 -- The machine comes from here to there; what an effect says of the machine. One lemma for each combinator of the meaning, over variables: no
 -- form of the tree is mentioned.
-use Rattle.std.specs.Prelude.{◌≡◌, ℕ, zero, suc, ◌+◌, ◌-◌, ◌<◌, ◌≤◌, nat_eq, nat_lt, ◌&&◌, Bool, true, false, Option, Some, None, List, [], ◌∷◌, length, slice_get, if◌then◌else◌, refl}
-use Rattle.std.proofs.Common.{ap, ◌∙◌, sym, subst, arith}
+use Rattle.std.specs.Prelude.{◌≡◌, ℕ, zero, suc, ◌<◌, ◌≤◌, nat_eq, Bool, true, false, Option, Some, None, List, [], ◌∷◌, length, slice_get, if◌then◌else◌, refl}
+use Rattle.std.proofs.Common.{ap, ◌∙◌, subst, arith}
 use Rattle.pli_code.specs.declared.ending.Ending.TheVariants.{OutOfSteps}
-use Rattle.pli_store.specs.Activations.{activation_limit}
 use Rattle.pli_store.specs.World.{World, Answer, Yields, Raises, Wrong, height, at_statement, stepped, left_by, cleared}
-use Rattle.pli_value.specs.Value.{Value, Number, Characters, Bits}
-use Rattle.pli_operation.specs.Operations.{is_true}
+use Rattle.pli_value.specs.Value.{Value}
 use Rattle.pli_machine_step.specs.Program as op
 use Rattle.pli_machine_step.specs.Program.{Instruction, UnitCode, Program}
-use Rattle.pli_machine_step.specs.Machine.{Operand, OfValue, AtPlace, Locals, Frame, State, At, Over, Goes, given, calm, lands, returned, returned_with, unless_full, jumps_at, jump_limit, counted, counted_jump, jumped, act, act_in, resume, iterate}
-use Rattle.pli_meaning_tree.specs.Effects as effect
-use Rattle.pli_meaning_tree.specs.Effects.{Effect, Gives, Jumps, Fails, Spent, Lost, Short, Flow, Next, Returned, Doing, and_then, nothing_done, after_flow, followed, answered, as_statement, back_at, chosen, truth, turns, on_jump, caught}
-use Rattle.pli_meaning_simulation.specs.CodeStands.{Span, Context, deeper, Nests, Is, Forward, Loop}
+use Rattle.pli_machine_step.specs.Machine.{Operand, OfValue, Locals, Frame, State, At, Over, Goes, given, calm, lands, returned, returned_with, act, act_in, resume, iterate}
+use Rattle.pli_meaning_tree.specs.Effects.{Effect, Gives, Jumps, Fails, Spent, Lost, Short, Flow, Next, Returned, Doing, and_then, after_flow, followed, answered, as_statement}
+use Rattle.pli_meaning_simulation.specs.CodeStands.{Context, Is}
 
 -- a frame's temporaries are those of the block, and it has made no more backward jumps than may be
 pub record Fine (c : Context) (l : Locals) : Type 0 where

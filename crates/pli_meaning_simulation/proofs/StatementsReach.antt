@@ -1,10 +1,8 @@
 -- The machine does what statements mean: a clause for each form.
-use Rattle.std.specs.Prelude.{◌≡◌, ℕ, zero, suc, ◌+◌, ◌≤◌, nat_eq, Bool, true, false, Option, Some, None, List, [], ◌∷◌, length, slice_get, if◌then◌else◌, refl}
+use Rattle.std.specs.Prelude.{◌≡◌, ℕ, zero, suc, nat_eq, Bool, true, false, Option, Some, None, List, [], ◌∷◌, slice_get, if◌then◌else◌, refl}
 use Rattle.std.proofs.Common.{ap, ◌∙◌, sym, subst, arith}
 use Rattle.std.proofs.lemmas.Bool.{eqb-true}
-use Rattle.pli_operation.specs.Operations.{Operation}
-use Rattle.pli_store.specs.Storage.{Place}
-use Rattle.pli_store.specs.World.{World, Answer, stored, copied, printed, line_ended, entered, left_by, at_statement}
+use Rattle.pli_store.specs.World.{World, stored, copied, printed, line_ended, entered, left_by, at_statement}
 use Rattle.pli_value.specs.Value.{Value, Number, Characters, Bits}
 use Rattle.pli_value.specs.Conversions.{bit_constant}
 use Rattle.pli_machine_step.specs.Program as op
@@ -12,10 +10,10 @@ use Rattle.pli_machine_step.specs.Program.{BlockKind, BeginBlock, Block, UnitCod
 use Rattle.pli_machine_step.specs.Machine as machine
 use Rattle.pli_machine_step.specs.Machine.{Operand, OfValue, AtPlace, Locals, Frame, State, At, Over, Goes, calm, fresh, begun, enters, resume}
 use Rattle.pli_type_tree.specs.TypedTree.{TypedExpression, Called, TypedReference, TypedArguments, BlockHead, TypedStatement, Statement, Form, Null, Assign, AssignAggregate, Put, If, Begin, Group, While, Call, Goto, Return, ReturnValue, Stop, OtherWise, NoElse, Else, TypedStatements, NoStatement, StatementThen}
-use Rattle.pli_meaning_tree.specs.Effects.{Effect, Gives, Jumps, Fails, Spent, Lost, Short, Flow, Next, Returned, Doing, and_then, nothing_done, followed, answered, as_statement, back_at, truth, chosen, turns, caught, leaving, block_end}
-use Rattle.pli_meaning_tree.specs.TreeMeaning.{Calls, no_value, printed_item, value_of, place_of, called_with, condition, assigns, assigns_aggregate, puts, skips, does_call, returns_value, jumps_to, number_of, labels_in, as_list, head_in, static_link, activation_of, in_block, does, does_form, does_else, does_from}
-use Rattle.pli_meaning_simulation.specs.CodeStands.{Span, Empty, Then, Context, deeper, Nests, arguments_in, block_of, Is, Forward, Guarded, Choice, Loop, BeginStands, ValueStands, PlaceStands, ConditionStands, ItemsStand, SkipStands, StatementStands, FormStands, IfStands, ListStands}
-use Rattle.pli_meaning_simulation.proofs.ReachesLemmas.{Fine, Kept, calm_kept, Target, Comes, stays, from, frame, flows, tested, returns, Reaches, gives, passes, then_reaches, keeping, bound, goes_on, goes, begins, answers}
+use Rattle.pli_meaning_tree.specs.Effects.{Effect, Gives, Jumps, Fails, Spent, Lost, Short, Flow, Next, Returned, Doing, and_then, nothing_done, followed, answered, as_statement, back_at, truth, chosen, turns, leaving, block_end}
+use Rattle.pli_meaning_tree.specs.TreeMeaning.{Calls, no_value, printed_item, value_of, place_of, called_with, condition, assigns, assigns_aggregate, puts, skips, does_call, returns_value, number_of, labels_in, as_list, head_in, static_link, activation_of, in_block, does, does_form, does_else, does_from}
+use Rattle.pli_meaning_simulation.specs.CodeStands.{Span, Empty, Then, Context, deeper, Nests, arguments_in, block_of, Is, Guarded, Choice, Loop, BeginStands, ValueStands, PlaceStands, ConditionStands, ItemsStand, SkipStands, StatementStands, FormStands, IfStands, ListStands}
+use Rattle.pli_meaning_simulation.proofs.ReachesLemmas.{Fine, calm_kept, Target, Comes, stays, from, frame, flows, tested, returns, Reaches, gives, passes, then_reaches, bound, goes_on, goes, begins, answers}
 use Rattle.pli_meaning_simulation.proofs.ExpressionsReach.{CallsRun, value_run, place_run, called_run}
 use Rattle.pli_meaning_simulation.proofs.ControlReaches.{turn_kept, fresh_fine, jump_on, chosen_run, start_of, caught_run, leaves, full_run, enters_run, truth_run, goto_run, turns_run}
 

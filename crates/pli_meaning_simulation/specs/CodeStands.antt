@@ -1,6 +1,6 @@
 -- The code of typed units, as a relation: which instructions stand from a place up to a place for each form.
 -- The inner places are parts of it.
-use Rattle.std.specs.Prelude.{◌≡◌, ℕ, zero, suc, ◌+◌, ◌-◌, ◌≤◌, Bool, true, false, Option, Some, None}
+use Rattle.std.specs.Prelude.{◌≡◌, ℕ, suc, ◌+◌, ◌-◌, ◌≤◌, Bool, true, false, Option, Some, None}
 use Rattle.std.specs.Prelude.{List, [], ◌∷◌, map, slice_get}
 use Rattle.pli_code.specs.declared.ending.RunError.TheVariants.{NoReturnedValue}
 use Rattle.pli_machine_step.specs.Program as op
@@ -158,7 +158,7 @@ module _ (u : UnitCode) where
 
   -- a block's code stands elsewhere, from its entry; its own count of backward jumps begins anew
   pub record BlockStands (block : ℕ → Block) (number temporaries : ℕ) (list : Context → Span) (end : Span)
-    : Type 0 where
+      : Type 0 where
     pub entry : ℕ
     pub there : slice_get u.blocks number ≡ Some (block entry)
     pub bound : ℕ
