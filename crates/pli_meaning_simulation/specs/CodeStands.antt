@@ -4,7 +4,8 @@ use Rattle.std.specs.Prelude.{◌≡◌, ℕ, suc, ◌+◌, ◌-◌, ◌≤◌, 
 use Rattle.std.specs.Prelude.{List, [], ◌∷◌, map, slice_get}
 use Rattle.pli_code.specs.declared.ending.RunError.TheVariants.{NoReturnedValue}
 use Rattle.pli_machine_step.specs.Program as op
-use Rattle.pli_machine_step.specs.Program.{Instruction, BlockKind, Procedure, BeginBlock, Block, UnitCode, Program}
+use Rattle.pli_machine_step.specs.Program.{Instruction, BlockKind, Procedure, BeginBlock, Block, UnitCode}
+use Rattle.pli_machine_step.specs.Program.{Program}
 use Rattle.pli_type_tree.specs.Templates.{variable_of}
 use Rattle.pli_type_tree.specs.TypedTree.{Root, InSlot, OfProgram, TypedExpression, Literal, Held, Calculated}
 use Rattle.pli_type_tree.specs.TypedTree.{Called, TypedReference, Whole, Part, Operands, NoOperand}
@@ -179,7 +180,8 @@ module _ (u : UnitCode) where
   module _ (at : (label : ℕ) → ℕ) where
     abbrev mutual
       pub StatementStands : (block : ℕ) → TypedStatement → Context → Span
-      StatementStands block (Statement number form) c = Then (Is (op.Step number)) (FormStands block number form c)
+      StatementStands block (Statement number form) c =
+          Then (Is (op.Step number)) (FormStands block number form c)
 
       pub FormStands : (block number : ℕ) → Form → Context → Span
       FormStands block number Null c = Empty

@@ -9,8 +9,8 @@ use Rattle.pli_operation.specs.Operations.{Operation, calculated}
 use Rattle.pli_store.specs.Activations.{nearest_of}
 use Rattle.pli_store.specs.Storage.{Place, field_of}
 use Rattle.pli_store.specs.World.{World, Answer, Yields, further, nothing, height, held, stored, copied}
-use Rattle.pli_store.specs.World.{subscripted, calculation, Head, entered, height_of, slot_place, static_place}
-use Rattle.pli_store.specs.World.{dummy_of, printed, line_ended, statics_made}
+use Rattle.pli_store.specs.World.{subscripted, calculation, Head, entered, height_of, slot_place}
+use Rattle.pli_store.specs.World.{static_place, dummy_of, printed, line_ended, statics_made}
 use Rattle.pli_type_tree.specs.Templates.{variable_of}
 use Rattle.pli_type_tree.specs.TypedTree.{Root, InSlot, OfProgram, TypedExpression, Literal, Held, Calculated}
 use Rattle.pli_type_tree.specs.TypedTree.{Called, TypedReference, Whole, Part, Operands, NoOperand}
@@ -23,8 +23,8 @@ use Rattle.pli_type_tree.specs.TypedTree.{TypedUnit}
 use Rattle.pli_value.specs.Conversions.{bit_constant}
 use Rattle.pli_value.specs.Value.{Value, Number, Characters, Bits}
 use Rattle.pli_meaning_tree.specs.Effects.{Effect, Gives, Jumps, Fails, Spent, Lost, Short, Flow, Next}
-use Rattle.pli_meaning_tree.specs.Effects.{Returned, Doing, and_then, nothing_done, followed, answered, as_step}
-use Rattle.pli_meaning_tree.specs.Effects.{as_statement, back_at, truth, chosen, turns, caught, unless_full}
+use Rattle.pli_meaning_tree.specs.Effects.{Returned, Doing, and_then, nothing_done, followed, answered}
+use Rattle.pli_meaning_tree.specs.Effects.{as_step, as_statement, back_at, truth, chosen, turns, caught, unless_full}
 use Rattle.pli_meaning_tree.specs.Effects.{leaving, block_end, procedure_end}
 
 -- a program: its units, and which of them is the main one; no number has more binary digits than the greatest

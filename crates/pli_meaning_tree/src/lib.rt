@@ -1,2 +1,6 @@
 //! What typed units mean.
 #![tactic(auto)]
+
+mod laws;
+
+pub use laws::worked_examples;

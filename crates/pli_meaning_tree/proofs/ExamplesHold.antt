@@ -1,0 +1,66 @@
+-- The worked examples hold by computing.
+use Rattle.std.specs.Prelude.{refl}
+use Rattle.std.specs.Fmt.{digits}
+use Rattle.pli_operation.specs.Operations.{calculated}
+use Rattle.pli_store.specs.World.{nothing, made_of, parts_held, parts_stored, held, stored, copied, entered, left_by, cleared, at_statement, stepped, height_of, slot_place, static_place, dummy_of, printed, line_ended, error_at}
+use Rattle.pli_meaning_tree.specs.examples.TreeExamples as example
+
+pub loop_ends : example.LoopEnds
+unfolding calculated nothing made_of parts_held parts_stored held stored copied entered left_by cleared at_statement stepped height_of slot_place static_place dummy_of printed line_ended error_at digits
+loop_ends = refl
+
+pub loop_stops : example.LoopStops
+unfolding calculated nothing made_of parts_held parts_stored held stored copied entered left_by cleared at_statement stepped height_of slot_place static_place dummy_of printed line_ended error_at digits
+loop_stops = refl
+
+pub if_chooses : example.IfChooses
+unfolding calculated nothing made_of parts_held parts_stored held stored copied entered left_by cleared at_statement stepped height_of slot_place static_place dummy_of printed line_ended error_at digits
+if_chooses = refl
+
+pub subscript_is_tested : example.SubscriptIsTested
+unfolding calculated nothing made_of parts_held parts_stored held stored copied entered left_by cleared at_statement stepped height_of slot_place static_place dummy_of printed line_ended error_at digits
+subscript_is_tested = refl
+
+pub aggregate_is_copied : example.AggregateIsCopied
+unfolding calculated nothing made_of parts_held parts_stored held stored copied entered left_by cleared at_statement stepped height_of slot_place static_place dummy_of printed line_ended error_at digits
+aggregate_is_copied = refl
+
+pub bits_are_printed : example.BitsArePrinted
+unfolding calculated nothing made_of parts_held parts_stored held stored copied entered left_by cleared at_statement stepped height_of slot_place static_place dummy_of printed line_ended error_at digits
+bits_are_printed = refl
+
+pub item_before_is_written : example.ItemBeforeIsWritten
+unfolding calculated nothing made_of parts_held parts_stored held stored copied entered left_by cleared at_statement stepped height_of slot_place static_place dummy_of printed line_ended error_at digits
+item_before_is_written = refl
+
+pub function_calls_itself : example.FunctionCallsItself
+unfolding calculated nothing made_of parts_held parts_stored held stored copied entered left_by cleared at_statement stepped height_of slot_place static_place dummy_of printed line_ended error_at digits
+function_calls_itself = refl
+
+pub function_stops : example.FunctionStops
+unfolding calculated nothing made_of parts_held parts_stored held stored copied entered left_by cleared at_statement stepped height_of slot_place static_place dummy_of printed line_ended error_at digits
+function_stops = refl
+
+pub by_reference_changes : example.ByReferenceChanges
+unfolding calculated nothing made_of parts_held parts_stored held stored copied entered left_by cleared at_statement stepped height_of slot_place static_place dummy_of printed line_ended error_at digits
+by_reference_changes = refl
+
+pub no_value_is_returned : example.NoValueIsReturned
+unfolding calculated nothing made_of parts_held parts_stored held stored copied entered left_by cleared at_statement stepped height_of slot_place static_place dummy_of printed line_ended error_at digits
+no_value_is_returned = refl
+
+pub goto_leaves_block : example.GotoLeavesBlock
+unfolding calculated nothing made_of parts_held parts_stored held stored copied entered left_by cleared at_statement stepped height_of slot_place static_place dummy_of printed line_ended error_at digits
+goto_leaves_block = refl
+
+pub goto_leaves_call : example.GotoLeavesCall
+unfolding calculated nothing made_of parts_held parts_stored held stored copied entered left_by cleared at_statement stepped height_of slot_place static_place dummy_of printed line_ended error_at digits
+goto_leaves_call = refl
+
+pub goto_group_begins_anew : example.GotoGroupBeginsAnew
+unfolding calculated nothing made_of parts_held parts_stored held stored copied entered left_by cleared at_statement stepped height_of slot_place static_place dummy_of printed line_ended error_at digits
+goto_group_begins_anew = refl
+
+pub return_leaves_block : example.ReturnLeavesBlock
+unfolding calculated nothing made_of parts_held parts_stored held stored copied entered left_by cleared at_statement stepped height_of slot_place static_place dummy_of printed line_ended error_at digits
+return_leaves_block = refl

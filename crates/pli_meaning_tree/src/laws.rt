@@ -1,0 +1,22 @@
+//! Worked examples of the meaning.
+ghost use Rattle.pli_meaning_tree.specs.examples.TreeExamples.{LoopEnds, LoopStops, IfChooses, SubscriptIsTested, AggregateIsCopied, BitsArePrinted, ItemBeforeIsWritten, FunctionCallsItself, FunctionStops, ByReferenceChanges, NoValueIsReturned, GotoLeavesBlock, GotoLeavesCall, GotoGroupBeginsAnew, ReturnLeavesBlock};
+
+/// What programs give with so many steps: a loop, IF, an element out of bounds, an aggregate copied, bits printed, functions
+/// that call themselves, an argument changed by the procedure, GOTO out of blocks and calls, RETURN and STOP.
+pub fn worked_examples()
+    ensures loop_ends { LoopEnds }
+    ensures loop_stops { LoopStops }
+    ensures if_chooses { IfChooses }
+    ensures subscript_is_tested { SubscriptIsTested }
+    ensures aggregate_is_copied { AggregateIsCopied }
+    ensures bits_are_printed { BitsArePrinted }
+    ensures item_before_is_written { ItemBeforeIsWritten }
+    ensures function_calls_itself { FunctionCallsItself }
+    ensures function_stops { FunctionStops }
+    ensures by_reference_changes { ByReferenceChanges }
+    ensures no_value_is_returned { NoValueIsReturned }
+    ensures goto_leaves_block { GotoLeavesBlock }
+    ensures goto_leaves_call { GotoLeavesCall }
+    ensures goto_group_begins_anew { GotoGroupBeginsAnew }
+    ensures return_leaves_block { ReturnLeavesBlock }
+{}
