@@ -1,8 +1,9 @@
 -- Worked examples of the meaning, in a unit M whose external procedure is block 0 and statement 1.
-use Rattle.std.specs.Prelude.{◌≡◌, ℕ, ◌+◌, pos, true, false, Option, Some, None, List, [], ◌∷◌, ◌++◌, codes}
+use Rattle.std.specs.Prelude.{◌≡◌, ℕ, pos, true, false, Option, Some, None, List, [], ◌∷◌, ◌++◌, map, codes}
 use Rattle.pli_code.specs.declared.ending.Ending.{Ending}
 use Rattle.pli_code.specs.declared.ending.Ending.TheVariants.{Ended, OutOfSteps, Error}
-use Rattle.pli_code.specs.declared.ending.RunError.TheVariants.{SubscriptRange, FixedOverflow, NoReturnedValue}
+use Rattle.pli_code.specs.declared.ending.RunError.TheVariants.{SubscriptRange, FixedOverflow}
+use Rattle.pli_code.specs.declared.ending.RunError.TheVariants.{NoReturnedValue}
 use Rattle.pli_map.specs.Description.{Description, FixedBinary, Array}
 use Rattle.pli_operation.specs.Operations.{Operation, Add, Subtract, Compare, Less, ToCharacters}
 use Rattle.pli_value.specs.Value.{Number, Characters, Bits}
@@ -10,7 +11,7 @@ use Rattle.pli_type_tree.specs.Templates.{Template}
 use Rattle.pli_type_tree.specs.TypedTree.{InSlot, TypedExpression, Literal, Held, Calculated, Called}
 use Rattle.pli_type_tree.specs.TypedTree.{TypedReference, Whole, Part, NoOperand, OperandThen, NoSubscript}
 use Rattle.pli_type_tree.specs.TypedTree.{SubscriptThen, NoArgument, ByPlace, ByDummy}
-use Rattle.pli_type_tree.specs.TypedTree.{Statement, Form, Assign}
+use Rattle.pli_type_tree.specs.TypedTree.{TypedStatement, Statement, Form, Assign}
 use Rattle.pli_type_tree.specs.TypedTree.{AssignAggregate, Put, If, Begin, Group, While, Call, Goto, Return}
 use Rattle.pli_type_tree.specs.TypedTree.{ReturnValue, Stop, NoElse, Else, TypedStatements, NoStatement}
 use Rattle.pli_type_tree.specs.TypedTree.{StatementThen, TypedProcedure}
@@ -20,10 +21,10 @@ use Rattle.pli_meaning_tree.specs.TreeMeaning.{TypedProgram, whole_run}
 abbrev pub of : Description → Template
 of d = record { description = d; initial = [] }
 
--- a list of statements from a number on
-abbrev pub numbered : ℕ → List Form → TypedStatements
-numbered n [] = NoStatement
-numbered n (form ∷ forms) = StatementThen (Statement n form) (numbered (n + 1) forms)
+-- a list of statements
+abbrev pub listed : List TypedStatement → TypedStatements
+listed [] = NoStatement
+listed (s ∷ ss) = StatementThen s (listed ss)
 
 -- a procedure without a block around it and without parameters, which is block 0
 abbrev pub main_of : List Template → TypedStatements → TypedProcedure
@@ -83,12 +84,42 @@ text characters = Literal (Characters characters)
 abbrev pub shown : TypedExpression → TypedExpression
 shown e = Calculated (ToCharacters 4) (OperandThen e NoOperand)
 
--- `DO WHILE(X < 2); X = X + 1; PUT LIST(X); END;` as statement 2, X being slot 0
+-- what one statement prints: a text, or a number
+abbrev pub prints : List ℕ → Form
+prints characters = Put false (text characters ∷ [])
+
+abbrev pub prints_number : TypedExpression → Form
+prints_number e = Put false (shown e ∷ [])
+
+-- `X = X + n;` and `X < n`, X being slot 0
+abbrev pub adds : ℕ → Form
+adds n = Assign (slot 0 0) (with_two Add (held_in 0 0) (number n))
+
+abbrev pub is_less : ℕ → TypedExpression
+is_less n = with_two (Compare Less) (held_in 0 0) (number n)
+
+-- the program of one procedure with these variables and statements
+abbrev pub alone : List Description → List TypedStatement → List TypedProcedure
+alone variables statements = main_of (map of variables) (listed statements) ∷ []
+
+-- a pair of numbers, and its element of a number
+abbrev pub pair : Description
+pair = Array (record { low = pos 1; high = pos 2 } ∷ []) (FixedBinary 15)
+
+abbrev pub element : (slot subscript : ℕ) → TypedReference
+element s n =
+    Part (InSlot 0 s) 0 (FixedBinary 15)
+    (SubscriptThen (record { low = pos 1; high = pos 2; multiplier = 2 }) (number n) NoSubscript)
+
+-- a call of block 1 with a value
+abbrev pub of_one : TypedExpression → TypedExpression
+of_one e = Called 1 (ByDummy (FixedBinary 31) e NoArgument)
+
+-- `DO WHILE(X < 2); X = X + 1; PUT LIST(X); END;`
 abbrev pub counting : List TypedProcedure
 counting =
-    main_of (of (FixedBinary 15) ∷ []) (numbered 2 (While (with_two (Compare Less) (held_in 0 0) (number 2))
-    (numbered 3 (Assign (slot 0 0) (with_two Add (held_in 0 0) (number 1)) ∷ Put false (shown (held_in 0 0) ∷ []) ∷ []))
-    ∷ [])) ∷ []
+    alone (FixedBinary 15 ∷ []) (Statement 2 (While (is_less 2)
+    (listed (Statement 3 (adds 1) ∷ Statement 4 (prints_number (held_in 0 0)) ∷ []))) ∷ [])
 
 -- the activation, the group, and three steps for each of two turns
 abbrev pub LoopEnds : Type 0
@@ -98,107 +129,106 @@ LoopEnds = Prints counting 8 (codes "   1 " ++ codes "                   " ++ co
 abbrev pub LoopStops : Type 0
 LoopStops = Prints counting 7 (codes "   1 ") OutOfSteps 6
 
--- `IF X < 1 THEN PUT LIST('A'); ELSE PUT LIST('B');` prints A, as X begins as zero; a step for each of IF and PUT
+-- `IF X < 1 THEN PUT LIST('A'); ELSE PUT LIST('B');` prints A, as X begins as zero; a step each
 abbrev pub IfChooses : Type 0
 IfChooses =
-    Prints (main_of (of (FixedBinary 15) ∷ []) (numbered 2 (If (with_two (Compare Less) (held_in 0 0) (number 1))
-    (Statement 3 (Put false (text (codes "A") ∷ []))) (Else (Statement 4 (Put false (text (codes "B") ∷ [])))) ∷ [])) ∷ [])
+    Prints (alone (FixedBinary 15 ∷ []) (Statement 2 (If (is_less 1)
+    (Statement 3 (prints (codes "A"))) (Else (Statement 4 (prints (codes "B"))))) ∷ []))
     3 (codes "A ") Ended 3
 
--- `A(3) = 1;` with A(2) in slot 0: the error is of the assignment, before its value is evaluated
+-- `A(3) = 2147483647 + 1;` with A(2): the error of the target comes before the value is evaluated
 abbrev pub SubscriptIsTested : Type 0
 SubscriptIsTested =
-    Prints (main_of (of (Array (record { low = pos 1; high = pos 2 } ∷ []) (FixedBinary 15)) ∷ []) (numbered 2 (Assign
-    (Part (InSlot 0 0) 0 (FixedBinary 15) (SubscriptThen (record { low = pos 1; high = pos 2; multiplier = 2 }) (number 3) NoSubscript))
-    (with_two Add (number 2147483647) (number 1)) ∷ [])) ∷ [])
+    Prints (alone (pair ∷ [])
+    (Statement 2 (Assign (element 0 3) (with_two Add (number 2147483647) (number 1))) ∷ []))
     9 [] (Error SubscriptRange (codes "M") 2) 1
 
--- A = 2 and B = A of an aggregate, by the elements of A(2) and B(2): what one holds is copied to the other
+-- `A(2) = 7; B = A; PUT LIST(B(2));`: what one aggregate holds is copied to the other
 abbrev pub AggregateIsCopied : Type 0
 AggregateIsCopied =
-    let pair = Array (record { low = pos 1; high = pos 2 } ∷ []) (FixedBinary 15) in
-    let second : ℕ → TypedReference = λ s. Part (InSlot 0 s) 0 (FixedBinary 15)
-    (SubscriptThen (record { low = pos 1; high = pos 2; multiplier = 2 }) (number 2) NoSubscript) in
-    Prints (main_of (of pair ∷ of pair ∷ []) (numbered 2 (Assign (second 0) (number 7) ∷ AssignAggregate (slot 0 1) (slot 0 0)
-    ∷ Put false (shown (Held (second 1)) ∷ []) ∷ [])) ∷ [])
+    Prints (alone (pair ∷ pair ∷ []) (Statement 2 (Assign (element 0 2) (number 7))
+    ∷ Statement 3 (AssignAggregate (slot 0 1) (slot 0 0))
+    ∷ Statement 4 (prints_number (Held (element 1 2))) ∷ []))
     4 (codes "   7 ") Ended 6
 
 -- `PUT SKIP LIST('101'B, 'A');`: the line ends first, and bits are printed as a constant
 abbrev pub BitsArePrinted : Type 0
 BitsArePrinted =
-    Prints (main_of [] (numbered 2 (Put true (Literal (Bits (true ∷ false ∷ true ∷ [])) ∷ text (codes "A") ∷ []) ∷ [])) ∷ [])
+    Prints (alone []
+    (Statement 2 (Put true (Literal (Bits (true ∷ false ∷ true ∷ [])) ∷ text (codes "A") ∷ [])) ∷ []))
     2 (10 ∷ codes "'101'B                  A ") Ended 27
 
 -- each item is written before the next is evaluated
 abbrev pub ItemBeforeIsWritten : Type 0
 ItemBeforeIsWritten =
-    Prints (main_of [] (numbered 2 (Put false (text (codes "A")
-    ∷ shown (with_two Add (number 2147483647) (number 1)) ∷ []) ∷ [])) ∷ [])
+    Prints (alone [] (Statement 2 (Put false (text (codes "A")
+    ∷ shown (with_two Add (number 2147483647) (number 1)) ∷ [])) ∷ []))
     9 (codes "A ") (Error FixedOverflow (codes "M") 2) 3
 
--- a function F(N) that gives N + F(N - 1), and 0 where N < 1: F(3) is 6
+-- `PUT LIST(F(3));` and a function F(N): `IF N < 1 THEN RETURN(0); RETURN(N + F(N - 1));`
 abbrev pub summing : List TypedProcedure
 summing =
-    main_of [] (numbered 2 (Put false (shown (Called 1 (ByDummy (FixedBinary 31) (number 3) NoArgument)) ∷ []) ∷ []))
-    ∷ inner_of 1 3 1 (Some 6) [] (numbered 4 (If (with_two (Compare Less) (held_in 0 0) (number 1))
-    (Statement 5 (ReturnValue 0 (number 0))) NoElse
-    ∷ ReturnValue 0 (with_two Add (held_in 0 0)
-    (Called 1 (ByDummy (FixedBinary 31) (with_two Subtract (held_in 0 0) (number 1)) NoArgument))) ∷ [])) ∷ []
+    main_of [] (listed (Statement 2 (prints_number (of_one (number 3))) ∷ []))
+    ∷ inner_of 1 3 1 (Some 7) []
+    (listed (Statement 4 (If (is_less 1) (Statement 5 (ReturnValue 0 (number 0))) NoElse)
+    ∷ Statement 6 (ReturnValue 0
+    (with_two Add (held_in 0 0) (of_one (with_two Subtract (held_in 0 0) (number 1))))) ∷ [])) ∷ []
 
--- MAIN and PUT; three activations of three steps; the last activation with IF and RETURN
+-- the activation and PUT, and three steps for each activation of F
 abbrev pub FunctionCallsItself : Type 0
 FunctionCallsItself = Prints summing 14 (codes "   6 ") Ended 6
 
 abbrev pub FunctionStops : Type 0
 FunctionStops = Prints summing 13 [] OutOfSteps 1
 
--- an argument that is handed over as a place is changed by the procedure: `X = X + 5;`
+-- an argument that is handed over as a place is changed by the procedure: `P = P + 5;`
 abbrev pub ByReferenceChanges : Type 0
 ByReferenceChanges =
-    Prints (main_of (of (FixedBinary 15) ∷ []) (numbered 2 (Call 1 (ByPlace (slot 0 0) NoArgument)
-    ∷ Put false (shown (held_in 0 0) ∷ []) ∷ []))
-    ∷ inner_of 1 4 1 None [] (numbered 5 (Assign (slot 0 0) (with_two Add (held_in 0 0) (number 5)) ∷ [])) ∷ [])
+    Prints (main_of (of (FixedBinary 15) ∷ []) (listed (Statement 2 (Call 1 (ByPlace (slot 0 0) NoArgument))
+    ∷ Statement 3 (prints_number (held_in 0 0)) ∷ []))
+    ∷ inner_of 1 4 1 None [] (listed (Statement 5 (adds 5) ∷ [])) ∷ [])
     5 (codes "   5 ") Ended 6
 
 -- a function that reaches its END, at statement 4, is in error there
 abbrev pub NoValueIsReturned : Type 0
 NoValueIsReturned =
-    Prints (main_of [] (numbered 2 (Put false (shown (Called 1 NoArgument) ∷ []) ∷ []))
+    Prints (main_of [] (listed (Statement 2 (prints_number (Called 1 NoArgument)) ∷ []))
     ∷ inner_of 1 3 0 (Some 4) [] NoStatement ∷ [])
     9 [] (Error NoReturnedValue (codes "M") 4) 1
 
--- `BEGIN; GOTO L; PUT LIST('A'); END; PUT LIST('B'); L: PUT LIST('C');` prints C: statement 6 is the label, one
--- link outward of the BEGIN
+-- a BEGIN block without variables
+abbrev pub begins : (number statement : ℕ) → List TypedStatement → Form
+begins n s statements =
+    Begin (record { number = n; statement = s; variables = []; temporaries = 0 }) (listed statements)
+
+-- `BEGIN; GOTO L; PUT LIST('A'); END; PUT LIST('B'); L: PUT LIST('C');` prints C: L is one link outward
 abbrev pub GotoLeavesBlock : Type 0
 GotoLeavesBlock =
-    Prints (main_of [] (StatementThen (Statement 2 (Begin
-    (record { number = 1; statement = 2; variables = []; temporaries = 0 })
-    (numbered 3 (Goto 1 6 ∷ Put false (text (codes "A") ∷ []) ∷ []))))
-    (numbered 5 (Put false (text (codes "B") ∷ []) ∷ Put false (text (codes "C") ∷ []) ∷ []))) ∷ [])
+    Prints (alone []
+    (Statement 2 (begins 1 2 (Statement 3 (Goto 1 7) ∷ Statement 4 (prints (codes "A")) ∷ []))
+    ∷ Statement 6 (prints (codes "B")) ∷ Statement 7 (prints (codes "C")) ∷ []))
     4 (codes "C ") Ended 3
 
--- a GOTO out of a procedure whose call stands in an expression gives the call up, and its dummy argument
+-- a GOTO out of a function ends the statement that has called it
 abbrev pub GotoLeavesCall : Type 0
 GotoLeavesCall =
-    Prints (main_of [] (numbered 2 (Put false (text (codes "A")
-    ∷ shown (Called 1 (ByDummy (FixedBinary 31) (number 3) NoArgument)) ∷ [])
-    ∷ Put false (text (codes "B") ∷ []) ∷ Put false (text (codes "C") ∷ []) ∷ []))
-    ∷ inner_of 1 5 1 (Some 7) [] (numbered 6 (Goto 1 4 ∷ [])) ∷ [])
+    Prints (main_of [] (listed (Statement 2 (Put false (text (codes "A") ∷ shown (of_one (number 3)) ∷ []))
+    ∷ Statement 3 (prints (codes "B")) ∷ Statement 4 (prints (codes "C")) ∷ []))
+    ∷ inner_of 1 5 1 (Some 7) [] (listed (Statement 6 (Goto 1 4) ∷ [])) ∷ [])
     5 (codes "A                       C ") Ended 27
 
--- a GOTO to a group begins the group anew, from within it too: `L: DO; X = X + 1; IF X < 2 THEN GOTO L; END;`
+-- a GOTO to a group begins it anew, from within it too: `L: DO; X = X + 1; IF X < 2 THEN GOTO L; END;`
 abbrev pub GotoGroupBeginsAnew : Type 0
 GotoGroupBeginsAnew =
-    Prints (main_of (of (FixedBinary 15) ∷ []) (numbered 2 (Group (numbered 3 (Assign (slot 0 0) (with_two Add (held_in 0 0) (number 1))
-    ∷ If (with_two (Compare Less) (held_in 0 0) (number 2)) (Statement 5 (Goto 0 2)) NoElse ∷ []))
-    ∷ [])) ∷ [])
+    Prints (alone (FixedBinary 15 ∷ []) (Statement 2 (Group (listed (Statement 3 (adds 1)
+    ∷ Statement 4 (If (is_less 2) (Statement 5 (Goto 0 2)) NoElse) ∷ []))) ∷ []))
     8 [] Ended 1
 
 -- RETURN in a BEGIN block returns from the procedure, and STOP ends the run
 abbrev pub ReturnLeavesBlock : Type 0
 ReturnLeavesBlock =
-    Prints (main_of [] (StatementThen (Statement 2 (Call 1 NoArgument)) (numbered 3 (Stop ∷ Put false (text (codes "A") ∷ []) ∷ [])))
-    ∷ inner_of 1 5 0 None [] (StatementThen (Statement 6 (Begin
-    (record { number = 2; statement = 6; variables = []; temporaries = 0 }) (numbered 7 (Return 1 ∷ []))))
-    (numbered 9 (Put false (text (codes "B") ∷ []) ∷ []))) ∷ [])
+    Prints (main_of [] (listed (Statement 2 (Call 1 NoArgument) ∷ Statement 3 Stop
+    ∷ Statement 4 (prints (codes "A")) ∷ []))
+    ∷ inner_of 1 5 0 None [] (listed (Statement 6 (begins 2 6 (Statement 7 (Return 1) ∷ []))
+    ∷ Statement 9 (prints (codes "B")) ∷ [])) ∷ [])
     6 [] Ended 1
