@@ -1,7 +1,7 @@
 -- Typed trees: a unit with what each name means and with the type of each part worked out, as definitions
--- speak of them. There is one form for each form of the language; a conversion is a form of its own, and so is
--- the reading of bits as characters. A block is a procedure or a BEGIN block; an activation is reached by how
--- many static links outward it is.
+-- speak of them. There is one form for each form of the language; a conversion is an operation like any other,
+-- and so is the reading of bits as characters. A block is a procedure or a BEGIN block; an activation is
+-- reached by how many static links outward it is.
 use Rattle.std.specs.Prelude.{ℕ, ℤ, Bool, Option, List}
 use Rattle.pli_base.specs.Name.{Name}
 use Rattle.pli_map.specs.Description.{Description}
@@ -29,8 +29,8 @@ mutual
     Calculated : (operation : Operation) (operands : Operands) → TypedExpression
     Called : (block : ℕ) (arguments : TypedArguments) → TypedExpression
 
-  -- a whole variable; or a part, with its offset where all its subscripts are the lowest, its description, and
-  -- the subscripts of all its levels in turn
+  -- a whole variable; or a part, with its offset where all its subscripts are the lowest, its description,
+  -- and the subscripts of all its levels in turn
   pub data TypedReference : Type 0 where
     Whole : (root : Root) → TypedReference
     Part : (root : Root) (offset : ℕ) (description : Description) (subscripts : Subscripts) → TypedReference
@@ -49,8 +49,8 @@ mutual
     ByPlace : (variable : TypedReference) (more : TypedArguments) → TypedArguments
     ByDummy : (description : Description) (value : TypedExpression) (more : TypedArguments) → TypedArguments
 
--- what limits or continues an iteration, with the types of the control variable; TO and BY in the order of the
--- text
+-- what limits or continues an iteration, with the types of the control variable; TO and BY in the order of
+-- the text
 pub data TypedRange : Type 0 where
   Once : TypedRange
   ToBy : (to : TypedExpression) (by : Option TypedExpression) → TypedRange
@@ -94,8 +94,8 @@ mutual
     NoStatement : TypedStatements
     StatementThen : (first : TypedStatement) (more : TypedStatements) → TypedStatements
 
--- a procedure: its block; how many parameters it has; the number of its END if it is a function, which must not
--- be reached
+-- a procedure: its block; how many parameters it has; the number of its END if it is a function, which must
+-- not be reached
 pub record TypedProcedure : Type 0 where
   pub head : BlockHead
   pub parent : Option ℕ

@@ -6,8 +6,8 @@ use pli_value::Value;
 /// Where a reference begins.
 #[derive(Clone, Copy, Debug, PartialEq, Eq)]
 pub enum Root {
-    /// At a parameter or an AUTOMATIC variable of the activation so many static links outward. Slots are counted from 0,
-    /// the parameters first.
+    /// At a parameter or an AUTOMATIC variable of the activation so many static links outward. Slots are counted from
+    /// 0, the parameters first.
     InSlot { outward: u32, slot: u32 },
     /// At a variable that is made before the program begins. Those of a unit are counted from 0.
     OfProgram { number: u32 },
@@ -35,8 +35,8 @@ pub struct TypedSubscript {
 pub enum TypedReference {
     /// A whole variable at level 1.
     Whole(Root),
-    /// A part of one: its first byte where all its subscripts are the lowest, its description, and the subscripts of all its
-    /// levels in turn.
+    /// A part of one: its first byte where all its subscripts are the lowest, its description, and the subscripts of
+    /// all its levels in turn.
     Part {
         root: Root,
         offset: u32,

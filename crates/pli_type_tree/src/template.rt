@@ -2,16 +2,16 @@
 use pli_map::Description;
 use pli_value::Value;
 
-/// An initial value, fitted to the scalar that has it. The scalars of a description are counted from 0, those of an array in
-/// row-major order (X3.74).
+/// An initial value, fitted to the scalar that has it. The scalars of a description are counted from 0, those of an
+/// array in row-major order (X3.74).
 #[derive(Drop)]
 pub struct InitialScalar {
     pub scalar: u32,
     pub value: Value,
 }
 
-/// What a variable is made from: its description, and its initial values in the order of the text, also where they equal the
-/// value with which their scalar would begin without them (own).
+/// What a variable is made from: its description, and its initial values in the order of the text, also where they
+/// equal the value with which their scalar would begin without them (own).
 #[derive(Drop)]
 pub struct Template {
     pub description: Description,

@@ -8,8 +8,8 @@ use Rattle.pli_type_tree.specs.views.TemplateView.{groups_view}
 use Rattle.pli_type_tree.specs.declared.expression.Root.{Root}
 use Rattle.pli_type_tree.specs.declared.expression.Root.TheVariants as roots
 use Rattle.pli_type_tree.specs.declared.expression.Stride.{Stride}
-use Rattle.pli_type_tree.specs.declared.expression.TypedExpression.{TypedExpression, Literal, Held, Calculated'}
-use Rattle.pli_type_tree.specs.declared.expression.TypedExpression.{Called'}
+use Rattle.pli_type_tree.specs.declared.expression.TypedExpression.{TypedExpression, Literal, Held}
+use Rattle.pli_type_tree.specs.declared.expression.TypedExpression.{Calculated', Called'}
 use Rattle.pli_type_tree.specs.declared.expression.TypedArgument.TheBlock.{Row_of-TypedExpression}
 use Rattle.pli_type_tree.specs.declared.expression.TypedArgument.TheBlock.{end_of-TypedExpression}
 use Rattle.pli_type_tree.specs.declared.expression.TypedArgument.TheBlock.{more_of-TypedExpression}

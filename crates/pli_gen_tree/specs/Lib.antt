@@ -1,0 +1,2 @@
+pub mod TreeTranslation
+pub mod examples

@@ -1,0 +1,268 @@
+-- Translation: the code of each form of typed tree (own). A jump names the place of an instruction, counted
+-- from 0 in its unit, so the code of a statement depends on the place at which it begins. A GOTO first names
+-- its label's statement; where that begins is known when all code of the unit is.
+use Rattle.std.specs.Prelude.{ℕ, suc, nat_eq, Bool, true, false, Option, Some, None, List, [], ◌∷◌, ◌++◌}
+use Rattle.std.specs.Prelude.{map, length}
+use Rattle.std.specs.List.{filter, flat_map, position_or_len, range_with_len}
+use Rattle.pli_code.specs.declared.ending.RunError.TheVariants.{NoReturnedValue}
+use Rattle.pli_machine_step.specs.Program.{Instruction, Step, Line, Jump, JumpUnless, Local, Global, Field}
+use Rattle.pli_machine_step.specs.Program.{Subscript, Constant, Load, Store, Copy, MakeDummy, Operate, Skip}
+use Rattle.pli_machine_step.specs.Program.{Raise}
+use Rattle.pli_machine_step.specs.Program.{BlockKind, Procedure, BeginBlock, Block, UnitCode}
+use Rattle.pli_machine_step.specs.Program as op
+use Rattle.pli_type_tree.specs.Templates.{variable_of}
+use Rattle.pli_type_tree.specs.TypedTree.{Root, InSlot, OfProgram, TypedExpression, Literal, Held, Calculated}
+use Rattle.pli_type_tree.specs.TypedTree.{Called, TypedReference, Whole, Part, Operands, NoOperand}
+use Rattle.pli_type_tree.specs.TypedTree.{OperandThen, Subscripts, NoSubscript, SubscriptThen, TypedArguments}
+use Rattle.pli_type_tree.specs.TypedTree.{NoArgument, ByPlace, ByDummy, BlockHead, TypedStatement, Statement}
+use Rattle.pli_type_tree.specs.TypedTree.{Form, Null, Assign, AssignAggregate, Put, If, Begin, Group, While}
+use Rattle.pli_type_tree.specs.TypedTree.{Call, Goto, Return, ReturnValue, Stop, OtherWise, NoElse, Else}
+use Rattle.pli_type_tree.specs.TypedTree.{TypedStatements, NoStatement, StatementThen, TypedProcedure}
+use Rattle.pli_type_tree.specs.TypedTree.{TypedUnit}
+
+-- how many arguments there are
+abbrev pub argument_count : TypedArguments → ℕ
+argument_count NoArgument = 0
+argument_count (ByPlace variable more) = suc (argument_count more)
+argument_count (ByDummy description value more) = suc (argument_count more)
+
+-- references and expressions
+
+-- the place at which a reference begins
+abbrev pub root_code : Root → List Instruction
+root_code (InSlot outward slot) = Local outward slot ∷ []
+root_code (OfProgram number) = Global number ∷ []
+
+abbrev mutual
+  -- the value of an expression: a constant; a variable's place and what it holds; the operands and the
+  -- operation; the arguments and the call
+  pub value_code : TypedExpression → List Instruction
+  value_code (Literal value) = Constant value ∷ []
+  value_code (Held variable) = place_code variable ++ Load ∷ []
+  value_code (Calculated operation operands) = operands_code operands ++ Operate operation ∷ []
+  value_code (Called block arguments) =
+      arguments_code arguments ++ op.Call block (argument_count arguments) ∷ []
+
+  -- a place: the variable's; for a part of one its field, and then its subscripts
+  pub place_code : TypedReference → List Instruction
+  place_code (Whole root) = root_code root
+  place_code (Part root offset description subscripts) =
+      root_code root ++ Field offset description ∷ subscripts_code subscripts
+
+  pub operands_code : Operands → List Instruction
+  operands_code NoOperand = []
+  operands_code (OperandThen first more) = value_code first ++ operands_code more
+
+  -- the value of each subscript, and what it does to the place
+  pub subscripts_code : Subscripts → List Instruction
+  subscripts_code NoSubscript = []
+  subscripts_code (SubscriptThen stride value more) =
+      value_code value ++ Subscript stride.low stride.high stride.multiplier ∷ subscripts_code more
+
+  -- a place, or a value and its dummy argument
+  pub arguments_code : TypedArguments → List Instruction
+  arguments_code NoArgument = []
+  arguments_code (ByPlace variable more) = place_code variable ++ arguments_code more
+  arguments_code (ByDummy description value more) =
+      value_code value ++ MakeDummy description ∷ arguments_code more
+
+-- the code of a call, with its arguments
+abbrev pub call_code : (block : ℕ) → TypedArguments → List Instruction
+call_code block arguments = arguments_code arguments ++ op.Call block (argument_count arguments) ∷ []
+
+-- SKIP
+abbrev pub skip_code : Bool → List Instruction
+skip_code true = Skip ∷ []
+skip_code false = []
+
+-- items that are printed
+abbrev pub items_code : List TypedExpression → List Instruction
+items_code [] = []
+items_code (e ∷ es) = value_code e ++ op.Put ∷ items_code es
+
+-- statements
+
+-- the place behind code that begins at a place
+abbrev pub behind : List Instruction → ℕ → ℕ
+behind [] p = p
+behind (i ∷ is) p = behind is (suc p)
+
+-- a test, a jump past the part that is executed where it holds, and that part
+abbrev pub one_way : (test : List Instruction) (part : ℕ → List Instruction) → ℕ → List Instruction
+one_way test part p =
+    let q = suc (behind test p) in
+    let code = part q in
+    test ++ JumpUnless (behind code q) ∷ code
+
+-- and with an ELSE part behind it, past which a jump leads
+abbrev pub two_ways : (test : List Instruction) (part other : ℕ → List Instruction) → ℕ → List Instruction
+two_ways test part other p =
+    let q = suc (behind test p) in
+    let code = part q in
+    let r = suc (behind code q) in
+    let otherwise = other r in
+    test ++ JumpUnless r ∷ code ++ Jump (behind otherwise r) ∷ otherwise
+
+-- turns of a loop: its statement, the test, a jump out of it, a step, the list, and the jump back
+abbrev pub turns_code : (number : ℕ) (test : List Instruction) (list : ℕ → List Instruction) → ℕ
+    → List Instruction
+turns_code number test list p =
+    let q = suc (suc (behind test (suc p))) in
+    let code = list q in
+    Line number ∷ test ++ JumpUnless (suc (behind code q)) ∷ Step number ∷ code ++ Jump p ∷ []
+
+abbrev mutual
+  -- a statement begins with its step
+  pub statement_code : TypedStatement → (at : ℕ) → List Instruction
+  statement_code (Statement number form) p = Step number ∷ form_code number form (suc p)
+
+  pub form_code : (number : ℕ) → Form → (at : ℕ) → List Instruction
+  form_code number Null p = []
+  form_code number (Assign target value) p = place_code target ++ value_code value ++ Store ∷ []
+  form_code number (AssignAggregate target source) p = place_code target ++ place_code source ++ Copy ∷ []
+  form_code number (Put skip items) p = skip_code skip ++ items_code items
+  form_code number (If condition consequence alternative) p =
+      if_code (value_code condition) (statement_code consequence) alternative p
+  form_code number (Begin head statements) p = op.Begin head.number ∷ []
+  form_code number (Group statements) p = list_code statements p
+  form_code number (While condition statements) p =
+      turns_code number (value_code condition) (list_code statements) p
+  form_code number (Call block arguments) p = call_code block arguments
+  form_code number (Goto outward label) p = op.Goto outward label ∷ []
+  form_code number (Return outward) p = op.Return outward ∷ []
+  form_code number (ReturnValue outward value) p = value_code value ++ op.ReturnValue outward ∷ []
+  form_code number Stop p = op.Stop ∷ []
+
+  -- the test of an IF and its parts
+  pub if_code : (test : List Instruction) (part : ℕ → List Instruction) → OtherWise → (at : ℕ)
+      → List Instruction
+  if_code test part NoElse p = one_way test part p
+  if_code test part (Else statement) p = two_ways test part (statement_code statement) p
+
+  pub list_code : TypedStatements → (at : ℕ) → List Instruction
+  list_code NoStatement p = []
+  list_code (StatementThen first more) p =
+      let code = statement_code first p in code ++ list_code more (behind code p)
+
+-- blocks
+
+-- a block of a unit with what it executes
+pub record BlockTree : Type 0 where
+  pub kind : BlockKind
+  pub parent : Option ℕ
+  pub parameters : ℕ
+  pub head : BlockHead
+  pub function_end : Option ℕ
+  pub statements : TypedStatements
+
+abbrev pub begin_block : (parent : ℕ) → BlockHead → TypedStatements → BlockTree
+begin_block parent head statements = record {
+  kind = BeginBlock;
+  parent = Some parent;
+  parameters = 0;
+  head = head;
+  function_end = None;
+  statements = statements;
+}
+
+abbrev pub procedure_block : TypedProcedure → BlockTree
+procedure_block f = record {
+  kind = Procedure;
+  parent = f.parent;
+  parameters = f.parameters;
+  head = f.head;
+  function_end = f.function_end;
+  statements = f.statements;
+}
+
+-- the BEGIN blocks inside statements of a block
+abbrev mutual
+  pub blocks_in : (parent : ℕ) → TypedStatement → List BlockTree
+  blocks_in parent (Statement number form) = blocks_of_form parent form
+
+  pub blocks_of_form : (parent : ℕ) → Form → List BlockTree
+  blocks_of_form parent (If condition consequence alternative) =
+      blocks_in parent consequence ++ blocks_of_else parent alternative
+  blocks_of_form parent (Begin head statements) =
+      begin_block parent head statements ∷ blocks_among head.number statements
+  blocks_of_form parent (Group statements) = blocks_among parent statements
+  blocks_of_form parent (While condition statements) = blocks_among parent statements
+  blocks_of_form parent form = []
+
+  pub blocks_of_else : (parent : ℕ) → OtherWise → List BlockTree
+  blocks_of_else parent NoElse = []
+  blocks_of_else parent (Else statement) = blocks_in parent statement
+
+  pub blocks_among : (parent : ℕ) → TypedStatements → List BlockTree
+  blocks_among parent NoStatement = []
+  blocks_among parent (StatementThen first more) = blocks_in parent first ++ blocks_among parent more
+
+-- a procedure's block and those inside it
+abbrev pub blocks_of_procedure : TypedProcedure → List BlockTree
+blocks_of_procedure f = procedure_block f ∷ blocks_among f.head.number f.statements
+
+-- the blocks of a unit by their numbers, which are counted from 0
+abbrev pub has_number : ℕ → BlockTree → Bool
+has_number n b = nat_eq b.head.number n
+
+abbrev pub by_number : List BlockTree → List BlockTree
+by_number bs = flat_map (λ n. filter (has_number n) bs) (range_with_len 0 (length bs))
+
+abbrev pub blocks_of : TypedUnit → List BlockTree
+blocks_of u = by_number (flat_map blocks_of_procedure u.procedures)
+
+-- what stands at a block's end: the return; that of a function must not be reached
+abbrev pub end_code : (function_end : Option ℕ) → List Instruction
+end_code None = op.Return 0 ∷ []
+end_code (Some number) = Line number ∷ Raise NoReturnedValue ∷ []
+
+abbrev pub block_code : BlockTree → (at : ℕ) → List Instruction
+block_code b p = list_code b.statements p ++ end_code b.function_end
+
+-- the code of blocks, one behind the other
+abbrev pub blocks_code : List BlockTree → (at : ℕ) → List Instruction
+blocks_code [] p = []
+blocks_code (b ∷ bs) p = let code = block_code b p in code ++ blocks_code bs (behind code p)
+
+-- the blocks, each with its first instruction
+abbrev pub block_at : BlockTree → (entry : ℕ) → Block
+block_at b p = record {
+  kind = b.kind;
+  parent = b.parent;
+  parameters = b.parameters;
+  variables = map variable_of b.head.variables;
+  temporaries = b.head.temporaries;
+  entry = p;
+  statement = b.head.statement;
+}
+
+abbrev pub blocks_at : List BlockTree → (at : ℕ) → List Block
+blocks_at [] p = []
+blocks_at (b ∷ bs) p = block_at b p ∷ blocks_at bs (behind (block_code b p) p)
+
+-- units
+
+-- a statement begins with the first of its steps
+abbrev pub is_step_of : (number : ℕ) → Instruction → Bool
+is_step_of number (Step s) = nat_eq s number
+is_step_of number i = false
+
+abbrev pub statement_place : (number : ℕ) → List Instruction → ℕ
+statement_place number code = position_or_len (is_step_of number) code
+
+-- a GOTO leads to the place where its label's statement begins
+abbrev pub with_target : (code : List Instruction) → Instruction → Instruction
+with_target code (op.Goto outward label) = op.Goto outward (statement_place label code)
+with_target code i = i
+
+-- the code of a unit
+abbrev pub unit_code : TypedUnit → UnitCode
+unit_code u =
+    let bs = blocks_of u in
+    let code = blocks_code bs 0 in
+    record {
+      name = u.name;
+      statics = map variable_of u.statics;
+      blocks = blocks_at bs 0;
+      instructions = map (with_target code) code;
+    }

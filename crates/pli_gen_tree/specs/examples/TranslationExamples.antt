@@ -1,0 +1,157 @@
+-- Worked examples of the translation.
+use Rattle.std.specs.Prelude.{◌≡◌, ℕ, pos, true, Some, None, [], ◌∷◌, codes}
+use Rattle.pli_code.specs.declared.ending.RunError.TheVariants.{NoReturnedValue}
+use Rattle.pli_map.specs.Description.{FixedBinary, Character}
+use Rattle.pli_operation.specs.Operations as calculate
+use Rattle.pli_value.specs.Value.{Number}
+use Rattle.pli_machine_step.specs.Program.{Instruction, Step, Line, Jump, JumpUnless, Local, Field, Subscript}
+use Rattle.pli_machine_step.specs.Program.{Constant, Load, Store, Copy, MakeDummy, Operate, Skip, Raise}
+use Rattle.pli_machine_step.specs.Program.{Procedure, BeginBlock}
+use Rattle.pli_machine_step.specs.Program as op
+use Rattle.pli_type_tree.specs.TypedTree.{InSlot, TypedExpression, Literal, Held, Calculated, Called, Whole}
+use Rattle.pli_type_tree.specs.TypedTree.{TypedReference, Part, NoOperand, OperandThen, NoSubscript}
+use Rattle.pli_type_tree.specs.TypedTree.{SubscriptThen, NoArgument, ByPlace, ByDummy, BlockHead, Statement}
+use Rattle.pli_type_tree.specs.TypedTree.{Null, Assign, AssignAggregate, Put, If, Begin, While, Call, Goto}
+use Rattle.pli_type_tree.specs.TypedTree.{Stop, Else, NoStatement, StatementThen}
+use Rattle.pli_type_tree.specs.TypedTree.{TypedUnit, TypedProcedure}
+use Rattle.pli_gen_tree.specs.TreeTranslation.{list_code, place_code, statement_code, unit_code}
+
+-- the variable in the first slot, and in the second
+abbrev first : TypedReference
+first = Whole (InSlot 0 0)
+
+abbrev second : TypedReference
+second = Whole (InSlot 0 1)
+
+abbrev number : ℕ → TypedExpression
+number n = Literal (Number (pos n))
+
+-- statements 3 and 4: `X = 2 + 3; PUT SKIP LIST(X);`, with `DCL X FIXED BIN(31)`, at place 0
+abbrev pub AssignedAndPrinted : Type 0
+AssignedAndPrinted =
+    list_code
+    (StatementThen
+    (Statement 3
+    (Assign first
+    (Calculated (calculate.Fit (FixedBinary 31))
+    (OperandThen
+    (Calculated calculate.Add (OperandThen (number 2) (OperandThen (number 3) NoOperand)))
+    NoOperand))))
+    (StatementThen
+    (Statement 4
+    (Put true (Calculated (calculate.ToCharacters 14) (OperandThen (Held first) NoOperand) ∷ [])))
+    NoStatement))
+    0
+    ≡ Step 3 ∷ Local 0 0 ∷ Constant (Number (pos 2)) ∷ Constant (Number (pos 3)) ∷ Operate calculate.Add
+    ∷ Operate (calculate.Fit (FixedBinary 31)) ∷ Store
+    ∷ Step 4 ∷ Skip ∷ Local 0 0 ∷ Load ∷ Operate (calculate.ToCharacters 14) ∷ op.Put ∷ []
+
+-- `S.B(1, 4, 1)`, with `DCL 1 S(2), 2 A FIXED BIN(31), 2 B(3:5, 2) CHAR(3)`
+abbrev pub PartOfStructure : Type 0
+PartOfStructure =
+    place_code
+    (Part (InSlot 0 0) 4 (Character 3)
+    (SubscriptThen (record { low = pos 1; high = pos 2; multiplier = 24 }) (number 1)
+    (SubscriptThen (record { low = pos 3; high = pos 5; multiplier = 6 }) (number 4)
+    (SubscriptThen (record { low = pos 1; high = pos 2; multiplier = 3 }) (number 1) NoSubscript))))
+    ≡ Local 0 0 ∷ Field 4 (Character 3)
+    ∷ Constant (Number (pos 1)) ∷ Subscript (pos 1) (pos 2) 24
+    ∷ Constant (Number (pos 4)) ∷ Subscript (pos 3) (pos 5) 6
+    ∷ Constant (Number (pos 1)) ∷ Subscript (pos 1) (pos 2) 3 ∷ []
+
+-- statement 2: `CALL P(X, 5);`, where block 1 is a procedure whose second parameter is FIXED BIN(15)
+abbrev pub ArgumentsHanded : Type 0
+ArgumentsHanded =
+    statement_code
+    (Statement 2
+    (Call 1
+    (ByPlace first
+    (ByDummy (FixedBinary 15)
+    (Calculated (calculate.Fit (FixedBinary 15)) (OperandThen (number 5) NoOperand)) NoArgument))))
+    0
+    ≡ Step 2 ∷ Local 0 0 ∷ Constant (Number (pos 5)) ∷ Operate (calculate.Fit (FixedBinary 15))
+    ∷ MakeDummy (FixedBinary 15) ∷ op.Call 1 2 ∷ []
+
+-- statement 2: `S = T;`, of structures
+abbrev pub AggregateCopied : Type 0
+AggregateCopied =
+    statement_code (Statement 2 (AssignAggregate first second)) 0
+    ≡ Step 2 ∷ Local 0 0 ∷ Local 0 1 ∷ Copy ∷ []
+
+-- `M: PROC OPTIONS(MAIN); BEGIN; GOTO L; END; F: PROC RETURNS(BIT); END F;` and then
+-- `L: IF F() THEN ; ELSE STOP; DO WHILE(F()); ; END; END M;`: block 1 is the BEGIN, block 2 F
+abbrev head : (number statement : ℕ) → BlockHead
+head n s = record { number = n; statement = s; variables = []; temporaries = 0 }
+
+abbrev call_of_f : TypedExpression
+call_of_f = Called 2 NoArgument
+
+abbrev external : TypedProcedure
+external = record {
+  head = head 0 1;
+  parent = None;
+  parameters = 0;
+  function_end = None;
+  statements =
+      StatementThen (Statement 2 (Begin (head 1 2) (StatementThen (Statement 3 (Goto 1 7)) NoStatement)))
+      (StatementThen (Statement 7 (If call_of_f (Statement 8 Null) (Else (Statement 9 Stop))))
+      (StatementThen (Statement 10 (While call_of_f (StatementThen (Statement 11 Null) NoStatement)))
+      NoStatement));
+}
+
+abbrev function : TypedProcedure
+function = record {
+  head = head 2 5;
+  parent = Some 0;
+  parameters = 0;
+  function_end = Some 6;
+  statements = NoStatement;
+}
+
+abbrev jumping : TypedUnit
+jumping = record {
+  name = codes "M";
+  is_main = true;
+  statics = [];
+  procedures = external ∷ function ∷ [];
+}
+
+-- the GOTO of block 1 leads to place 2, where statement 7 begins
+abbrev pub JumpsAndBlocks : Type 0
+JumpsAndBlocks = (unit_code jumping).instructions ≡
+    Step 2 ∷ op.Begin 1
+    ∷ Step 7 ∷ op.Call 2 0 ∷ JumpUnless 7 ∷ Step 8 ∷ Jump 9 ∷ Step 9 ∷ op.Stop
+    ∷ Step 10 ∷ Line 10 ∷ op.Call 2 0 ∷ JumpUnless 16 ∷ Step 10 ∷ Step 11 ∷ Jump 10 ∷ op.Return 0
+    ∷ Step 3 ∷ op.Goto 1 2 ∷ op.Return 0
+    ∷ Line 6 ∷ Raise NoReturnedValue ∷ []
+
+-- and its blocks
+abbrev pub WholeUnit : Type 0
+WholeUnit = (unit_code jumping).blocks ≡
+    record {
+      kind = Procedure;
+      parent = None;
+      parameters = 0;
+      variables = [];
+      temporaries = 0;
+      entry = 0;
+      statement = 1;
+    }
+    ∷ record {
+      kind = BeginBlock;
+      parent = Some 0;
+      parameters = 0;
+      variables = [];
+      temporaries = 0;
+      entry = 17;
+      statement = 2;
+    }
+    ∷ record {
+      kind = Procedure;
+      parent = Some 0;
+      parameters = 0;
+      variables = [];
+      temporaries = 0;
+      entry = 20;
+      statement = 5;
+    } ∷ []

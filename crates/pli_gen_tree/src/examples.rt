@@ -1,0 +1,14 @@
+//! Worked examples of the translation.
+ghost use Rattle.pli_gen_tree.specs.examples.TranslationExamples.{AssignedAndPrinted, PartOfStructure};
+ghost use Rattle.pli_gen_tree.specs.examples.TranslationExamples.{ArgumentsHanded, AggregateCopied};
+ghost use Rattle.pli_gen_tree.specs.examples.TranslationExamples.{JumpsAndBlocks, WholeUnit};
+
+/// Worked examples: an assignment and PUT; a reference with subscripts; a call; an aggregate; jumps between blocks.
+pub fn worked_examples()
+    ensures assigned_and_printed { AssignedAndPrinted }
+    ensures part_of_structure { PartOfStructure }
+    ensures arguments_handed { ArgumentsHanded }
+    ensures aggregate_copied { AggregateCopied }
+    ensures jumps_and_blocks { JumpsAndBlocks }
+    ensures whole_unit { WholeUnit }
+{}
