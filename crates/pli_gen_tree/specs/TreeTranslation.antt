@@ -2,8 +2,8 @@
 -- from 0 in its unit, so the code of a statement depends on the place at which it begins. A GOTO first names
 -- its label's statement; where that begins is known when all code of the unit is.
 use Rattle.std.specs.Prelude.{ℕ, suc, nat_eq, Bool, true, false, Option, Some, None, List, [], ◌∷◌, ◌++◌}
-use Rattle.std.specs.Prelude.{map, length}
-use Rattle.std.specs.List.{filter, flat_map, position_or_len, range_with_len}
+use Rattle.std.specs.Prelude.{map, length, if◌then◌else◌}
+use Rattle.std.specs.List.{filter, flat_map, range_with_len}
 use Rattle.pli_code.specs.declared.ending.RunError.TheVariants.{NoReturnedValue}
 use Rattle.pli_machine_step.specs.Program.{Instruction, Step, Line, Jump, JumpUnless, Local, Global, Field}
 use Rattle.pli_machine_step.specs.Program.{Subscript, Constant, Load, Store, Copy, MakeDummy, Operate, Skip}
@@ -144,6 +144,36 @@ abbrev mutual
   list_code (StatementThen first more) p =
       let code = statement_code first p in code ++ list_code more (behind code p)
 
+-- where statements begin: the number of each statement and its place, in the order of the code; those of a
+-- BEGIN block stand where the block's code does
+
+abbrev mutual
+  pub places_in : TypedStatement → (at : ℕ) → List (ℕ × ℕ)
+  places_in (Statement number form) p = (number, p) ∷ places_in_form form (suc p)
+
+  pub places_in_form : Form → (at : ℕ) → List (ℕ × ℕ)
+  places_in_form (If condition consequence alternative) p =
+      let q = suc (behind (value_code condition) p) in
+      places_in consequence q ++ places_in_else alternative (suc (behind (statement_code consequence q) q))
+  places_in_form (Group statements) p = places_among statements p
+  places_in_form (While condition statements) p =
+      places_among statements (suc (suc (behind (value_code condition) (suc p))))
+  places_in_form form p = []
+
+  pub places_in_else : OtherWise → (at : ℕ) → List (ℕ × ℕ)
+  places_in_else NoElse p = []
+  places_in_else (Else statement) p = places_in statement p
+
+  pub places_among : TypedStatements → (at : ℕ) → List (ℕ × ℕ)
+  places_among NoStatement p = []
+  places_among (StatementThen first more) p =
+      places_in first p ++ places_among more (behind (statement_code first p) p)
+
+-- the place of a statement
+abbrev pub statement_place : List (ℕ × ℕ) → (number : ℕ) → ℕ
+statement_place [] number = 0
+statement_place ((s, p) ∷ more) number = if nat_eq s number then p else statement_place more number
+
 -- blocks
 
 -- a block of a unit with what it executes
@@ -224,6 +254,11 @@ abbrev pub blocks_code : List BlockTree → (at : ℕ) → List Instruction
 blocks_code [] p = []
 blocks_code (b ∷ bs) p = let code = block_code b p in code ++ blocks_code bs (behind code p)
 
+-- the places of their statements
+abbrev pub places_of : List BlockTree → (at : ℕ) → List (ℕ × ℕ)
+places_of [] p = []
+places_of (b ∷ bs) p = places_among b.statements p ++ places_of bs (behind (block_code b p) p)
+
 -- the blocks, each with its first instruction
 abbrev pub block_at : BlockTree → (entry : ℕ) → Block
 block_at b p = record {
@@ -242,27 +277,18 @@ blocks_at (b ∷ bs) p = block_at b p ∷ blocks_at bs (behind (block_code b p) 
 
 -- units
 
--- a statement begins with the first of its steps
-abbrev pub is_step_of : (number : ℕ) → Instruction → Bool
-is_step_of number (Step s) = nat_eq s number
-is_step_of number i = false
-
-abbrev pub statement_place : (number : ℕ) → List Instruction → ℕ
-statement_place number code = position_or_len (is_step_of number) code
-
 -- a GOTO leads to the place where its label's statement begins
-abbrev pub with_target : (code : List Instruction) → Instruction → Instruction
-with_target code (op.Goto outward label) = op.Goto outward (statement_place label code)
-with_target code i = i
+abbrev pub with_target : List (ℕ × ℕ) → Instruction → Instruction
+with_target places (op.Goto outward label) = op.Goto outward (statement_place places label)
+with_target places i = i
 
 -- the code of a unit
 abbrev pub unit_code : TypedUnit → UnitCode
 unit_code u =
     let bs = blocks_of u in
-    let code = blocks_code bs 0 in
     record {
       name = u.name;
       statics = map variable_of u.statics;
       blocks = blocks_at bs 0;
-      instructions = map (with_target code) code;
+      instructions = map (with_target (places_of bs 0)) (blocks_code bs 0);
     }
