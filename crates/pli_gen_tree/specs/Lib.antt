@@ -1,2 +1,3 @@
 pub mod TreeTranslation
+pub mod WellNumbered
 pub mod examples

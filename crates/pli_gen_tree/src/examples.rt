@@ -1,7 +1,7 @@
 //! Worked examples of the translation.
 ghost use Rattle.pli_gen_tree.specs.examples.TranslationExamples.{AssignedAndPrinted, PartOfStructure};
 ghost use Rattle.pli_gen_tree.specs.examples.TranslationExamples.{ArgumentsHanded, AggregateCopied};
-ghost use Rattle.pli_gen_tree.specs.examples.TranslationExamples.{JumpsAndBlocks, WholeUnit};
+ghost use Rattle.pli_gen_tree.specs.examples.TranslationExamples.{JumpsAndBlocks, WholeUnit, NumberedWell};
 
 /// Worked examples: an assignment and PUT; a reference with subscripts; a call; an aggregate; jumps between blocks.
 pub fn worked_examples()
@@ -11,4 +11,5 @@ pub fn worked_examples()
     ensures aggregate_copied { AggregateCopied }
     ensures jumps_and_blocks { JumpsAndBlocks }
     ensures whole_unit { WholeUnit }
+    ensures numbered_well { NumberedWell }
 {}

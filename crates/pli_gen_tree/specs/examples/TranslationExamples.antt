@@ -14,6 +14,7 @@ use Rattle.pli_type_tree.specs.TypedTree.{SubscriptThen, NoArgument, ByPlace, By
 use Rattle.pli_type_tree.specs.TypedTree.{Null, Assign, AssignAggregate, Put, If, Begin, While, Call, Goto}
 use Rattle.pli_type_tree.specs.TypedTree.{Stop, Else, NoStatement, StatementThen}
 use Rattle.pli_type_tree.specs.TypedTree.{TypedUnit, TypedProcedure}
+use Rattle.pli_gen_tree.specs.WellNumbered.{IsWellNumbered}
 use Rattle.pli_gen_tree.specs.TreeTranslation.{list_code, place_code, statement_code, unit_code}
 
 -- the variable in the first slot, and in the second
@@ -155,3 +156,7 @@ WholeUnit = (unit_code jumping).blocks ≡
       entry = 20;
       statement = 5;
     } ∷ []
+
+-- it is numbered well
+abbrev pub NumberedWell : Type 0
+NumberedWell = IsWellNumbered jumping

@@ -1,0 +1,406 @@
+-- The code that the translation makes of each form stands as the simulation asks.
+use Rattle.std.specs.Prelude.{◌≡◌, ℕ, zero, suc, ◌+◌, ◌≤◌, nat_eq, Bool, true, false, Option, Some, None, List, [], ◌∷◌, ◌++◌, map, slice_get, refl}
+use Rattle.std.specs.List.{flat_map, list_any, AllByRecursion}
+use Rattle.std.specs.Prelude.{◌||◌, if◌then◌else◌}
+use Rattle.std.proofs.Common.{arith, ap, ◌∙◌, sym, subst, true≢false}
+use Rattle.std.proofs.lemmas.Bool.{eq-eqb}
+use Rattle.pli_code.specs.declared.ending.RunError.TheVariants.{NoReturnedValue}
+use Rattle.pli_machine_step.specs.Program as op
+use Rattle.pli_machine_step.specs.Program.{Instruction, Block, Procedure, BeginBlock, UnitCode}
+use Rattle.pli_type_tree.specs.TypedTree.{Root, InSlot, OfProgram, TypedExpression, Literal, Held, Calculated, Called, TypedReference, Whole, Part, Operands, NoOperand, OperandThen}
+use Rattle.pli_type_tree.specs.TypedTree.{Subscripts, NoSubscript, SubscriptThen, TypedArguments, NoArgument, ByPlace, ByDummy, TypedStatement, Statement}
+use Rattle.pli_type_tree.specs.TypedTree.{Form, Null, Assign, AssignAggregate, Put, If, Begin, Group, While, Call, Goto, Return, ReturnValue, Stop}
+use Rattle.pli_type_tree.specs.TypedTree.{NoElse, Else, TypedStatements, NoStatement, StatementThen, TypedProcedure, TypedUnit}
+use Rattle.pli_gen_tree.specs.TreeTranslation.{argument_count, root_code, value_code, place_code, operands_code, subscripts_code, arguments_code, call_code, skip_code, items_code, behind}
+use Rattle.pli_gen_tree.specs.TreeTranslation.{statement_code, form_code, list_code, places_in, places_in_form, places_among, statement_place, with_target, BlockTree, begin_block}
+use Rattle.pli_gen_tree.specs.TreeTranslation.{blocks_in, blocks_of_form, blocks_among, blocks_of_procedure, blocks_of, end_code, block_code, blocks_code, places_of, block_at, blocks_at, unit_code}
+use Rattle.pli_gen_tree.specs.WellNumbered.{AreDistinct, HasRoom, HaveRoom, IsWellNumbered}
+use Rattle.pli_meaning_tree.specs.TreeMeaning.{number_of}
+use Rattle.pli_meaning_simulation.specs.CodeStands as stand
+use Rattle.pli_meaning_simulation.specs.CodeStands.{Span, Empty, Then, Context, arguments_in, UnitStands}
+
+-- what is there, or else this
+abbrev or_else : {X : Type 0} → X → Option X → X
+or_else x None = x
+or_else x (Some y) = y
+
+-- what holds of two lists holds of each
+all_front : {X : Type 0} (P : X → Type 0) (xs ys : List X) → AllByRecursion P (xs ++ ys) → AllByRecursion P xs
+all_front P [] ys h = tt
+all_front P (x ∷ xs) ys h = (h.0, all_front P xs ys h.1)
+
+all_back : {X : Type 0} (P : X → Type 0) (xs ys : List X) → AllByRecursion P (xs ++ ys) → AllByRecursion P ys
+all_back P [] ys h = h
+all_back P (x ∷ xs) ys h = all_back P xs ys h.1
+
+-- the place behind two parts
+behind_both : (xs ys : List Instruction) (p : ℕ) → behind (xs ++ ys) p ≡ behind ys (behind xs p)
+behind_both [] ys p = refl
+behind_both (x ∷ xs) ys p = behind_both xs ys (suc p)
+
+behind_three : (xs ys zs : List Instruction) (p : ℕ) → behind (xs ++ ys ++ zs) p ≡ behind zs (behind ys (behind xs p))
+behind_three xs ys zs p = behind_both (xs ++ ys) zs p ∙ ap (behind zs) (behind_both xs ys p)
+
+module _ (u : UnitCode) (places : List (ℕ × ℕ)) where
+  -- this code stands at a place, with the targets of its jumps
+  abbrev Stand : List Instruction → ℕ → Type 0
+  Stand [] p = Unit {0}
+  Stand (i ∷ is) p = (slice_get u.instructions p ≡ Some (with_target places i)) × Stand is (suc p)
+
+  split : (xs ys : List Instruction) (p : ℕ) → Stand (xs ++ ys) p → Stand xs p × Stand ys (behind xs p)
+  split [] ys p h = (tt, h)
+  split (x ∷ xs) ys p h = let r = split xs ys (suc p) h.1 in ((h.0, r.0), r.1)
+
+  -- three parts
+  split_three : (xs ys zs : List Instruction) (p : ℕ) → Stand (xs ++ ys ++ zs) p → Stand xs p × (Stand ys (behind xs p) × Stand zs (behind ys (behind xs p)))
+  split_three xs ys zs p h =
+      let r = split (xs ++ ys) zs p h in
+      let s = split xs ys p r.0 in
+      (s.0, (s.1, subst (λ q. Stand zs q) (behind_both xs ys p) r.1))
+
+  abbrev Made : List Instruction → Span → Type 0
+  Made xs A = (p : ℕ) → Stand xs p → A p (behind xs p)
+
+  -- one part and another behind it
+  joined : (xs ys : List Instruction) (A B : Span) → Made xs A → Made ys B → Made (xs ++ ys) (Then A B)
+  joined xs ys A B a b p h =
+      let r = split xs ys p h in
+      record { middle = behind xs p; fst = a p r.0; snd = subst (λ q. B (behind xs p) q) (sym (behind_both xs ys p)) (b (behind xs p) r.1) }
+
+  -- one instruction, and one before a part
+  one : (i : Instruction) → Made (i ∷ []) (stand.Is u (with_target places i))
+  one i p h = record { here = h.0; ends = refl }
+
+  before : (i : Instruction) (ys : List Instruction) (B : Span) → Made ys B → Made (i ∷ ys) (Then (stand.Is u (with_target places i)) B)
+  before i ys B b p h = record { middle = suc p; fst = record { here = h.0; ends = refl }; snd = b (suc p) h.1 }
+
+  -- two parts and an instruction
+  two_parts : (xs ys : List Instruction) (i : Instruction) (A B : Span) → Made xs A → Made ys B → Made (xs ++ ys ++ i ∷ []) (Then A (Then B (stand.Is u (with_target places i))))
+  two_parts xs ys i A B a b p h =
+      let r = split_three xs ys (i ∷ []) p h in
+      record {
+        middle = behind xs p;
+        fst = a p r.0;
+        snd = record { middle = behind ys (behind xs p); fst = b (behind xs p) r.1.0; snd = record { here = r.1.1.0; ends = sym (behind_three xs ys (i ∷ []) p) } };
+      }
+
+  nothing : Made [] Empty
+  nothing p h = refl
+
+  counts : (args : TypedArguments) → argument_count args ≡ arguments_in args
+  counts NoArgument = refl
+  counts (ByPlace r more) = ap suc (counts more)
+  counts (ByDummy d e more) = ap suc (counts more)
+
+  root_stands : (r : Root) → Made (root_code r) (stand.RootStands u r)
+  root_stands (InSlot outward slot) = one (op.Local outward slot)
+  root_stands (OfProgram number) = one (op.Global number)
+
+  -- a call behind its arguments
+  call_stands : (block : ℕ) (args : TypedArguments) → Made (arguments_code args) (stand.ArgumentsStand u args)
+      → Made (call_code block args) (Then (stand.ArgumentsStand u args) (stand.Is u (op.Call block (arguments_in args))))
+  call_stands block args a =
+      joined (arguments_code args) (op.Call block (argument_count args) ∷ []) (stand.ArgumentsStand u args) (stand.Is u (op.Call block (arguments_in args)))
+      a (λ p h. record { here = subst (λ n. slice_get u.instructions p ≡ Some (op.Call block n)) (counts args) h.0; ends = refl })
+
+  mutual
+    value_stands : (e : TypedExpression) → Made (value_code e) (stand.ValueStands u e)
+    value_stands (Literal v) p h = one (op.Constant v) p h
+    value_stands (Held r) p h = joined (place_code r) (op.Load ∷ []) (stand.PlaceStands u r) (stand.Is u op.Load) (λ p h. place_stands r p h) (one op.Load) p h
+    value_stands (Calculated operation operands) p h =
+        joined (operands_code operands) (op.Operate operation ∷ []) (stand.OperandsStand u operands) (stand.Is u (op.Operate operation)) (λ p h. operands_stand operands p h) (one (op.Operate operation)) p h
+    value_stands (Called block args) p h = call_stands block args (λ p h. arguments_stand args p h) p h
+
+    operands_stand : (es : Operands) → Made (operands_code es) (stand.OperandsStand u es)
+    operands_stand NoOperand p h = refl
+    operands_stand (OperandThen e more) p h =
+        joined (value_code e) (operands_code more) (stand.ValueStands u e) (stand.OperandsStand u more) (λ p h. value_stands e p h) (λ p h. operands_stand more p h) p h
+
+    place_stands : (r : TypedReference) → Made (place_code r) (stand.PlaceStands u r)
+    place_stands (Whole root) p h = root_stands root p h
+    place_stands (Part root offset d subscripts) p h =
+        joined (root_code root) (op.Field offset d ∷ subscripts_code subscripts) (stand.RootStands u root) (Then (stand.Is u (op.Field offset d)) (stand.SubscriptsStand u subscripts))
+        (root_stands root) (before (op.Field offset d) (subscripts_code subscripts) (stand.SubscriptsStand u subscripts) (λ p h. subscripts_stand subscripts p h)) p h
+
+    subscripts_stand : (ss : Subscripts) → Made (subscripts_code ss) (stand.SubscriptsStand u ss)
+    subscripts_stand NoSubscript p h = refl
+    subscripts_stand (SubscriptThen s e more) p h =
+        joined (value_code e) (op.Subscript s.low s.high s.multiplier ∷ subscripts_code more) (stand.ValueStands u e)
+        (Then (stand.Is u (op.Subscript s.low s.high s.multiplier)) (stand.SubscriptsStand u more)) (λ p h. value_stands e p h)
+        (before (op.Subscript s.low s.high s.multiplier) (subscripts_code more) (stand.SubscriptsStand u more) (λ p h. subscripts_stand more p h)) p h
+
+    arguments_stand : (args : TypedArguments) → Made (arguments_code args) (stand.ArgumentsStand u args)
+    arguments_stand NoArgument p h = refl
+    arguments_stand (ByPlace r more) p h =
+        joined (place_code r) (arguments_code more) (stand.PlaceStands u r) (stand.ArgumentsStand u more) (λ p h. place_stands r p h) (λ p h. arguments_stand more p h) p h
+    arguments_stand (ByDummy d e more) p h =
+        joined (value_code e) (op.MakeDummy d ∷ arguments_code more) (stand.ValueStands u e) (Then (stand.Is u (op.MakeDummy d)) (stand.ArgumentsStand u more))
+        (λ p h. value_stands e p h) (before (op.MakeDummy d) (arguments_code more) (stand.ArgumentsStand u more) (λ p h. arguments_stand more p h)) p h
+
+  -- a condition, whose jump leads to a place that is no earlier
+  test_stands : (e : TypedExpression) (target p : ℕ) → suc (behind (value_code e) p) ≤ target → Stand (value_code e) p
+      → slice_get u.instructions (behind (value_code e) p) ≡ Some (op.JumpUnless target)
+      → stand.ConditionStands u e target p (suc (behind (value_code e) p))
+  test_stands e target p le test jump =
+      record { middle = behind (value_code e) p; fst = value_stands e p test; snd = record { is = record { here = jump; ends = refl }; on = le } }
+
+  skip_stands : (skip : Bool) → Made (skip_code skip) (stand.SkipStands u skip)
+  skip_stands true = one op.Skip
+  skip_stands false = nothing
+
+  items_stand : (es : List TypedExpression) → Made (items_code es) (stand.ItemsStand u es)
+  items_stand [] p h = refl
+  items_stand (e ∷ es) p h =
+      let r = split (value_code e) (op.Put ∷ items_code es) p h in
+      record {
+        middle = suc (behind (value_code e) p);
+        fst = record { middle = behind (value_code e) p; fst = value_stands e p r.0; snd = record { here = r.1.0; ends = refl } };
+        snd = subst (λ q. stand.ItemsStand u es (suc (behind (value_code e) p)) q) (sym (behind_both (value_code e) (op.Put ∷ items_code es) p))
+            (items_stand es (suc (behind (value_code e) p)) r.1.1);
+      }
+
+  -- a block's code stands from its entry, and its statements where they are told to
+  record Found (there : Option Block) (b : BlockTree) : Type 0 where
+    entry : ℕ
+    is : there ≡ Some (block_at b entry)
+    code : Stand (block_code b entry) entry
+    known : AllByRecursion (λ e. statement_place places e.0 ≡ e.1) (places_among b.statements entry)
+
+  abbrev Known : List (ℕ × ℕ) → Type 0
+  Known es = AllByRecursion (λ e. statement_place places e.0 ≡ e.1) es
+
+  -- a block that stands and has room for its loops
+  abbrev Placed : BlockTree → Type 0
+  Placed b = Found (slice_get u.blocks b.head.number) b × HaveRoom 64 b.statements
+
+  abbrev AllPlaced : List BlockTree → Type 0
+  AllPlaced bs = AllByRecursion Placed bs
+
+  -- a context in which the loops inside have room
+  record Fits (c : Context) : Type 0 where
+    most : c.bound ≤ 64
+    depth : c.depth ≤ c.size
+
+  later : (is : List Instruction) (p : ℕ) → p ≤ behind is p
+  later [] p = omega arith
+  later (i ∷ is) p = let le = later is (suc p) in omega (arith, le)
+
+  abbrev at : ℕ → ℕ
+  at = statement_place places
+
+  deeper_fits : (c : Context) → Fits c → Fits (stand.deeper 0 c)
+  deeper_fits c f = let a = f.most in let b = f.depth in record { most = omega (arith, a); depth = omega (arith, b) }
+
+  nests : (c : Context) → Fits c → 2 ≤ c.bound → stand.Nests 0 c
+  nests c f two = let b = f.depth in record { least = two; most = f.most; room = omega (arith, b) }
+
+  -- a statement's label is where it begins
+  starts : (s : TypedStatement) (p : ℕ) → Known (places_in s p) → at (number_of s) ≡ p
+  starts (Statement number form) p known = known.0
+
+  mutual
+    statement_stands : (s : TypedStatement) (block : ℕ) (c : Context) → Fits c → HasRoom c.bound s → AllPlaced (blocks_in block s)
+        → (p : ℕ) → Known (places_in s p) → Stand (statement_code s p) p → stand.StatementStands u at block s c p (behind (statement_code s p) p)
+    statement_stands (Statement number form) block c fits room inner p known h =
+        record { middle = suc p; fst = record { here = h.0; ends = refl }; snd = form_stands form number block c fits room inner (suc p) known.1 h.1 }
+
+    form_stands : (form : Form) (number block : ℕ) (c : Context) → Fits c → HasRoom c.bound (Statement number form) → AllPlaced (blocks_of_form block form)
+        → (p : ℕ) → Known (places_in_form form p) → Stand (form_code number form p) p → stand.FormStands u at block number form c p (behind (form_code number form p) p)
+    form_stands Null number block c fits room inner p known h = refl
+    form_stands (Assign target e) number block c fits room inner p known h =
+        two_parts (place_code target) (value_code e) op.Store (stand.PlaceStands u target) (stand.ValueStands u e) (place_stands target) (value_stands e) p h
+    form_stands (AssignAggregate target source) number block c fits room inner p known h =
+        two_parts (place_code target) (place_code source) op.Copy (stand.PlaceStands u target) (stand.PlaceStands u source) (place_stands target) (place_stands source) p h
+    form_stands (Put skip items) number block c fits room inner p known h =
+        joined (skip_code skip) (items_code items) (stand.SkipStands u skip) (stand.ItemsStand u items) (skip_stands skip) (items_stand items) p h
+    form_stands (If e consequence NoElse) number block c fits room inner p known h =
+        let q = suc (behind (value_code e) p) in
+        let part = statement_code consequence q in
+        let r = split (value_code e) (op.JumpUnless (behind part q) ∷ part) p h in
+        subst (λ z. stand.IfStands u at block (stand.ConditionStands u e) (stand.StatementStands u at block consequence c) NoElse c p z)
+        (sym (behind_both (value_code e) (op.JumpUnless (behind part q) ∷ part) p))
+        (record {
+          start = q;
+          holds = test_stands e (behind part q) p (later part q) r.0 r.1.0;
+          does = statement_stands consequence block c fits room.0 (all_front Placed (blocks_in block consequence) [] inner) q
+              (all_front (λ e. statement_place places e.0 ≡ e.1) (places_in consequence q) [] known) r.1.1;
+        })
+    form_stands (If e consequence (Else other)) number block c fits room inner p known h =
+        let q = suc (behind (value_code e) p) in
+        let part = statement_code consequence q in
+        let t = suc (behind part q) in
+        let code = statement_code other t in
+        let z = behind code t in
+        let r = split_three (value_code e) (op.JumpUnless t ∷ part) (op.Jump z ∷ code) p h in
+        subst (λ z. stand.IfStands u at block (stand.ConditionStands u e) (stand.StatementStands u at block consequence c) (Else other) c p z)
+        (sym (behind_three (value_code e) (op.JumpUnless t ∷ part) (op.Jump z ∷ code) p))
+        (record {
+          start = q;
+          finish = behind part q;
+          target = t;
+          holds = test_stands e t p (let le = later part q in omega (arith, le)) r.0 r.1.0.0;
+          does = statement_stands consequence block c fits room.0 (all_front Placed (blocks_in block consequence) (blocks_in block other) inner) q
+              (all_front (λ e. statement_place places e.0 ≡ e.1) (places_in consequence q) (places_in other t) known) r.1.0.1;
+          over = record { is = record { here = r.1.1.0; ends = refl }; on = later code t };
+          does_other = statement_stands other block c fits room.1 (all_back Placed (blocks_in block consequence) (blocks_in block other) inner) t
+              (all_back (λ e. statement_place places e.0 ≡ e.1) (places_in consequence q) (places_in other t) known) r.1.1.1;
+        })
+    form_stands (Begin head statements) number block c fits room inner p known h =
+        let b = begin_block block head statements in
+        let f = inner.0.0 in
+        let r = split (list_code statements f.entry) (op.Return 0 ∷ []) f.entry f.code in
+        record {
+          begins = record { here = h.0; ends = refl };
+          block = record {
+            entry = f.entry;
+            there = f.is;
+            bound = 64;
+            some = omega arith;
+            finish = behind (list_code statements f.entry) f.entry;
+            behind = suc (behind (list_code statements f.entry) f.entry);
+            does = list_stands statements head.number (record { size = head.temporaries; depth = 0; bound = 64 }) (record { most = omega arith; depth = omega arith })
+                inner.0.1 inner.1 f.entry f.known r.0;
+            ends = record { here = r.1.0; ends = refl };
+          };
+        }
+    form_stands (Group statements) number block c fits room inner p known h = list_stands statements block c fits room inner p known h
+    form_stands (While e statements) number block c fits room inner p known h =
+        let q = suc (suc (behind (value_code e) (suc p))) in
+        let code = list_code statements q in
+        let z = suc (behind code q) in
+        let r = split_three (op.Line number ∷ value_code e) (op.JumpUnless z ∷ op.Step number ∷ code) (op.Jump p ∷ []) p h in
+        subst (λ z. stand.FormStands u at block number (While e statements) c p z)
+        (sym (behind_three (op.Line number ∷ value_code e) (op.JumpUnless z ∷ op.Step number ∷ code) (op.Jump p ∷ []) p)) (
+          nests c fits room.0,
+          record {
+            start = suc (behind (value_code e) (suc p));
+            finish = behind code q;
+            behind = behind code q;
+            holds = record {
+              middle = suc p;
+              fst = record { here = r.0.0; ends = refl };
+              snd = test_stands e z (suc p) (let le = later code q in omega (arith, le)) r.0.1 r.1.0.0;
+            };
+            does = record {
+              middle = q;
+              fst = record { here = r.1.0.1.0; ends = refl };
+              snd = list_stands statements block (stand.deeper 0 c) (deeper_fits c fits) room.1 inner q known r.1.0.1.1;
+            };
+            does_between = refl;
+            back = record { here = r.1.1.0; ends = refl };
+          },
+        )
+    form_stands (Call called args) number block c fits room inner p known h = call_stands called args (arguments_stand args) p h
+    form_stands (Goto outward label) number block c fits room inner p known h = one (op.Goto outward label) p h
+    form_stands (Return outward) number block c fits room inner p known h = one (op.Return outward) p h
+    form_stands (ReturnValue outward e) number block c fits room inner p known h =
+        joined (value_code e) (op.ReturnValue outward ∷ []) (stand.ValueStands u e) (stand.Is u (op.ReturnValue outward)) (value_stands e) (one (op.ReturnValue outward)) p h
+    form_stands Stop number block c fits room inner p known h = one op.Stop p h
+
+    list_stands : (ss : TypedStatements) (block : ℕ) (c : Context) → Fits c → HaveRoom c.bound ss → AllPlaced (blocks_among block ss)
+        → (p : ℕ) → Known (places_among ss p) → Stand (list_code ss p) p → stand.ListStands u at block ss c p (behind (list_code ss p) p)
+    list_stands NoStatement block c fits room inner p known h = refl
+    list_stands (StatementThen s more) block c fits room inner p known h =
+        let code = statement_code s p in
+        let q = behind code p in
+        let r = split code (list_code more q) p h in (
+          starts s p (all_front (λ e. statement_place places e.0 ≡ e.1) (places_in s p) (places_among more q) known),
+          record {
+            middle = q;
+            fst = statement_stands s block c fits room.0 (all_front Placed (blocks_in block s) (blocks_among block more) inner) p
+                (all_front (λ e. statement_place places e.0 ≡ e.1) (places_in s p) (places_among more q) known) r.0;
+            snd = subst (λ z. stand.ListStands u at block more c q z) (sym (behind_both code (list_code more q) p))
+                (list_stands more block c fits room.1 (all_back Placed (blocks_in block s) (blocks_among block more) inner) q
+                (all_back (λ e. statement_place places e.0 ≡ e.1) (places_in s p) (places_among more q) known) r.1);
+          },
+        )
+
+  -- blocks
+
+  -- of blocks that stand one behind the other, each is found by its number
+  found : (bs : List BlockTree) (p : ℕ) (get : ℕ → Option Block) → Stand (blocks_code bs p) p → ((i : ℕ) → get i ≡ slice_get (blocks_at bs p) i)
+      → Known (places_of bs p) → (i : ℕ) (b : BlockTree) → slice_get bs i ≡ Some b → Found (get i) b
+  found [] p get h same known i b e = absurd (cc)
+  found (x ∷ bs) p get h same known zero b e =
+      let r = split (block_code x p) (blocks_code bs (behind (block_code x p) p)) p h in
+      subst (λ b. Found (get 0) b) (ap (or_else x) e)
+      (record { entry = p; is = same 0; code = r.0; known = all_front (λ e. statement_place places e.0 ≡ e.1) (places_among x.statements p) (places_of bs (behind (block_code x p) p)) known })
+  found (x ∷ bs) p get h same known (suc i) b e =
+      let q = behind (block_code x p) p in
+      let r = split (block_code x p) (blocks_code bs q) p h in
+      found bs q (λ i. get (suc i)) r.1 (λ i. same (suc i)) (all_back (λ e. statement_place places e.0 ≡ e.1) (places_among x.statements p) (places_of bs q) known) i b e
+
+  end_stands : (end : Option ℕ) → Made (end_code end) (stand.EndStands u at end)
+  end_stands None = one (op.Return 0)
+  end_stands (Some s) = before (op.Line s) (op.Raise NoReturnedValue ∷ []) (stand.Is u (op.Raise NoReturnedValue)) (one (op.Raise NoReturnedValue))
+
+  procedure_stands : (f : TypedProcedure) → AllPlaced (blocks_of_procedure f) → stand.ProcedureStands u at f
+  procedure_stands f inner =
+      let b = inner.0.0 in
+      let r = split (list_code f.statements b.entry) (end_code f.function_end) b.entry b.code in
+      let finish = behind (list_code f.statements b.entry) b.entry in
+      record {
+        entry = b.entry;
+        there = b.is;
+        bound = 64;
+        some = omega arith;
+        finish = finish;
+        behind = behind (end_code f.function_end) finish;
+        does = list_stands f.statements f.head.number (record { size = f.head.temporaries; depth = 0; bound = 64 }) (record { most = omega arith; depth = omega arith }) inner.0.1 inner.1 b.entry b.known r.0;
+        ends = end_stands f.function_end finish r.1;
+      }
+
+  procedures_stand : (fs : List TypedProcedure) → AllPlaced (flat_map blocks_of_procedure fs) → stand.ProceduresStand u at fs
+  procedures_stand [] inner = tt
+  procedures_stand (f ∷ fs) inner = (
+    procedure_stands f (all_front Placed (blocks_of_procedure f) (flat_map blocks_of_procedure fs) inner),
+    procedures_stand fs (all_back Placed (blocks_of_procedure f) (flat_map blocks_of_procedure fs) inner),
+  )
+
+  -- blocks that are found and have room
+  all_placed : (all bs : List BlockTree) → ((i : ℕ) (b : BlockTree) → slice_get all i ≡ Some b → Found (slice_get u.blocks i) b)
+      → AllByRecursion (λ b. slice_get all b.head.number ≡ Some b) bs → AllByRecursion (λ b. HaveRoom 64 b.statements) bs → AllPlaced bs
+  all_placed all [] find numbers rooms = tt
+  all_placed all (b ∷ bs) find numbers rooms = ((find b.head.number b numbers.0, rooms.0), all_placed all bs find numbers.1 rooms.1)
+
+  -- code that a unit has from a place on
+  stand_all : (is : List Instruction) (p : ℕ) → ((k : ℕ) → slice_get u.instructions (p + k) ≡ slice_get (map (with_target places) is) k) → Stand is p
+  stand_all [] p h = tt
+  stand_all (i ∷ is) p h =
+      let here : p ≡ p + 0 = omega arith in
+      let next : (k : ℕ) → suc p + k ≡ p + suc k = λ k. omega arith in
+      (ap (slice_get u.instructions) here ∙ h 0, stand_all is (suc p) (λ k. ap (slice_get u.instructions) (next k) ∙ h (suc k)))
+
+-- a place that another number does not hide
+not_hidden : (n p : ℕ) (full es : List (ℕ × ℕ)) → list_any (nat_eq n) (map (λ e. e.0) es) ≡ false
+    → AllByRecursion (λ e. statement_place full e.0 ≡ e.1) es → AllByRecursion (λ e. statement_place ((n, p) ∷ full) e.0 ≡ e.1) es
+not_hidden n p full [] none known = tt
+not_hidden n p full (e ∷ es) none known =
+    let both = neither (nat_eq n e.0) (list_any (nat_eq n) (map (λ e. e.0) es)) none in
+    (ap (λ b. if b then p else statement_place full e.0) both.0 ∙ known.0, not_hidden n p full es both.1 known.1)
+  where
+    neither : (a b : Bool) → (a || b) ≡ false → (a ≡ false) × (b ≡ false)
+    neither true b h = absurd (true≢false h)
+    neither false b h = (refl, h)
+
+-- where no number stands twice, each statement's place is the one that stands with it
+each_has_its_place : (es : List (ℕ × ℕ)) → AreDistinct (map (λ e. e.0) es) → AllByRecursion (λ e. statement_place es e.0 ≡ e.1) es
+each_has_its_place [] distinct = tt
+each_has_its_place ((n, p) ∷ es) distinct =
+    (ap (λ b. if b then p else statement_place es n) (eq-eqb n n refl), not_hidden n p es es distinct.0 (each_has_its_place es distinct.1))
+
+pub code_stands : (t : TypedUnit) → IsWellNumbered t → UnitStands t (unit_code t)
+code_stands t well =
+    let bs = blocks_of t in
+    let places = places_of bs 0 in
+    let u = unit_code t in
+    let code = blocks_code bs 0 in
+    let zero_and : (k : ℕ) → 0 + k ≡ k = λ k. omega arith in
+    let all = stand_all u places code 0 (λ k. ap (slice_get u.instructions) (zero_and k)) in
+    let find = found u places bs 0 (slice_get u.blocks) all (λ i. refl) (each_has_its_place places well.statements) in
+    record {
+      at = statement_place places;
+      names = refl;
+      statics = refl;
+      procedures = procedures_stand u places t.procedures (all_placed u places bs (flat_map blocks_of_procedure t.procedures) find well.blocks well.loops);
+    }

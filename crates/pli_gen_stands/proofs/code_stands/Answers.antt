@@ -1,0 +1,5 @@
+use Rattle.pli_gen_stands.proofs.TranslationStands.{code_stands}
+use Rattle.pli_gen_stands.proofs.code_stands.Goals as goal
+
+pub returns : goal.returns
+returns c = code_stands

@@ -1,0 +1,40 @@
+-- What the generator asks of a unit besides its code: how blocks and statements are numbered, and how deep loops
+-- nest.
+use Rattle.std.specs.Prelude.{◌≡◌, ℕ, ◌≤◌, ◌-◌, nat_eq, false, Some, List, [], ◌∷◌, map, slice_get}
+use Rattle.std.specs.List.{flat_map, list_any, AllByRecursion}
+use Rattle.pli_type_tree.specs.TypedTree.{TypedStatement, Statement, Form, If, Group, While, OtherWise, NoElse}
+use Rattle.pli_type_tree.specs.TypedTree.{Else, TypedStatements, NoStatement, StatementThen, TypedUnit}
+use Rattle.pli_gen_tree.specs.TreeTranslation.{blocks_of_procedure, blocks_of, places_of}
+
+-- no number stands twice in a list
+abbrev pub AreDistinct : List ℕ → Type 0
+AreDistinct [] = Unit {0}
+AreDistinct (n ∷ ns) = (list_any (nat_eq n) ns ≡ false) × AreDistinct ns
+
+-- where an activation may make so many backward jumps without a step, the loops of its block nest less deep
+-- than that: in a loop there is one less for the loops inside it, and each needs two
+abbrev mutual
+  pub HasRoom : (jumps : ℕ) → TypedStatement → Type 0
+  HasRoom n (Statement number form) = HasRoomForm n form
+
+  pub HasRoomForm : (jumps : ℕ) → Form → Type 0
+  HasRoomForm n (If condition consequence alternative) = HasRoom n consequence × HasRoomElse n alternative
+  HasRoomForm n (Group statements) = HaveRoom n statements
+  HasRoomForm n (While condition statements) = (2 ≤ n) × HaveRoom (n - 1) statements
+  HasRoomForm n form = Unit {0}
+
+  pub HasRoomElse : (jumps : ℕ) → OtherWise → Type 0
+  HasRoomElse n NoElse = Unit {0}
+  HasRoomElse n (Else statement) = HasRoom n statement
+
+  pub HaveRoom : (jumps : ℕ) → TypedStatements → Type 0
+  HaveRoom n NoStatement = Unit {0}
+  HaveRoom n (StatementThen first more) = HasRoom n first × HaveRoom n more
+
+-- the blocks of a unit are numbered from 0, each once; its statements have different numbers; and loops nest
+-- less than 64 deep in each block
+pub record IsWellNumbered (t : TypedUnit) : Type 0 where
+  pub blocks : AllByRecursion (λ b. slice_get (blocks_of t) b.head.number ≡ Some b)
+      (flat_map blocks_of_procedure t.procedures)
+  pub statements : AreDistinct (map (λ e. e.0) (places_of (blocks_of t) 0))
+  pub loops : AllByRecursion (λ b. HaveRoom 64 b.statements) (flat_map blocks_of_procedure t.procedures)
