@@ -14,6 +14,7 @@ use Rattle.pli_type_tree.specs.TypedTree.{NoElse, Else, TypedStatements, NoState
 use Rattle.pli_gen_tree.specs.TreeTranslation.{argument_count, root_code, value_code, place_code, operands_code, subscripts_code, arguments_code, call_code, skip_code, items_code, behind}
 use Rattle.pli_gen_tree.specs.TreeTranslation.{statement_code, form_code, list_code, places_in, places_in_form, places_among, statement_place, with_target, BlockTree, begin_block}
 use Rattle.pli_gen_tree.specs.TreeTranslation.{blocks_in, blocks_of_form, blocks_among, blocks_of_procedure, blocks_of, end_code, block_code, blocks_code, places_of, block_at, blocks_at, unit_code}
+use Rattle.pli_gen_tree.specs.laws.ListLaws.{all_front, all_back}
 use Rattle.pli_gen_tree.specs.WellNumbered.{AreDistinct, HasRoom, HaveRoom, IsWellNumbered}
 use Rattle.pli_meaning_tree.specs.TreeMeaning.{number_of}
 use Rattle.pli_meaning_simulation.specs.CodeStands as stand
@@ -23,15 +24,6 @@ use Rattle.pli_meaning_simulation.specs.CodeStands.{Span, Empty, Then, Context, 
 abbrev or_else : {X : Type 0} → X → Option X → X
 or_else x None = x
 or_else x (Some y) = y
-
--- what holds of two lists holds of each
-all_front : {X : Type 0} (P : X → Type 0) (xs ys : List X) → AllByRecursion P (xs ++ ys) → AllByRecursion P xs
-all_front P [] ys h = tt
-all_front P (x ∷ xs) ys h = (h.0, all_front P xs ys h.1)
-
-all_back : {X : Type 0} (P : X → Type 0) (xs ys : List X) → AllByRecursion P (xs ++ ys) → AllByRecursion P ys
-all_back P [] ys h = h
-all_back P (x ∷ xs) ys h = all_back P xs ys h.1
 
 -- the place behind two parts
 behind_both : (xs ys : List Instruction) (p : ℕ) → behind (xs ++ ys) p ≡ behind ys (behind xs p)

@@ -1,3 +1,5 @@
+pub mod Encoding
 pub mod TreeTranslation
 pub mod WellNumbered
 pub mod examples
+pub mod laws

@@ -282,6 +282,10 @@ abbrev pub with_target : List (ℕ × ℕ) → Instruction → Instruction
 with_target places (op.Goto outward label) = op.Goto outward (statement_place places label)
 with_target places i = i
 
+-- the instructions of a unit
+abbrev pub instructions_of : List BlockTree → List Instruction
+instructions_of bs = map (with_target (places_of bs 0)) (blocks_code bs 0)
+
 -- the code of a unit
 abbrev pub unit_code : TypedUnit → UnitCode
 unit_code u =
@@ -290,5 +294,5 @@ unit_code u =
       name = u.name;
       statics = map variable_of u.statics;
       blocks = blocks_at bs 0;
-      instructions = map (with_target (places_of bs 0)) (blocks_code bs 0);
+      instructions = instructions_of bs;
     }

@@ -1,4 +1,4 @@
--- What the generator asks of a unit besides its code: how blocks and statements are numbered, and how deep loops
+-- What is asked of a unit for its code to stand: how blocks and statements are numbered, and how deep loops
 -- nest.
 use Rattle.std.specs.Prelude.{◌≡◌, ℕ, ◌≤◌, ◌-◌, nat_eq, false, Some, List, [], ◌∷◌, map, slice_get}
 use Rattle.std.specs.List.{flat_map, list_any, AllByRecursion}

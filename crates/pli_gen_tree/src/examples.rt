@@ -2,8 +2,10 @@
 ghost use Rattle.pli_gen_tree.specs.examples.TranslationExamples.{AssignedAndPrinted, PartOfStructure};
 ghost use Rattle.pli_gen_tree.specs.examples.TranslationExamples.{ArgumentsHanded, AggregateCopied};
 ghost use Rattle.pli_gen_tree.specs.examples.TranslationExamples.{JumpsAndBlocks, WholeUnit, NumberedWell};
+ghost use Rattle.pli_gen_tree.specs.examples.TranslationExamples.{TablesNumbered, InstructionsNumbered};
 
-/// Worked examples: an assignment and PUT; a reference with subscripts; a call; an aggregate; jumps between blocks.
+/// Worked examples: an assignment and PUT; a reference with subscripts; a call; an aggregate; jumps between blocks;
+/// tables.
 pub fn worked_examples()
     ensures assigned_and_printed { AssignedAndPrinted }
     ensures part_of_structure { PartOfStructure }
@@ -12,4 +14,6 @@ pub fn worked_examples()
     ensures jumps_and_blocks { JumpsAndBlocks }
     ensures whole_unit { WholeUnit }
     ensures numbered_well { NumberedWell }
+    ensures tables_numbered { TablesNumbered }
+    ensures instructions_numbered { InstructionsNumbered }
 {}

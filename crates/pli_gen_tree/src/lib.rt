@@ -2,5 +2,7 @@
 #![tactic(auto)]
 
 mod examples;
+mod laws;
 
 pub use examples::worked_examples;
+pub use laws::code_is_looked_up;

@@ -1,5 +1,5 @@
 -- Worked examples of the translation.
-use Rattle.std.specs.Prelude.{◌≡◌, ℕ, pos, true, Some, None, [], ◌∷◌, codes}
+use Rattle.std.specs.Prelude.{◌≡◌, ℕ, pos, true, false, Some, None, [], ◌∷◌, codes}
 use Rattle.pli_code.specs.declared.ending.RunError.TheVariants.{NoReturnedValue}
 use Rattle.pli_map.specs.Description.{FixedBinary, Character}
 use Rattle.pli_operation.specs.Operations as calculate
@@ -14,6 +14,8 @@ use Rattle.pli_type_tree.specs.TypedTree.{SubscriptThen, NoArgument, ByPlace, By
 use Rattle.pli_type_tree.specs.TypedTree.{Null, Assign, AssignAggregate, Put, If, Begin, While, Call, Goto}
 use Rattle.pli_type_tree.specs.TypedTree.{Stop, Else, NoStatement, StatementThen}
 use Rattle.pli_type_tree.specs.TypedTree.{TypedUnit, TypedProcedure}
+use Rattle.pli_unit_code.specs.declared.instruction.Instruction.TheVariants as coded
+use Rattle.pli_gen_tree.specs.Encoding.{code_of}
 use Rattle.pli_gen_tree.specs.WellNumbered.{IsWellNumbered}
 use Rattle.pli_gen_tree.specs.TreeTranslation.{list_code, place_code, statement_code, unit_code}
 
@@ -160,3 +162,69 @@ WholeUnit = (unit_code jumping).blocks ≡
 -- it is numbered well
 abbrev pub NumberedWell : Type 0
 NumberedWell = IsWellNumbered jumping
+
+-- `M: PROC OPTIONS(MAIN); DCL C CHAR(3); CALL S(5); PUT LIST(C, 5, ABS(+5));` and then
+-- `S: PROC(P); DCL P CHAR(2); END S; END M;`
+abbrev characters_of_5 : TypedExpression
+characters_of_5 = Calculated (calculate.ToCharacters 4) (OperandThen (number 5) NoOperand)
+
+abbrev absolute_of_5 : TypedExpression
+absolute_of_5 = Calculated calculate.Absolute (OperandThen (number 5) NoOperand)
+
+abbrev printing : TypedProcedure
+printing = record {
+  head = record {
+    number = 0;
+    statement = 1;
+    variables = record { description = Character 3; initial = [] } ∷ [];
+    temporaries = 0;
+  };
+  parent = None;
+  parameters = 0;
+  function_end = None;
+  statements =
+      StatementThen
+      (Statement 3
+      (Call 1
+      (ByDummy (Character 2)
+      (Calculated (calculate.Fit (Character 2)) (OperandThen characters_of_5 NoOperand)) NoArgument)))
+      (StatementThen
+      (Statement 4
+      (Put false
+      (Held first ∷ characters_of_5
+      ∷ Calculated (calculate.ToCharacters 5) (OperandThen absolute_of_5 NoOperand) ∷ [])))
+      NoStatement);
+}
+
+abbrev called : TypedProcedure
+called = record {
+  head = head 1 5;
+  parent = Some 0;
+  parameters = 1;
+  function_end = None;
+  statements = NoStatement;
+}
+
+abbrev printing_unit : TypedUnit
+printing_unit = record {
+  name = codes "M";
+  is_main = true;
+  statics = [];
+  procedures = printing ∷ called ∷ [];
+}
+
+-- the variable's description and that of the dummy argument; templates of these; the number once
+abbrev pub TablesNumbered : Type 0
+TablesNumbered = ((code_of printing_unit).descriptions ≡ Character 3 ∷ Character 2 ∷ [])
+    × ((code_of printing_unit).templates
+    ≡ record { description = 0; initial = [] } ∷ record { description = 1; initial = [] } ∷ [])
+    × ((code_of printing_unit).values ≡ Number (pos 5) ∷ [])
+
+-- the instructions with the numbers of what they name
+abbrev pub InstructionsNumbered : Type 0
+InstructionsNumbered = (code_of printing_unit).instructions
+    ≡ coded.Step 3 ∷ coded.Constant 0 ∷ coded.ToCharacters 4 ∷ coded.Fit 1 ∷ coded.MakeDummy 1
+    ∷ coded.Call 1 1
+    ∷ coded.Step 4 ∷ coded.Local 0 0 ∷ coded.Load ∷ coded.Put ∷ coded.Constant 0 ∷ coded.ToCharacters 4
+    ∷ coded.Put ∷ coded.Constant 0 ∷ coded.Absolute ∷ coded.ToCharacters 5 ∷ coded.Put ∷ coded.Return 0
+    ∷ coded.Return 0 ∷ []

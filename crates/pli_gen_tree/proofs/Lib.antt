@@ -1,0 +1,2 @@
+pub mod TableNumbers
+pub mod TablesLookUp

@@ -1,0 +1,168 @@
+-- The tables of a unit's code have what its instructions and blocks name.
+use Rattle.std.specs.Prelude.{◌≡◌, ℕ, Some, None, List, [], ◌∷◌, ◌++◌, map, length, slice_get, refl}
+use Rattle.std.specs.List.{flat_map, AllByRecursion}
+use Rattle.std.proofs.Common.{ap, ◌∙◌, option_map}
+use Rattle.std.proofs.lemmas.Option.{slice_get-map}
+use Rattle.pli_map.specs.Description.{Description}
+use Rattle.pli_map.specs.Same.{same}
+use Rattle.pli_operation.specs.Operations as calculate
+use Rattle.pli_operation.specs.Operations.{Operation, Relation}
+use Rattle.pli_operation.specs.views.OperationView.{relation_view}
+use Rattle.pli_store.specs.World.{Variable}
+use Rattle.pli_machine_step.specs.Program as op
+use Rattle.pli_machine_step.specs.Program.{Block, UnitCode}
+use Rattle.pli_type_tree.specs.Templates.{Template, variable_of}
+use Rattle.pli_type_tree.specs.TypedTree.{TypedUnit}
+use Rattle.pli_unit_code.specs.CodeTables.{Code, looked_up, template_at, variables_at, block_looked_up, program_of, there, naming, with_description, described}
+use Rattle.pli_gen_tree.specs.TreeTranslation.{BlockTree, blocks_of, blocks_at, block_at, block_code, behind, instructions_of, unit_code}
+use Rattle.pli_gen_tree.specs.Encoding.{Tables, tables_for, descriptions_named, templates_named, values_named, dummy, fitted_by, same_value, same_template}
+use Rattle.pli_gen_tree.specs.Encoding.{description_number, template_number, relation_code, operation_code, instruction_code, template_code, coded_blocks, coded_unit, variables_of, code_of}
+use Rattle.pli_gen_tree.specs.laws.ListLaws.{all_front, all_back}
+use Rattle.pli_gen_tree.proofs.TableNumbers.{Has, number_stands, has_all, value_decides, template_decides, description_decides}
+
+module _ (tables : Tables) (statics : List Template) (bs : List BlockTree) (code : List op.Instruction) where
+  abbrev c : Code
+  c = coded_unit tables statics bs code
+
+  abbrev HasDescription : Description → Type 0
+  HasDescription d = Has same description_decides tables.descriptions d
+
+  abbrev HasTemplate : Template → Type 0
+  HasTemplate t = Has same_template template_decides tables.templates t
+
+  description_there : (d : Description) → HasDescription d → slice_get c.descriptions (description_number tables d) ≡ Some d
+  description_there d h = number_stands same description_decides tables.descriptions d h
+
+  template_there : (t : Template) → HasTemplate t → HasDescription t.description → template_at c (template_number tables t) ≡ Some t
+  template_there t h d =
+      ap (with_description c) (slice_get-map (template_code tables) tables.templates (template_number tables t) ∙ ap (option_map (template_code tables)) (number_stands same_template template_decides tables.templates t h))
+      ∙ ap (described c t.initial) (description_there t.description d)
+
+  -- a template with its description
+  abbrev InTables : Template → Type 0
+  InTables t = HasTemplate t × HasDescription t.description
+
+  both : (ts : List Template) → AllByRecursion HasTemplate ts → AllByRecursion HasDescription (map (λ t. t.description) ts) → AllByRecursion InTables ts
+  both [] h d = tt
+  both (t ∷ ts) h d = ((h.0, d.0), both ts h.1 d.1)
+
+  templates_there : (ts : List Template) → AllByRecursion InTables ts → flat_map (λ n. there (template_at c n)) (map (template_number tables) ts) ≡ ts
+  templates_there [] h = refl
+  templates_there (t ∷ ts) h =
+      ap (λ o. there o ++ flat_map (λ n. there (template_at c n)) (map (template_number tables) ts)) (template_there t h.0.0 h.0.1) ∙ ap (λ ts. t ∷ ts) (templates_there ts h.1)
+
+  variables_there : (ts : List Template) → AllByRecursion InTables ts → variables_at c (map (template_number tables) ts) ≡ map variable_of ts
+  variables_there ts h = ap (map variable_of) (templates_there ts h)
+
+  relation_back : (r : Relation) → relation_view (relation_code r) ≡ r
+  relation_back calculate.Equal = refl
+  relation_back calculate.Unequal = refl
+  relation_back calculate.Less = refl
+  relation_back calculate.AtMost = refl
+  relation_back calculate.Greater = refl
+  relation_back calculate.AtLeast = refl
+
+  operation_there : (o : Operation) → AllByRecursion HasDescription (fitted_by o) → looked_up c (operation_code tables o) ≡ op.Operate o
+  operation_there (calculate.Fit d) h = ap (naming (λ d. op.Operate (calculate.Fit d))) (description_there d h.0)
+  operation_there (calculate.Compare r) h = ap (λ r. op.Operate (calculate.Compare r)) (relation_back r)
+  operation_there calculate.Negate h = refl
+  operation_there calculate.Absolute h = refl
+  operation_there calculate.Sign h = refl
+  operation_there calculate.Not h = refl
+  operation_there calculate.LengthOf h = refl
+  operation_there calculate.FromBits h = refl
+  operation_there (calculate.ToCharacters width) h = refl
+  operation_there calculate.Add h = refl
+  operation_there calculate.Subtract h = refl
+  operation_there calculate.Multiply h = refl
+  operation_there calculate.Modulo h = refl
+  operation_there calculate.Greatest h = refl
+  operation_there calculate.Least h = refl
+  operation_there (calculate.Divide precision) h = refl
+  operation_there calculate.Concatenate h = refl
+  operation_there calculate.And h = refl
+  operation_there calculate.Or h = refl
+  operation_there calculate.Index h = refl
+  operation_there calculate.Rest h = refl
+  operation_there calculate.Substring h = refl
+
+  -- behind the last entry there is none
+  none_behind : {X : Type 0} (xs : List X) → slice_get xs (length xs) ≡ None
+  none_behind [] = refl
+  none_behind (x ∷ xs) = none_behind xs
+
+  instruction_there : (i : op.Instruction) → AllByRecursion HasDescription (descriptions_named i) → AllByRecursion HasTemplate (templates_named i)
+      → AllByRecursion (Has same_value value_decides tables.values) (values_named i) → looked_up c (instruction_code tables i) ≡ i
+  instruction_there (op.Field offset d) ds ts vs = ap (naming (op.Field offset)) (description_there d ds.0)
+  instruction_there (op.Constant v) ds ts vs = ap (naming op.Constant) (number_stands same_value value_decides tables.values v vs.0)
+  instruction_there (op.MakeDummy d) ds ts vs = ap (naming (λ t. op.MakeDummy t.description)) (template_there (dummy d) ts.0 ds.0)
+  instruction_there (op.Operate o) ds ts vs = operation_there o ds
+  instruction_there op.Nothing ds ts vs = ap (naming op.Constant) (none_behind tables.values)
+  instruction_there (op.Step s) ds ts vs = refl
+  instruction_there (op.Line s) ds ts vs = refl
+  instruction_there (op.Jump target) ds ts vs = refl
+  instruction_there (op.JumpUnless target) ds ts vs = refl
+  instruction_there (op.Goto outward target) ds ts vs = refl
+  instruction_there (op.Call block arguments) ds ts vs = refl
+  instruction_there (op.Begin block) ds ts vs = refl
+  instruction_there (op.Return outward) ds ts vs = refl
+  instruction_there (op.ReturnValue outward) ds ts vs = refl
+  instruction_there (op.Raise e) ds ts vs = refl
+  instruction_there op.Stop ds ts vs = refl
+  instruction_there (op.Local outward slot) ds ts vs = refl
+  instruction_there (op.Global number) ds ts vs = refl
+  instruction_there (op.Subscript low high multiplier) ds ts vs = refl
+  instruction_there op.Load ds ts vs = refl
+  instruction_there op.Store ds ts vs = refl
+  instruction_there op.Copy ds ts vs = refl
+  instruction_there op.Put ds ts vs = refl
+  instruction_there op.Skip ds ts vs = refl
+  instruction_there (op.SetTemporary number) ds ts vs = refl
+  instruction_there (op.TakeTemporary number) ds ts vs = refl
+
+  instructions_there : (is : List op.Instruction) → AllByRecursion HasDescription (flat_map descriptions_named is) → AllByRecursion HasTemplate (flat_map templates_named is)
+      → AllByRecursion (Has same_value value_decides tables.values) (flat_map values_named is) → map (looked_up c) (map (instruction_code tables) is) ≡ is
+  instructions_there [] ds ts vs = refl
+  instructions_there (i ∷ is) ds ts vs =
+      let here = instruction_there i (all_front HasDescription (descriptions_named i) (flat_map descriptions_named is) ds) (all_front HasTemplate (templates_named i) (flat_map templates_named is) ts)
+      (all_front (Has same_value value_decides tables.values) (values_named i) (flat_map values_named is) vs) in
+      let rest = instructions_there is (all_back HasDescription (descriptions_named i) (flat_map descriptions_named is) ds) (all_back HasTemplate (templates_named i) (flat_map templates_named is) ts)
+      (all_back (Has same_value value_decides tables.values) (values_named i) (flat_map values_named is) vs) in
+      ap (λ x. x ∷ map (looked_up c) (map (instruction_code tables) is)) here ∙ ap (λ xs. i ∷ xs) rest
+
+  abbrev block_with : BlockTree → ℕ → List Variable → Block
+  block_with b p vs = record { kind = b.kind; parent = b.parent; parameters = b.parameters; variables = vs; temporaries = b.head.temporaries; entry = p; statement = b.head.statement }
+
+  blocks_there : (bs : List BlockTree) (p : ℕ) → AllByRecursion InTables (flat_map (λ b. b.head.variables) bs) → map (block_looked_up c) (coded_blocks tables bs p) ≡ blocks_at bs p
+  blocks_there [] p h = refl
+  blocks_there (b ∷ bs) p h =
+      let q = behind (block_code b p) p in
+      let vs = b.head.variables in
+      let more = flat_map (λ b. b.head.variables) bs in
+      ap (λ vs. block_with b p vs ∷ map (block_looked_up c) (coded_blocks tables bs q)) (variables_there vs (all_front InTables vs more h))
+      ∙ ap (λ blocks. block_at b p ∷ blocks) (blocks_there bs q (all_back InTables vs more h))
+
+pub looked_up_is_unit_code : (u : TypedUnit) → program_of (code_of u) u.name ≡ unit_code u
+looked_up_is_unit_code u =
+    let bs = blocks_of u in
+    let code = instructions_of bs in
+    let variables = variables_of u.statics bs in
+    let t = tables_for variables code in
+    let described_all = has_all same description_decides (map (λ t. t.description) variables ++ flat_map descriptions_named code) [] in
+    let templates_all = has_all same_template template_decides (variables ++ flat_map templates_named code) [] in
+    let values_all = has_all same_value value_decides (flat_map values_named code) [] in
+    let variables_in = both t u.statics bs code variables
+    (all_front (HasTemplate t u.statics bs code) variables (flat_map templates_named code) templates_all)
+    (all_front (HasDescription t u.statics bs code) (map (λ t. t.description) variables) (flat_map descriptions_named code) described_all) in
+    let inside = flat_map (λ b. b.head.variables) bs in
+    let statics = variables_there t u.statics bs code u.statics (all_front (InTables t u.statics bs code) u.statics inside variables_in) in
+    let blocks = blocks_there t u.statics bs code bs 0 (all_back (InTables t u.statics bs code) u.statics inside variables_in) in
+    let instructions = instructions_there t u.statics bs code code
+    (all_back (HasDescription t u.statics bs code) (map (λ t. t.description) variables) (flat_map descriptions_named code) described_all)
+    (all_back (HasTemplate t u.statics bs code) variables (flat_map templates_named code) templates_all)
+    values_all in
+    let with : List Variable → List Block → List op.Instruction → UnitCode = λ s b i. record { name = u.name; statics = s; blocks = b; instructions = i } in
+    let c = code_of u in
+    ap (λ s. with s (program_of c u.name).blocks (program_of c u.name).instructions) statics
+    ∙ ap (λ b. with (map variable_of u.statics) b (program_of c u.name).instructions) blocks
+    ∙ ap (with (map variable_of u.statics) (blocks_at bs 0)) instructions

@@ -1,0 +1,194 @@
+-- The code of a unit with its tables: descriptions, templates and values are numbered by first use, and equal
+-- ones once (own). First come the variables that are made before the program begins, then those of the blocks,
+-- then the instructions, block after block.
+use Rattle.std.specs.Prelude.{ℕ, suc, nat_eq, Bool, false, ◌&&◌, ◌==◌, List, [], ◌∷◌, ◌++◌, map, length}
+use Rattle.std.specs.Prelude.{if◌then◌else◌}
+use Rattle.std.specs.Bool.{beq}
+use Rattle.std.specs.Cmp.Lexicographic.{pointwise}
+use Rattle.std.specs.List.{flat_map, list_any}
+use Rattle.std.specs.Ordering.{int_eq}
+use Rattle.pli_map.specs.Description.{Description}
+use Rattle.pli_map.specs.Same.{same}
+use Rattle.pli_operation.specs.Operations as calculate
+use Rattle.pli_operation.specs.Operations.{Operation, Relation}
+use Rattle.pli_operation.specs.declared.operation.Relation.TheVariants as relations
+use Rattle.pli_operation.specs.declared.operation.Relation as declared_relation
+use Rattle.pli_value.specs.Value.{Value, Number, Characters, Bits}
+use Rattle.pli_machine_step.specs.Program as op
+use Rattle.pli_type_tree.specs.Templates.{InitialScalar, Template}
+use Rattle.pli_type_tree.specs.TypedTree.{TypedUnit}
+use Rattle.pli_unit_code.specs.CodeTables.{CodedTemplate, CodedBlock, Code}
+use Rattle.pli_unit_code.specs.declared.instruction.Instruction.{Instruction}
+use Rattle.pli_unit_code.specs.declared.instruction.Instruction.TheVariants as coded
+use Rattle.pli_gen_tree.specs.TreeTranslation.{BlockTree, blocks_of, block_code, behind, instructions_of}
+
+-- equal values and templates
+abbrev pub same_value : Value → Value → Bool
+same_value (Number x) (Number y) = int_eq x y
+same_value (Characters s) (Characters t) = pointwise nat_eq s t
+same_value (Bits s) (Bits t) = pointwise beq s t
+same_value v w = false
+
+abbrev pub same_initial : InitialScalar → InitialScalar → Bool
+same_initial a b = (a.scalar == b.scalar) && same_value a.value b.value
+
+abbrev pub same_template : Template → Template → Bool
+same_template a b = same a.description b.description && pointwise same_initial a.initial b.initial
+
+-- a table, with each further one that it has not got put at its end
+abbrev pub numbered : {X : Type 0} → (alike : X → X → Bool) → (table : List X) → List X → List X
+numbered alike table [] = table
+numbered alike table (x ∷ xs) =
+    numbered alike (if list_any (alike x) table then table else table ++ x ∷ []) xs
+
+-- the number of an entry
+abbrev pub number_in : {X : Type 0} → (alike : X → X → Bool) → List X → X → ℕ
+number_in alike [] x = 0
+number_in alike (y ∷ ys) x = if alike x y then 0 else suc (number_in alike ys x)
+
+-- what instructions name; a dummy argument is made from a template without initial values
+abbrev pub dummy : Description → Template
+dummy d = record { description = d; initial = [] }
+
+abbrev pub fitted_by : Operation → List Description
+fitted_by (calculate.Fit d) = d ∷ []
+fitted_by operation = []
+
+abbrev pub descriptions_named : op.Instruction → List Description
+descriptions_named (op.Field offset d) = d ∷ []
+descriptions_named (op.MakeDummy d) = d ∷ []
+descriptions_named (op.Operate operation) = fitted_by operation
+descriptions_named i = []
+
+abbrev pub templates_named : op.Instruction → List Template
+templates_named (op.MakeDummy d) = dummy d ∷ []
+templates_named i = []
+
+abbrev pub values_named : op.Instruction → List Value
+values_named (op.Constant v) = v ∷ []
+values_named i = []
+
+-- the entries of tables
+pub record Tables : Type 0 where
+  pub descriptions : List Description
+  pub templates : List Template
+  pub values : List Value
+
+-- those of variables and instructions
+abbrev pub tables_for : List Template → List op.Instruction → Tables
+tables_for variables code = record {
+  descriptions =
+      numbered same [] (map (λ t. t.description) variables ++ flat_map descriptions_named code);
+  templates = numbered same_template [] (variables ++ flat_map templates_named code);
+  values = numbered same_value [] (flat_map values_named code);
+}
+
+-- an asked relation as code has it
+abbrev pub relation_code : Relation → declared_relation.Relation
+relation_code calculate.Equal = relations.Equal
+relation_code calculate.Unequal = relations.Unequal
+relation_code calculate.Less = relations.Less
+relation_code calculate.AtMost = relations.AtMost
+relation_code calculate.Greater = relations.Greater
+relation_code calculate.AtLeast = relations.AtLeast
+
+-- with these tables
+module _ (tables : Tables) where
+  abbrev pub description_number : Description → ℕ
+  description_number d = number_in same tables.descriptions d
+
+  abbrev pub template_number : Template → ℕ
+  template_number t = number_in same_template tables.templates t
+
+  abbrev pub operation_code : Operation → Instruction
+  operation_code calculate.Negate = coded.Negate
+  operation_code calculate.Absolute = coded.Absolute
+  operation_code calculate.Sign = coded.Sign
+  operation_code calculate.Not = coded.Not
+  operation_code calculate.LengthOf = coded.LengthOf
+  operation_code calculate.FromBits = coded.FromBits
+  operation_code (calculate.ToCharacters width) = coded.ToCharacters width
+  operation_code (calculate.Fit d) = coded.Fit (description_number d)
+  operation_code calculate.Add = coded.Add
+  operation_code calculate.Subtract = coded.Subtract
+  operation_code calculate.Multiply = coded.Multiply
+  operation_code calculate.Modulo = coded.Modulo
+  operation_code calculate.Greatest = coded.Greatest
+  operation_code calculate.Least = coded.Least
+  operation_code (calculate.Divide precision) = coded.Divide precision
+  operation_code (calculate.Compare relation) = coded.Compare (relation_code relation)
+  operation_code calculate.Concatenate = coded.Concatenate
+  operation_code calculate.And = coded.And
+  operation_code calculate.Or = coded.Or
+  operation_code calculate.Index = coded.Index
+  operation_code calculate.Rest = coded.Rest
+  operation_code calculate.Substring = coded.Substring
+
+  -- what names no entry names one that its table has not
+  abbrev pub instruction_code : op.Instruction → Instruction
+  instruction_code (op.Step s) = coded.Step s
+  instruction_code (op.Line s) = coded.Line s
+  instruction_code (op.Jump target) = coded.Jump target
+  instruction_code (op.JumpUnless target) = coded.JumpUnless target
+  instruction_code (op.Goto outward target) = coded.Goto outward target
+  instruction_code (op.Call block arguments) = coded.Call block arguments
+  instruction_code (op.Begin block) = coded.Begin block
+  instruction_code (op.Return outward) = coded.Return outward
+  instruction_code (op.ReturnValue outward) = coded.ReturnValue outward
+  instruction_code (op.Raise e) = coded.Raise e
+  instruction_code op.Stop = coded.Stop
+  instruction_code (op.Local outward slot) = coded.Local outward slot
+  instruction_code (op.Global number) = coded.Global number
+  instruction_code (op.Field offset d) = coded.Field offset (description_number d)
+  instruction_code (op.Subscript low high multiplier) = coded.Subscript low high multiplier
+  instruction_code (op.Constant v) = coded.Constant (number_in same_value tables.values v)
+  instruction_code op.Load = coded.Load
+  instruction_code op.Store = coded.Store
+  instruction_code op.Copy = coded.Copy
+  instruction_code (op.MakeDummy d) = coded.MakeDummy (template_number (dummy d))
+  instruction_code (op.Operate operation) = operation_code operation
+  instruction_code op.Put = coded.Put
+  instruction_code op.Skip = coded.Skip
+  instruction_code (op.SetTemporary number) = coded.SetTemporary number
+  instruction_code (op.TakeTemporary number) = coded.TakeTemporary number
+  instruction_code op.Nothing = coded.Constant (length tables.values)
+
+  abbrev pub template_code : Template → CodedTemplate
+  template_code t = record { description = description_number t.description; initial = t.initial }
+
+  -- a block with its first instruction, and blocks whose code stands one behind the other
+  abbrev pub coded_block : BlockTree → (entry : ℕ) → CodedBlock
+  coded_block b p = record {
+    kind = b.kind;
+    parent = b.parent;
+    parameters = b.parameters;
+    variables = map template_number b.head.variables;
+    temporaries = b.head.temporaries;
+    entry = p;
+    statement = b.head.statement;
+  }
+
+  abbrev pub coded_blocks : List BlockTree → (at : ℕ) → List CodedBlock
+  coded_blocks [] p = []
+  coded_blocks (b ∷ bs) p = coded_block b p ∷ coded_blocks bs (behind (block_code b p) p)
+
+  abbrev pub coded_unit : (statics : List Template) → List BlockTree → List op.Instruction → Code
+  coded_unit statics bs code = record {
+    descriptions = tables.descriptions;
+    templates = map template_code tables.templates;
+    values = tables.values;
+    globals = map template_number statics;
+    blocks = coded_blocks bs 0;
+    instructions = map instruction_code code;
+  }
+
+-- the templates of a unit's variables
+abbrev pub variables_of : (statics : List Template) → List BlockTree → List Template
+variables_of statics bs = statics ++ flat_map (λ b. b.head.variables) bs
+
+-- the code of a unit
+abbrev pub code_of : TypedUnit → Code
+code_of u =
+    let bs = blocks_of u in
+    let code = instructions_of bs in
+    coded_unit (tables_for (variables_of u.statics bs) code) u.statics bs code

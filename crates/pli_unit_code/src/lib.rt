@@ -1,0 +1,8 @@
+//! The code of a unit, with the tables that its instructions name.
+#![tactic(auto)]
+
+mod code;
+mod instruction;
+
+pub use code::{Block, BlockKind, Code, CodedTemplate};
+pub use instruction::Instruction;
