@@ -1,3 +1,4 @@
 pub mod Templates
 pub mod TypedTree
+pub mod laws
 pub mod views
