@@ -1,2 +1,4 @@
+pub mod EmitLemmas
+pub mod JumpLemmas
 pub mod TableNumbers
 pub mod TablesLookUp

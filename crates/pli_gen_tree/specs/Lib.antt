@@ -3,3 +3,4 @@ pub mod TreeTranslation
 pub mod WellNumbered
 pub mod examples
 pub mod laws
+pub mod views

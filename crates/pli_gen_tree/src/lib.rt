@@ -2,7 +2,10 @@
 #![tactic(auto)]
 
 mod examples;
+mod expression;
 mod laws;
+mod naming;
 
 pub use examples::worked_examples;
 pub use laws::code_is_looked_up;
+pub use naming::NamingInstruction;

@@ -1,0 +1,63 @@
+//! Instructions before what they name is numbered.
+use pli_code::RunError;
+use pli_map::Description;
+use pli_operation::Operation;
+use pli_type_tree::Stride;
+use pli_value::Value;
+
+/// An instruction with what it names, as it lies in the typed tree. Targets are places of instructions in their unit,
+/// counted from 0; that of a GOTO is the number of its label's statement at first.
+#[derive(Clone, Copy)]
+pub enum NamingInstruction<'a> {
+    Step {
+        statement: u32,
+    },
+    Line {
+        statement: u32,
+    },
+    Jump {
+        target: usize,
+    },
+    JumpUnless {
+        target: usize,
+    },
+    Goto {
+        outward: u32,
+        target: usize,
+    },
+    Call {
+        block: u32,
+        arguments: usize,
+    },
+    Begin {
+        block: u32,
+    },
+    Return {
+        outward: u32,
+    },
+    ReturnValue {
+        outward: u32,
+    },
+    Raise(RunError),
+    Stop,
+    Local {
+        outward: u32,
+        slot: u32,
+    },
+    Global {
+        number: u32,
+    },
+    Field {
+        offset: u32,
+        description: &'a Description,
+    },
+    Subscript(Stride),
+    Constant(&'a Value),
+    Load,
+    Store,
+    CopyParts,
+    MakeDummy(&'a Description),
+    Operate(&'a Operation),
+    Put,
+    Skip,
+}
