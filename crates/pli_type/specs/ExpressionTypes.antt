@@ -1,0 +1,245 @@
+-- The types of expressions: how many digits the number of an operation has, which operands an operator takes,
+-- and which conversion a value goes through where it is assigned or printed. Precisions are own, the rest is
+-- X3.74.
+use Rattle.std.specs.Prelude.{ℕ, ◌+◌, ◌*◌, max, min, Option, Some, None, option_map, option_and_then, pos}
+use Rattle.std.specs.Prelude.{List, [], ◌∷◌}
+use Rattle.std.specs.Int.{div_ceil}
+use Rattle.pli_base.specs.declared.syntax.ConstantValue.{ConstantValue}
+use Rattle.pli_base.specs.declared.syntax.ConstantValue.TheVariants as constants
+use Rattle.pli_base.specs.declared.syntax.InfixOperator.{InfixOperator}
+use Rattle.pli_base.specs.declared.syntax.InfixOperator.TheVariants as infixes
+use Rattle.pli_base.specs.declared.syntax.PrefixOperator.{PrefixOperator}
+use Rattle.pli_base.specs.declared.syntax.PrefixOperator.TheVariants as prefixes
+use Rattle.pli_map.specs.Description as described
+use Rattle.pli_map.specs.Description.{Description}
+use Rattle.pli_operation.specs.Operations.{Operation, Relation, Equal, Unequal, Less, AtMost, Greater}
+use Rattle.pli_operation.specs.Operations.{AtLeast}
+use Rattle.pli_operation.specs.Operations.{Negate, Not, FromBits, ToCharacters, Fit, Add, Subtract, Multiply}
+use Rattle.pli_operation.specs.Operations.{Compare, Concatenate, And, Or}
+use Rattle.pli_type_tree.specs.TypedTree.{TypedExpression, Literal, Calculated, Operands, NoOperand}
+use Rattle.pli_type_tree.specs.TypedTree.{OperandThen}
+use Rattle.pli_value.specs.Value.{Number, Characters, Bits}
+
+-- a decimal constant of so many digits, with any prefix signs and parentheses; a number of so many binary
+-- digits; characters; bits; locators and areas. How long a string is belongs to no type: it shows when the
+-- program runs
+pub data ExpressionType : Type 0 where
+  FixedDecimal : (digits : ℕ) → ExpressionType
+  FixedBinary : (precision : ℕ) → ExpressionType
+  OfCharacters OfBits OfPointer OfOffset OfArea : ExpressionType
+
+-- an expression with its type
+pub record TypedValue : Type 0 where
+  pub expression : TypedExpression
+  pub kind : ExpressionType
+
+-- precisions: a number has at most so many binary digits, 31
+
+-- of p decimal digits: 1 + 3.32p, rounded up
+abbrev pub binary_digits : (greatest digits : ℕ) → ℕ
+binary_digits greatest digits = min greatest (1 + div_ceil (332 * digits) 100)
+
+-- of p binary digits: 1 + p / 3.32, rounded up
+abbrev pub decimal_digits : (precision : ℕ) → ℕ
+decimal_digits precision = 1 + div_ceil (100 * precision) 332
+
+-- as many characters as a number of p decimal digits takes
+abbrev pub columns : (digits : ℕ) → ℕ
+columns digits = digits + 3
+
+-- of the operands of `+` or `-`, and of `*`
+abbrev pub sum_precision : (greatest p q : ℕ) → ℕ
+sum_precision greatest p q = min greatest (max p q + 1)
+
+abbrev pub product_precision : (greatest p q : ℕ) → ℕ
+product_precision greatest p q = min greatest (p + q + 1)
+
+-- the precision of LENGTH, INDEX, SIGN, LBOUND and HBOUND
+abbrev pub count_precision : ℕ
+count_precision = 15
+
+-- the precision of a number: a decimal constant is FIXED BINARY where it is an operand
+abbrev pub precision_of : (greatest : ℕ) → ExpressionType → Option ℕ
+precision_of greatest (FixedDecimal digits) = Some (binary_digits greatest digits)
+precision_of greatest (FixedBinary precision) = Some precision
+precision_of greatest other = None
+
+-- how many characters a number becomes
+abbrev pub width_of : ExpressionType → Option ℕ
+width_of (FixedDecimal digits) = Some (columns digits)
+width_of (FixedBinary precision) = Some (columns (decimal_digits precision))
+width_of other = None
+
+-- the type of what a variable holds; an aggregate has none
+abbrev pub type_of : Description → Option ExpressionType
+type_of (described.FixedBinary precision) = Some (FixedBinary precision)
+type_of (described.Character n) = Some OfCharacters
+type_of (described.Varying n) = Some OfCharacters
+type_of (described.Bit n) = Some OfBits
+type_of described.Pointer = Some OfPointer
+type_of described.Offset = Some OfOffset
+type_of (described.Area n) = Some OfArea
+type_of aggregate = None
+
+-- a constant: of the digits that are written, leading zeros too
+abbrev pub constant : ConstantValue → TypedValue
+constant (constants.Decimal value digits) =
+    record { expression = Literal (Number (pos value)); kind = FixedDecimal digits }
+constant (constants.Binary value digits) =
+    record { expression = Literal (Number (pos value)); kind = FixedBinary digits }
+constant (constants.Characters text) =
+    record { expression = Literal (Characters text); kind = OfCharacters }
+constant (constants.Bits bits) = record { expression = Literal (Bits bits); kind = OfBits }
+
+-- operations on typed expressions
+
+abbrev pub all_operands : List TypedExpression → Operands
+all_operands [] = NoOperand
+all_operands (e ∷ es) = OperandThen e (all_operands es)
+
+abbrev pub with_one : Operation → TypedExpression → TypedExpression
+with_one operation e = Calculated operation (all_operands (e ∷ []))
+
+abbrev pub with_two : Operation → (left right : TypedExpression) → TypedExpression
+with_two operation left right = Calculated operation (all_operands (left ∷ right ∷ []))
+
+-- a prefix operator
+
+-- a number is itself behind `+`
+abbrev pub with_plus : TypedValue → Option ℕ → Option TypedValue
+with_plus v (Some p) = Some v
+with_plus v None = None
+
+-- behind `-` it has its own type, so a constant is a constant still
+abbrev pub with_minus : TypedValue → Option ℕ → Option TypedValue
+with_minus v (Some p) = Some (record { expression = with_one Negate v.expression; kind = v.kind })
+with_minus v None = None
+
+abbrev pub with_not : TypedExpression → ExpressionType → Option TypedValue
+with_not e OfBits = Some (record { expression = with_one Not e; kind = OfBits })
+with_not e other = None
+
+-- `+` and `-` take a number, `^` bits
+abbrev pub prefix_value : (greatest : ℕ) → PrefixOperator → TypedValue → Option TypedValue
+prefix_value greatest prefixes.Plus v = with_plus v (precision_of greatest v.kind)
+prefix_value greatest prefixes.Minus v = with_minus v (precision_of greatest v.kind)
+prefix_value greatest prefixes.Not v = with_not v.expression v.kind
+
+-- an infix operator
+
+-- an operation on two numbers, by the precision of its result
+abbrev pub on_numbers : (greatest : ℕ) → Operation → (precision : (p q : ℕ) → ℕ) → (left right : TypedValue)
+    → Option TypedValue
+on_numbers greatest operation precision left right =
+    option_and_then (λ p. option_map (λ q. record {
+      expression = with_two operation left.expression right.expression;
+      kind = FixedBinary (precision p q);
+    }) (precision_of greatest right.kind)) (precision_of greatest left.kind)
+
+-- the type in which two strings stand beside one another: bits are read as characters beside characters
+abbrev pub string_type : (left right : ExpressionType) → Option ExpressionType
+string_type OfCharacters OfCharacters = Some OfCharacters
+string_type OfCharacters OfBits = Some OfCharacters
+string_type OfBits OfCharacters = Some OfCharacters
+string_type OfBits OfBits = Some OfBits
+string_type left right = None
+
+-- a string of this type in one of that type
+abbrev pub string_as : TypedExpression → (from to : ExpressionType) → TypedExpression
+string_as e OfBits OfCharacters = with_one FromBits e
+string_as e from to = e
+
+-- an operation on two strings of one type
+abbrev pub on_strings : Operation → (left right : TypedValue) → ExpressionType → TypedExpression
+on_strings operation left right kind =
+    with_two operation (string_as left.expression left.kind kind) (string_as right.expression right.kind kind)
+
+-- a comparison gives one bit
+abbrev pub as_bits : TypedExpression → TypedValue
+as_bits e = record { expression = e; kind = OfBits }
+
+-- it takes two strings, or else two numbers
+abbrev pub compared : (greatest : ℕ) → Relation → (left right : TypedValue) → Option ExpressionType
+    → Option TypedValue
+compared greatest relation left right (Some kind) =
+    Some (as_bits (on_strings (Compare relation) left right kind))
+compared greatest relation left right None =
+    option_map (λ v. as_bits v.expression)
+    (on_numbers greatest (Compare relation) (sum_precision greatest) left right)
+
+abbrev pub comparison : (greatest : ℕ) → Relation → (left right : TypedValue) → Option TypedValue
+comparison greatest relation left right =
+    compared greatest relation left right (string_type left.kind right.kind)
+
+-- `||` takes two strings
+abbrev pub concatenation : (left right : TypedValue) → Option TypedValue
+concatenation left right =
+    option_map (λ kind. record { expression = on_strings Concatenate left right kind; kind = kind })
+    (string_type left.kind right.kind)
+
+-- `&` and `|` take two strings of bits
+abbrev pub of_bits_alone : Operation → (left right : TypedExpression) → (one other : ExpressionType)
+    → Option TypedValue
+of_bits_alone operation left right OfBits OfBits = Some (as_bits (with_two operation left right))
+of_bits_alone operation left right one other = None
+
+abbrev pub logical : Operation → (left right : TypedValue) → Option TypedValue
+logical operation left right =
+    of_bits_alone operation left.expression right.expression left.kind right.kind
+
+-- what an infix operator gives, of operands that it takes
+abbrev pub infix_value : (greatest : ℕ) → InfixOperator → (left right : TypedValue) → Option TypedValue
+infix_value greatest infixes.Add = on_numbers greatest Add (sum_precision greatest)
+infix_value greatest infixes.Subtract = on_numbers greatest Subtract (sum_precision greatest)
+infix_value greatest infixes.Multiply = on_numbers greatest Multiply (product_precision greatest)
+infix_value greatest infixes.Equal = comparison greatest Equal
+infix_value greatest infixes.NotEqual = comparison greatest Unequal
+infix_value greatest infixes.Less = comparison greatest Less
+infix_value greatest infixes.LessOrEqual = comparison greatest AtMost
+infix_value greatest infixes.Greater = comparison greatest Greater
+infix_value greatest infixes.GreaterOrEqual = comparison greatest AtLeast
+infix_value greatest infixes.Concatenate = concatenation
+infix_value greatest infixes.And = logical And
+infix_value greatest infixes.Or = logical Or
+
+-- conversions
+
+-- characters of a string or a number: a constant that is all that is converted is FIXED DECIMAL
+abbrev pub number_as_characters : TypedExpression → Option ℕ → Option TypedExpression
+number_as_characters e (Some width) = Some (with_one (ToCharacters width) e)
+number_as_characters e None = None
+
+abbrev pub as_characters : TypedExpression → ExpressionType → Option TypedExpression
+as_characters e OfCharacters = Some e
+as_characters e OfBits = Some (with_one FromBits e)
+as_characters e other = number_as_characters e (width_of other)
+
+-- a number stands where a number is assigned, and bits where bits are
+abbrev pub as_number : (greatest : ℕ) → TypedExpression → ExpressionType → Option TypedExpression
+as_number greatest e kind = option_map (λ p. e) (precision_of greatest kind)
+
+abbrev pub only_bits : TypedExpression → ExpressionType → Option TypedExpression
+only_bits e OfBits = Some e
+only_bits e other = None
+
+-- a value of this type for a variable of this description: FIXED from FIXED, BIT from BIT, CHARACTER from
+-- CHARACTER, BIT and FIXED
+abbrev pub suited : (greatest : ℕ) → Description → TypedExpression → ExpressionType → Option TypedExpression
+suited greatest (described.FixedBinary precision) e kind = as_number greatest e kind
+suited greatest (described.Character n) e kind = as_characters e kind
+suited greatest (described.Varying n) e kind = as_characters e kind
+suited greatest (described.Bit n) e kind = only_bits e kind
+suited greatest other e kind = None
+
+-- and fitted to it, also where it has the type already
+abbrev pub converted : (greatest : ℕ) → Description → TypedValue → Option TypedExpression
+converted greatest d v = option_map (with_one (Fit d)) (suited greatest d v.expression v.kind)
+
+-- what PUT prints: characters and bits as they stand, a number as characters; no locator and no area
+abbrev pub printed_from : TypedExpression → ExpressionType → Option TypedExpression
+printed_from e OfCharacters = Some e
+printed_from e OfBits = Some e
+printed_from e other = number_as_characters e (width_of other)
+
+abbrev pub printed : TypedValue → Option TypedExpression
+printed v = printed_from v.expression v.kind

@@ -1,0 +1,83 @@
+-- Initial values: which scalars of a variable have the values that INITIAL says, for an item's elements in
+-- row-major order over all its dimensions, and each fitted to its scalar (X3.74; the order own).
+use Rattle.std.specs.Prelude.{ℕ, zero, suc, ◌+◌, Option, Some, None, List, [], ◌∷◌, ◌++◌, replicate, pos, ℤ}
+use Rattle.std.specs.Prelude.{◌-ℤ◌, if◌then◌else◌}
+use Rattle.std.specs.List.{flat_map}
+use Rattle.pli_base.specs.declared.declaration.InitialValue.{InitialValue}
+use Rattle.pli_base.specs.declared.declaration.InitialValue.TheVariants as initial
+use Rattle.pli_base.specs.declared.declaration.Integer.{Integer}
+use Rattle.pli_map.specs.Description.{Description, Array, Structure, Members, NoMembers, MemberThen}
+use Rattle.pli_map.specs.Scalars.{scalars_in}
+use Rattle.pli_map.specs.Sizes.{count_of}
+use Rattle.pli_operation.specs.Operations.{Calculation, Calculates, fitted_to}
+use Rattle.pli_type_tree.specs.Templates.{InitialScalar, Template}
+use Rattle.pli_value.specs.Value.{Value, Number, Characters, Bits}
+
+-- a scalar of a variable: its number, and what it is
+pub record NumberedScalar : Type 0 where
+  pub scalar : ℕ
+  pub description : Description
+
+-- from so many numbers on, each so many behind the one before
+abbrev pub counted_from : (first distance count : ℕ) → List ℕ
+counted_from first distance zero = []
+counted_from first distance (suc count) = first ∷ counted_from (first + distance) distance count
+
+-- the scalars of an item that is this description, or a member of it on this way, the first scalar of the
+-- description having this number
+abbrev mutual
+  pub scalars_on : Description → (path : List ℕ) → (first : ℕ) → List NumberedScalar
+  scalars_on (Array bounds element) path first =
+      flat_map (λ k. scalars_on element path k) (counted_from first (scalars_in element) (count_of bounds))
+  scalars_on (Structure ds) [] first = []
+  scalars_on (Structure ds) (i ∷ path) first = scalars_in_member ds i path first
+  scalars_on scalar path first = record { scalar = first; description = scalar } ∷ []
+
+  pub scalars_in_member : Members → (number : ℕ) → (path : List ℕ) → (first : ℕ) → List NumberedScalar
+  scalars_in_member NoMembers i path first = []
+  scalars_in_member (MemberThen d ds) zero path first = scalars_on d path first
+  scalars_in_member (MemberThen d ds) (suc i) path first = scalars_in_member ds i path (first + scalars_in d)
+
+-- the number that an integer spells
+abbrev pub signed : Integer → ℤ
+signed i = if i.negative then pos 0 -ℤ pos i.value else pos i.value
+
+-- a value for as many elements as its factor says
+abbrev pub times : Option ℕ → Value → List Value
+times None v = v ∷ []
+times (Some factor) v = replicate factor v
+
+-- the values that stand in INITIAL, one for each element; null belongs to locators
+abbrev pub values_written : List InitialValue → List Value
+values_written [] = []
+values_written (initial.Integer factor value ∷ more) =
+    times factor (Number (signed value)) ++ values_written more
+values_written (initial.Characters text ∷ more) = Characters text ∷ values_written more
+values_written (initial.Bits bits ∷ more) = Bits bits ∷ values_written more
+values_written (initial.Null ∷ more) = values_written more
+
+-- as the scalar holds it: a string cut or extended on the right
+abbrev pub as_held : Description → Value → Value
+as_held d v = calculated_value (fitted_to d v)
+  where
+    calculated_value : Calculation → Value
+    calculated_value (Calculates w) = w
+    calculated_value other = v
+
+-- each value with its scalar, as long as there are both
+abbrev pub each_with : List NumberedScalar → List Value → List InitialScalar
+each_with (s ∷ ss) (v ∷ vs) =
+    record { scalar = s.scalar; value = as_held s.description v } ∷ each_with ss vs
+each_with scalars values = []
+
+-- an item with INITIAL: the variable itself, or a member of it on this way
+pub record InitialItem : Type 0 where
+  pub path : List ℕ
+  pub values : List InitialValue
+
+abbrev pub initial_scalars : Description → InitialItem → List InitialScalar
+initial_scalars d i = each_with (scalars_on d i.path 0) (values_written i.values)
+
+-- what a variable is made from, item by item in the order of the text
+abbrev pub template_of : Description → List InitialItem → Template
+template_of d declared = record { description = d; initial = flat_map (initial_scalars d) declared }

@@ -1,0 +1,10 @@
+pub mod Checked
+pub mod ExpressionTypes
+pub mod FunctionCalls
+pub mod InitialScalars
+pub mod Names
+pub mod References
+pub mod StatementTyping
+pub mod Typing
+pub mod Unbuilt
+pub mod examples

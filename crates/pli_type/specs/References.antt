@@ -1,0 +1,120 @@
+-- References: which part of which variable is meant, and where the first fault stands.
+use Rattle.std.specs.Prelude.{ℕ, ◌+◌, ◌*◌, nat_eq, Bool, true, false, not, ◌&&◌, Option, Some, None}
+use Rattle.std.specs.Prelude.{option_map}
+use Rattle.std.specs.Prelude.{option_and_then, List, [], ◌∷◌, ◌++◌, length, Result, Ok, if◌then◌else◌}
+use Rattle.pli_base.specs.Reading.{at_fault}
+use Rattle.pli_base.specs.declared.code.Code.TheVariants.{AggregateNotAllowedHere, WrongNumberOfSubscripts}
+use Rattle.pli_base.specs.declared.code.Code.TheVariants.{LocatorMissingOrNotAllowed}
+use Rattle.pli_base.specs.declared.token.Fault.{Fault}
+use Rattle.pli_map.specs.Description.{Description, Array, Structure}
+use Rattle.pli_map.specs.Parts.{member_behind}
+use Rattle.pli_map.specs.Scalars.{is_scalar}
+use Rattle.pli_map.specs.Sizes.{count_of, stride_of}
+use Rattle.pli_map.specs.declared.description.Bounds.{Bounds}
+use Rattle.pli_type.specs.Names.{NamedVariable}
+use Rattle.pli_type_tree.specs.TypedTree.{Root, Stride, TypedExpression, TypedReference, Whole, Part}
+use Rattle.pli_type_tree.specs.TypedTree.{Subscripts, NoSubscript, SubscriptThen}
+
+-- for what a reference stands: for one value; for an argument, or for what is assigned to an aggregate, which
+-- may be an aggregate; for a target, which may be one too; for a locator, which is one value of a variable
+pub data Role : Type 0 where
+  AsValue AsArgument AsTarget AsLocator : Role
+
+-- no aggregate may stand here
+abbrev pub wants_scalar : Role → Bool
+wants_scalar AsValue = true
+wants_scalar AsArgument = false
+wants_scalar AsTarget = false
+wants_scalar AsLocator = true
+
+-- parts of variables
+
+-- a subscript's bounds with the bytes from one element to the next, of each dimension in turn: the last one
+-- varies fastest
+abbrev pub strides_of : List Bounds → (element : Description) → List Stride
+strides_of [] element = []
+strides_of (b ∷ bs) element =
+    record { low = b.low; high = b.high; multiplier = count_of bs * stride_of element }
+    ∷ strides_of bs element
+
+-- a part of a variable: how far behind the variable's beginning it stands where all subscripts are the
+-- lowest, what it is, and the dimensions above it
+pub record StridedPart : Type 0 where
+  pub offset : ℕ
+  pub description : Description
+  pub strides : List Stride
+
+-- one element of it, where it is an array
+abbrev pub element_of : StridedPart → StridedPart
+element_of p = element (p.description)
+  where
+    element : Description → StridedPart
+    element (Array bounds d) =
+        record { offset = p.offset; description = d; strides = p.strides ++ strides_of bounds d }
+    element other = p
+
+-- a member of it, or of one of its elements
+abbrev pub member_of : StridedPart → (number : ℕ) → Option StridedPart
+member_of p i = member ((element_of p).description)
+  where
+    member : Description → Option StridedPart
+    member (Structure members) =
+        option_map (λ m. record {
+          offset = p.offset + m.offset;
+          description = m.description;
+          strides = (element_of p).strides;
+        }) (member_behind 0 members i)
+    member other = None
+
+-- the part that the members on a way lead to
+abbrev pub part_on : StridedPart → (path : List ℕ) → Option StridedPart
+part_on p [] = Some p
+part_on p (i ∷ path) = option_and_then (λ m. part_on m path) (member_of p i)
+
+abbrev pub part_of : NamedVariable → Option StridedPart
+part_of v = part_on (record { offset = 0; description = v.whole; strides = [] }) v.path
+
+-- what is meant with so many subscripts: with those of all its levels one element, without any the whole, but
+-- only where no level above it has subscripts; with another number nothing
+abbrev pub with_subscripts : (given : ℕ) → StridedPart → Option StridedPart
+with_subscripts given p =
+    if nat_eq given (length (element_of p).strides) then Some (element_of p)
+    else if nat_eq given 0 && nat_eq (length p.strides) 0 then Some p
+    else None
+
+-- each subscript with its stride
+abbrev pub subscripts_at : List Stride → List TypedExpression → Subscripts
+subscripts_at (s ∷ ss) (x ∷ xs) = SubscriptThen s x (subscripts_at ss xs)
+subscripts_at strides xs = NoSubscript
+
+-- a whole variable of its own, or a part
+abbrev pub reference_to : Root → (path : List ℕ) → StridedPart → List TypedExpression → TypedReference
+reference_to root [] p [] = Whole root
+reference_to root path p xs = Part root p.offset p.description (subscripts_at p.strides xs)
+
+-- a variable or a part of one, a scalar or an aggregate, with its description
+pub record Referent : Type 0 where
+  pub reference : TypedReference
+  pub description : Description
+
+-- T2 where no aggregate may stand, T10 behind a locator, since no variable is BASED so far
+abbrev pub permitted : Role → (located : Bool) → (at : ℕ) → Referent → Result Referent Fault
+permitted role located at r =
+    if wants_scalar role && not (is_scalar r.description) then at_fault AggregateNotAllowedHere at
+    else if located then at_fault LocatorMissingOrNotAllowed at
+    else Ok r
+
+-- a reference to a variable, with all its subscripts; T3 where their number is wrong
+abbrev pub settled : Role → (located : Bool) → (at : ℕ) → NamedVariable → List TypedExpression
+    → Option StridedPart → Result Referent Fault
+settled role located at v xs None = at_fault WrongNumberOfSubscripts at
+settled role located at v xs (Some p) =
+    permitted role located at (record {
+      reference = reference_to v.root v.path p xs;
+      description = p.description;
+    })
+
+abbrev pub variable_meant : Role → (located : Bool) → (at : ℕ) → NamedVariable → List TypedExpression
+    → Result Referent Fault
+variable_meant role located at v xs =
+    settled role located at v xs (option_and_then (with_subscripts (length xs)) (part_of v))

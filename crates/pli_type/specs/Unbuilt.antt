@@ -1,0 +1,152 @@
+-- Z1: the first statement of a form that is not compiled yet, at its first token, which is its label where it
+-- has one. A declaration of what is not compiled yet is such a form, used or not; what stands behind THEN and
+-- ELSE is a statement (own).
+use Rattle.std.specs.Prelude.{ℕ, Bool, true, false, not, ◌||◌, ◌&&◌, Option, Some, None, List, [], ◌∷◌}
+use Rattle.std.specs.Prelude.{codes, if◌then◌else◌}
+use Rattle.std.specs.List.{list_any}
+use Rattle.pli_base.specs.Declarations.{SimpleAttribute, Attribute, Simple, Item}
+use Rattle.pli_base.specs.Declarations as declared
+use Rattle.pli_base.specs.Name.{Name}
+use Rattle.pli_base.specs.Statements as tree
+use Rattle.pli_base.specs.Statements.{ProcedureOption, Main, Returns, Heading, Statement, Numbered, Body}
+use Rattle.pli_base.specs.Statements.{Statements, Ended, Before, Alternative, ExternalProcedure}
+use Rattle.pli_base.specs.Syntax.{Expression, Referred, Constant, Parenthesized, Prefix, Infix, Reference}
+use Rattle.pli_base.specs.Syntax.{Named}
+use Rattle.pli_base.specs.Syntax.{JoinedParts, Alone, Joined, Arguments, Absent, Given, Expressions, Empty}
+use Rattle.pli_base.specs.Syntax.{Listed}
+use Rattle.pli_base.specs.Words.{is_among}
+use Rattle.pli_type.specs.Names.{Function, Allocation, Address, Null, Empty as EmptyArea, Pointer, Offset}
+use Rattle.pli_type.specs.Names.{NamedAs, AFunction, Naming}
+
+-- what comes later
+
+-- ALLOCATION, ADDR, NULL, EMPTY, POINTER and OFFSET
+abbrev pub is_later_function : Function → Bool
+is_later_function Allocation = true
+is_later_function Address = true
+is_later_function Null = true
+is_later_function EmptyArea = true
+is_later_function Pointer = true
+is_later_function Offset = true
+is_later_function function = false
+
+abbrev pub later_functions : List Name
+later_functions =
+    codes "ALLOCATION" ∷ codes "ADDR" ∷ codes "NULL" ∷ codes "EMPTY" ∷ codes "POINTER" ∷ codes "OFFSET" ∷ []
+
+-- a name that means one of them where it is used
+abbrev pub names_later : NamedAs → Bool
+names_later (AFunction function) = is_later_function function
+names_later other = false
+
+abbrev mutual
+  pub later_expression : Naming → Expression → Bool
+  later_expression n (Referred reference) = later_reference n reference
+  later_expression n (Constant at value) = false
+  later_expression n (Parenthesized at inner) = later_expression n inner
+  later_expression n (Prefix operator at operand) = later_expression n operand
+  later_expression n (Infix operator at left right) = later_expression n left || later_expression n right
+
+  pub later_reference : Naming → Reference → Bool
+  later_reference n (Named name arguments more) =
+      names_later (n.meaning name.at) || later_arguments n arguments || later_joined n more
+
+  -- only the first name between arrows has a meaning of its own
+  pub later_joined : Naming → JoinedParts → Bool
+  later_joined n Alone = false
+  later_joined n (Joined joining name arguments more) =
+      names_later (n.meaning name.at) || later_arguments n arguments || later_joined n more
+
+  pub later_arguments : Naming → Arguments → Bool
+  later_arguments n Absent = false
+  later_arguments n (Given list) = later_list n list
+
+  pub later_list : Naming → Expressions → Bool
+  later_list n Empty = false
+  later_list n (Listed first more) = later_expression n first || later_list n more
+
+-- locators, areas, storage that is allocated, and what other units share; STATIC in a unit that is not MAIN
+abbrev pub later_simple : (main : Bool) → SimpleAttribute → Bool
+later_simple main declared.Pointer = true
+later_simple main (declared.Offset area) = true
+later_simple main (declared.Area size) = true
+later_simple main (declared.Based locator) = true
+later_simple main declared.Controlled = true
+later_simple main declared.External = true
+later_simple main declared.Static = not main
+later_simple main attribute = false
+
+-- ENTRY and RETURNS too
+abbrev pub later_attribute : (main : Bool) → Attribute → Bool
+later_attribute main (Simple attribute) = later_simple main attribute
+later_attribute main other = true
+
+-- BUILTIN of a function that is not compiled yet
+abbrev pub is_builtin : Attribute → Bool
+is_builtin (Simple declared.Builtin) = true
+is_builtin attribute = false
+
+abbrev pub later_item : (main : Bool) → Item → Bool
+later_item main item =
+    list_any (later_attribute main) item.attributes
+    || (list_any is_builtin item.attributes && list_any (λ i. is_among i.name later_functions) item.names)
+
+-- the first of two tokens
+abbrev pub or_else : Option ℕ → Option ℕ → Option ℕ
+or_else (Some at) other = Some at
+or_else None other = other
+
+-- the token, if something comes later
+abbrev pub token_if : Bool → (at : ℕ) → Option ℕ
+token_if later at = if later then Some at else None
+
+-- statements
+
+abbrev mutual
+  pub later_statement : Naming → (main : Bool) → Statement → Option ℕ
+  later_statement n main (Numbered number (Some label) at body) = Some label.at
+  later_statement n main (Numbered number None at body) = later_body n main at body
+
+  pub later_body : Naming → (main : Bool) → (at : ℕ) → Body → Option ℕ
+  later_body n main at tree.Null = None
+  later_body n main at (tree.Assign target equals value) =
+      token_if (later_reference n target || later_expression n value) at
+  later_body n main at (tree.Declare items) = token_if (list_any (later_item main) items) at
+  later_body n main at (tree.If condition consequence alternative) =
+      or_else (token_if (later_expression n condition) at)
+      (or_else (later_statement n main consequence) (later_alternative n main alternative))
+  later_body n main at (tree.Put skip items) = token_if (list_any (later_expression n) items) at
+  later_body n main at other = Some at
+
+  pub later_alternative : Naming → (main : Bool) → Alternative → Option ℕ
+  later_alternative n main tree.NoElse = None
+  later_alternative n main (tree.Else statement) = later_statement n main statement
+
+  pub later_statements : Naming → (main : Bool) → Statements → Option ℕ
+  later_statements n main Ended = None
+  later_statements n main (Before first more) =
+      or_else (later_statement n main first) (later_statements n main more)
+
+-- the unit's PROCEDURE: without parameters and RETURNS
+
+abbrev pub is_main_option : ProcedureOption → Bool
+is_main_option Main = true
+is_main_option option = false
+
+abbrev pub is_returns : ProcedureOption → Bool
+is_returns (Returns attributes) = true
+is_returns option = false
+
+abbrev pub is_main : ExternalProcedure → Bool
+is_main u = list_any is_main_option u.heading.options
+
+abbrev pub has_parameters : {A : Type 0} → List A → Bool
+has_parameters [] = false
+has_parameters (p ∷ ps) = true
+
+abbrev pub later_heading : Heading → Option ℕ
+later_heading h = token_if (has_parameters h.parameters || list_any is_returns h.options) h.name.at
+
+-- the token at which Z1 stands, if a form of the unit is not compiled yet
+abbrev pub first_unbuilt : Naming → ExternalProcedure → Option ℕ
+first_unbuilt n u = or_else (later_heading u.heading) (later_statements n (is_main u) u.statements)

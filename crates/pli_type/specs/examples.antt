@@ -1,0 +1,5 @@
+pub mod ExampleTrees
+pub mod FaultExamples
+pub mod TypeExamples
+pub mod TypedExamples
+pub mod UnitExamples

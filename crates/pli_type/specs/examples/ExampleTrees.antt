@@ -1,0 +1,245 @@
+-- What the worked examples have in common: declarations, and parts of trees.
+--
+--     DCL X BIT, N FIXED BIN(15), I FIXED BIN(31), V CHAR(20) VAR, C CHAR(6), A(2) BIT, R(3) FIXED BIN(15),
+--         P(3) BIT, Q(2:4) BIT, 1 S(2), 2 A FIXED BIN(31), 2 B(3:5, 2) CHAR(3), 1 W(2), 2 D(2) BIT, 1 T, 2
+-- Y BIT;
+--
+-- and a label L in the procedure M.
+use Rattle.std.specs.Prelude.{ℕ, nat_eq, Bool, pos, Option, Some, None, option_map, List, [], ◌∷◌, map}
+use Rattle.std.specs.Prelude.{Result, Ok, Err, option_and_then, if◌then◌else◌}
+use Rattle.pli_base.specs.Name.{Name}
+use Rattle.pli_base.specs.Statements.{Statement, Alternative, Numbered, Assign, Put, If, Null}
+use Rattle.pli_base.specs.Syntax.{Expression, Referred, Constant, Reference, Named, Absent, Alone}
+use Rattle.pli_base.specs.declared.code.Code.{Code}
+use Rattle.pli_base.specs.declared.syntax.ConstantValue.TheVariants.{Decimal, Binary, Characters, Bits}
+use Rattle.pli_base.specs.declared.syntax.Identifier.{Identifier}
+use Rattle.pli_base.specs.declared.token.Fault.{Fault}
+use Rattle.pli_map.specs.Description.{Description, FixedBinary, Character, Varying, Bit, Array, Structure}
+use Rattle.pli_map.specs.Description.{NoMembers, MemberThen}
+use Rattle.pli_map.specs.declared.description.Bounds.{Bounds}
+use Rattle.pli_type.specs.ExpressionTypes.{ExpressionType, width_of}
+use Rattle.pli_type.specs.Names.{NamedAs, AVariable, AFunction, AProcedure, ALabel, Naming, Abs, Max, Min}
+use Rattle.pli_type.specs.Names.{Mod}
+use Rattle.pli_type.specs.Names.{Divide, Sign, Length, Index, LowBound, HighBound, Substring}
+use Rattle.pli_type.specs.References.{AsTarget}
+use Rattle.pli_type.specs.StatementTyping.{statement_typed}
+use Rattle.pli_type.specs.Typing.{Denoted, DenotesVariable, DenotesResult, value_of, referred}
+use Rattle.pli_type_tree.specs.TypedTree.{InSlot, TypedExpression, Literal, Held, TypedReference, Whole}
+use Rattle.pli_type_tree.specs.TypedTree.{Stride}
+use Rattle.pli_type_tree.specs.TypedTree.{TypedStatement, Form}
+use Rattle.pli_type_tree.specs.TypedTree as typed
+use Rattle.pli_value.specs.Value as values
+use Rattle.pli_value.specs.Value.{Number}
+
+-- from one bound to another
+abbrev pub between : (low high : ℕ) → Bounds
+between low high = record { low = pos low; high = pos high }
+
+-- an array of one dimension from 1
+abbrev pub array : (high : ℕ) → Description → Description
+array high d = Array (between 1 high ∷ []) d
+
+-- a variable of its own, or a member, of the variable in a slot
+abbrev pub variable : (slot : ℕ) → Description → (path : List ℕ) → NamedAs
+variable slot d path = AVariable (record { root = InSlot 0 slot; whole = d; path = path })
+
+abbrev pub alone : (slot : ℕ) → Description → NamedAs
+alone slot d = variable slot d []
+
+abbrev pub x : NamedAs
+x = alone 0 (Bit 1)
+
+abbrev pub n : NamedAs
+n = alone 1 (FixedBinary 15)
+
+abbrev pub i : NamedAs
+i = alone 2 (FixedBinary 31)
+
+abbrev pub v : NamedAs
+v = alone 3 (Varying 20)
+
+abbrev pub c : NamedAs
+c = alone 4 (Character 6)
+
+abbrev pub a : NamedAs
+a = alone 5 (array 2 (Bit 1))
+
+abbrev pub r : NamedAs
+r = alone 6 (array 3 (FixedBinary 15))
+
+abbrev pub p : NamedAs
+p = alone 7 (array 3 (Bit 1))
+
+abbrev pub q : NamedAs
+q = alone 8 (Array (between 2 4 ∷ []) (Bit 1))
+
+-- the structure that is an element of S
+abbrev pub s_element : Description
+s_element =
+    Structure (MemberThen (FixedBinary 31)
+    (MemberThen (Array (between 3 5 ∷ between 1 2 ∷ []) (Character 3)) NoMembers))
+
+abbrev pub s : NamedAs
+s = alone 9 (array 2 s_element)
+
+abbrev pub s_a : NamedAs
+s_a = variable 9 (array 2 s_element) (0 ∷ [])
+
+abbrev pub s_b : NamedAs
+s_b = variable 9 (array 2 s_element) (1 ∷ [])
+
+abbrev pub w_whole : Description
+w_whole = array 2 (Structure (MemberThen (array 2 (Bit 1)) NoMembers))
+
+abbrev pub w : NamedAs
+w = alone 10 w_whole
+
+abbrev pub w_d : NamedAs
+w_d = variable 10 w_whole (0 ∷ [])
+
+abbrev pub t : NamedAs
+t = alone 11 (Structure (MemberThen (Bit 1) NoMembers))
+
+abbrev pub label : NamedAs
+label = ALabel
+
+abbrev pub procedure : NamedAs
+procedure = AProcedure
+
+abbrev pub abs : NamedAs
+abs = AFunction Abs
+
+abbrev pub greatest : NamedAs
+greatest = AFunction Max
+
+abbrev pub least : NamedAs
+least = AFunction Min
+
+abbrev pub modulo : NamedAs
+modulo = AFunction Mod
+
+abbrev pub divide : NamedAs
+divide = AFunction Divide
+
+abbrev pub sign : NamedAs
+sign = AFunction Sign
+
+abbrev pub length_of : NamedAs
+length_of = AFunction Length
+
+abbrev pub index : NamedAs
+index = AFunction Index
+
+abbrev pub low_bound : NamedAs
+low_bound = AFunction LowBound
+
+abbrev pub high_bound : NamedAs
+high_bound = AFunction HighBound
+
+abbrev pub substring : NamedAs
+substring = AFunction Substring
+
+-- what names at tokens mean
+abbrev pub meaning_in : List (ℕ × NamedAs) → (at : ℕ) → NamedAs
+meaning_in [] at = ALabel
+meaning_in (m ∷ ms) at = if nat_eq m.0 at then m.1 else meaning_in ms at
+
+abbrev pub naming : List (ℕ × NamedAs) → Naming
+naming meanings = record { greatest = 31; meaning = meaning_in meanings }
+
+-- parts of trees
+
+abbrev pub called : Name → (at : ℕ) → Identifier
+called name at = record { name = name; at = at }
+
+abbrev pub text : List ℕ → (at : ℕ) → Expression
+text characters at = Constant at (Characters characters)
+
+abbrev pub decimal : (value digits at : ℕ) → Expression
+decimal value digits at = Constant at (Decimal value digits)
+
+abbrev pub binary : (value digits at : ℕ) → Expression
+binary value digits at = Constant at (Binary value digits)
+
+-- a name without parentheses and further parts
+abbrev pub alone_named : Name → (at : ℕ) → Reference
+alone_named name at = Named (called name at) Absent Alone
+
+abbrev pub named : Name → (at : ℕ) → Expression
+named name at = Referred (alone_named name at)
+
+-- statements without labels, by number and first token
+abbrev pub assign : (number at : ℕ) → Reference → (equals : ℕ) → Expression → Statement
+assign number at target equals e = Numbered number None at (Assign target equals e)
+
+abbrev pub put : (number at : ℕ) → (skip : Bool) → List Expression → Statement
+put number at skip items = Numbered number None at (Put skip items)
+
+abbrev pub choice : (number at : ℕ) → Expression → Statement → Alternative → Statement
+choice number at condition consequence alternative =
+    Numbered number None at (If condition consequence alternative)
+
+abbrev pub null : (number at : ℕ) → Statement
+null number at = Numbered number None at Null
+
+-- bits from the characters 0 and 1
+abbrev pub of_bits : List ℕ → (at : ℕ) → Expression
+of_bits characters at = Constant at (Bits (map (nat_eq 49) characters))
+
+-- what the examples ask
+
+-- the faults of a statement, the first of whose tokens has the number 0
+abbrev pub faults_in : {A : Type 0} → Result A (List Fault) → List Fault
+faults_in (Ok x) = []
+faults_in (Err fs) = fs
+
+abbrev pub faults : List (ℕ × NamedAs) → Statement → List Fault
+faults meanings statement = faults_in (statement_typed (naming meanings) statement)
+
+-- one fault at a token
+abbrev pub one : Code → (at : ℕ) → List Fault
+one code at = record { code = code; at = at } ∷ []
+
+abbrev pub good : List Fault
+good = []
+
+-- what there is without a fault
+abbrev pub if_good : {A E : Type 0} → Result A E → Option A
+if_good (Ok x) = Some x
+if_good (Err e) = None
+
+-- the type of an expression, and in how many columns it is printed
+abbrev pub type_given : List (ℕ × NamedAs) → Expression → Option ExpressionType
+type_given meanings e = option_map (λ v. v.kind) (if_good (value_of (naming meanings) e))
+
+abbrev pub width_printed : List (ℕ × NamedAs) → Expression → Option ℕ
+width_printed meanings e = option_and_then width_of (type_given meanings e)
+
+-- the typed form of a statement
+abbrev pub form_in : TypedStatement → Form
+form_in (typed.Statement number form) = form
+
+abbrev pub form_of : List (ℕ × NamedAs) → Statement → Option Form
+form_of meanings statement = option_map form_in (if_good (statement_typed (naming meanings) statement))
+
+-- the variable or part of one that a target is
+abbrev pub part_in : Denoted → Option TypedReference
+part_in (DenotesVariable r) = Some r.reference
+part_in (DenotesResult value) = None
+
+abbrev pub reference_meant : List (ℕ × NamedAs) → Reference → Option TypedReference
+reference_meant meanings reference =
+    option_and_then part_in (if_good (referred (naming meanings) AsTarget reference))
+
+-- parts of typed trees: a number, characters, what the variable in a slot holds, and a stride
+abbrev pub a_number : ℕ → TypedExpression
+a_number value = Literal (Number (pos value))
+
+abbrev pub characters : List ℕ → TypedExpression
+characters codes_of = Literal (values.Characters codes_of)
+
+abbrev pub held : (slot : ℕ) → TypedExpression
+held slot = Held (Whole (InSlot 0 slot))
+
+abbrev pub stride : (low high multiplier : ℕ) → Stride
+stride low high multiplier = record { low = pos low; high = pos high; multiplier = multiplier }

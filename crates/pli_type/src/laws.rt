@@ -1,0 +1,41 @@
+//! Worked examples of types and of their faults.
+ghost use Rattle.pli_type.specs.examples.FaultExamples.{OneFaultToAStatement, OperatorsTakeTheirTypes, AssignmentsConvert, AggregatesStandAlone, SubscriptsAreCounted, LocatorsAreNotAllowed, NamesOfNoVariable, FunctionsConvertNothing, BareConstants};
+ghost use Rattle.pli_type.specs.examples.TypeExamples.{ConstantsAreDecimal, PrecisionsOfOperations, PrecisionsOfFunctions, KindsOfStrings, ColumnsOfNumbers};
+ghost use Rattle.pli_type.specs.examples.TypedExamples.{ConversionsStand, SubscriptsHaveStrides};
+ghost use Rattle.pli_type.specs.examples.UnitExamples.{FirstUnbuilt, InitialValues, CheckedUnits};
+
+/// Worked examples of faults.
+pub fn fault_examples()
+    ensures statements { OneFaultToAStatement }
+    ensures operators { OperatorsTakeTheirTypes }
+    ensures assignments { AssignmentsConvert }
+    ensures aggregates { AggregatesStandAlone }
+    ensures subscripts { SubscriptsAreCounted }
+    ensures locators { LocatorsAreNotAllowed }
+    ensures names { NamesOfNoVariable }
+    ensures functions { FunctionsConvertNothing }
+    ensures constants { BareConstants }
+{}
+
+/// Worked examples of types.
+pub fn type_examples()
+    ensures constants { ConstantsAreDecimal }
+    ensures operations { PrecisionsOfOperations }
+    ensures functions { PrecisionsOfFunctions }
+    ensures strings { KindsOfStrings }
+    ensures columns { ColumnsOfNumbers }
+{}
+
+/// Worked examples of typed statements and references.
+pub fn typed_examples()
+    ensures conversions { ConversionsStand }
+    ensures references { SubscriptsHaveStrides }
+{}
+
+/// Worked examples of units.
+#[tactic(auto, unfolding(crate::specs::Checked::checked))]
+pub fn unit_examples()
+    ensures unbuilt { FirstUnbuilt }
+    ensures initial { InitialValues }
+    ensures checked { CheckedUnits }
+{}
