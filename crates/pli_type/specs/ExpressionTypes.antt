@@ -16,17 +16,11 @@ use Rattle.pli_operation.specs.Operations.{Operation, Relation, Equal, Unequal, 
 use Rattle.pli_operation.specs.Operations.{AtLeast}
 use Rattle.pli_operation.specs.Operations.{Negate, Not, FromBits, ToCharacters, Fit, Add, Subtract, Multiply}
 use Rattle.pli_operation.specs.Operations.{Compare, Concatenate, And, Or}
+use Rattle.pli_type.specs.declared.expression_type.ExpressionType.{ExpressionType}
+use Rattle.pli_type.specs.declared.expression_type.ExpressionType.TheVariants as types
 use Rattle.pli_type_tree.specs.TypedTree.{TypedExpression, Literal, Calculated, Operands, NoOperand}
 use Rattle.pli_type_tree.specs.TypedTree.{OperandThen}
 use Rattle.pli_value.specs.Value.{Number, Characters, Bits}
-
--- a decimal constant of so many digits, with any prefix signs and parentheses; a number of so many binary
--- digits; characters; bits; locators and areas. How long a string is belongs to no type: it shows when the
--- program runs
-pub data ExpressionType : Type 0 where
-  FixedDecimal : (digits : ℕ) → ExpressionType
-  FixedBinary : (precision : ℕ) → ExpressionType
-  OfCharacters OfBits OfPointer OfOffset OfArea : ExpressionType
 
 -- an expression with its type
 pub record TypedValue : Type 0 where
@@ -43,9 +37,10 @@ binary_digits greatest digits = min greatest (1 + div_ceil (332 * digits) 100)
 abbrev pub decimal_digits : (precision : ℕ) → ℕ
 decimal_digits precision = 1 + div_ceil (100 * precision) 332
 
--- as many characters as a number of p decimal digits takes
+-- as many characters as a number of p decimal digits takes; a constant has at most 10 of them, so the
+-- limit of 255 columns is never met
 abbrev pub columns : (digits : ℕ) → ℕ
-columns digits = digits + 3
+columns digits = min 255 (digits + 3)
 
 -- of the operands of `+` or `-`, and of `*`
 abbrev pub sum_precision : (greatest p q : ℕ) → ℕ
@@ -60,36 +55,36 @@ count_precision = 15
 
 -- the precision of a number: a decimal constant is FIXED BINARY where it is an operand
 abbrev pub precision_of : (greatest : ℕ) → ExpressionType → Option ℕ
-precision_of greatest (FixedDecimal digits) = Some (binary_digits greatest digits)
-precision_of greatest (FixedBinary precision) = Some precision
+precision_of greatest (types.FixedDecimal digits) = Some (binary_digits greatest digits)
+precision_of greatest (types.FixedBinary precision) = Some precision
 precision_of greatest other = None
 
 -- how many characters a number becomes
 abbrev pub width_of : ExpressionType → Option ℕ
-width_of (FixedDecimal digits) = Some (columns digits)
-width_of (FixedBinary precision) = Some (columns (decimal_digits precision))
+width_of (types.FixedDecimal digits) = Some (columns digits)
+width_of (types.FixedBinary precision) = Some (columns (decimal_digits precision))
 width_of other = None
 
 -- the type of what a variable holds; an aggregate has none
 abbrev pub type_of : Description → Option ExpressionType
-type_of (described.FixedBinary precision) = Some (FixedBinary precision)
-type_of (described.Character n) = Some OfCharacters
-type_of (described.Varying n) = Some OfCharacters
-type_of (described.Bit n) = Some OfBits
-type_of described.Pointer = Some OfPointer
-type_of described.Offset = Some OfOffset
-type_of (described.Area n) = Some OfArea
+type_of (described.FixedBinary precision) = Some (types.FixedBinary precision)
+type_of (described.Character n) = Some types.Characters
+type_of (described.Varying n) = Some types.Characters
+type_of (described.Bit n) = Some types.Bits
+type_of described.Pointer = Some types.Pointer
+type_of described.Offset = Some types.Offset
+type_of (described.Area n) = Some types.Area
 type_of aggregate = None
 
 -- a constant: of the digits that are written, leading zeros too
 abbrev pub constant : ConstantValue → TypedValue
 constant (constants.Decimal value digits) =
-    record { expression = Literal (Number (pos value)); kind = FixedDecimal digits }
+    record { expression = Literal (Number (pos value)); kind = types.FixedDecimal digits }
 constant (constants.Binary value digits) =
-    record { expression = Literal (Number (pos value)); kind = FixedBinary digits }
+    record { expression = Literal (Number (pos value)); kind = types.FixedBinary digits }
 constant (constants.Characters text) =
-    record { expression = Literal (Characters text); kind = OfCharacters }
-constant (constants.Bits bits) = record { expression = Literal (Bits bits); kind = OfBits }
+    record { expression = Literal (Characters text); kind = types.Characters }
+constant (constants.Bits bits) = record { expression = Literal (Bits bits); kind = types.Bits }
 
 -- operations on typed expressions
 
@@ -116,7 +111,7 @@ with_minus v (Some p) = Some (record { expression = with_one Negate v.expression
 with_minus v None = None
 
 abbrev pub with_not : TypedExpression → ExpressionType → Option TypedValue
-with_not e OfBits = Some (record { expression = with_one Not e; kind = OfBits })
+with_not e types.Bits = Some (record { expression = with_one Not e; kind = types.Bits })
 with_not e other = None
 
 -- `+` and `-` take a number, `^` bits
@@ -133,20 +128,20 @@ abbrev pub on_numbers : (greatest : ℕ) → Operation → (precision : (p q : �
 on_numbers greatest operation precision left right =
     option_and_then (λ p. option_map (λ q. record {
       expression = with_two operation left.expression right.expression;
-      kind = FixedBinary (precision p q);
+      kind = types.FixedBinary (precision p q);
     }) (precision_of greatest right.kind)) (precision_of greatest left.kind)
 
 -- the type in which two strings stand beside one another: bits are read as characters beside characters
 abbrev pub string_type : (left right : ExpressionType) → Option ExpressionType
-string_type OfCharacters OfCharacters = Some OfCharacters
-string_type OfCharacters OfBits = Some OfCharacters
-string_type OfBits OfCharacters = Some OfCharacters
-string_type OfBits OfBits = Some OfBits
+string_type types.Characters types.Characters = Some types.Characters
+string_type types.Characters types.Bits = Some types.Characters
+string_type types.Bits types.Characters = Some types.Characters
+string_type types.Bits types.Bits = Some types.Bits
 string_type left right = None
 
 -- a string of this type in one of that type
 abbrev pub string_as : TypedExpression → (from to : ExpressionType) → TypedExpression
-string_as e OfBits OfCharacters = with_one FromBits e
+string_as e types.Bits types.Characters = with_one FromBits e
 string_as e from to = e
 
 -- an operation on two strings of one type
@@ -156,7 +151,7 @@ on_strings operation left right kind =
 
 -- a comparison gives one bit
 abbrev pub as_bits : TypedExpression → TypedValue
-as_bits e = record { expression = e; kind = OfBits }
+as_bits e = record { expression = e; kind = types.Bits }
 
 -- it takes two strings, or else two numbers
 abbrev pub compared : (greatest : ℕ) → Relation → (left right : TypedValue) → Option ExpressionType
@@ -180,7 +175,7 @@ concatenation left right =
 -- `&` and `|` take two strings of bits
 abbrev pub of_bits_alone : Operation → (left right : TypedExpression) → (one other : ExpressionType)
     → Option TypedValue
-of_bits_alone operation left right OfBits OfBits = Some (as_bits (with_two operation left right))
+of_bits_alone operation left right types.Bits types.Bits = Some (as_bits (with_two operation left right))
 of_bits_alone operation left right one other = None
 
 abbrev pub logical : Operation → (left right : TypedValue) → Option TypedValue
@@ -210,8 +205,8 @@ number_as_characters e (Some width) = Some (with_one (ToCharacters width) e)
 number_as_characters e None = None
 
 abbrev pub as_characters : TypedExpression → ExpressionType → Option TypedExpression
-as_characters e OfCharacters = Some e
-as_characters e OfBits = Some (with_one FromBits e)
+as_characters e types.Characters = Some e
+as_characters e types.Bits = Some (with_one FromBits e)
 as_characters e other = number_as_characters e (width_of other)
 
 -- a number stands where a number is assigned, and bits where bits are
@@ -219,7 +214,7 @@ abbrev pub as_number : (greatest : ℕ) → TypedExpression → ExpressionType �
 as_number greatest e kind = option_map (λ p. e) (precision_of greatest kind)
 
 abbrev pub only_bits : TypedExpression → ExpressionType → Option TypedExpression
-only_bits e OfBits = Some e
+only_bits e types.Bits = Some e
 only_bits e other = None
 
 -- a value of this type for a variable of this description: FIXED from FIXED, BIT from BIT, CHARACTER from
@@ -237,8 +232,8 @@ converted greatest d v = option_map (with_one (Fit d)) (suited greatest d v.expr
 
 -- what PUT prints: characters and bits as they stand, a number as characters; no locator and no area
 abbrev pub printed_from : TypedExpression → ExpressionType → Option TypedExpression
-printed_from e OfCharacters = Some e
-printed_from e OfBits = Some e
+printed_from e types.Characters = Some e
+printed_from e types.Bits = Some e
 printed_from e other = number_as_characters e (width_of other)
 
 abbrev pub printed : TypedValue → Option TypedExpression

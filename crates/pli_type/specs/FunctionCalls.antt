@@ -13,7 +13,7 @@ use Rattle.pli_map.specs.declared.description.Bounds.{Bounds}
 use Rattle.pli_operation.specs.Operations.{Operation, Absolute, Sign as SignOf, LengthOf, Greatest, Least}
 use Rattle.pli_operation.specs.Operations.{Modulo, Divide as DivideTo, Index as IndexOf, Rest}
 use Rattle.pli_operation.specs.Operations.{Substring as SubstringOf}
-use Rattle.pli_type.specs.ExpressionTypes.{ExpressionType, FixedBinary, OfCharacters, OfBits, TypedValue}
+use Rattle.pli_type.specs.ExpressionTypes.{TypedValue}
 use Rattle.pli_type.specs.ExpressionTypes.{precision_of, count_precision, all_operands, with_one, on_numbers}
 use Rattle.pli_type.specs.Names.{Function, Abs, Max, Min, Mod, Divide, Sign, Length, Index, LowBound}
 use Rattle.pli_type.specs.Names.{HighBound}
@@ -21,6 +21,8 @@ use Rattle.pli_type.specs.Names.{Substring}
 use Rattle.pli_type.specs.References.{Role, AsValue, AsArgument, Referent}
 use Rattle.pli_type_tree.specs.TypedTree.{TypedExpression, Literal, Calculated}
 use Rattle.pli_value.specs.Value.{Number}
+use Rattle.pli_type.specs.declared.expression_type.ExpressionType.{ExpressionType}
+use Rattle.pli_type.specs.declared.expression_type.ExpressionType.TheVariants as types
 
 -- what an expression is: one value, or a whole aggregate
 pub data Meant : Type 0 where
@@ -78,12 +80,13 @@ of_type kind e = record { expression = e; kind = kind }
 
 -- a number that counts something
 abbrev pub a_count : TypedExpression → TypedValue
-a_count e = of_type (FixedBinary count_precision) e
+a_count e = of_type (types.FixedBinary count_precision) e
 
 -- of a number the function gives one of the same precision
 abbrev pub of_number : (greatest : ℕ) → Operation → TypedValue → Option TypedValue
 of_number greatest operation x =
-    option_map (λ p. of_type (FixedBinary p) (with_one operation x.expression)) (precision_of greatest x.kind)
+    option_map (λ p. of_type (types.FixedBinary p) (with_one operation x.expression))
+    (precision_of greatest x.kind)
 
 -- the sign of a number
 abbrev pub the_sign : (greatest : ℕ) → TypedValue → Option TypedValue
@@ -91,14 +94,14 @@ the_sign greatest x = option_map (λ p. a_count (with_one SignOf x.expression)) 
 
 -- a string of characters or of bits
 abbrev pub string_kind : ExpressionType → Option ExpressionType
-string_kind OfCharacters = Some OfCharacters
-string_kind OfBits = Some OfBits
+string_kind types.Characters = Some types.Characters
+string_kind types.Bits = Some types.Bits
 string_kind other = None
 
 -- two strings of one kind
 abbrev pub of_one_kind : (left right : ExpressionType) → Option ExpressionType
-of_one_kind OfCharacters OfCharacters = Some OfCharacters
-of_one_kind OfBits OfBits = Some OfBits
+of_one_kind types.Characters types.Characters = Some types.Characters
+of_one_kind types.Bits types.Bits = Some types.Bits
 of_one_kind left right = None
 
 abbrev pub the_length : TypedValue → Option TypedValue

@@ -13,7 +13,7 @@ use Rattle.pli_base.specs.declared.token.Fault.{Fault}
 use Rattle.pli_map.specs.Description.{Description}
 use Rattle.pli_map.specs.Same.{same}
 use Rattle.pli_map.specs.Scalars.{is_scalar}
-use Rattle.pli_type.specs.ExpressionTypes.{ExpressionType, OfBits, TypedValue, converted, printed}
+use Rattle.pli_type.specs.ExpressionTypes.{TypedValue, converted, printed}
 use Rattle.pli_type.specs.FunctionCalls.{Meant, OneValue, WholeAggregate}
 use Rattle.pli_type.specs.Names.{Naming}
 use Rattle.pli_type.specs.References.{AsArgument, AsTarget, Referent}
@@ -23,6 +23,8 @@ use Rattle.pli_type_tree.specs.TypedTree as typed
 use Rattle.pli_type_tree.specs.TypedTree.{TypedExpression, Held, TypedReference, Form, TypedStatement}
 use Rattle.pli_type_tree.specs.TypedTree.{TypedStatements, NoStatement, StatementThen, OtherWise, NoElse}
 use Rattle.pli_type_tree.specs.TypedTree.{Else}
+use Rattle.pli_type.specs.declared.expression_type.ExpressionType.{ExpressionType}
+use Rattle.pli_type.specs.declared.expression_type.ExpressionType.TheVariants as types
 
 -- assignments
 
@@ -62,7 +64,7 @@ abbrev pub truth_of : TypedValue → Option TypedExpression
 truth_of v = truth v.kind
   where
     truth : ExpressionType → Option TypedExpression
-    truth OfBits = Some v.expression
+    truth types.Bits = Some v.expression
     truth other = None
 
 abbrev pub condition : Naming → Expression → Result TypedExpression Fault

@@ -14,7 +14,7 @@ use Rattle.pli_base.specs.declared.code.Code.TheVariants.{WrongOperandType, Wron
 use Rattle.pli_base.specs.declared.code.Code.TheVariants.{NotCallableHere}
 use Rattle.pli_base.specs.declared.syntax.Joining.TheVariants.{Member, Located}
 use Rattle.pli_base.specs.declared.token.Fault.{Fault}
-use Rattle.pli_type.specs.ExpressionTypes.{ExpressionType, TypedValue, precision_of, type_of, constant}
+use Rattle.pli_type.specs.ExpressionTypes.{TypedValue, precision_of, type_of, constant}
 use Rattle.pli_type.specs.ExpressionTypes.{prefix_value, infix_value}
 use Rattle.pli_type.specs.FunctionCalls.{Meant, OneValue, WholeAggregate, Argument, number_written, roles_of}
 use Rattle.pli_type.specs.FunctionCalls.{function_called}
@@ -22,6 +22,7 @@ use Rattle.pli_type.specs.Names.{NamedVariable, NamedAs, AVariable, AFunction, A
 use Rattle.pli_type.specs.Names.{Naming}
 use Rattle.pli_type.specs.References.{Role, AsValue, AsArgument, AsLocator, Referent, variable_meant}
 use Rattle.pli_type_tree.specs.TypedTree.{TypedExpression, Held}
+use Rattle.pli_type.specs.declared.expression_type.ExpressionType.{ExpressionType}
 
 -- the first token of an expression: a parenthesis, a sign, a constant or a name
 abbrev pub first_token : Expression → ℕ

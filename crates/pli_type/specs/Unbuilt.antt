@@ -1,7 +1,8 @@
 -- Z1: the first statement of a form that is not compiled yet, at its first token, which is its label where it
 -- has one. A declaration of what is not compiled yet is such a form, used or not; what stands behind THEN and
 -- ELSE is a statement (own).
-use Rattle.std.specs.Prelude.{ℕ, Bool, true, false, not, ◌||◌, ◌&&◌, Option, Some, None, List, [], ◌∷◌}
+use Rattle.std.specs.Prelude.{ℕ, ◌^◌, nat_lt, nat_le, length, Bool, true, false, not, ◌||◌, ◌&&◌, Option}
+use Rattle.std.specs.Prelude.{Some, None, List, [], ◌∷◌}
 use Rattle.std.specs.Prelude.{codes, if◌then◌else◌}
 use Rattle.std.specs.List.{list_any}
 use Rattle.pli_base.specs.Declarations.{SimpleAttribute, Attribute, Simple, Item}
@@ -15,6 +16,8 @@ use Rattle.pli_base.specs.Syntax.{Named}
 use Rattle.pli_base.specs.Syntax.{JoinedParts, Alone, Joined, Arguments, Absent, Given, Expressions, Empty}
 use Rattle.pli_base.specs.Syntax.{Listed}
 use Rattle.pli_base.specs.Words.{is_among}
+use Rattle.pli_base.specs.declared.syntax.ConstantValue.{ConstantValue}
+use Rattle.pli_base.specs.declared.syntax.ConstantValue.TheVariants as constants
 use Rattle.pli_type.specs.Names.{Function, Allocation, Address, Null, Empty as EmptyArea, Pointer, Offset}
 use Rattle.pli_type.specs.Names.{NamedAs, AFunction, Naming}
 
@@ -39,10 +42,19 @@ abbrev pub names_later : NamedAs → Bool
 names_later (AFunction function) = is_later_function function
 names_later other = false
 
+-- a constant within the language's limits, as each constant of a text is: no more digits than are written,
+-- and no longer string than one that can be declared
+abbrev pub is_of_language : (greatest : ℕ) → ConstantValue → Bool
+is_of_language greatest (constants.Decimal value digits) =
+    nat_lt value (2 ^ greatest) && nat_lt value (10 ^ digits) && nat_le digits 10
+is_of_language greatest (constants.Binary value digits) = nat_lt value (2 ^ digits) && nat_le digits greatest
+is_of_language greatest (constants.Characters text) = nat_le (length text) 32767
+is_of_language greatest (constants.Bits bits) = nat_le (length bits) 32767
+
 abbrev mutual
   pub later_expression : Naming → Expression → Bool
   later_expression n (Referred reference) = later_reference n reference
-  later_expression n (Constant at value) = false
+  later_expression n (Constant at value) = not (is_of_language n.greatest value)
   later_expression n (Parenthesized at inner) = later_expression n inner
   later_expression n (Prefix operator at operand) = later_expression n operand
   later_expression n (Infix operator at left right) = later_expression n left || later_expression n right

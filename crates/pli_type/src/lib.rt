@@ -1,6 +1,8 @@
 //! Types of expressions, references and statements: the typed tree of a unit, or its faults of types.
 #![tactic(auto)]
 
+mod expression_type;
 mod laws;
 
+pub use expression_type::{ExpressionType, product_precision, sum_precision};
 pub use laws::{fault_examples, type_examples, typed_examples, unit_examples};

@@ -17,7 +17,7 @@ use Rattle.pli_base.specs.declared.token.Fault.{Fault}
 use Rattle.pli_map.specs.Description.{Description, FixedBinary, Character, Varying, Bit, Array, Structure}
 use Rattle.pli_map.specs.Description.{NoMembers, MemberThen}
 use Rattle.pli_map.specs.declared.description.Bounds.{Bounds}
-use Rattle.pli_type.specs.ExpressionTypes.{ExpressionType, width_of}
+use Rattle.pli_type.specs.ExpressionTypes.{width_of}
 use Rattle.pli_type.specs.Names.{NamedAs, AVariable, AFunction, AProcedure, ALabel, Naming, Abs, Max, Min}
 use Rattle.pli_type.specs.Names.{Mod}
 use Rattle.pli_type.specs.Names.{Divide, Sign, Length, Index, LowBound, HighBound, Substring}
@@ -30,6 +30,7 @@ use Rattle.pli_type_tree.specs.TypedTree.{TypedStatement, Form}
 use Rattle.pli_type_tree.specs.TypedTree as typed
 use Rattle.pli_value.specs.Value as values
 use Rattle.pli_value.specs.Value.{Number}
+use Rattle.pli_type.specs.declared.expression_type.ExpressionType.{ExpressionType}
 
 -- from one bound to another
 abbrev pub between : (low high : ℕ) → Bounds

@@ -12,7 +12,8 @@ use Rattle.pli_operation.specs.Operations.{Concatenate}
 use Rattle.pli_operation.specs.Operations.{Divide}
 use Rattle.pli_type.specs.ExpressionTypes.{with_one, with_two}
 use Rattle.pli_type.specs.examples.ExampleTrees.{form_of, reference_meant, called, alone_named, named, text}
-use Rattle.pli_type.specs.examples.ExampleTrees.{decimal, assign, put, choice, null, a_number, held, stride}
+use Rattle.pli_type.specs.examples.ExampleTrees.{decimal, assign, put, choice, null, a_number, held}
+use Rattle.pli_type.specs.examples.ExampleTrees.{stride}
 use Rattle.pli_type.specs.examples.ExampleTrees.{characters, s_element, x, n, v, c, a, r, p, s, s_b, w_d}
 use Rattle.pli_type.specs.examples.ExampleTrees.{divide}
 use Rattle.pli_type.specs.examples.ExampleTrees.{high_bound}
