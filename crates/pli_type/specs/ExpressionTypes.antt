@@ -122,14 +122,23 @@ prefix_value greatest prefixes.Not v = with_not v.expression v.kind
 
 -- an infix operator
 
+-- two, where there are both
+abbrev pub paired : Option ℕ → Option ℕ → Option (ℕ × ℕ)
+paired (Some p) (Some q) = Some (p, q)
+paired p q = None
+
+-- the precisions of two numbers
+abbrev pub precisions : (greatest : ℕ) → (left right : ExpressionType) → Option (ℕ × ℕ)
+precisions greatest left right = paired (precision_of greatest left) (precision_of greatest right)
+
 -- an operation on two numbers, by the precision of its result
 abbrev pub on_numbers : (greatest : ℕ) → Operation → (precision : (p q : ℕ) → ℕ) → (left right : TypedValue)
     → Option TypedValue
 on_numbers greatest operation precision left right =
-    option_and_then (λ p. option_map (λ q. record {
+    option_map (λ ps. record {
       expression = with_two operation left.expression right.expression;
-      kind = types.FixedBinary (precision p q);
-    }) (precision_of greatest right.kind)) (precision_of greatest left.kind)
+      kind = types.FixedBinary (precision ps.0 ps.1);
+    }) (precisions greatest left.kind right.kind)
 
 -- the type in which two strings stand beside one another: bits are read as characters beside characters
 abbrev pub string_type : (left right : ExpressionType) → Option ExpressionType

@@ -8,3 +8,4 @@ pub mod StatementTyping
 pub mod Typing
 pub mod Unbuilt
 pub mod examples
+pub mod views

@@ -3,6 +3,10 @@
 
 mod expression_type;
 mod laws;
+mod operators;
+mod typed_value;
 
 pub use expression_type::{ExpressionType, product_precision, sum_precision};
 pub use laws::{fault_examples, type_examples, typed_examples, unit_examples};
+pub use operators::{infix_value, prefix_value};
+pub use typed_value::TypedValue;

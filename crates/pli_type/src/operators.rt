@@ -1,0 +1,201 @@
+//! What operators give of typed operands.
+ghost use Rattle.std.specs.Prelude.{◌≡◌, Some, IfOk, option_map};
+ghost use Rattle.pli_operation.specs.views.OperationView.{operation_view, relation_view};
+ghost use Rattle.pli_type.specs.ExpressionTypes as spec;
+ghost use Rattle.pli_type.specs.views.ValueView.{value_view};
+ghost use Rattle.pli_type_tree.specs.views.TypedView.{expression_view};
+
+use crate::expression_type::{ExpressionType, product_precision, sum_precision};
+use crate::typed_value::{TypedValue, with_one, with_two};
+use pli_base::syntax::{InfixOperator, PrefixOperator};
+use pli_operation::{Operation, Relation};
+use pli_type_tree::TypedExpression;
+use std::alloc::{AllocError, Global};
+
+/// What a prefix operator gives, or none where it does not take the operand: `+` and `-` take a number, `^` bits (X3.74).
+pub fn prefix_value(
+    alloc: Global,
+    greatest: u8,
+    operator: PrefixOperator,
+    operand: TypedValue,
+) -> Result<Option<TypedValue>, AllocError>
+    ensures { IfOk result (λ given. option_map value_view given ≡ spec.prefix_value greatest operator (value_view operand)) }
+{
+    let kind = operand.kind;
+    let operation = match (operator, kind, kind.precision(greatest)) {
+        (PrefixOperator::Plus, _, Some(_)) => return Ok(Some(operand)),
+        (PrefixOperator::Minus, _, Some(_)) => Operation::Negate,
+        (PrefixOperator::Not, ExpressionType::Bits, _) => Operation::Not,
+        _ => return Ok(None),
+    };
+    let expression = with_one(alloc, operation, operand.expression)?;
+    Ok(Some(TypedValue { expression, kind }))
+}
+
+/// The precisions of two numbers.
+fn precisions(greatest: u8, left: ExpressionType, right: ExpressionType) -> Option<(u8, u8)>
+    ensures { result ≡ spec.precisions greatest left right }
+{
+    match (left.precision(greatest), right.precision(greatest)) {
+        (Some(left), Some(right)) => Some((left, right)),
+        _ => None,
+    }
+}
+
+/// A string of one type in another.
+fn string_as(
+    alloc: Global,
+    expression: TypedExpression,
+    from: ExpressionType,
+    to: ExpressionType,
+) -> Result<TypedExpression, AllocError>
+    ensures { IfOk result (λ made. expression_view made ≡ spec.string_as (expression_view expression) from to) }
+{
+    match (from, to) {
+        (ExpressionType::Bits, ExpressionType::Characters) => {
+            with_one(alloc, Operation::FromBits, expression)
+        }
+        _ => Ok(expression),
+    }
+}
+
+/// An operation on two strings in one type.
+fn on_strings(
+    alloc: Global,
+    operation: Operation,
+    left: TypedValue,
+    right: TypedValue,
+    kind: ExpressionType,
+) -> Result<TypedExpression, AllocError>
+    ensures { IfOk result (λ made. expression_view made
+        ≡ spec.on_strings (operation_view operation) (value_view left) (value_view right) kind) }
+{
+    let left = string_as(alloc, left.expression, left.kind, kind)?;
+    let right = string_as(alloc, right.expression, right.kind, kind)?;
+    with_two(alloc, operation, left, right)
+}
+
+/// What a comparison gives.
+fn comparison(
+    alloc: Global,
+    greatest: u8,
+    relation: Relation,
+    left: TypedValue,
+    right: TypedValue,
+) -> Result<Option<TypedValue>, AllocError>
+    ensures { IfOk result (λ given. option_map value_view given
+        ≡ spec.comparison greatest (relation_view relation) (value_view left) (value_view right)) }
+{
+    let operation = Operation::Compare(relation);
+    let expression = match (left.kind.beside(right.kind), precisions(greatest, left.kind, right.kind)) {
+        (Some(kind), _) => on_strings(alloc, operation, left, right, kind)?,
+        (None, Some(_)) => with_two(alloc, operation, left.expression, right.expression)?,
+        (None, None) => return Ok(None),
+    };
+    Ok(Some(TypedValue {
+        expression,
+        kind: ExpressionType::Bits,
+    }))
+}
+
+/// What `||` gives.
+fn concatenation(
+    alloc: Global,
+    left: TypedValue,
+    right: TypedValue,
+) -> Result<Option<TypedValue>, AllocError>
+    ensures { IfOk result (λ given. option_map value_view given ≡ spec.concatenation (value_view left) (value_view right)) }
+{
+    match left.kind.beside(right.kind) {
+        None => Ok(None),
+        Some(kind) => {
+            let expression = on_strings(alloc, Operation::Concatenate, left, right, kind)?;
+            Ok(Some(TypedValue { expression, kind }))
+        }
+    }
+}
+
+/// What `&` or `|` gives.
+fn logical(
+    alloc: Global,
+    operation: Operation,
+    left: TypedValue,
+    right: TypedValue,
+) -> Result<Option<TypedValue>, AllocError>
+    ensures { IfOk result (λ given. option_map value_view given
+        ≡ spec.logical (operation_view operation) (value_view left) (value_view right)) }
+{
+    match (left.kind, right.kind) {
+        (ExpressionType::Bits, ExpressionType::Bits) => {
+            let expression = with_two(alloc, operation, left.expression, right.expression)?;
+            Ok(Some(TypedValue {
+                expression,
+                kind: ExpressionType::Bits,
+            }))
+        }
+        _ => Ok(None),
+    }
+}
+
+/// What `+`, `-` or `*` gives, by the precision that it has of those of its operands.
+fn arithmetic(
+    alloc: Global,
+    operation: Operation,
+    precision: u8,
+    left: TypedValue,
+    right: TypedValue,
+) -> Result<Option<TypedValue>, AllocError>
+    ensures { IfOk result (λ given. option_map value_view given ≡ Some (record {
+        expression = spec.with_two (operation_view operation) (expression_view left.expression) (expression_view right.expression);
+        kind = ExpressionType.FixedBinary precision;
+    })) }
+{
+    let expression = with_two(alloc, operation, left.expression, right.expression)?;
+    Ok(Some(TypedValue {
+        expression,
+        kind: ExpressionType::FixedBinary { precision },
+    }))
+}
+
+/// What an infix operator gives, or none where it does not take the operands: `+`, `-` and `*` take numbers, `&` and `|` bits,
+/// `||` strings, a comparison two numbers or two strings (X3.74).
+pub fn infix_value(
+    alloc: Global,
+    greatest: u8,
+    operator: InfixOperator,
+    left: TypedValue,
+    right: TypedValue,
+) -> Result<Option<TypedValue>, AllocError>
+    ensures { IfOk result (λ given. option_map value_view given
+        ≡ spec.infix_value greatest operator (value_view left) (value_view right)) }
+{
+    match operator {
+        InfixOperator::Or => logical(alloc, Operation::Or, left, right),
+        InfixOperator::And => logical(alloc, Operation::And, left, right),
+        InfixOperator::Concatenate => concatenation(alloc, left, right),
+        InfixOperator::Equal => comparison(alloc, greatest, Relation::Equal, left, right),
+        InfixOperator::NotEqual => comparison(alloc, greatest, Relation::Unequal, left, right),
+        InfixOperator::Less => comparison(alloc, greatest, Relation::Less, left, right),
+        InfixOperator::LessOrEqual => comparison(alloc, greatest, Relation::AtMost, left, right),
+        InfixOperator::Greater => comparison(alloc, greatest, Relation::Greater, left, right),
+        InfixOperator::GreaterOrEqual => comparison(alloc, greatest, Relation::AtLeast, left, right),
+        InfixOperator::Add => {
+            let Some((p, q)) = precisions(greatest, left.kind, right.kind) else {
+                return Ok(None);
+            };
+            arithmetic(alloc, Operation::Add, sum_precision(greatest, p, q), left, right)
+        }
+        InfixOperator::Subtract => {
+            let Some((p, q)) = precisions(greatest, left.kind, right.kind) else {
+                return Ok(None);
+            };
+            arithmetic(alloc, Operation::Subtract, sum_precision(greatest, p, q), left, right)
+        }
+        InfixOperator::Multiply => {
+            let Some((p, q)) = precisions(greatest, left.kind, right.kind) else {
+                return Ok(None);
+            };
+            arithmetic(alloc, Operation::Multiply, product_precision(greatest, p, q), left, right)
+        }
+    }
+}

@@ -1,0 +1,56 @@
+//! Expressions with their types.
+ghost use Rattle.std.specs.Prelude.{◌≡◌, IfOk, option_map};
+ghost use Rattle.pli_map.specs.views.DescriptionView.{description_view};
+ghost use Rattle.pli_operation.specs.views.OperationView.{operation_view};
+ghost use Rattle.pli_type.specs.ExpressionTypes as spec;
+ghost use Rattle.pli_type.specs.views.ValueView.{value_view};
+ghost use Rattle.pli_type_tree.specs.views.TypedView.{expression_view};
+
+use crate::expression_type::ExpressionType;
+use pli_operation::Operation;
+use pli_type_tree::TypedExpression;
+use std::alloc::{AllocError, Global};
+
+/// An expression with its type.
+#[derive(Drop)]
+pub struct TypedValue {
+    pub expression: TypedExpression,
+    pub kind: ExpressionType,
+}
+
+/// An operation on one operand.
+#[tactic(auto, using(crate::proofs::TypedTrees::calculated_made))]
+pub(crate) fn with_one(
+    alloc: Global,
+    operation: Operation,
+    operand: TypedExpression,
+) -> Result<TypedExpression, AllocError>
+    ensures { IfOk result (λ made. expression_view made ≡ spec.with_one (operation_view operation) (expression_view operand)) }
+{
+    let mut operands = Vec::new(alloc);
+    operands.push(operand)?;
+    Ok(TypedExpression::Calculated {
+        operation,
+        operands,
+    })
+}
+
+/// An operation on two operands.
+#[tactic(auto, using(crate::proofs::TypedTrees::calculated_made))]
+pub(crate) fn with_two(
+    alloc: Global,
+    operation: Operation,
+    left: TypedExpression,
+    right: TypedExpression,
+) -> Result<TypedExpression, AllocError>
+    ensures { IfOk result (λ made. expression_view made
+        ≡ spec.with_two (operation_view operation) (expression_view left) (expression_view right)) }
+{
+    let mut operands = Vec::new(alloc);
+    operands.push(left)?;
+    operands.push(right)?;
+    Ok(TypedExpression::Calculated {
+        operation,
+        operands,
+    })
+}
