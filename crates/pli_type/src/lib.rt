@@ -1,11 +1,13 @@
 //! Types of expressions, references and statements: the typed tree of a unit, or its faults of types.
 #![tactic(auto)]
 
+mod conversions;
 mod expression_type;
 mod laws;
 mod operators;
 mod typed_value;
 
+pub use conversions::{converted, printed};
 pub use expression_type::{ExpressionType, product_precision, sum_precision};
 pub use laws::{fault_examples, type_examples, typed_examples, unit_examples};
 pub use operators::{infix_value, prefix_value};

@@ -1,0 +1,97 @@
+//! Which conversions a value goes through where it is assigned or printed.
+ghost use Rattle.std.specs.Prelude.{◌≡◌, IfOk, option_map};
+ghost use Rattle.pli_map.specs.views.DescriptionView.{description_view};
+ghost use Rattle.pli_type.specs.ExpressionTypes as spec;
+ghost use Rattle.pli_type.specs.views.ValueView.{value_view};
+ghost use Rattle.pli_type_tree.specs.views.TypedView.{expression_view};
+
+use crate::expression_type::ExpressionType;
+use crate::typed_value::{TypedValue, with_one};
+use pli_map::Description;
+use pli_operation::Operation;
+use pli_type_tree::TypedExpression;
+use std::alloc::{AllocError, Global};
+
+/// A number as characters, at the right of as many columns as its type has; none of anything else.
+fn number_as_characters(
+    alloc: Global,
+    value: TypedValue,
+) -> Result<Option<TypedExpression>, AllocError>
+    ensures { IfOk result (λ made. option_map expression_view made
+        ≡ spec.number_as_characters (expression_view value.expression) (spec.width_of value.kind)) }
+{
+    match value.kind.width() {
+        Some(width) => {
+            let made = with_one(alloc, Operation::ToCharacters { width }, value.expression)?;
+            Ok(Some(made))
+        }
+        None => Ok(None),
+    }
+}
+
+/// A string or a number as characters.
+fn as_characters(alloc: Global, value: TypedValue) -> Result<Option<TypedExpression>, AllocError>
+    ensures { IfOk result (λ made. option_map expression_view made
+        ≡ spec.as_characters (expression_view value.expression) value.kind) }
+{
+    match value.kind {
+        ExpressionType::Characters => Ok(Some(value.expression)),
+        ExpressionType::Bits => {
+            let made = with_one(alloc, Operation::FromBits, value.expression)?;
+            Ok(Some(made))
+        }
+        _ => number_as_characters(alloc, value),
+    }
+}
+
+/// What stands where a variable of this description is assigned, not fitted yet.
+fn suited(
+    alloc: Global,
+    greatest: u8,
+    description: &Description,
+    value: TypedValue,
+) -> Result<Option<TypedExpression>, AllocError>
+    ensures { IfOk result (λ made. option_map expression_view made
+        ≡ spec.suited greatest (description_view description.now) (expression_view value.expression) value.kind) }
+{
+    match (description, value.kind) {
+        (Description::FixedBinary(_), kind) => match kind.precision(greatest) {
+            Some(_) => Ok(Some(value.expression)),
+            None => Ok(None),
+        },
+        (Description::Character(_) | Description::Varying(_), _) => as_characters(alloc, value),
+        (Description::Bit(_), ExpressionType::Bits) => Ok(Some(value.expression)),
+        _ => Ok(None),
+    }
+}
+
+/// A value as a variable of this description holds it, or none where it does not suit: FIXED is assigned from FIXED, BIT from
+/// BIT, CHARACTER from CHARACTER, BIT and FIXED (X3.74).
+pub fn converted(
+    alloc: Global,
+    greatest: u8,
+    description: &Description,
+    value: TypedValue,
+) -> Result<Option<TypedExpression>, AllocError>
+    ensures { IfOk result (λ made. option_map expression_view made
+        ≡ spec.converted greatest (description_view description.now) (value_view value)) }
+{
+    match suited(alloc, greatest, description, value)? {
+        Some(expression) => {
+            let fit = Operation::Fit(description.copy(alloc)?);
+            let made = with_one(alloc, fit, expression)?;
+            Ok(Some(made))
+        }
+        None => Ok(None),
+    }
+}
+
+/// What PUT prints: characters and bits as they stand, a number as characters; no locator and no area (X3.74).
+pub fn printed(alloc: Global, value: TypedValue) -> Result<Option<TypedExpression>, AllocError>
+    ensures { IfOk result (λ made. option_map expression_view made ≡ spec.printed (value_view value)) }
+{
+    match value.kind {
+        ExpressionType::Characters | ExpressionType::Bits => Ok(Some(value.expression)),
+        _ => number_as_characters(alloc, value),
+    }
+}
