@@ -1,0 +1,6 @@
+pub mod BuiltIns
+pub mod BlockNumbers
+pub mod StatementPlaces
+pub mod Symbols
+pub mod ResolvedUnits
+pub mod views

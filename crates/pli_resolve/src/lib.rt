@@ -1,0 +1,11 @@
+//! The resolved unit, as the passes behind see it: its blocks, what its names are declared as, and what each name means.
+#![tactic(auto)]
+
+mod block_numbers;
+mod built_in;
+mod statement_places;
+mod symbol;
+
+pub use block_numbers::ResolvedBlockKind;
+pub use built_in::{BuiltInFunction, function_named};
+pub use symbol::{NameMeaning, StorageClass, Symbol, SymbolKey, SymbolKind};
