@@ -1,7 +1,7 @@
 -- The types of expressions: how many digits the number of an operation has, which operands an operator takes,
 -- and which conversion a value goes through where it is assigned or printed. Precisions are own, the rest is
 -- X3.74.
-use Rattle.std.specs.Prelude.{ℕ, ◌+◌, ◌*◌, max, min, Option, Some, None, option_map, option_and_then, pos}
+use Rattle.std.specs.Prelude.{ℕ, ◌+◌, ◌*◌, max, min, Option, Some, None, option_map, pos}
 use Rattle.std.specs.Prelude.{List, [], ◌∷◌}
 use Rattle.std.specs.Int.{div_ceil}
 use Rattle.pli_base.specs.declared.syntax.ConstantValue.{ConstantValue}

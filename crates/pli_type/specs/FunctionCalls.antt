@@ -1,6 +1,6 @@
 -- Calls of built-in functions: what they take, and the type of what they give (X3.74; MOD and all precisions
 -- own). A built-in function converts nothing.
-use Rattle.std.specs.Prelude.{ℕ, ◌-◌, max, nat_eq, nat_le, ◌&&◌, Option, Some, None, option_map}
+use Rattle.std.specs.Prelude.{ℕ, ◌-◌, max, map, nat_eq, nat_le, ◌&&◌, Option, Some, None, option_map}
 use Rattle.std.specs.Prelude.{option_and_then, List, [], ◌∷◌, length, Result, Ok, slice_get, ℤ, if◌then◌else◌}
 use Rattle.pli_base.specs.Reading.{at_fault}
 use Rattle.pli_base.specs.Syntax.{Expression, Constant}
@@ -13,16 +13,16 @@ use Rattle.pli_map.specs.declared.description.Bounds.{Bounds}
 use Rattle.pli_operation.specs.Operations.{Operation, Absolute, Sign as SignOf, LengthOf, Greatest, Least}
 use Rattle.pli_operation.specs.Operations.{Modulo, Divide as DivideTo, Index as IndexOf, Rest}
 use Rattle.pli_operation.specs.Operations.{Substring as SubstringOf}
+use Rattle.pli_type.specs.ExpressionTypes.{precisions}
 use Rattle.pli_type.specs.ExpressionTypes.{TypedValue}
-use Rattle.pli_type.specs.ExpressionTypes.{precision_of, count_precision, all_operands, with_one, on_numbers}
-use Rattle.pli_type.specs.Names.{Function, Abs, Max, Min, Mod, Divide, Sign, Length, Index, LowBound}
-use Rattle.pli_type.specs.Names.{HighBound}
-use Rattle.pli_type.specs.Names.{Substring}
+use Rattle.pli_type.specs.ExpressionTypes.{precision_of, count_precision, all_operands}
 use Rattle.pli_type.specs.References.{Role, AsValue, AsArgument, Referent}
 use Rattle.pli_type_tree.specs.TypedTree.{TypedExpression, Literal, Calculated}
 use Rattle.pli_value.specs.Value.{Number}
 use Rattle.pli_type.specs.declared.expression_type.ExpressionType.{ExpressionType}
 use Rattle.pli_type.specs.declared.expression_type.ExpressionType.TheVariants as types
+use Rattle.pli_resolve.specs.declared.built_in.BuiltInFunction.{BuiltInFunction}
+use Rattle.pli_resolve.specs.declared.built_in.BuiltInFunction.TheVariants as functions
 
 -- what an expression is: one value, or a whole aggregate
 pub data Meant : Type 0 where
@@ -59,38 +59,28 @@ three = AsValue ∷ AsValue ∷ AsValue ∷ []
 
 -- for what the arguments of a function stand, where it may have so many: SUBSTR has two or three. The
 -- array of LBOUND and HBOUND is not evaluated, and their number and the precision of DIVIDE are constants
-abbrev pub roles_of : Function → (given : ℕ) → Option (List Role)
-roles_of Abs given = exactly given one
-roles_of Sign given = exactly given one
-roles_of Length given = exactly given one
-roles_of Max given = exactly given two
-roles_of Min given = exactly given two
-roles_of Mod given = exactly given two
-roles_of Index given = exactly given two
-roles_of Substring given = if nat_eq given 3 then Some three else exactly given two
-roles_of Divide given = exactly given (AsValue ∷ AsValue ∷ AsArgument ∷ [])
-roles_of LowBound given = exactly given (AsArgument ∷ AsArgument ∷ [])
-roles_of HighBound given = exactly given (AsArgument ∷ AsArgument ∷ [])
+abbrev pub roles_of : BuiltInFunction → (given : ℕ) → Option (List Role)
+roles_of functions.Abs given = exactly given one
+roles_of functions.Sign given = exactly given one
+roles_of functions.Length given = exactly given one
+roles_of functions.Max given = exactly given two
+roles_of functions.Min given = exactly given two
+roles_of functions.Mod given = exactly given two
+roles_of functions.Index given = exactly given two
+roles_of functions.Substring given = if nat_eq given 3 then Some three else exactly given two
+roles_of functions.Divide given = exactly given (AsValue ∷ AsValue ∷ AsArgument ∷ [])
+roles_of functions.LowBound given = exactly given (AsArgument ∷ AsArgument ∷ [])
+roles_of functions.HighBound given = exactly given (AsArgument ∷ AsArgument ∷ [])
 roles_of function given = None
 
--- results
-
-abbrev pub of_type : ExpressionType → TypedExpression → TypedValue
-of_type kind e = record { expression = e; kind = kind }
+-- the type of what a function gives, by those of its arguments
 
 -- a number that counts something
-abbrev pub a_count : TypedExpression → TypedValue
-a_count e = of_type (types.FixedBinary count_precision) e
+abbrev pub a_count : ExpressionType
+a_count = types.FixedBinary count_precision
 
--- of a number the function gives one of the same precision
-abbrev pub of_number : (greatest : ℕ) → Operation → TypedValue → Option TypedValue
-of_number greatest operation x =
-    option_map (λ p. of_type (types.FixedBinary p) (with_one operation x.expression))
-    (precision_of greatest x.kind)
-
--- the sign of a number
-abbrev pub the_sign : (greatest : ℕ) → TypedValue → Option TypedValue
-the_sign greatest x = option_map (λ p. a_count (with_one SignOf x.expression)) (precision_of greatest x.kind)
+abbrev pub number_type : (precision : ℕ) → ExpressionType
+number_type precision = types.FixedBinary precision
 
 -- a string of characters or of bits
 abbrev pub string_kind : ExpressionType → Option ExpressionType
@@ -104,58 +94,83 @@ of_one_kind types.Characters types.Characters = Some types.Characters
 of_one_kind types.Bits types.Bits = Some types.Bits
 of_one_kind left right = None
 
-abbrev pub the_length : TypedValue → Option TypedValue
-the_length s = option_map (λ kind. a_count (with_one LengthOf s.expression)) (string_kind s.kind)
+-- the first, where there is a second too
+abbrev pub with_number : Option ExpressionType → Option ℕ → Option ExpressionType
+with_number kind None = None
+with_number kind (Some p) = kind
 
-abbrev pub the_index : (s t : TypedValue) → Option TypedValue
-the_index s t =
-    option_map (λ kind. a_count (Calculated IndexOf (all_operands (s.expression ∷ t.expression ∷ []))))
-    (of_one_kind s.kind t.kind)
+-- ABS gives the precision of its operand, MAX and MIN the greater one, MOD that of its second operand; SUBSTR
+-- gives a string of its first argument's kind
+abbrev pub call_type : (greatest : ℕ) → BuiltInFunction → List ExpressionType → Option ExpressionType
+call_type greatest functions.Abs (x ∷ []) = option_map number_type (precision_of greatest x)
+call_type greatest functions.Sign (x ∷ []) = with_number (Some a_count) (precision_of greatest x)
+call_type greatest functions.Length (s ∷ []) = option_map (λ kind. a_count) (string_kind s)
+call_type greatest functions.Max (x ∷ y ∷ []) =
+    option_map (λ ps. number_type (max ps.0 ps.1)) (precisions greatest x y)
+call_type greatest functions.Min (x ∷ y ∷ []) =
+    option_map (λ ps. number_type (max ps.0 ps.1)) (precisions greatest x y)
+call_type greatest functions.Mod (x ∷ y ∷ []) =
+    option_map (λ ps. number_type ps.1) (precisions greatest x y)
+call_type greatest functions.Index (s ∷ t ∷ []) = option_map (λ kind. a_count) (of_one_kind s t)
+call_type greatest functions.Substring (s ∷ i ∷ []) = with_number (string_kind s) (precision_of greatest i)
+call_type greatest functions.Substring (s ∷ i ∷ n ∷ []) =
+    with_number (with_number (string_kind s) (precision_of greatest i)) (precision_of greatest n)
+call_type greatest function kinds = None
 
--- part of a string is a string of its kind
-abbrev pub the_rest : (greatest : ℕ) → (s i : TypedValue) → Option TypedValue
-the_rest greatest s i =
-    option_and_then (λ kind. option_map (λ p.
-    of_type kind (Calculated Rest (all_operands (s.expression ∷ i.expression ∷ []))))
-    (precision_of greatest i.kind)) (string_kind s.kind)
+-- DIVIDE gives the precision that is written, one that a number may have
+abbrev pub quotient_type : (greatest : ℕ) → (x y : ExpressionType) → (precision : ℕ) → Option ExpressionType
+quotient_type greatest x y precision =
+    if nat_le 1 precision && nat_le precision greatest
+    then option_map (λ ps. number_type precision) (precisions greatest x y)
+    else None
 
-abbrev pub the_part : (greatest : ℕ) → (s i n : TypedValue) → Option TypedValue
-the_part greatest s i n =
-    option_and_then (λ kind. option_and_then (λ p. option_map (λ q.
-    of_type kind
-    (Calculated SubstringOf (all_operands (s.expression ∷ i.expression ∷ n.expression ∷ []))))
-    (precision_of greatest n.kind)) (precision_of greatest i.kind)) (string_kind s.kind)
+-- what is calculated
 
--- DIVIDE to a precision that a number may have
+-- the operation of a function of so many values
+abbrev pub operation_of : BuiltInFunction → (given : ℕ) → Option Operation
+operation_of functions.Abs given = Some Absolute
+operation_of functions.Sign given = Some SignOf
+operation_of functions.Length given = Some LengthOf
+operation_of functions.Max given = Some Greatest
+operation_of functions.Min given = Some Least
+operation_of functions.Mod given = Some Modulo
+operation_of functions.Index given = Some IndexOf
+operation_of functions.Substring given = Some (if nat_eq given 2 then Rest else SubstringOf)
+operation_of function given = None
+
+-- an operation of a type on values
+abbrev pub calculation : Option Operation → Option ExpressionType → List TypedExpression → Option TypedValue
+calculation (Some operation) (Some kind) operands =
+    Some (record { expression = Calculated operation (all_operands operands); kind = kind })
+calculation operation kind operands = None
+
+-- what a function gives of values
+abbrev pub of_values : (greatest : ℕ) → BuiltInFunction → List TypedValue → Option TypedValue
+of_values greatest function values =
+    calculation (operation_of function (length values)) (call_type greatest function (map (λ v. v.kind) values))
+    (map (λ v. v.expression) values)
+
+-- DIVIDE of two values
 abbrev pub the_quotient : (greatest : ℕ) → (x y : TypedValue) → (written : Option ℕ) → Option TypedValue
 the_quotient greatest x y None = None
-the_quotient greatest x y (Some p) =
-    if nat_le 1 p && nat_le p greatest then on_numbers greatest (DivideTo p) (λ q r. p) x y else None
+the_quotient greatest x y (Some precision) =
+    calculation (Some (DivideTo precision)) (quotient_type greatest x.kind y.kind precision)
+    (x.expression ∷ y.expression ∷ [])
+
+abbrev pub bound_value : ℤ → TypedValue
+bound_value bound = record { expression = Literal (Number bound); kind = a_count }
 
 -- a bound of the dimension of this number, from 1, of an array that is meant as a whole
 abbrev pub bound_in : (Bounds → ℤ) → (number : ℕ) → Description → Option TypedValue
 bound_in which number (Array bounds element) =
     if nat_le 1 number
-    then option_map (λ b. a_count (Literal (Number (which b)))) (slice_get bounds (number - 1))
+    then option_map (λ b. bound_value (which b)) (slice_get bounds (number - 1))
     else None
 bound_in which number other = None
 
 abbrev pub the_bound : (Bounds → ℤ) → Meant → (written : Option ℕ) → Option TypedValue
 the_bound which (WholeAggregate r) (Some number) = bound_in which number r.description
 the_bound which meant written = None
-
--- what a function gives of values
-abbrev pub of_values : (greatest : ℕ) → Function → List TypedValue → Option TypedValue
-of_values greatest Abs (x ∷ []) = of_number greatest Absolute x
-of_values greatest Sign (x ∷ []) = the_sign greatest x
-of_values greatest Length (s ∷ []) = the_length s
-of_values greatest Max (x ∷ y ∷ []) = on_numbers greatest Greatest max x y
-of_values greatest Min (x ∷ y ∷ []) = on_numbers greatest Least max x y
-of_values greatest Mod (x ∷ y ∷ []) = on_numbers greatest Modulo (λ p q. q) x y
-of_values greatest Index (s ∷ t ∷ []) = the_index s t
-of_values greatest Substring (s ∷ i ∷ []) = the_rest greatest s i
-of_values greatest Substring (s ∷ i ∷ n ∷ []) = the_part greatest s i n
-of_values greatest function values = None
 
 -- the one value that an argument is
 abbrev pub value_in : Meant → Option TypedValue
@@ -174,10 +189,10 @@ divided greatest (OneValue x) (OneValue y) written = the_quotient greatest x y w
 divided greatest x y written = None
 
 -- what a function gives of arguments
-abbrev pub of_arguments : (greatest : ℕ) → Function → List Argument → Option TypedValue
-of_arguments greatest Divide (x ∷ y ∷ p ∷ []) = divided greatest x.meant y.meant p.written
-of_arguments greatest LowBound (a ∷ n ∷ []) = the_bound (λ b. b.low) a.meant n.written
-of_arguments greatest HighBound (a ∷ n ∷ []) = the_bound (λ b. b.high) a.meant n.written
+abbrev pub of_arguments : (greatest : ℕ) → BuiltInFunction → List Argument → Option TypedValue
+of_arguments greatest functions.Divide (x ∷ y ∷ p ∷ []) = divided greatest x.meant y.meant p.written
+of_arguments greatest functions.LowBound (a ∷ n ∷ []) = the_bound (λ b. b.low) a.meant n.written
+of_arguments greatest functions.HighBound (a ∷ n ∷ []) = the_bound (λ b. b.high) a.meant n.written
 of_arguments greatest function arguments = option_and_then (of_values greatest function) (values_in arguments)
 
 -- T13 at the function's name where it does not take the arguments
@@ -186,7 +201,7 @@ or_bad_argument at None = at_fault WrongBuiltInArgument at
 or_bad_argument at (Some v) = Ok v
 
 -- T6 there where their number is wrong
-abbrev pub function_called : (greatest : ℕ) → Function → (at : ℕ) → (roles : Option (List Role))
+abbrev pub function_called : (greatest : ℕ) → BuiltInFunction → (at : ℕ) → (roles : Option (List Role))
     → List Argument → Result TypedValue Fault
 function_called greatest function at None arguments = at_fault WrongNumberOfArguments at
 function_called greatest function at (Some roles) arguments =

@@ -2,6 +2,7 @@ pub mod Checked
 pub mod ExpressionTypes
 pub mod FunctionCalls
 pub mod InitialScalars
+pub mod NamedUnits
 pub mod Names
 pub mod References
 pub mod StatementTyping

@@ -1,12 +1,8 @@
 -- What names mean where types are asked for.
 use Rattle.std.specs.Prelude.{ℕ, List}
 use Rattle.pli_map.specs.Description.{Description}
+use Rattle.pli_resolve.specs.declared.built_in.BuiltInFunction.{BuiltInFunction}
 use Rattle.pli_type_tree.specs.TypedTree.{Root}
-
--- the built-in functions
-pub data Function : Type 0 where
-  Abs Max Min Mod Divide Sign Length Index Allocation LowBound HighBound Substring : Function
-  Address Null Empty Pointer Offset : Function
 
 -- a variable of its own, or a member of one: where the variable begins, the description of the whole
 -- variable, and the members on the way, each counted from 0
@@ -19,7 +15,7 @@ pub record NamedVariable : Type 0 where
 -- RETURNS
 pub data NamedAs : Type 0 where
   AVariable : (variable : NamedVariable) → NamedAs
-  AFunction : (function : Function) → NamedAs
+  AFunction : (function : BuiltInFunction) → NamedAs
   AProcedure ALabel : NamedAs
 
 -- how many binary digits numbers have at most, and what the name at a token means: the first name of each

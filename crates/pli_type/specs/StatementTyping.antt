@@ -120,7 +120,7 @@ if_form tested consequence alternative =
 -- a statement in a list: a DECLARE leaves nothing
 abbrev pub listed : Statement → Result TypedStatement (List Fault) → Result TypedStatements (List Fault)
     → Result TypedStatements (List Fault)
-listed (Numbered number label at (Declare items)) first more = more
+listed (Numbered number label at (Declare declared)) first more = more
 listed statement first more = together StatementThen first more
 
 -- forms that are not compiled yet are Z1, which is found before types are asked for

@@ -3,7 +3,7 @@
 -- ELSE is a statement (own).
 use Rattle.std.specs.Prelude.{ℕ, ◌^◌, nat_lt, nat_le, length, Bool, true, false, not, ◌||◌, ◌&&◌, Option}
 use Rattle.std.specs.Prelude.{Some, None, List, [], ◌∷◌}
-use Rattle.std.specs.Prelude.{codes, if◌then◌else◌}
+use Rattle.std.specs.Prelude.{if◌then◌else◌}
 use Rattle.std.specs.List.{list_any}
 use Rattle.pli_base.specs.Declarations.{SimpleAttribute, Attribute, Simple, Item}
 use Rattle.pli_base.specs.Declarations as declared
@@ -15,27 +15,32 @@ use Rattle.pli_base.specs.Syntax.{Expression, Referred, Constant, Parenthesized,
 use Rattle.pli_base.specs.Syntax.{Named}
 use Rattle.pli_base.specs.Syntax.{JoinedParts, Alone, Joined, Arguments, Absent, Given, Expressions, Empty}
 use Rattle.pli_base.specs.Syntax.{Listed}
-use Rattle.pli_base.specs.Words.{is_among}
+use Rattle.pli_resolve.specs.BuiltIns.{function_named}
 use Rattle.pli_base.specs.declared.syntax.ConstantValue.{ConstantValue}
 use Rattle.pli_base.specs.declared.syntax.ConstantValue.TheVariants as constants
-use Rattle.pli_type.specs.Names.{Function, Allocation, Address, Null, Empty as EmptyArea, Pointer, Offset}
 use Rattle.pli_type.specs.Names.{NamedAs, AFunction, Naming}
+use Rattle.pli_resolve.specs.declared.built_in.BuiltInFunction.{BuiltInFunction}
+use Rattle.pli_resolve.specs.declared.built_in.BuiltInFunction.TheVariants as functions
 
 -- what comes later
 
 -- ALLOCATION, ADDR, NULL, EMPTY, POINTER and OFFSET
-abbrev pub is_later_function : Function → Bool
-is_later_function Allocation = true
-is_later_function Address = true
-is_later_function Null = true
-is_later_function EmptyArea = true
-is_later_function Pointer = true
-is_later_function Offset = true
+abbrev pub is_later_function : BuiltInFunction → Bool
+is_later_function functions.Allocation = true
+is_later_function functions.Address = true
+is_later_function functions.Null = true
+is_later_function functions.Empty = true
+is_later_function functions.Pointer = true
+is_later_function functions.Offset = true
 is_later_function function = false
 
-abbrev pub later_functions : List Name
-later_functions =
-    codes "ALLOCATION" ∷ codes "ADDR" ∷ codes "NULL" ∷ codes "EMPTY" ∷ codes "POINTER" ∷ codes "OFFSET" ∷ []
+-- a name that is the name of one of them
+abbrev pub is_later_name : Name → Bool
+is_later_name name = later_function (function_named name)
+  where
+    later_function : Option BuiltInFunction → Bool
+    later_function None = false
+    later_function (Some function) = is_later_function function
 
 -- a name that means one of them where it is used
 abbrev pub names_later : NamedAs → Bool
@@ -101,7 +106,7 @@ is_builtin attribute = false
 abbrev pub later_item : (main : Bool) → Item → Bool
 later_item main item =
     list_any (later_attribute main) item.attributes
-    || (list_any is_builtin item.attributes && list_any (λ i. is_among i.name later_functions) item.names)
+    || (list_any is_builtin item.attributes && list_any (λ i. is_later_name i.name) item.names)
 
 -- the first of two tokens
 abbrev pub or_else : Option ℕ → Option ℕ → Option ℕ

@@ -114,3 +114,17 @@ impl ExpressionType {
         }
     }
 }
+
+/// The precisions of two operands, where both are numbers.
+pub(crate) fn precisions(
+    greatest: u8,
+    left: ExpressionType,
+    right: ExpressionType,
+) -> Option<(u8, u8)>
+    ensures { result ≡ spec.precisions greatest left right }
+{
+    match (left.precision(greatest), right.precision(greatest)) {
+        (Some(left), Some(right)) => Some((left, right)),
+        _ => None,
+    }
+}

@@ -33,7 +33,7 @@ pub fn typed_examples()
 {}
 
 /// Worked examples of units.
-#[tactic(auto, unfolding(crate::specs::Checked::checked))]
+#[tactic(auto, unfolding(crate::specs::Checked::checked, pli_resolve::specs::BuiltIns::function_named))]
 pub fn unit_examples()
     ensures unbuilt { FirstUnbuilt }
     ensures initial { InitialValues }

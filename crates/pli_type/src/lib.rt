@@ -3,12 +3,14 @@
 
 mod conversions;
 mod expression_type;
+mod function_calls;
 mod laws;
 mod operators;
 mod typed_value;
 
 pub use conversions::{converted, printed};
 pub use expression_type::{ExpressionType, product_precision, sum_precision};
+pub use function_calls::{call_type, operation_of, quotient_type};
 pub use laws::{fault_examples, type_examples, typed_examples, unit_examples};
 pub use operators::{infix_value, prefix_value};
 pub use typed_value::TypedValue;

@@ -5,7 +5,7 @@ ghost use Rattle.pli_type.specs.ExpressionTypes as spec;
 ghost use Rattle.pli_type.specs.views.ValueView.{value_view};
 ghost use Rattle.pli_type_tree.specs.views.TypedView.{expression_view};
 
-use crate::expression_type::{ExpressionType, product_precision, sum_precision};
+use crate::expression_type::{ExpressionType, precisions, product_precision, sum_precision};
 use crate::typed_value::{TypedValue, with_one, with_two};
 use pli_base::syntax::{InfixOperator, PrefixOperator};
 use pli_operation::{Operation, Relation};
@@ -30,16 +30,6 @@ pub fn prefix_value(
     };
     let expression = with_one(alloc, operation, operand.expression)?;
     Ok(Some(TypedValue { expression, kind }))
-}
-
-/// The precisions of two numbers.
-fn precisions(greatest: u8, left: ExpressionType, right: ExpressionType) -> Option<(u8, u8)>
-    ensures { result ≡ spec.precisions greatest left right }
-{
-    match (left.precision(greatest), right.precision(greatest)) {
-        (Some(left), Some(right)) => Some((left, right)),
-        _ => None,
-    }
 }
 
 /// A string of one type in another.
@@ -87,7 +77,10 @@ fn comparison(
         ≡ spec.comparison greatest (relation_view relation) (value_view left) (value_view right)) }
 {
     let operation = Operation::Compare(relation);
-    let expression = match (left.kind.beside(right.kind), precisions(greatest, left.kind, right.kind)) {
+    let expression = match (
+        left.kind.beside(right.kind),
+        precisions(greatest, left.kind, right.kind),
+    ) {
         (Some(kind), _) => on_strings(alloc, operation, left, right, kind)?,
         (None, Some(_)) => with_two(alloc, operation, left.expression, right.expression)?,
         (None, None) => return Ok(None),
@@ -146,8 +139,8 @@ fn arithmetic(
     right: TypedValue,
 ) -> Result<Option<TypedValue>, AllocError>
     ensures { IfOk result (λ given. option_map value_view given ≡ Some (record {
-        expression = spec.with_two (operation_view operation) (expression_view left.expression) (expression_view right.expression);
-        kind = ExpressionType.FixedBinary precision;
+      expression = spec.with_two (operation_view operation) (expression_view left.expression) (expression_view right.expression);
+      kind = ExpressionType.FixedBinary precision;
     })) }
 {
     let expression = with_two(alloc, operation, left.expression, right.expression)?;
@@ -178,24 +171,48 @@ pub fn infix_value(
         InfixOperator::Less => comparison(alloc, greatest, Relation::Less, left, right),
         InfixOperator::LessOrEqual => comparison(alloc, greatest, Relation::AtMost, left, right),
         InfixOperator::Greater => comparison(alloc, greatest, Relation::Greater, left, right),
-        InfixOperator::GreaterOrEqual => comparison(alloc, greatest, Relation::AtLeast, left, right),
+        InfixOperator::GreaterOrEqual => comparison(
+            alloc,
+            greatest,
+            Relation::AtLeast,
+            left,
+            right,
+        ),
         InfixOperator::Add => {
             let Some((p, q)) = precisions(greatest, left.kind, right.kind) else {
                 return Ok(None);
             };
-            arithmetic(alloc, Operation::Add, sum_precision(greatest, p, q), left, right)
+            arithmetic(
+                alloc,
+                Operation::Add,
+                sum_precision(greatest, p, q),
+                left,
+                right,
+            )
         }
         InfixOperator::Subtract => {
             let Some((p, q)) = precisions(greatest, left.kind, right.kind) else {
                 return Ok(None);
             };
-            arithmetic(alloc, Operation::Subtract, sum_precision(greatest, p, q), left, right)
+            arithmetic(
+                alloc,
+                Operation::Subtract,
+                sum_precision(greatest, p, q),
+                left,
+                right,
+            )
         }
         InfixOperator::Multiply => {
             let Some((p, q)) = precisions(greatest, left.kind, right.kind) else {
                 return Ok(None);
             };
-            arithmetic(alloc, Operation::Multiply, product_precision(greatest, p, q), left, right)
+            arithmetic(
+                alloc,
+                Operation::Multiply,
+                product_precision(greatest, p, q),
+                left,
+                right,
+            )
         }
     }
 }

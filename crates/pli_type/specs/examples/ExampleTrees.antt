@@ -18,9 +18,7 @@ use Rattle.pli_map.specs.Description.{Description, FixedBinary, Character, Varyi
 use Rattle.pli_map.specs.Description.{NoMembers, MemberThen}
 use Rattle.pli_map.specs.declared.description.Bounds.{Bounds}
 use Rattle.pli_type.specs.ExpressionTypes.{width_of}
-use Rattle.pli_type.specs.Names.{NamedAs, AVariable, AFunction, AProcedure, ALabel, Naming, Abs, Max, Min}
-use Rattle.pli_type.specs.Names.{Mod}
-use Rattle.pli_type.specs.Names.{Divide, Sign, Length, Index, LowBound, HighBound, Substring}
+use Rattle.pli_type.specs.Names.{NamedAs, AVariable, AFunction, AProcedure, ALabel, Naming}
 use Rattle.pli_type.specs.References.{AsTarget}
 use Rattle.pli_type.specs.StatementTyping.{statement_typed}
 use Rattle.pli_type.specs.Typing.{Denoted, DenotesVariable, DenotesResult, value_of, referred}
@@ -31,6 +29,7 @@ use Rattle.pli_type_tree.specs.TypedTree as typed
 use Rattle.pli_value.specs.Value as values
 use Rattle.pli_value.specs.Value.{Number}
 use Rattle.pli_type.specs.declared.expression_type.ExpressionType.{ExpressionType}
+use Rattle.pli_resolve.specs.declared.built_in.BuiltInFunction.TheVariants as functions
 
 -- from one bound to another
 abbrev pub between : (low high : ℕ) → Bounds
@@ -108,37 +107,37 @@ abbrev pub procedure : NamedAs
 procedure = AProcedure
 
 abbrev pub abs : NamedAs
-abs = AFunction Abs
+abs = AFunction functions.Abs
 
 abbrev pub greatest : NamedAs
-greatest = AFunction Max
+greatest = AFunction functions.Max
 
 abbrev pub least : NamedAs
-least = AFunction Min
+least = AFunction functions.Min
 
 abbrev pub modulo : NamedAs
-modulo = AFunction Mod
+modulo = AFunction functions.Mod
 
 abbrev pub divide : NamedAs
-divide = AFunction Divide
+divide = AFunction functions.Divide
 
 abbrev pub sign : NamedAs
-sign = AFunction Sign
+sign = AFunction functions.Sign
 
 abbrev pub length_of : NamedAs
-length_of = AFunction Length
+length_of = AFunction functions.Length
 
 abbrev pub index : NamedAs
-index = AFunction Index
+index = AFunction functions.Index
 
 abbrev pub low_bound : NamedAs
-low_bound = AFunction LowBound
+low_bound = AFunction functions.LowBound
 
 abbrev pub high_bound : NamedAs
-high_bound = AFunction HighBound
+high_bound = AFunction functions.HighBound
 
 abbrev pub substring : NamedAs
-substring = AFunction Substring
+substring = AFunction functions.Substring
 
 -- what names at tokens mean
 abbrev pub meaning_in : List (ℕ × NamedAs) → (at : ℕ) → NamedAs

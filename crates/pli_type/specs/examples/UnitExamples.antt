@@ -14,7 +14,7 @@ use Rattle.pli_operation.specs.Operations.{Fit}
 use Rattle.pli_type.specs.Checked.{NamedUnit, checked}
 use Rattle.pli_type.specs.ExpressionTypes.{with_one}
 use Rattle.pli_type.specs.InitialScalars.{InitialItem, template_of, initial_scalars}
-use Rattle.pli_type.specs.Names.{NamedAs, AFunction, Allocation}
+use Rattle.pli_type.specs.Names.{NamedAs, AFunction}
 use Rattle.pli_type.specs.Unbuilt.{first_unbuilt}
 use Rattle.pli_type.specs.examples.ExampleTrees.{array, naming, called, alone_named, named, text}
 use Rattle.pli_type.specs.examples.ExampleTrees.{of_bits, assign, null, x}
@@ -22,6 +22,7 @@ use Rattle.pli_type_tree.specs.Templates.{InitialScalar}
 use Rattle.pli_type_tree.specs.TypedTree as typed
 use Rattle.pli_type_tree.specs.TypedTree.{TypedUnit, InSlot, Whole, Literal, NoStatement, StatementThen}
 use Rattle.pli_value.specs.Value.{Value, Number, Characters, Bits}
+use Rattle.pli_resolve.specs.declared.built_in.BuiltInFunction.TheVariants as functions
 
 -- statements one after another
 abbrev pub all_of : List Statement → Statements
@@ -74,7 +75,7 @@ FirstUnbuilt =
     × (first_unbuilt (naming no_names)
     (main (Numbered 2 None 8 (If (of_bits (codes "1") 9) (Numbered 3 None 11 Stop) NoElse) ∷ [])) ≡ Some 11)
     × (first_unbuilt (naming no_names) (unit (Returns [] ∷ []) []) ≡ Some 0)
-    × (first_unbuilt (naming ((8, x) ∷ (10, AFunction Allocation) ∷ []))
+    × (first_unbuilt (naming ((8, x) ∷ (10, AFunction functions.Allocation) ∷ []))
     (main (assign 2 8 (alone_named (codes "X") 8) 9 (named (codes "ALLOCATION") 10) ∷ [])) ≡ Some 8)
 
 -- FIXED BINARY values without a factor

@@ -1,0 +1,109 @@
+//! The types of what built-in functions give.
+ghost use Rattle.std.specs.Prelude.{◌≡◌, option_map};
+ghost use Rattle.pli_operation.specs.views.OperationView.{operation_view};
+ghost use Rattle.pli_type.specs.ExpressionTypes as ext;
+ghost use Rattle.pli_type.specs.FunctionCalls as spec;
+
+use crate::expression_type::{ExpressionType, precisions};
+use pli_operation::Operation;
+use pli_resolve::BuiltInFunction;
+
+/// The precision of LENGTH, INDEX, SIGN, LBOUND and HBOUND (own).
+const COUNT_PRECISION: u8 = 15;
+
+/// A number that counts something.
+const A_COUNT: ExpressionType = ExpressionType::FixedBinary {
+    precision: COUNT_PRECISION,
+};
+
+/// The type of what a built-in function gives of values of these types, or none where it does not take them. A built-in function
+/// converts nothing. ABS gives the precision of its operand, MAX and MIN the greater one, MOD that of its second operand (own).
+pub fn call_type(
+    greatest: u8,
+    function: BuiltInFunction,
+    kinds: &[ExpressionType],
+) -> Option<ExpressionType>
+    ensures { result ≡ spec.call_type greatest function kinds.now }
+{
+    match (function, kinds) {
+        (BuiltInFunction::Abs, [x]) => {
+            let precision = x.precision(greatest)?;
+            Some(ExpressionType::FixedBinary { precision })
+        }
+        (BuiltInFunction::Sign, [x]) => {
+            x.precision(greatest)?;
+            Some(A_COUNT)
+        }
+        (BuiltInFunction::Length, [ExpressionType::Characters | ExpressionType::Bits]) => {
+            Some(A_COUNT)
+        }
+        (BuiltInFunction::Max | BuiltInFunction::Min, [x, y]) => {
+            let (left, right) = precisions(greatest, *x, *y)?;
+            Some(ExpressionType::FixedBinary {
+                precision: left.max(right),
+            })
+        }
+        (BuiltInFunction::Mod, [x, y]) => {
+            let (_, precision) = precisions(greatest, *x, *y)?;
+            Some(ExpressionType::FixedBinary { precision })
+        }
+        (
+            BuiltInFunction::Index,
+            [ExpressionType::Characters, ExpressionType::Characters]
+            | [ExpressionType::Bits, ExpressionType::Bits],
+        ) => Some(A_COUNT),
+        (BuiltInFunction::Substring, [s, i]) => part_type(greatest, *s, *i),
+        (BuiltInFunction::Substring, [s, i, n]) => {
+            n.precision(greatest)?;
+            part_type(greatest, *s, *i)
+        }
+        _ => None,
+    }
+}
+
+/// The type of a part of a string: the string's own, where a number says with which element it begins.
+fn part_type(greatest: u8, string: ExpressionType, first: ExpressionType) -> Option<ExpressionType>
+    ensures { result ≡ spec.with_number (spec.string_kind string) (ext.precision_of greatest first) }
+{
+    first.precision(greatest)?;
+    match string {
+        ExpressionType::Characters | ExpressionType::Bits => Some(string),
+        _ => None,
+    }
+}
+
+/// The type of DIVIDE: of the precision that is written, from 1 to `greatest`; none where it is another, or where the operands are
+/// no numbers (X3.74).
+pub fn quotient_type(
+    greatest: u8,
+    left: ExpressionType,
+    right: ExpressionType,
+    precision: u32,
+) -> Option<ExpressionType>
+    ensures { result ≡ spec.quotient_type greatest left right precision }
+{
+    let precision = u8::try_from(precision).ok()?;
+    if precision == 0 || precision > greatest {
+        return None;
+    }
+    precisions(greatest, left, right)?;
+    Some(ExpressionType::FixedBinary { precision })
+}
+
+/// The operation that a built-in function of so many values is; none of functions that are not of values alone.
+pub fn operation_of(function: BuiltInFunction, given: usize) -> Option<Operation>
+    ensures { option_map operation_view result ≡ spec.operation_of function given }
+{
+    match function {
+        BuiltInFunction::Abs => Some(Operation::Absolute),
+        BuiltInFunction::Sign => Some(Operation::Sign),
+        BuiltInFunction::Length => Some(Operation::LengthOf),
+        BuiltInFunction::Max => Some(Operation::Greatest),
+        BuiltInFunction::Min => Some(Operation::Least),
+        BuiltInFunction::Mod => Some(Operation::Modulo),
+        BuiltInFunction::Index => Some(Operation::Index),
+        BuiltInFunction::Substring if given == 2 => Some(Operation::Rest),
+        BuiltInFunction::Substring => Some(Operation::Substring),
+        _ => None,
+    }
+}
