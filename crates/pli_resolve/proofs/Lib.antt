@@ -1,1 +1,4 @@
 pub mod UnitParts
+pub mod LookUps
+pub mod TablesAt
+pub mod SymbolsAt

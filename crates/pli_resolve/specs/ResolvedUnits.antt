@@ -1,6 +1,6 @@
 -- The resolved unit, as the passes behind see it: the tree, with what its blocks declare and what its names
 -- mean.
-use Rattle.std.specs.Prelude.{ℕ, suc, Option, Some, None, option_map, List, [], ◌∷◌, ◌++◌, map, length}
+use Rattle.std.specs.Prelude.{ℕ, ◌+◌, Option, Some, None, option_map, List, [], ◌∷◌, ◌++◌, map, length}
 use Rattle.std.specs.Prelude.{get_or, slice_get, option_and_then}
 use Rattle.std.specs.List.{flat_map}
 use Rattle.pli_base.specs.Name.{Name}
@@ -95,13 +95,17 @@ procedure_at key other = []
 abbrev pub procedures_from : (block number : ℕ) → List Declaration → List (ℕ × SymbolKey)
 procedures_from block number [] = []
 procedures_from block number (d ∷ ds) =
-    procedure_at (record { block = block; number = number }) d.kind ++ procedures_from block (suc number) ds
+    procedure_at (record { block = block; number = number }) d.kind ++ procedures_from block (number + 1) ds
+
+-- the procedures that a region declares
+abbrev pub block_procedures : (numbers : List ℕ) → (region : ℕ) → declare.Block → List (ℕ × SymbolKey)
+block_procedures numbers region b = procedures_from (get_or numbers region 0) 0 b.declarations
 
 -- the procedures that regions declare, from the region of this number on
 abbrev pub procedures_of : (numbers : List ℕ) → (region : ℕ) → List declare.Block → List (ℕ × SymbolKey)
 procedures_of numbers region [] = []
 procedures_of numbers region (b ∷ bs) =
-    procedures_from (get_or numbers region 0) 0 b.declarations ++ procedures_of numbers (suc region) bs
+    block_procedures numbers region b ++ procedures_of numbers (region + 1) bs
 
 -- a block that declares nothing
 abbrev pub no_block : declare.Block
@@ -152,10 +156,14 @@ facts_of u = record {
   labels = flat_map label_statement (unit_places u);
 }
 
+-- what a region of a unit declares
+abbrev pub region_block : ExternalProcedure → (region : ℕ) → declare.Block
+region_block u region = get_or (resolved_of u).blocks region no_block
+
 -- a block of a unit
 abbrev pub block_of : ExternalProcedure → BlockRegion → ResolvedBlock
 block_of u b =
-    let declared = get_or (resolved_of u).blocks b.region no_block in
+    let declared = region_block u b.region in
     record {
       kind = b.kind;
       outer = option_map (λ outer. get_or (numbers_of u) outer 0) b.outer;

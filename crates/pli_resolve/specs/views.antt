@@ -1,1 +1,3 @@
 pub mod SymbolView
+pub mod TableView
+pub mod UnitView

@@ -3,9 +3,18 @@
 
 mod block_numbers;
 mod built_in;
+mod copies;
+mod look_ups;
+mod resolving;
 mod statement_places;
 mod symbol;
+mod tables;
+mod unit;
+mod unit_tables;
+mod ways;
 
 pub use block_numbers::ResolvedBlockKind;
 pub use built_in::{BuiltInFunction, function_named};
+pub use resolving::resolve_unit;
 pub use symbol::{NameMeaning, StorageClass, Symbol, SymbolKey, SymbolKind};
+pub use unit::{ResolvedBlock, ResolvedUnit};

@@ -1,0 +1,69 @@
+-- What a resolved unit keeps, and its blocks, apart from where they lie in memory.
+use Rattle.std.specs.Prelude.{◌≡◌, ℕ, nat_eq, [], map, Result}
+use Rattle.std.specs.List.{flat_map}
+use Rattle.indexmap.specs.IndexMap.{get}
+use Rattle.pli_base.specs.Statements.{ExternalProcedure}
+use Rattle.pli_base.specs.declared.statement.Procedure.{Procedure}
+use Rattle.pli_map.specs.Description as described
+use Rattle.pli_map.specs.declared.description.Description.{Description}
+use Rattle.pli_map.specs.views.DescriptionView.{description_view}
+use Rattle.pli_declare_outline.specs.Outlines.{outline_of}
+use Rattle.pli_declare_tables.specs.Tables.{inner_marks}
+use Rattle.pli_declare.specs.Resolved.{resolved_of}
+use Rattle.pli_declare.specs.declared.resolving.ResolveError.{ResolveError}
+use Rattle.pli_declare.specs.views.ResolvedView.{IsResolved}
+use Rattle.pli_resolve.specs.StatementPlaces.{unit_starts, unit_places}
+use Rattle.pli_resolve.specs.Symbols.{found_in, ways_of}
+use Rattle.pli_resolve.specs.ResolvedUnits as plain
+use Rattle.pli_resolve.specs.ResolvedUnits.{numbers_of, block_regions_of, functions_in, label_statement}
+use Rattle.pli_resolve.specs.ResolvedUnits.{procedures_in}
+use Rattle.pli_resolve.specs.views.TableView.{way_view, block_table_view, block_table_of}
+use Rattle.pli_resolve.specs.declared.unit.ResolvedBlock.{ResolvedBlock}
+use Rattle.pli_resolve.specs.declared.unit_tables.UnitTables.{UnitTables}
+
+-- a block, apart from what it declares
+abbrev pub resolved_block_view : ResolvedBlock → plain.ResolvedBlock
+resolved_block_view b = record {
+  kind = b.kind;
+  outer = b.outer;
+  statement = b.statement;
+  name = b.name;
+  parameters = b.parameters.now;
+  symbols = [];
+}
+
+abbrev pub without_symbols : plain.ResolvedBlock → plain.ResolvedBlock
+without_symbols b = record {
+  kind = b.kind;
+  outer = b.outer;
+  statement = b.statement;
+  name = b.name;
+  parameters = b.parameters;
+  symbols = [];
+}
+
+-- what is found once for a unit is what its tree says
+pub record AreTablesOf (t : UnitTables) (u : ExternalProcedure) : Type 0
+  where
+    pub numbers_are : t.numbers.items ≡ numbers_of u
+    pub blocks_are : t.blocks.items ≡ block_regions_of u
+    pub starts_are : t.starts.items ≡ unit_starts u
+    pub tables_are : map block_table_view t.tables.items ≡ map block_table_of (resolved_of u).blocks
+    pub ways_are : map way_view t.ways.items ≡ ways_of (resolved_of u).outermost
+    pub functions_are : (at : ℕ) → get nat_eq t.functions at
+        ≡ found_in (functions_in (inner_marks (outline_of u).marks)) at
+    pub statements_are : (n : ℕ) → get nat_eq t.statements n
+        ≡ found_in (map (λ p. (p.number, p.region)) (unit_places u)) n
+    pub labels_are : (at : ℕ) → get nat_eq t.labels at ≡ found_in (flat_map label_statement (unit_places u)) at
+    pub procedures_are : (n : ℕ) → get nat_eq t.procedures n ≡ found_in (procedures_in u) n
+
+-- what a resolved unit keeps
+pub record IsUnitOf (u : ExternalProcedure) (tables : UnitTables) (undescribed : Description) : Type 0
+  where
+    pub are_tables : AreTablesOf tables u
+    pub undescribed_is : description_view undescribed ≡ described.Pointer
+
+-- the resolved unit of this tree, where there are no faults; or all of them; want of memory is possible
+-- anywhere
+abbrev pub IsResolvedUnit : Result Procedure ResolveError → ExternalProcedure → Type 0
+IsResolvedUnit answer u = IsResolved answer u

@@ -1,0 +1,90 @@
+//! From a tree to the resolved unit.
+ghost use Rattle.std.specs.Prelude.{◌≡◌, ℕ, nat_eq, map, IfOk};
+ghost use Rattle.indexmap.specs.IndexMap.{get};
+ghost use Rattle.pli_base.specs.views.StatementView.{unit_view};
+ghost use Rattle.pli_declare_outline.specs.Outlines.{outline_of};
+ghost use Rattle.pli_declare_outline.specs.views.OutlineView.{outline_view, marks_view};
+ghost use Rattle.pli_declare_tables.specs.Tables.{inner_marks};
+ghost use Rattle.pli_resolve.specs.Symbols.{found_in};
+ghost use Rattle.pli_resolve.specs.ResolvedUnits.{functions_in};
+ghost use Rattle.pli_resolve.specs.views.UnitView.{IsResolvedUnit, AreTablesOf};
+
+use crate::block_numbers::{block_numbers, block_regions};
+use crate::built_in::BuiltInFunction;
+use crate::look_ups::{functions, labels, procedures, statement_regions};
+use crate::statement_places::statement_list;
+use crate::tables::block_tables;
+use crate::unit::ResolvedUnit;
+use crate::unit_tables::UnitTables;
+use crate::ways::ways;
+use indexmap::IndexMap;
+use pli_base::statement::Procedure;
+use pli_declare::{ResolveError, Resolved};
+use pli_declare_outline::{Outline, Placed};
+use pli_map::Description;
+use std::alloc::{AllocError, Global};
+
+/// The marks of an outline but the first.
+fn marks_behind<'a, 'b>(outline: &'a Outline<'b>) -> &'a [Placed<'b>]
+    ensures { marks_view result.now ≡ inner_marks (outline_view outline.now).marks }
+{
+    let Some((_first, marks)) = outline.marks.split_first() else {
+        return &outline.marks;
+    };
+    marks
+}
+
+/// The built-in functions that a unit names, by their tokens.
+fn unit_functions(
+    alloc: Global,
+    unit: &Procedure,
+) -> Result<IndexMap<u32, BuiltInFunction>, AllocError>
+    ensures { IfOk result (λ functions. (at : ℕ) → get nat_eq functions at ≡ found_in (functions_in (inner_marks (outline_of (unit_view unit.now)).marks)) at) }
+{
+    let outline = pli_declare_outline::outline(alloc, unit)?;
+    functions(alloc, marks_behind(&outline))
+}
+
+/// What is found once for a unit.
+fn unit_tables(alloc: Global, declared: &Resolved) -> Result<UnitTables, AllocError>
+    ensures { IfOk result (λ tables. AreTablesOf tables (unit_view declared.now)) }
+{
+    let functions = unit_functions(alloc, declared.unit())?;
+    let list = statement_list(alloc, declared.unit())?;
+    let numbers = block_numbers(alloc, declared.regions())?;
+    let blocks = block_regions(alloc, declared.regions())?;
+    let outermost = declared.outermost();
+    let procedures = procedures(alloc, &numbers, blocks.len(), outermost, declared.blocks())?;
+    Ok(UnitTables {
+        numbers,
+        blocks,
+        statements: statement_regions(alloc, &list.places)?,
+        labels: labels(alloc, &list.places)?,
+        starts: list.starts,
+        tables: block_tables(alloc, declared.blocks())?,
+        ways: ways(alloc, outermost)?,
+        functions,
+        procedures,
+    })
+}
+
+/// The resolved unit of what its tree declares.
+fn resolved_unit<'a>(alloc: Global, declared: Resolved<'a>) -> Result<ResolvedUnit<'a>, AllocError>
+    ensures { IfOk result (λ unit. unit ≡ declared.entry) }
+{
+    let tables = unit_tables(alloc, &declared)?;
+    Ok(ResolvedUnit {
+        declared,
+        tables,
+        undescribed: Description::Pointer,
+    })
+}
+
+/// The resolved unit of a tree, or all faults of its declarations and uses: for each declared name and each reference the least
+/// code, in the order of their tokens.
+pub fn resolve_unit(alloc: Global, unit: &Procedure) -> Result<ResolvedUnit<'_>, ResolveError>
+    ensures { IsResolvedUnit result (unit_view unit.now) }
+{
+    let declared = pli_declare::resolve(alloc, unit)?;
+    Ok(resolved_unit(alloc, declared)?)
+}

@@ -1,0 +1,383 @@
+//! Resolved units as the passes behind see them.
+ghost use Rattle.std.specs.Prelude.{◌≡◌, ℕ, None, [], get_or, length, map, option_map, slice_get, IfOk};
+ghost use Rattle.pli_base.specs.views.StatementView.{unit_view};
+ghost use Rattle.pli_map.specs.views.DescriptionView.{description_view};
+ghost use Rattle.pli_declare_attributes.specs.Completed.{OfVariable};
+ghost use Rattle.pli_declare_attributes.specs.views.CompletedView.{variable_view};
+ghost use Rattle.pli_declare_variables.specs.Declarations.{OfItem};
+ghost use Rattle.pli_declare_variables.specs.views.DeclarationView.{declaration_view};
+ghost use Rattle.pli_declare.specs.Resolved.{resolved_of};
+ghost use Rattle.pli_declare.specs.views.BlockView.{block_view as declare_view};
+ghost use Rattle.pli_resolve.specs.Symbols as symbols;
+ghost use Rattle.pli_resolve.specs.ResolvedUnits.{resolved_unit_of, meaning_at, symbol_at, block_of_statement, facts_of, numbers_of, declared_by, declared_meaning, outermost_number, region_block, block_of, block_regions_of};
+ghost use Rattle.pli_resolve.specs.views.SymbolView.{symbol_view, symbol_kind_view};
+ghost use Rattle.pli_resolve.specs.views.TableView.{way_view};
+ghost use Rattle.pli_resolve.specs.views.UnitView.{resolved_block_view, without_symbols};
+
+use crate::block_numbers::{BlockRegion, ResolvedBlockKind};
+use crate::built_in::function_named;
+use crate::symbol::{NameMeaning, StorageClass, Symbol, SymbolKey, SymbolKind};
+use crate::tables::{BlockTable, declaration_at, parameters_at, place_among, way_at, ways_at};
+use crate::unit_tables::UnitTables;
+use crate::ways::Way;
+use pli_base::Name;
+use pli_base::statement::Procedure;
+use pli_base::syntax::Identifier;
+use pli_declare::{Block, Resolved, Target};
+use pli_declare_attributes::{Completed, Storage, Variable};
+use pli_declare_variables::{Declaration, Kind};
+use pli_map::Description;
+use std::alloc::{AllocError, Global};
+use std::marker::Model;
+
+/// A unit whose declarations have no faults: its tree, with what its blocks declare and what each name means. Contracts see the
+/// tree.
+#[derive(Drop)]
+pub struct ResolvedUnit<'a> {
+    pub(crate) declared: Resolved<'a>,
+    pub(crate) tables: UnitTables,
+    /// What stands for the description of a variable without one; a unit without faults has none such.
+    pub(crate) undescribed: Description,
+}
+
+impl<'a> Model for ResolvedUnit<'a> {
+    ghost use Rattle.pli_base.specs.declared.statement.Procedure.{Procedure};
+    ghost use Rattle.pli_base.specs.views.StatementView.{unit_view};
+    ghost use Rattle.pli_resolve.specs.views.UnitView.{IsUnitOf};
+    ghost use Rattle.pli_base.specs.contracts.statement.Body.TheKnot.{coded-Procedure};
+
+    ghost Value = { Procedure };
+
+    ghost coded = { coded-Procedure };
+
+    ghost view = { λ r. r.declared };
+
+    ghost invariant = { λ r. IsUnitOf (unit_view r.declared) r.tables r.undescribed };
+}
+
+/// A block: a procedure, a BEGIN block or an ON-unit.
+#[derive(Clone, Copy)]
+pub struct ResolvedBlock<'a> {
+    pub kind: ResolvedBlockKind,
+    /// The number of the block that it stands in; that of the unit, none.
+    pub outer: Option<usize>,
+    /// The number of its PROCEDURE, BEGIN or ON.
+    pub statement: u32,
+    /// The symbol of a procedure's name.
+    pub name: Option<SymbolKey>,
+    /// The numbers of its parameters among its symbols, each under its slot.
+    pub parameters: &'a [usize],
+}
+
+impl<'a> ResolvedUnit<'a> {
+    /// The tree of the unit.
+    pub fn unit(&self) -> &'a Procedure
+        ensures { result.now ≡ self.now }
+    {
+        self.declared.unit()
+    }
+
+    /// How many blocks it has, the outermost one apart.
+    pub fn block_count(&self) -> usize
+        ensures { result ≡ length (resolved_unit_of (unit_view self.now)).blocks }
+    {
+        self.tables.blocks.len()
+    }
+
+    /// The number of the block of a region.
+    pub(crate) fn number_of(&self, region: usize) -> usize
+        ensures { result ≡ get_or (numbers_of (unit_view self.now)) region 0 }
+    {
+        self.tables.numbers.get(region).copied().unwrap_or(0)
+    }
+
+    /// The number of the block of a region, or of the outermost block.
+    pub(crate) fn block_under(&self, region: Option<usize>) -> usize
+        ensures { result ≡ symbols.block_under (numbers_of (unit_view self.now)) (outermost_number (unit_view self.now)) region }
+    {
+        match region {
+            Some(region) => self.number_of(region),
+            None => self.tables.blocks.len(),
+        }
+    }
+
+    /// The block in which a statement stands.
+    pub fn block_of_statement(&self, statement: u32) -> Option<usize>
+        ensures { result ≡ block_of_statement (resolved_unit_of (unit_view self.now)) statement }
+    {
+        let region = self.tables.statements.get(&statement).copied()?;
+        Some(self.number_of(region))
+    }
+
+    /// The name of this number that a region, or the outermost block, declares.
+    fn declaration(&self, region: Option<usize>, number: usize) -> Option<&Declaration>
+        ensures { option_map (λ d. declaration_view d.now) result ≡ slice_get (declared_by (resolved_of (unit_view self.now)) region) number }
+    {
+        match region {
+            Some(region) => self.declared.blocks().get(region)?.declarations.get(number),
+            None => self.declared.outermost().get(number),
+        }
+    }
+
+    /// What a name means that is declared so.
+    fn declared_meaning(&self, region: Option<usize>, number: usize) -> Option<NameMeaning>
+        ensures { result ≡ declared_meaning (record { block = symbols.block_under (numbers_of (unit_view self.now)) (outermost_number (unit_view self.now)) region; number = number }) (slice_get (declared_by (resolved_of (unit_view self.now)) region) number) }
+    {
+        let declaration = self.declaration(region, number)?;
+        match &declaration.kind {
+            Kind::Item {
+                completed: Completed::BuiltIn,
+                ..
+            } => {
+                let function = function_named(declaration.identifier.name)?;
+                Some(NameMeaning::BuiltIn(function))
+            }
+            Kind::Item { .. } | Kind::Label { .. } | Kind::Procedure { .. } => {
+                let block = self.block_under(region);
+                Some(NameMeaning::Symbol(SymbolKey { block, number }))
+            }
+        }
+    }
+
+    /// What the name at a token means where it is used: a reference, by the token of its first name, the name of CALL or ALLOCATE, or
+    /// the label of GOTO. Tokens are counted from 0.
+    pub fn meaning_at(&self, at: u32) -> Option<NameMeaning>
+        ensures { result ≡ meaning_at (resolved_unit_of (unit_view self.now)) at }
+    {
+        match self.declared.meaning_at(at)? {
+            Target::Function => {
+                let function = self.tables.functions.get(&at).copied()?;
+                Some(NameMeaning::BuiltIn(function))
+            }
+            Target::Name { block, number } => self.declared_meaning(block, number),
+        }
+    }
+
+    /// The symbol that is meant, if one is.
+    fn key_of(&self, target: Option<Target>) -> Option<SymbolKey>
+        ensures { result ≡ symbols.key_of (numbers_of (unit_view self.now)) (outermost_number (unit_view self.now)) target }
+    {
+        match target {
+            Some(Target::Name { block, number }) => Some(SymbolKey {
+                block: self.block_under(block),
+                number,
+            }),
+            Some(Target::Function) | None => None,
+        }
+    }
+
+    /// The area that the declaration of the name at a token names.
+    fn area_of(&self, at: u32) -> Option<SymbolKey>
+        ensures { result ≡ symbols.area_of (facts_of (unit_view self.now)) at }
+    {
+        self.key_of(self.declared.area_at(at))
+    }
+
+    /// Where the generations of a variable come from.
+    fn class_of(
+        &self,
+        parameters: &[Name],
+        identifier: Identifier,
+        storage: Option<Storage>,
+    ) -> StorageClass
+        ensures { result ≡ symbols.class_of storage (symbols.place_among parameters.now identifier.name) (symbols.locator_of (facts_of (unit_view self.now)) identifier.at) }
+    {
+        match storage {
+            None => StorageClass::Parameter(place_among(parameters, identifier.name)),
+            Some(Storage::Automatic) => StorageClass::Automatic,
+            Some(Storage::Static) => StorageClass::Static,
+            Some(Storage::Controlled) => StorageClass::Controlled,
+            Some(Storage::Based) => {
+                StorageClass::Based(self.key_of(self.declared.locator_at(identifier.at)))
+            }
+        }
+    }
+
+    /// What a variable is declared as, by the item that it is a member of.
+    fn variable<'s>(
+        &'s self,
+        parameters: &[Name],
+        way: &'s Way,
+        declaration: &Declaration,
+        variable: &'s Variable,
+        description: &'s Option<Description>,
+    ) -> SymbolKind<'s>
+        ensures { symbol_kind_view result ≡ symbols.symbol_kind (facts_of (unit_view self.now)) parameters.now (way_view way.now) declaration.now.identifier declaration.now.owner
+            (OfItem (OfVariable (variable_view variable.now)) (option_map description_view description.now)) }
+    {
+        let identifier = declaration.identifier;
+        let owner = declaration.owner;
+        let area = self.area_of(identifier.at);
+        let initial = variable.initial.as_slice();
+        if owner.is_some() {
+            return SymbolKind::Member {
+                root: way.root,
+                path: way.path.as_slice(),
+                initial,
+                area,
+            };
+        }
+        let scope = variable.scope;
+        let class = self.class_of(parameters, identifier, variable.storage);
+        SymbolKind::Variable {
+            description: description.as_ref().unwrap_or(&self.undescribed),
+            class,
+            scope,
+            initial,
+            area,
+        }
+    }
+
+    /// What a name is declared as, by the item that it is a member of.
+    fn kind_of<'s>(
+        &'s self,
+        parameters: &[Name],
+        way: &'s Way,
+        declaration: &'s Declaration,
+    ) -> SymbolKind<'s>
+        ensures { symbol_kind_view result ≡ (symbols.symbol_of (facts_of (unit_view self.now)) parameters.now (way_view way.now) (declaration_view declaration.now)).kind }
+    {
+        let identifier = declaration.identifier;
+        match &declaration.kind {
+            Kind::Item {
+                completed: Completed::Variable(variable),
+                description,
+            } => self.variable(parameters, way, declaration, variable, description),
+            Kind::Item {
+                completed: Completed::Entry { parameters, result },
+                ..
+            } => SymbolKind::Entry {
+                parameters: parameters.as_slice(),
+                returned: result.as_ref(),
+            },
+            Kind::Item {
+                completed: Completed::BuiltIn,
+                ..
+            } => SymbolKind::BuiltIn,
+            Kind::Label { .. } => SymbolKind::Label {
+                statement: self.tables.labels.get(&identifier.at).copied().unwrap_or(0),
+            },
+            Kind::Procedure { returned, region } => SymbolKind::Procedure {
+                block: self.number_of(*region),
+                returned: returned.as_ref(),
+                area: self.area_of(identifier.at),
+            },
+        }
+    }
+
+    /// The symbol of this number among names with their ways.
+    #[tactic(auto, using(crate::proofs::SymbolsAt::symbols_at))]
+    fn symbol_among<'s>(
+        &'s self,
+        parameters: &[Name],
+        ways: &'s [Way],
+        declarations: &'s [Declaration],
+        number: usize,
+    ) -> Option<Symbol<'s>>
+        ensures { option_map symbol_view result ≡ slice_get (symbols.symbols_with (facts_of (unit_view self.now)) parameters.now (map way_view ways.now) (map declaration_view declarations.now)) number }
+    {
+        let Some(way) = way_at(ways, number) else {
+            return None;
+        };
+        let Some(declaration) = declaration_at(declarations, number) else {
+            return None;
+        };
+        Some(Symbol {
+            identifier: declaration.identifier,
+            kind: self.kind_of(parameters, way, declaration),
+        })
+    }
+
+    /// The numbers of the parameters of a region among its symbols.
+    #[tactic(auto, using(crate::proofs::TablesAt::parameters_declared))]
+    fn parameters_of(&self, region: usize) -> &[usize]
+        ensures { result.now ≡ map (symbols.number_declared (region_block (unit_view self.now) region).declarations) (region_block (unit_view self.now) region).parameters }
+    {
+        parameters_at(&self.tables.tables, region)
+    }
+
+    /// The ways of the names that a region declares.
+    #[tactic(auto, using(crate::proofs::TablesAt::ways_declared))]
+    fn ways_of(&self, region: usize) -> &[Way]
+        ensures { map way_view result.now ≡ symbols.ways_of (region_block (unit_view self.now) region).declarations }
+    {
+        ways_at(&self.tables.tables, region)
+    }
+
+    /// The block that is a region.
+    fn block_of(&self, block: BlockRegion) -> ResolvedBlock<'_>
+        ensures { resolved_block_view result ≡ without_symbols (block_of (unit_view self.now) block) }
+    {
+        let outer = match block.outer {
+            Some(outer) => Some(self.number_of(outer)),
+            None => None,
+        };
+        ResolvedBlock {
+            kind: block.kind,
+            outer,
+            statement: self.tables.starts.get(block.region).copied().unwrap_or(0),
+            name: self.tables.procedures.get(&block.region).copied(),
+            parameters: self.parameters_of(block.region),
+        }
+    }
+
+    /// What a region declares.
+    fn region_block(&self, region: usize) -> Option<&Block>
+        ensures { option_map (λ b. declare_view b.now) result ≡ slice_get (resolved_of (unit_view self.now)).blocks region }
+    {
+        self.declared.blocks().get(region)
+    }
+
+    /// The symbol of this number in a block that is a region.
+    #[tactic(auto, using(crate::proofs::TablesAt::declared_there, crate::proofs::TablesAt::declared_nowhere))]
+    fn symbol_in(&self, region: usize, number: usize) -> Option<Symbol<'_>>
+        ensures { option_map symbol_view result ≡ slice_get (symbols.symbols_of (facts_of (unit_view self.now)) (region_block (unit_view self.now) region).parameters (region_block (unit_view self.now) region).declarations) number }
+    {
+        let block = self.region_block(region)?;
+        let ways = self.ways_of(region);
+        self.symbol_among(&block.parameters, ways, &block.declarations, number)
+    }
+
+    /// The region that is the block of this number.
+    fn region_at(&self, number: usize) -> Option<&BlockRegion>
+        ensures { option_map (λ b. b.now) result ≡ slice_get (block_regions_of (unit_view self.now)) number }
+    {
+        self.tables.blocks.get(number)
+    }
+
+    /// The symbol under a key.
+    #[tactic(auto, using(crate::proofs::SymbolsAt::symbol_inside, crate::proofs::SymbolsAt::symbol_outside, crate::proofs::SymbolsAt::symbol_beyond))]
+    pub fn symbol(&self, key: SymbolKey) -> Option<Symbol<'_>>
+        ensures { option_map symbol_view result ≡ symbol_at (resolved_unit_of (unit_view self.now)) key }
+    {
+        if let Some(block) = self.region_at(key.block) {
+            return self.symbol_in(block.region, key.number);
+        }
+        if key.block != self.tables.blocks.len() {
+            return None;
+        }
+        let declarations = self.declared.outermost();
+        self.symbol_among(&[], &self.tables.ways, declarations, key.number)
+    }
+
+    /// The block of this number.
+    pub fn block(&self, number: usize) -> Option<ResolvedBlock<'_>>
+        ensures { option_map resolved_block_view result ≡ option_map without_symbols (slice_get (resolved_unit_of (unit_view self.now)).blocks number) }
+    {
+        let block = self.tables.blocks.get(number)?;
+        Some(self.block_of(*block))
+    }
+
+    /// A resolved unit of the same tree.
+    pub fn copy(&self, alloc: Global) -> Result<ResolvedUnit<'a>, AllocError>
+        ensures { IfOk result (λ copied. copied ≡ self.now) }
+    {
+        let tables = self.tables.copy(alloc)?;
+        let declared = self.declared.copy(alloc)?;
+        Ok(ResolvedUnit {
+            declared,
+            tables,
+            undescribed: Description::Pointer,
+        })
+    }
+}

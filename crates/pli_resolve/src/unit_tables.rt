@@ -1,0 +1,54 @@
+//! What is found once for a unit.
+ghost use Rattle.std.specs.Prelude.{◌≡◌, IfOk};
+ghost use Rattle.pli_base.specs.Statements.{ExternalProcedure};
+ghost use Rattle.pli_resolve.specs.views.UnitView.{AreTablesOf};
+
+use crate::block_numbers::BlockRegion;
+use crate::built_in::BuiltInFunction;
+use crate::copies::{
+    copied_functions, copied_labels, copied_procedures, copied_statements, copied_tables,
+    copied_ways,
+};
+use crate::symbol::SymbolKey;
+use crate::tables::BlockTable;
+use crate::ways::Way;
+use indexmap::IndexMap;
+use std::alloc::{AllocError, Global};
+
+/// What is found once for a unit.
+#[derive(Drop)]
+pub(crate) struct UnitTables {
+    /// For each region the number of its block.
+    pub numbers: Vec<usize>,
+    pub blocks: Vec<BlockRegion>,
+    /// For each region the statement with which it begins.
+    pub starts: Vec<u32>,
+    pub tables: Vec<BlockTable>,
+    /// The ways of the names of the outermost block.
+    pub ways: Vec<Way>,
+    pub functions: IndexMap<u32, BuiltInFunction>,
+    /// The regions of statements, by their numbers.
+    pub statements: IndexMap<u32, usize>,
+    /// The statements of labels, by the labels' tokens.
+    pub labels: IndexMap<u32, u32>,
+    pub procedures: IndexMap<usize, SymbolKey>,
+}
+
+impl UnitTables {
+    /// The same tables.
+    pub(crate) fn copy(&self, alloc: Global) -> Result<UnitTables, AllocError>
+        ensures { IfOk result (λ copied. (u : ExternalProcedure) → AreTablesOf self.now u → AreTablesOf copied u) }
+    {
+        Ok(UnitTables {
+            numbers: Vec::from_slice(alloc, &self.numbers)?,
+            blocks: Vec::from_slice(alloc, &self.blocks)?,
+            starts: Vec::from_slice(alloc, &self.starts)?,
+            tables: copied_tables(alloc, &self.tables)?,
+            ways: copied_ways(alloc, &self.ways)?,
+            functions: copied_functions(&self.functions)?,
+            statements: copied_statements(&self.statements)?,
+            labels: copied_labels(&self.labels)?,
+            procedures: copied_procedures(&self.procedures)?,
+        })
+    }
+}
