@@ -2,7 +2,7 @@
 -- 2^p - 1.
 use Rattle.std.specs.Prelude.{◌≡◌, ℕ, zero, suc, ◌^◌, nat_lt, Bool, ℤ, pos, negsuc, ◌+ℤ◌, ◌*ℤ◌, ◌≤ℤ◌}
 use Rattle.std.specs.Prelude.{unsigned_abs, Result, Ok, Err, if◌then◌else◌}
-use Rattle.std.specs.Prelude.{int_div}
+use Rattle.std.specs.Prelude.{int_div, int_lt, int_le, neg_ℤ}
 use Rattle.std.specs.Int.{int_rem_euclid}
 use Rattle.pli_value.specs.declared.number.Raised.{Raised}
 use Rattle.pli_value.specs.declared.number.Raised.TheVariants.{Overflow, ZeroDivide}
@@ -28,6 +28,17 @@ quotient precision x y = unless_zero y (within precision (int_div x y))
 -- MOD(x, y): what x is above a multiple of y, at least 0 and less than the magnitude of y
 abbrev pub remainder : (x y : ℤ) → Result ℤ Raised
 remainder x y = unless_zero y (Ok (int_rem_euclid x y))
+
+-- SIGN(x): -1, 0 or 1
+abbrev pub sign_of : ℤ → ℤ
+sign_of x = if int_lt x (pos 0) then neg_ℤ (pos 1) else if int_lt (pos 0) x then pos 1 else pos 0
+
+-- MAX(x, y) and MIN(x, y)
+abbrev pub greatest_of : ℤ → ℤ → ℤ
+greatest_of x y = if int_le x y then y else x
+
+abbrev pub least_of : ℤ → ℤ → ℤ
+least_of x y = if int_le x y then x else y
 
 -- r is the least number from 0 on from which x differs by a multiple of y
 pub record IsLeastRemainder (x y r : ℤ) : Type 0 where

@@ -35,6 +35,11 @@ disjunction s t = by_place false (λ a b. a || b) s t
 abbrev pub negation : List Bool → List Bool
 negation s = map not s
 
+-- a condition of IF or WHILE holds: a bit of the string is one
+abbrev pub is_true : List Bool → Bool
+is_true [] = false
+is_true (b ∷ bits) = b || is_true bits
+
 -- `||`: one string behind the other, where the result has no more than 32,767 elements
 abbrev pub concatenation : {A : Type 0} → List A → List A → Option (List A)
 concatenation s t = if nat_le (length s + length t) 32767 then Some (s ++ t) else None

@@ -1,7 +1,7 @@
 //! Strings of bits (X3.74), packed eight to a byte.
 ghost use Rattle.std.specs.Prelude.{◌≡◌, ◌≤◌, ◌<◌, ◌+◌, ◌*◌, ◌++◌, ◌∷◌, [], length, slice_index_or, take, drop, false, IfOk, OnErr, MatchOption, Some, None};
 ghost use Rattle.std.specs.Ordering.{bool_cmp};
-ghost use Rattle.pli_value.specs.Strings.{order_of, concatenation, substring, substring_from, fitted, conjunction, disjunction, negation, index_of};
+ghost use Rattle.pli_value.specs.Strings.{order_of, concatenation, substring, substring_from, fitted, conjunction, disjunction, negation, index_of, is_true};
 ghost use Rattle.pli_value.specs.Conversions.{bit_character, bit_characters};
 
 use crate::character::{self, STRING_LIMIT};
@@ -9,6 +9,9 @@ use crate::part::{part_of, rest_of};
 use std::alloc::{AllocError, Global};
 use std::cmp::Ordering;
 use std::marker::Model;
+
+/// How many bits a string has at most that is searched in little room.
+const SHORT: usize = 256;
 
 /// A bit string of at most 32,767 bits: eight to a byte, the first bit highest, and nothing behind the last one (own). Contracts see
 /// the list of its bits.
@@ -146,6 +149,18 @@ pub fn or(alloc: Global, left: &Bits, right: &Bits) -> Result<Bits, AllocError>
     Ok(joined)
 }
 
+/// Whether a condition holds (X3.74): a bit of the string is one.
+pub fn is_true(bits: &Bits) -> bool
+    ensures { result ≡ is_true bits.now }
+{
+    for place in 0..bits.length() {
+        if bits.at(place) {
+            return true;
+        }
+    }
+    false
+}
+
 /// `^` (X3.74).
 pub fn not(alloc: Global, bits: &Bits) -> Result<Bits, AllocError>
     ensures { IfOk result (λ turned. turned ≡ negation bits.now) }
@@ -252,11 +267,42 @@ fn character_of(bit: bool) -> u8
 pub fn index(bits: &Bits, sought: &Bits) -> usize
     ensures { result ≡ index_of (bit_characters bits.now) (bit_characters sought.now) }
 {
+    if bits.length().max(sought.length()) <= SHORT {
+        index_in_short(bits, sought)
+    } else {
+        index_in_long(bits, sought)
+    }
+}
+
+/// INDEX with room for the characters of short strings, so that it takes no more time than they are long.
+#[inline(never)]
+fn index_in_short(bits: &Bits, sought: &Bits) -> usize
+    requires bits { length bits.now ≤ 256 }
+    requires sought { length sought.now ≤ 256 }
+    ensures { result ≡ index_of (bit_characters bits.now) (bit_characters sought.now) }
+{
+    index_by(bits, sought, &mut [0; SHORT], &mut [0; SHORT])
+}
+
+/// INDEX with room for the characters of any strings.
+#[inline(never)]
+fn index_in_long(bits: &Bits, sought: &Bits) -> usize
+    requires bits { length bits.now ≤ 32767 }
+    requires sought { length sought.now ≤ 32767 }
+    ensures { result ≡ index_of (bit_characters bits.now) (bit_characters sought.now) }
+{
+    index_by(bits, sought, &mut [0; STRING_LIMIT], &mut [0; STRING_LIMIT])
+}
+
+/// INDEX, with buffers for the characters of both strings.
+fn index_by(bits: &Bits, sought: &Bits, whole: &mut [u8], part: &mut [u8]) -> usize
+    requires bits { length bits.now ≤ length whole.old }
+    requires sought { length sought.now ≤ length part.old }
+    ensures { result ≡ index_of (bit_characters bits.now) (bit_characters sought.now) }
+{
     let (length, sought_length) = (bits.length(), sought.length());
-    let mut whole = [0; STRING_LIMIT];
-    let mut part = [0; STRING_LIMIT];
-    spell(bits, &mut whole);
-    spell(sought, &mut part);
+    spell(bits, whole);
+    spell(sought, part);
     character::index(&whole[..length], &part[..sought_length])
 }
 

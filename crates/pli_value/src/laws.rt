@@ -1,7 +1,7 @@
 //! Laws and worked examples of the operations on values.
-ghost use Rattle.pli_value.specs.examples.NumberExamples.{GreatestNumbers, Quotients, Remainders};
+ghost use Rattle.pli_value.specs.examples.NumberExamples.{GreatestNumbers, Quotients, Remainders, SignsAndOrders};
 ghost use Rattle.pli_value.specs.Numbers.{RemaindersAreLeast};
-ghost use Rattle.pli_value.specs.examples.StringExamples.{CharacterOrders, BitOrders, Places, Parts, Assigned, BitOperations, Converted};
+ghost use Rattle.pli_value.specs.examples.StringExamples.{CharacterOrders, BitOrders, Places, Parts, Assigned, BitOperations, Converted, Conditions, Packed};
 ghost use Rattle.pli_value.specs.Strings.{IndexIsTheFirstPlace};
 
 /// A law: what MOD gives is the least number from 0 on from which the first operand differs by a multiple of the second.
@@ -19,6 +19,7 @@ pub fn number_examples()
     ensures greatest { GreatestNumbers }
     ensures quotients { Quotients }
     ensures remainders { Remainders }
+    ensures signs { SignsAndOrders }
 {}
 
 /// Worked examples of strings.
@@ -30,4 +31,6 @@ pub fn string_examples()
     ensures assigned { Assigned }
     ensures bit_operations { BitOperations }
     ensures converted { Converted }
+    ensures conditions { Conditions }
+    ensures packed { Packed }
 {}

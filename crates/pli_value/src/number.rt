@@ -1,6 +1,9 @@
 //! Numbers of FIXED BINARY (X3.74, X3.53): 64 bits each, of a precision that is a parameter.
-ghost use Rattle.std.specs.Prelude.{◌≡◌, ◌≤◌, ◌+ℤ◌, ◌-ℤ◌, ◌*ℤ◌};
-ghost use Rattle.pli_value.specs.Numbers.{within, quotient, remainder};
+ghost use Rattle.std.specs.Prelude.{◌≡◌, ◌≤◌, ◌+ℤ◌, ◌-ℤ◌, ◌*ℤ◌, neg_ℤ, pos, unsigned_abs, IsTrue};
+ghost use Rattle.std.specs.Ordering.{int_cmp};
+ghost use Rattle.pli_value.specs.Numbers.{has_digits, within, quotient, remainder, sign_of, greatest_of, least_of};
+
+use std::cmp::Ordering;
 
 /// A condition that an operation on numbers raises in place of a result.
 #[derive(Clone, Copy, Debug, PartialEq, Eq)]
@@ -86,4 +89,60 @@ pub fn fit(number: i64, precision: u8) -> Result<i64, Raised>
     } else {
         Err(Raised::Overflow)
     }
+}
+
+/// Prefix `-` (X3.74): a number of no more digits than its operand has.
+#[inline]
+pub fn negate(number: i64) -> i64
+    requires { IsTrue (has_digits 63 number) }
+    ensures { result ≡ neg_ℤ number }
+{
+    -number
+}
+
+/// ABS (X3.74): a number of no more digits than its operand has.
+#[inline]
+pub fn absolute(number: i64) -> i64
+    requires { IsTrue (has_digits 63 number) }
+    ensures { result ≡ pos (unsigned_abs number) }
+{
+    number.abs()
+}
+
+/// SIGN (X3.74): -1, 0 or 1.
+#[inline]
+pub fn sign(number: i64) -> i64
+    ensures { result ≡ sign_of number }
+{
+    if number < 0 {
+        -1
+    } else if number > 0 {
+        1
+    } else {
+        0
+    }
+}
+
+/// MAX (X3.74) of two numbers.
+#[inline]
+pub fn greatest(left: i64, right: i64) -> i64
+    ensures { result ≡ greatest_of left right }
+{
+    if left <= right { right } else { left }
+}
+
+/// MIN (X3.74) of two numbers.
+#[inline]
+pub fn least(left: i64, right: i64) -> i64
+    ensures { result ≡ least_of left right }
+{
+    if left <= right { left } else { right }
+}
+
+/// The order of two numbers (X3.74).
+#[inline]
+pub fn compare(left: i64, right: i64) -> Ordering
+    ensures { result ≡ int_cmp left right }
+{
+    left.cmp(&right)
 }

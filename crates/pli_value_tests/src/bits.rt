@@ -1,5 +1,7 @@
 use pli_value::Value;
-use pli_value::bit::{Bits, and, bits_to_char, compare, concat, fit, index, not, or, rest, substr};
+use pli_value::bit::{
+    Bits, and, bits_to_char, compare, concat, fit, index, is_true, not, or, rest, substr,
+};
 use std::alloc::{AllocError, Global};
 use std::cmp::Ordering::{self, Equal, Greater, Less};
 use std::test::*;
@@ -20,7 +22,7 @@ fn is(alloc: Global, bits: &Bits, text: &str) -> Result<bool, AllocError> {
     Ok(bits_to_char(alloc, bits)?.as_slice() == text.as_bytes())
 }
 
-static ORDERS: [(&str, &str, Ordering); 8] = [
+static ORDERS: [(&str, &str, Ordering); 11] = [
     ("", "", Equal),
     ("", "00", Equal),
     ("11", "110", Equal),
@@ -29,6 +31,9 @@ static ORDERS: [(&str, &str, Ordering); 8] = [
     ("", "1", Less),
     ("00000000", "000000001", Less),
     ("0000000010", "000000001", Equal),
+    ("000000001", "00000000", Greater),
+    ("1", "", Greater),
+    ("01", "1", Less),
 ];
 
 /// Two strings, what `&` and `|` give of them, and `||`.
@@ -61,7 +66,7 @@ static TURNED: [(&str, &str); 4] = [
 ];
 
 /// A string, the first place and the length of a part, and the part.
-static PARTS: [(&str, i64, i64, Option<&str>); 8] = [
+static PARTS: [(&str, i64, i64, Option<&str>); 12] = [
     ("101", 1, 3, Some("101")),
     ("0000000110", 8, 2, Some("11")),
     ("101", 4, 0, Some("")),
@@ -70,6 +75,10 @@ static PARTS: [(&str, i64, i64, Option<&str>); 8] = [
     ("101", 2, -1, None),
     ("", 1, 0, Some("")),
     ("101", 9_223_372_036_854_775_807, 1, None),
+    ("101", 1, 2_147_483_648, None),
+    ("101", 4_294_967_297, 1, None),
+    ("101", 4, 9_223_372_036_854_775_807, None),
+    ("101", -9_223_372_036_854_775_807, 1, None),
 ];
 
 static RESTS: [(&str, i64, Option<&str>); 5] = [
@@ -171,10 +180,30 @@ fn bytes_and_lengths(rt: HostRuntime) -> Result<(), Fail> {
     assert_eq!(rt; string.length(), 10);
     assert!(rt; string.bytes() == [0x80, 0x40].as_slice());
     assert!(rt; string.at(0) && string.at(9) && !string.at(1) && !string.at(10));
+    let unpacked = Bits::unpack(alloc, &[0x80, 0x7f], 10)?;
+    assert!(rt; is(alloc, &unpacked, "1000000001")?);
+    assert!(rt; unpacked.bytes() == [0x80, 0x40].as_slice());
+    assert_eq!(rt; Bits::unpack(alloc, &[], 0)?.length(), 0);
     let longest = fit(alloc, &string, 32_767)?;
     assert_eq!(rt; longest.bytes().len(), 4_096);
     assert!(rt; concat(alloc, &longest, &Bits::new(alloc))?.is_some());
     assert!(rt; concat(alloc, &string, &longest)?.is_none());
+    Ok(())
+}
+
+#[test]
+fn conditions(rt: HostRuntime) -> Result<(), Fail> {
+    let alloc = rt.alloc();
+    for &(string, wanted) in &[
+        ("", false),
+        ("0", false),
+        ("1", true),
+        ("00000000", false),
+        ("000000001", true),
+        ("1000000000", true),
+    ] {
+        assert_eq!(rt; is_true(&bits(alloc, string)?), wanted, "{string}");
+    }
     Ok(())
 }
 

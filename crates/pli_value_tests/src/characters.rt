@@ -5,7 +5,7 @@ use pli_value::{index_is_the_first_place, string_examples};
 use std::cmp::Ordering::{self, Equal, Greater, Less};
 use std::test::*;
 
-static ORDERS: [(&str, &str, Ordering); 10] = [
+static ORDERS: [(&str, &str, Ordering); 14] = [
     ("", "", Equal),
     ("", " ", Equal),
     ("AB", "AB ", Equal),
@@ -16,6 +16,10 @@ static ORDERS: [(&str, &str, Ordering); 10] = [
     ("A", "AB", Less),
     ("A", "A\t", Greater),
     ("", "\t", Greater),
+    ("\t", "", Less),
+    ("A\t", "A", Less),
+    ("AB", "A", Greater),
+    (" ", "", Equal),
 ];
 
 /// A string, what is sought in it, and the place.
@@ -33,7 +37,7 @@ static PLACES: [(&str, &str, usize); 10] = [
 ];
 
 /// A string, the first place and the length of a part, and the part.
-static PARTS: [(&str, i64, i64, Option<&str>); 11] = [
+static PARTS: [(&str, i64, i64, Option<&str>); 17] = [
     ("ABC", 1, 3, Some("ABC")),
     ("ABC", 2, 1, Some("B")),
     ("ABC", 4, 0, Some("")),
@@ -44,6 +48,12 @@ static PARTS: [(&str, i64, i64, Option<&str>); 11] = [
     ("ABC", -1, 1, None),
     ("ABC", 2, -1, None),
     ("ABC", 2_147_483_647, 2_147_483_647, None),
+    ("ABC", 1, 2_147_483_648, None),
+    ("ABC", 4_294_967_297, 1, None),
+    ("ABC", 2, 4_294_967_297, None),
+    ("ABC", 4, 9_223_372_036_854_775_807, None),
+    ("ABC", 9_223_372_036_854_775_807, 0, None),
+    ("ABC", -9_223_372_036_854_775_807, 1, None),
     (
         "ABC",
         9_223_372_036_854_775_807,
@@ -52,13 +62,16 @@ static PARTS: [(&str, i64, i64, Option<&str>); 11] = [
     ),
 ];
 
-static RESTS: [(&str, i64, Option<&str>); 6] = [
+static RESTS: [(&str, i64, Option<&str>); 9] = [
     ("ABC", 1, Some("ABC")),
     ("ABC", 3, Some("C")),
     ("ABC", 4, Some("")),
     ("ABC", 5, None),
     ("ABC", 0, None),
     ("", 1, Some("")),
+    ("ABC", 4_294_967_297, None),
+    ("ABC", 9_223_372_036_854_775_807, None),
+    ("ABC", -9_223_372_036_854_775_807, None),
 ];
 
 /// A string, the length of its target, and what CHARACTER and CHARACTER VARYING of that length hold then.
@@ -136,6 +149,24 @@ fn concatenations(rt: HostRuntime) -> Result<(), Fail> {
     assert!(rt; concat(rt.alloc(), &both, b"")?.is_some());
     assert!(rt; concat(rt.alloc(), &longest, b"BC")?.is_none());
     assert!(rt; concat(rt.alloc(), b"C", &both)?.is_none());
+    Ok(())
+}
+
+#[test]
+fn longest_strings(rt: HostRuntime) -> Result<(), Fail> {
+    let mut longest = fit(rt.alloc(), b"", STRING_LIMIT)?;
+    assert!(rt; compare(&longest, b"").is_eq() && compare(b" ", &longest).is_eq());
+    if let Some(last) = longest.last_mut() {
+        *last = b'A';
+    }
+    assert!(rt; compare(&longest, b"").is_gt() && compare(b"", &longest).is_lt());
+    assert_eq!(rt; index(&longest, b"A"), 32_767);
+    assert_eq!(rt; index(&longest, &longest), 1);
+    assert!(rt; substr(&longest, 32_767, 1) == Some(b"A".as_slice()));
+    assert!(rt; substr(&longest, 32_768, 0) == Some(b"".as_slice()));
+    assert!(rt; substr(&longest, 32_767, 2).is_none() && substr(&longest, 32_768, 1).is_none());
+    assert!(rt; rest(&longest, 32_768).is_some() && rest(&longest, 32_769).is_none());
+    assert_eq!(rt; fit(rt.alloc(), &longest, 1)?.len(), 1);
     Ok(())
 }
 

@@ -1,6 +1,10 @@
 use Raised::{Overflow, ZeroDivide};
-use pli_value::number::{Raised, add, divide, fit, modulo, multiply, subtract};
+use pli_value::number::{
+    Raised, absolute, add, compare, divide, fit, greatest, least, modulo, multiply, negate, sign,
+    subtract,
+};
 use pli_value::{number_examples, remainders_are_least};
+use std::cmp::Ordering::{self, Equal, Greater, Less};
 use std::test::*;
 
 /// The greatest number of 31 binary digits, and of 63.
@@ -11,11 +15,13 @@ const WIDE: i64 = 9_223_372_036_854_775_807;
 /// Two operands, the greatest precision, the result.
 type Row = (i64, i64, u8, Result<i64, Raised>);
 
-static SUMS: [Row; 8] = [
+static SUMS: [Row; 10] = [
     (2, 3, 31, Ok(5)),
     (MOST, 0, 31, Ok(MOST)),
     (MOST, 1, 31, Err(Overflow)),
     (-MOST, -1, 31, Err(Overflow)),
+    (-MOST, 0, 31, Ok(-MOST)),
+    (MOST, -MOST, 31, Ok(0)),
     (MOST, 1, 63, Ok(2_147_483_648)),
     (WIDE, 1, 63, Err(Overflow)),
     (-WIDE, -1, 63, Err(Overflow)),
@@ -31,17 +37,20 @@ static DIFFERENCES: [Row; 6] = [
     (-WIDE, 2, 63, Err(Overflow)),
 ];
 
-static PRODUCTS: [Row; 6] = [
+static PRODUCTS: [Row; 9] = [
     (-6, 7, 31, Ok(-42)),
     (46_341, 46_341, 31, Err(Overflow)),
     (46_340, -46_341, 31, Ok(-2_147_441_940)),
     (65_536, 32_768, 63, Ok(2_147_483_648)),
     (WIDE, 2, 63, Err(Overflow)),
     (-MOST, 0, 31, Ok(0)),
+    (MOST, -1, 31, Ok(-MOST)),
+    (65_536, -32_768, 31, Err(Overflow)),
+    (-WIDE, -1, 63, Ok(WIDE)),
 ];
 
 /// Dividend, divisor, precision of the quotient.
-static QUOTIENTS: [Row; 9] = [
+static QUOTIENTS: [Row; 12] = [
     (7, 2, 31, Ok(3)),
     (-7, 2, 31, Ok(-3)),
     (7, -2, 31, Ok(-3)),
@@ -51,6 +60,9 @@ static QUOTIENTS: [Row; 9] = [
     (0, 0, 3, Err(ZeroDivide)),
     (8, 1, 3, Err(Overflow)),
     (-7, 1, 3, Ok(-7)),
+    (MOST, -1, 31, Ok(-MOST)),
+    (2_147_483_648, -1, 31, Err(Overflow)),
+    (-WIDE, -1, 63, Ok(WIDE)),
 ];
 
 /// What is assigned, and the precision of the target.
@@ -65,7 +77,7 @@ static ASSIGNED: [(i64, u8, Result<i64, Raised>); 8] = [
     (WIDE, 63, Ok(WIDE)),
 ];
 
-static REMAINDERS: [(i64, i64, Result<i64, Raised>); 9] = [
+static REMAINDERS: [(i64, i64, Result<i64, Raised>); 11] = [
     (7, 3, Ok(1)),
     (-7, 3, Ok(2)),
     (7, -3, Ok(1)),
@@ -75,6 +87,28 @@ static REMAINDERS: [(i64, i64, Result<i64, Raised>); 9] = [
     (-MOST, -1, Ok(0)),
     (-1, WIDE, Ok(9_223_372_036_854_775_806)),
     (5, 0, Err(ZeroDivide)),
+    (0, -5, Ok(0)),
+    (-MOST, MOST, Ok(0)),
+];
+
+/// A number, its sign, and what `-` and ABS give of it.
+static TURNED: [(i64, i64, i64, i64); 7] = [
+    (0, 0, 0, 0),
+    (1, 1, -1, 1),
+    (-1, -1, 1, 1),
+    (MOST, 1, -MOST, MOST),
+    (-MOST, -1, MOST, MOST),
+    (WIDE, 1, -WIDE, WIDE),
+    (-WIDE, -1, WIDE, WIDE),
+];
+
+/// Two numbers, their order, the greater and the lesser.
+static ORDERS: [(i64, i64, Ordering, i64, i64); 5] = [
+    (2, 2, Equal, 2, 2),
+    (-1, 0, Less, 0, -1),
+    (1, -1, Greater, 1, -1),
+    (-MOST, MOST, Less, MOST, -MOST),
+    (WIDE, -WIDE, Greater, WIDE, -WIDE),
 ];
 
 #[test]
@@ -124,6 +158,21 @@ fn assignments(rt: HostRuntime) {
             wanted,
             "{number} at {precision}"
         );
+    }
+}
+
+#[test]
+fn signs_and_orders(rt: HostRuntime) {
+    for &(number, signed, turned, magnitude) in &TURNED {
+        let number = number.max(-WIDE);
+        assert_eq!(rt; sign(number), signed, "SIGN({number})");
+        assert_eq!(rt; negate(number), turned, "-{number}");
+        assert_eq!(rt; absolute(number), magnitude, "ABS({number})");
+    }
+    for &(left, right, order, most, fewest) in &ORDERS {
+        assert_eq!(rt; compare(left, right), order, "{left} and {right}");
+        assert_eq!(rt; greatest(left, right), most, "MAX({left}, {right})");
+        assert_eq!(rt; least(left, right), fewest, "MIN({left}, {right})");
     }
 }
 

@@ -1,7 +1,7 @@
 -- Worked examples of the operations on numbers.
 use Rattle.std.specs.Prelude.{◌≡◌, ◌+ℤ◌, ◌-ℤ◌, ◌*ℤ◌, pos, negsuc, Ok, Err}
 use Rattle.pli_value.specs.declared.number.Raised.TheVariants.{Overflow, ZeroDivide}
-use Rattle.pli_value.specs.Numbers.{within, quotient, remainder}
+use Rattle.pli_value.specs.Numbers.{within, quotient, remainder, sign_of, greatest_of, least_of}
 
 -- 2147483647 has 31 binary digits, and so has -2147483647; one more on either side has 32
 abbrev pub GreatestNumbers : Type 0
@@ -25,3 +25,9 @@ abbrev pub Remainders : Type 0
 Remainders = (remainder (pos 7) (pos 3) ≡ Ok (pos 1)) × (remainder (negsuc 6) (pos 3) ≡ Ok (pos 2))
     × (remainder (pos 7) (negsuc 2) ≡ Ok (pos 1)) × (remainder (negsuc 6) (negsuc 2) ≡ Ok (pos 2))
     × (remainder (negsuc 5) (pos 3) ≡ Ok (pos 0)) × (remainder (pos 7) (pos 0) ≡ Err ZeroDivide)
+
+-- SIGN, MAX and MIN
+abbrev pub SignsAndOrders : Type 0
+SignsAndOrders = (sign_of (negsuc 6) ≡ negsuc 0) × (sign_of (pos 0) ≡ pos 0) × (sign_of (pos 7) ≡ pos 1)
+    × (greatest_of (negsuc 6) (pos 2) ≡ pos 2) × (greatest_of (pos 7) (pos 2) ≡ pos 7)
+    × (least_of (negsuc 6) (pos 2) ≡ negsuc 6) × (least_of (pos 7) (pos 2) ≡ pos 2)

@@ -5,7 +5,8 @@ use Rattle.std.specs.declared.cmp.Ordering.TheVariants.{Less, Equal, Greater}
 use Rattle.std.specs.Ordering.{nat_cmp, bool_cmp}
 use Rattle.pli_value.specs.Conversions.{number_characters, bit_characters}
 use Rattle.pli_value.specs.Strings.{order_of, substring, substring_from, fitted, index_of, conjunction}
-use Rattle.pli_value.specs.Strings.{disjunction, negation}
+use Rattle.pli_value.specs.Packing.{packed, unpacked}
+use Rattle.pli_value.specs.Strings.{disjunction, negation, is_true}
 
 -- bits written from left to right
 abbrev pub bits : List ℕ → List Bool
@@ -56,3 +57,14 @@ BitOperations = (conjunction (bits (1 ∷ 1 ∷ 0 ∷ 0 ∷ [])) (bits (1 ∷ 0 
 abbrev pub Converted : Type 0
 Converted = (number_characters 4 (pos 5) ≡ codes "   5") × (number_characters 4 (negsuc 4) ≡ codes "  -5")
     × (bit_characters (bits (1 ∷ 0 ∷ 1 ∷ [])) ≡ codes "101")
+
+-- no bit, none that is one, and one that is
+abbrev pub Conditions : Type 0
+Conditions = (is_true [] ≡ false) × (is_true (bits (0 ∷ 0 ∷ [])) ≡ false)
+    × (is_true (bits (0 ∷ 1 ∷ 0 ∷ [])) ≡ true)
+
+-- '101000001'B packed
+abbrev pub Packed : Type 0
+Packed = (packed (bits (1 ∷ 0 ∷ 1 ∷ 0 ∷ 0 ∷ 0 ∷ 0 ∷ 0 ∷ 1 ∷ [])) ≡ 160 ∷ 128 ∷ [])
+    × (unpacked 9 (160 ∷ 255 ∷ []) ≡ bits (1 ∷ 0 ∷ 1 ∷ 0 ∷ 0 ∷ 0 ∷ 0 ∷ 0 ∷ 1 ∷ []))
+    × (packed [] ≡ [])
