@@ -1,4 +1,3 @@
 pub mod EmitLemmas
-pub mod JumpLemmas
 pub mod TableNumbers
 pub mod TablesLookUp

@@ -1,4 +1,5 @@
 pub mod Encoding
+pub mod Limits
 pub mod TreeTranslation
 pub mod WellNumbered
 pub mod examples

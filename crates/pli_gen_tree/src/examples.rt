@@ -2,7 +2,7 @@
 ghost use Rattle.pli_gen_tree.specs.examples.TranslationExamples.{AssignedAndPrinted, PartOfStructure};
 ghost use Rattle.pli_gen_tree.specs.examples.TranslationExamples.{ArgumentsHanded, AggregateCopied};
 ghost use Rattle.pli_gen_tree.specs.examples.TranslationExamples.{JumpsAndBlocks, WholeUnit, NumberedWell};
-ghost use Rattle.pli_gen_tree.specs.examples.TranslationExamples.{TablesNumbered, InstructionsNumbered};
+ghost use Rattle.pli_gen_tree.specs.examples.TranslationExamples.{TablesNumbered, InstructionsNumbered, LimitsKept};
 
 /// Worked examples: an assignment and PUT; a reference with subscripts; a call; an aggregate; jumps between blocks;
 /// tables.
@@ -16,4 +16,5 @@ pub fn worked_examples()
     ensures numbered_well { NumberedWell }
     ensures tables_numbered { TablesNumbered }
     ensures instructions_numbered { InstructionsNumbered }
+    ensures limits_kept { LimitsKept }
 {}

@@ -6,7 +6,7 @@ use pli_type_tree::Stride;
 use pli_value::Value;
 
 /// An instruction with what it names, as it lies in the typed tree. Targets are places of instructions in their unit,
-/// counted from 0; that of a GOTO is the number of its label's statement at first.
+/// counted from 0; a GOTO has its label's statement.
 #[derive(Clone, Copy)]
 pub enum NamingInstruction<'a> {
     Step {
@@ -23,7 +23,7 @@ pub enum NamingInstruction<'a> {
     },
     Goto {
         outward: u32,
-        target: usize,
+        label: u32,
     },
     Call {
         block: u32,

@@ -1,5 +1,5 @@
 -- Worked examples of the translation.
-use Rattle.std.specs.Prelude.{◌≡◌, ℕ, pos, true, false, Some, None, [], ◌∷◌, codes}
+use Rattle.std.specs.Prelude.{replicate, ◌≡◌, ℕ, pos, true, false, Some, None, [], ◌∷◌, codes}
 use Rattle.pli_code.specs.declared.ending.RunError.TheVariants.{NoReturnedValue}
 use Rattle.pli_map.specs.Description.{FixedBinary, Character}
 use Rattle.pli_operation.specs.Operations as calculate
@@ -16,6 +16,7 @@ use Rattle.pli_type_tree.specs.TypedTree.{Stop, Else, NoStatement, StatementThen
 use Rattle.pli_type_tree.specs.TypedTree.{TypedUnit, TypedProcedure}
 use Rattle.pli_unit_code.specs.declared.instruction.Instruction.TheVariants as coded
 use Rattle.pli_gen_tree.specs.Encoding.{code_of}
+use Rattle.pli_gen_tree.specs.Limits.{is_too_long}
 use Rattle.pli_gen_tree.specs.WellNumbered.{IsWellNumbered}
 use Rattle.pli_gen_tree.specs.TreeTranslation.{list_code, place_code, statement_code, unit_code}
 
@@ -228,3 +229,9 @@ InstructionsNumbered = (code_of printing_unit).instructions
     ∷ coded.Step 4 ∷ coded.Local 0 0 ∷ coded.Load ∷ coded.Put ∷ coded.Constant 0 ∷ coded.ToCharacters 4
     ∷ coded.Put ∷ coded.Constant 0 ∷ coded.Absolute ∷ coded.ToCharacters 5 ∷ coded.Put ∷ coded.Return 0
     ∷ coded.Return 0 ∷ []
+
+-- it is not too long; with 65,536 globals it would be
+abbrev pub LimitsKept : Type 0
+LimitsKept = (is_too_long (code_of printing_unit) ≡ false)
+    × (is_too_long (record (code_of printing_unit) { globals = replicate 65536 0 }) ≡ true)
+    × (is_too_long (record (code_of printing_unit) { globals = replicate 65535 0 }) ≡ false)

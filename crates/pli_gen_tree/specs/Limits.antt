@@ -1,0 +1,57 @@
+-- Which code is too long, so that a unit is G1 (own): a table of more than 65,535 entries, a block of more than
+-- 65,535 slots, a structure of more than 65,535 members, or templates with initial values whose sizes come to
+-- more than 16,777,216 bytes.
+use Rattle.std.specs.Prelude.{ℕ, suc, ◌+◌, nat_lt, Bool, false, ◌||◌, Option, Some, None, List, [], ◌∷◌}
+use Rattle.std.specs.Prelude.{length, slice_get}
+use Rattle.std.specs.List.{list_any, sum_by}
+use Rattle.pli_map.specs.Description.{Description, Array, Structure, Members, NoMembers, MemberThen}
+use Rattle.pli_map.specs.Sizes.{size_of}
+use Rattle.pli_unit_code.specs.CodeTables.{CodedTemplate, CodedBlock, Code}
+
+-- the greatest number of entries
+abbrev pub entry_limit : ℕ
+entry_limit = 65535
+
+abbrev pub is_over : {X : Type 0} → List X → Bool
+is_over entries = nat_lt entry_limit (length entries)
+
+-- the parameters of a block and its AUTOMATIC variables
+abbrev pub has_many_slots : CodedBlock → Bool
+has_many_slots b = nat_lt entry_limit (b.parameters + length b.variables)
+
+-- a structure somewhere in a description has too many members
+abbrev pub member_count : Members → ℕ
+member_count NoMembers = 0
+member_count (MemberThen d ds) = suc (member_count ds)
+
+abbrev mutual
+  pub has_many_members : Description → Bool
+  has_many_members (Array bounds element) = has_many_members element
+  has_many_members (Structure members) =
+      nat_lt entry_limit (member_count members) || one_has_many members
+  has_many_members scalar = false
+
+  pub one_has_many : Members → Bool
+  one_has_many NoMembers = false
+  one_has_many (MemberThen d ds) = has_many_members d || one_has_many ds
+
+-- the bytes of a template that has initial values
+abbrev pub bytes_of : Option Description → ℕ
+bytes_of None = 0
+bytes_of (Some d) = size_of d
+
+abbrev pub initial_bytes_of : List Description → CodedTemplate → ℕ
+initial_bytes_of descriptions t = bytes_if t.initial
+  where
+    bytes_if : {X : Type 0} → List X → ℕ
+    bytes_if [] = 0
+    bytes_if (i ∷ is) = bytes_of (slice_get descriptions t.description)
+
+abbrev pub initial_bytes : Code → ℕ
+initial_bytes c = sum_by (initial_bytes_of c.descriptions) c.templates
+
+abbrev pub is_too_long : Code → Bool
+is_too_long c =
+    is_over c.descriptions || is_over c.templates || is_over c.values || is_over c.globals
+    || is_over c.blocks || is_over c.instructions || list_any has_many_slots c.blocks
+    || list_any has_many_members c.descriptions || nat_lt 16777216 (initial_bytes c)
