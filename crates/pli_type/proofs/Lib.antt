@@ -1,1 +1,3 @@
+pub mod FaultCodes
+pub mod Lists
 pub mod TypedTrees

@@ -147,8 +147,8 @@ calculation operation kind operands = None
 -- what a function gives of values
 abbrev pub of_values : (greatest : ℕ) → BuiltInFunction → List TypedValue → Option TypedValue
 of_values greatest function values =
-    calculation (operation_of function (length values)) (call_type greatest function (map (λ v. v.kind) values))
-    (map (λ v. v.expression) values)
+    calculation (operation_of function (length values))
+    (call_type greatest function (map (λ v. v.kind) values)) (map (λ v. v.expression) values)
 
 -- DIVIDE of two values
 abbrev pub the_quotient : (greatest : ℕ) → (x y : TypedValue) → (written : Option ℕ) → Option TypedValue

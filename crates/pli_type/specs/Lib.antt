@@ -9,4 +9,5 @@ pub mod StatementTyping
 pub mod Typing
 pub mod Unbuilt
 pub mod examples
+pub mod laws
 pub mod views

@@ -1,5 +1,6 @@
 pub mod ExampleTrees
 pub mod FaultExamples
+pub mod NameExamples
 pub mod TypeExamples
 pub mod TypedExamples
 pub mod UnitExamples

@@ -65,8 +65,8 @@ fn suited(
     }
 }
 
-/// A value as a variable of this description holds it, or none where it does not suit: FIXED is assigned from FIXED, BIT from
-/// BIT, CHARACTER from CHARACTER, BIT and FIXED (X3.74).
+/// A value as a variable of this description holds it, or none where it does not suit: FIXED is assigned from FIXED,
+/// BIT from BIT, CHARACTER from CHARACTER, BIT and FIXED (X3.74).
 pub fn converted(
     alloc: Global,
     greatest: u8,

@@ -19,7 +19,8 @@ pub enum ExpressionType {
     Area,
 }
 
-/// The precision of a FIXED BINARY operand that a decimal constant of so many digits is; none is greater than `greatest` (own).
+/// The precision of a FIXED BINARY operand that a decimal constant of so many digits is; none is greater than
+/// `greatest` (own).
 fn binary_digits(greatest: u8, digits: u8) -> u8
     ensures { result ≡ spec.binary_digits greatest digits }
 {
@@ -59,7 +60,8 @@ pub fn product_precision(greatest: u8, left: u8, right: u8) -> u8
 }
 
 impl ExpressionType {
-    /// The precision of a number, none of anything else: a decimal constant is FIXED BINARY where it is an operand (own).
+    /// The precision of a number, none of anything else: a decimal constant is FIXED BINARY where it is an operand
+    /// (own).
     pub fn precision(self, greatest: u8) -> Option<u8>
         ensures { result ≡ spec.precision_of greatest self }
     {

@@ -16,8 +16,9 @@ const A_COUNT: ExpressionType = ExpressionType::FixedBinary {
     precision: COUNT_PRECISION,
 };
 
-/// The type of what a built-in function gives of values of these types, or none where it does not take them. A built-in function
-/// converts nothing. ABS gives the precision of its operand, MAX and MIN the greater one, MOD that of its second operand (own).
+/// The type of what a built-in function gives of values of these types, or none where it does not take them. A built-
+/// in function converts nothing. ABS gives the precision of its operand, MAX and MIN the greater one, MOD that of its
+/// second operand (own).
 pub fn call_type(
     greatest: u8,
     function: BuiltInFunction,
@@ -72,8 +73,8 @@ fn part_type(greatest: u8, string: ExpressionType, first: ExpressionType) -> Opt
     }
 }
 
-/// The type of DIVIDE: of the precision that is written, from 1 to `greatest`; none where it is another, or where the operands are
-/// no numbers (X3.74).
+/// The type of DIVIDE: of the precision that is written, from 1 to `greatest`; none where it is another, or where the
+/// operands are no numbers (X3.74).
 pub fn quotient_type(
     greatest: u8,
     left: ExpressionType,

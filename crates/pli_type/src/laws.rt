@@ -1,8 +1,10 @@
-//! Worked examples of types and of their faults.
+//! Laws and worked examples of types and of their faults.
+ghost use Rattle.pli_type.specs.laws.Laws.{FaultsAreOfTypes};
 ghost use Rattle.pli_type.specs.examples.FaultExamples.{OneFaultToAStatement, OperatorsTakeTheirTypes, AssignmentsConvert, AggregatesStandAlone, SubscriptsAreCounted, LocatorsAreNotAllowed, NamesOfNoVariable, FunctionsConvertNothing, BareConstants};
 ghost use Rattle.pli_type.specs.examples.TypeExamples.{ConstantsAreDecimal, PrecisionsOfOperations, PrecisionsOfFunctions, KindsOfStrings, ColumnsOfNumbers};
 ghost use Rattle.pli_type.specs.examples.TypedExamples.{ConversionsStand, SubscriptsHaveStrides};
 ghost use Rattle.pli_type.specs.examples.UnitExamples.{FirstUnbuilt, InitialValues, CheckedUnits};
+ghost use Rattle.pli_type.specs.examples.NameExamples.{NamesOfUnit, VariablesOfUnit};
 
 /// Worked examples of faults.
 pub fn fault_examples()
@@ -38,4 +40,16 @@ pub fn unit_examples()
     ensures unbuilt { FirstUnbuilt }
     ensures initial { InitialValues }
     ensures checked { CheckedUnits }
+{}
+
+/// A law: a unit that is not typed has a fault of types, or Z1, and no fault of another kind.
+#[tactic(auto, using(crate::proofs::FaultCodes::faults_are_of_types))]
+pub fn faults_are_of_types()
+    ensures { FaultsAreOfTypes }
+{}
+
+/// Worked examples of what names of a resolved unit mean, and of what its variables are made from.
+pub fn name_examples()
+    ensures names { NamesOfUnit }
+    ensures variables { VariablesOfUnit }
 {}

@@ -7,10 +7,15 @@ mod function_calls;
 mod laws;
 mod operators;
 mod typed_value;
+mod unbuilt;
 
 pub use conversions::{converted, printed};
 pub use expression_type::{ExpressionType, product_precision, sum_precision};
 pub use function_calls::{call_type, operation_of, quotient_type};
-pub use laws::{fault_examples, type_examples, typed_examples, unit_examples};
+pub use laws::{
+    fault_examples, faults_are_of_types, name_examples, type_examples, typed_examples,
+    unit_examples,
+};
 pub use operators::{infix_value, prefix_value};
 pub use typed_value::TypedValue;
+pub use unbuilt::{is_later_function, later_heading, later_item, later_items};

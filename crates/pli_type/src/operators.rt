@@ -12,7 +12,8 @@ use pli_operation::{Operation, Relation};
 use pli_type_tree::TypedExpression;
 use std::alloc::{AllocError, Global};
 
-/// What a prefix operator gives, or none where it does not take the operand: `+` and `-` take a number, `^` bits (X3.74).
+/// What a prefix operator gives, or none where it does not take the operand: `+` and `-` take a number, `^` bits
+/// (X3.74).
 pub fn prefix_value(
     alloc: Global,
     greatest: u8,
@@ -150,8 +151,8 @@ fn arithmetic(
     }))
 }
 
-/// What an infix operator gives, or none where it does not take the operands: `+`, `-` and `*` take numbers, `&` and `|` bits,
-/// `||` strings, a comparison two numbers or two strings (X3.74).
+/// What an infix operator gives, or none where it does not take the operands: `+`, `-` and `*` take numbers, `&` and
+/// `|` bits, `||` strings, a comparison two numbers or two strings (X3.74).
 pub fn infix_value(
     alloc: Global,
     greatest: u8,

@@ -1,0 +1,94 @@
+-- Worked examples of names: a resolved unit as types see it.
+--
+--     M: PROC OPTIONS(MAIN);
+--     DCL 1 S STATIC, 2 A BIT, 2 B BIT INIT('1'B), X BIT, Y FIXED BIN(15) INIT(3);
+--
+-- where B, Y, the built-in function ABS and M are used at tokens 50, 52, 54 and 56.
+use Rattle.std.specs.Prelude.{◌≡◌, ℕ, nat_eq, true, false, pos, Option, Some, None, List, [], ◌∷◌, codes}
+use Rattle.std.specs.Prelude.{if◌then◌else◌}
+use Rattle.pli_base.specs.Name.{Name}
+use Rattle.pli_base.specs.Statements.{Main, Ended}
+use Rattle.pli_base.specs.declared.declaration.InitialValue.{InitialValue}
+use Rattle.pli_base.specs.declared.declaration.InitialValue.TheVariants as initial
+use Rattle.pli_declare_attributes.specs.declared.completed.Scope.TheVariants as scopes
+use Rattle.pli_map.specs.Description.{Description, FixedBinary, Bit, Structure, NoMembers, MemberThen}
+use Rattle.pli_resolve.specs.ResolvedUnits.{ResolvedUnit}
+use Rattle.pli_resolve.specs.Symbols.{Symbol, SymbolKind, Variable, Member, Procedure}
+use Rattle.pli_resolve.specs.declared.block_numbers.ResolvedBlockKind.TheVariants as kinds
+use Rattle.pli_resolve.specs.declared.built_in.BuiltInFunction.TheVariants as functions
+use Rattle.pli_resolve.specs.declared.symbol.NameMeaning.{NameMeaning}
+use Rattle.pli_resolve.specs.declared.symbol.NameMeaning.TheVariants as meanings
+use Rattle.pli_resolve.specs.declared.symbol.StorageClass.{StorageClass}
+use Rattle.pli_resolve.specs.declared.symbol.StorageClass.TheVariants as classes
+use Rattle.pli_type.specs.NamedUnits.{named_as, named_unit}
+use Rattle.pli_type.specs.Names.{NamedAs, AVariable, AFunction, AProcedure}
+use Rattle.pli_type.specs.examples.ExampleTrees.{called}
+use Rattle.pli_type_tree.specs.TypedTree.{InSlot, OfProgram}
+use Rattle.pli_value.specs.Value.{Number, Bits}
+
+abbrev pub symbol : Name → SymbolKind → Symbol
+symbol name kind = record { identifier = called name 0; kind = kind }
+
+abbrev pub own : Description → StorageClass → List InitialValue → SymbolKind
+own d class values = Variable d class scopes.Internal values None
+
+abbrev pub pair : Description
+pair = Structure (MemberThen (Bit 1) (MemberThen (Bit 1) NoMembers))
+
+abbrev pub declared : List Symbol
+declared =
+    symbol (codes "S") (own pair classes.Static [])
+    ∷ symbol (codes "A") (Member 0 (0 ∷ []) [] None)
+    ∷ symbol (codes "B") (Member 0 (1 ∷ []) (initial.Bits (true ∷ []) ∷ []) None)
+    ∷ symbol (codes "X") (own (Bit 1) classes.Automatic [])
+    ∷ symbol (codes "Y")
+    (own (FixedBinary 15) classes.Automatic
+    (initial.Integer None (record { negative = false; value = 3 }) ∷ [])) ∷ []
+
+abbrev pub used : (at : ℕ) → Option NameMeaning
+used at =
+    if nat_eq at 50 then Some (meanings.Symbol (record { block = 0; number = 2 }))
+    else if nat_eq at 52 then Some (meanings.Symbol (record { block = 0; number = 4 }))
+    else if nat_eq at 54 then Some (meanings.BuiltIn functions.Abs)
+    else if nat_eq at 56 then Some (meanings.Symbol (record { block = 1; number = 0 }))
+    else None
+
+abbrev pub resolved : ResolvedUnit
+resolved = record {
+  tree = record {
+    heading = record { name = called (codes "M") 0; number = 1; parameters = []; options = Main ∷ [] };
+    statements = Ended;
+    end = 3;
+  };
+  blocks = record {
+    kind = kinds.Procedure;
+    outer = None;
+    statement = 1;
+    name = Some (record { block = 1; number = 0 });
+    parameters = [];
+    symbols = declared;
+  } ∷ [];
+  outermost = symbol (codes "M") (Procedure 0 None None) ∷ [];
+  meaning = used;
+  statement_block = λ statement. Some 0;
+}
+
+abbrev pub meant_at : (at : ℕ) → NamedAs
+meant_at at = named_as resolved (used at)
+
+abbrev pub NamesOfUnit : Type 0
+NamesOfUnit =
+    (meant_at 50 ≡ AVariable (record { root = OfProgram 0; whole = pair; path = 1 ∷ [] }))
+    × (meant_at 52 ≡ AVariable (record { root = InSlot 0 1; whole = FixedBinary 15; path = [] }))
+    × (meant_at 54 ≡ AFunction functions.Abs)
+    × (meant_at 56 ≡ AProcedure)
+
+-- AUTOMATIC: X without initial values, Y with 3; STATIC: S, whose second scalar is B
+abbrev pub VariablesOfUnit : Type 0
+VariablesOfUnit =
+    ((named_unit 31 resolved).automatic
+    ≡ record { description = Bit 1; initial = [] }
+    ∷ record { description = FixedBinary 15; initial = record { scalar = 0; value = Number (pos 3) } ∷ [] }
+    ∷ [])
+    × ((named_unit 31 resolved).statics
+    ≡ record { description = pair; initial = record { scalar = 1; value = Bits (true ∷ []) } ∷ [] } ∷ [])

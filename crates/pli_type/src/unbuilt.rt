@@ -1,0 +1,141 @@
+//! What is not compiled yet, as far as it shows without names.
+ghost use Rattle.std.specs.Prelude.{◌≡◌, ◌||◌, map};
+ghost use Rattle.std.specs.List.{list_any};
+ghost use Rattle.pli_base.specs.views.DeclarationView.{attribute_view, item_view, simple_view};
+ghost use Rattle.pli_base.specs.views.StatementView.{option_view};
+ghost use Rattle.pli_type.specs.Unbuilt as spec;
+
+use pli_base::declaration::{Attribute, Item, SimpleAttribute};
+use pli_base::statement::ProcedureOption;
+use pli_base::syntax::Identifier;
+use pli_resolve::{BuiltInFunction, function_named};
+
+/// Whether a built-in function is not compiled yet: ALLOCATION, ADDR, NULL, EMPTY, POINTER and OFFSET (own).
+pub fn is_later_function(function: BuiltInFunction) -> bool
+    ensures { result ≡ spec.is_later_function function }
+{
+    matches!(
+        function,
+        BuiltInFunction::Allocation
+            | BuiltInFunction::Address
+            | BuiltInFunction::Null
+            | BuiltInFunction::Empty
+            | BuiltInFunction::Pointer
+            | BuiltInFunction::Offset
+    )
+}
+
+/// Whether an attribute is one of a declaration that is not compiled yet: of locators, areas, storage that is
+/// allocated and what other units share, and of STATIC in a unit that is not MAIN (own).
+fn later_simple(main: bool, attribute: &SimpleAttribute) -> bool
+    ensures { result ≡ spec.later_simple main (simple_view attribute.now) }
+{
+    match attribute {
+        SimpleAttribute::Pointer
+        | SimpleAttribute::Offset(_)
+        | SimpleAttribute::Area(_)
+        | SimpleAttribute::Based(_)
+        | SimpleAttribute::Controlled
+        | SimpleAttribute::External => true,
+        SimpleAttribute::Static => !main,
+        _ => false,
+    }
+}
+
+/// The same of any attribute: ENTRY and RETURNS too.
+fn later_attribute(main: bool, attribute: &Attribute) -> bool
+    ensures { result ≡ spec.later_attribute main (attribute_view attribute.now) }
+{
+    match attribute {
+        Attribute::Simple(attribute) => later_simple(main, attribute),
+        Attribute::Entry(_) | Attribute::Returns(_) => true,
+    }
+}
+
+/// Whether an attribute is BUILTIN.
+fn is_builtin(attribute: &Attribute) -> bool
+    ensures { result ≡ spec.is_builtin (attribute_view attribute.now) }
+{
+    matches!(attribute, Attribute::Simple(SimpleAttribute::Builtin))
+}
+
+/// Whether a name is that of a built-in function that is not compiled yet.
+fn is_later_name(name: &Identifier) -> bool
+    ensures { result ≡ spec.is_later_name name.now.name }
+{
+    match function_named(name.name) {
+        Some(function) => is_later_function(function),
+        None => false,
+    }
+}
+
+/// Whether one of the attributes is one of a declaration that is not compiled yet.
+fn any_later(main: bool, attributes: &[Attribute]) -> bool
+    ensures { result ≡ list_any (λ attribute. spec.later_attribute main (attribute_view attribute)) attributes.now }
+{
+    attributes
+        .iter()
+        .any(|attribute| later_attribute(main, attribute))
+}
+
+/// Whether one of the attributes is BUILTIN.
+fn any_builtin(attributes: &[Attribute]) -> bool
+    ensures { result ≡ list_any (λ attribute. spec.is_builtin (attribute_view attribute)) attributes.now }
+{
+    attributes.iter().any(|attribute| is_builtin(attribute))
+}
+
+/// Whether one of the names is that of a built-in function that is not compiled yet.
+fn any_later_name(names: &[Identifier]) -> bool
+    ensures { result ≡ list_any (λ i. spec.is_later_name i.name) names.now }
+{
+    names.iter().any(|name| is_later_name(name))
+}
+
+/// Whether an item declares what is not compiled yet, BUILTIN of such a function too.
+#[tactic(auto, using(crate::proofs::Lists::any_map))]
+pub fn later_item(main: bool, item: &Item) -> bool
+    ensures { result ≡ spec.later_item main (item_view item.now) }
+{
+    let attributes = item.attributes.as_slice();
+    any_later(main, attributes)
+        || (any_builtin(attributes) && any_later_name(item.names.as_slice()))
+}
+
+/// Whether one of the items declares what is not compiled yet.
+fn any_item(main: bool, items: &[Item]) -> bool
+    ensures { result ≡ list_any (λ item. spec.later_item main (item_view item)) items.now }
+{
+    items.iter().any(|item| later_item(main, item))
+}
+
+/// Whether items declare what is not compiled yet.
+#[tactic(auto, using(crate::proofs::Lists::any_map))]
+pub fn later_items(main: bool, items: &[Item]) -> bool
+    ensures { result ≡ list_any (spec.later_item main) (map item_view items.now) }
+{
+    let later = any_item(main, items);
+    later
+}
+
+/// Whether an option makes a procedure a function.
+fn is_returns(option: &ProcedureOption) -> bool
+    ensures { result ≡ spec.is_returns (option_view option.now) }
+{
+    matches!(option, ProcedureOption::Returns(_))
+}
+
+/// Whether one of the options makes a procedure a function.
+fn any_returns(options: &[ProcedureOption]) -> bool
+    ensures { result ≡ list_any (λ option. spec.is_returns (option_view option)) options.now }
+{
+    options.iter().any(|option| is_returns(option))
+}
+
+/// Whether a procedure has parameters or RETURNS, which is not compiled yet.
+#[tactic(auto, using(crate::proofs::Lists::any_map))]
+pub fn later_heading(parameters: &[Identifier], options: &[ProcedureOption]) -> bool
+    ensures { result ≡ (spec.has_parameters parameters.now || list_any spec.is_returns (map option_view options.now)) }
+{
+    !parameters.is_empty() || any_returns(options)
+}
