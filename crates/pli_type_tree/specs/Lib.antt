@@ -1,4 +1,6 @@
 pub mod Templates
 pub mod TypedTree
+pub mod ValueTypes
+pub mod WellTyped
 pub mod laws
 pub mod views

@@ -1,0 +1,319 @@
+-- What well-typed expressions and references mean.
+use Rattle.std.specs.Prelude.{◌≡◌, ℕ, suc, ◌+◌, ◌*◌, ◌≤◌, ◌<◌, ◌^◌, Bool, true, false, ◌&&◌, IsTrue, ℤ, ◌-ℤ◌, int_le, unsigned_abs, Option, Some, None}
+use Rattle.std.specs.Prelude.{List, [], ◌∷◌, length, slice_get, ◌==◌, if◌then◌else◌, refl}
+use Rattle.std.proofs.Common.{arith, sym, ap, ◌∙◌, subst, add_assoc, ltb-true, lt-ltb, leb-true, le-leb}
+use Rattle.std.proofs.lemmas.Bool.{eqb-true, eq-eqb}
+use Rattle.std.proofs.Common.{pow_mono, lt_of_lt_of_le}
+use Rattle.pli_base.specs.Name.{Name}
+use Rattle.pli_code.specs.declared.ending.RunError.TheVariants.{SubscriptRange, FixedOverflow, ZeroDivide, StringRange}
+use Rattle.pli_map.specs.Description.{Description, FixedBinary, Character, Varying, Bit}
+use Rattle.pli_map.specs.Scalars.{first_scalar, is_scalar}
+use Rattle.pli_operation.specs.Operations.{Operation, Calculation, Calculates, RaisesCondition, OutOfString, Misfits, calculated}
+use Rattle.pli_store.specs.Storage.{Generation, Place, field_of, generation_in}
+use Rattle.pli_store.specs.Values.{holds}
+use Rattle.pli_store.specs.World.{World, Answer, Yields, Raises, Wrong, held, slot_place, calculation, dummy_of}
+use Rattle.pli_value.specs.Value.{Value, Number, Characters, Bits}
+use Rattle.pli_value.specs.declared.number.Raised.TheVariants as raised
+use Rattle.pli_type_tree.specs.TypedTree.{Root, InSlot, OfProgram, Stride, TypedExpression, Literal, Held, Calculated, Called, TypedReference}
+use Rattle.pli_type_tree.specs.TypedTree.{Whole, Part, Operands, NoOperand, OperandThen, Subscripts, NoSubscript, SubscriptThen}
+use Rattle.pli_type_tree.specs.TypedTree.{TypedArguments, NoArgument, ByPlace, ByDummy}
+use Rattle.pli_type_tree.specs.ValueTypes.{OfCharacters, OfBits, ValueType, Numbers, Strings, type_held, IsOf, AreOf, IsWithin, IsHeldBy, Operates}
+use Rattle.pli_type_tree.specs.WellTyped.{scalars_of, ScopeBlock, Signature, Scope, slot_of, root_of, LeadTo, IsReached, IsTyped, IsPlaced, AreTyped}
+use Rattle.pli_type_tree.specs.WellTyped.{AreSubscripts, ArePassed}
+use Rattle.pli_meaning_tree.specs.Effects.{Effect, Doing, and_then, answered}
+use Rattle.pli_meaning_tree.specs.TreeMeaning.{Calls, a_value, in_order, root_place, element_of, value_of, operated, place_of, element_at, called_with}
+use Rattle.pli_meaning_typed.specs.SoundWorlds.{IsPartAt, IsGood, AreGood, Shape, IsSound, IsLater, Answers}
+use Rattle.pli_meaning_typed.proofs.MeansLemmas.{IsBelow, Means, then_means, answer_means}
+use Rattle.pli_meaning_typed.proofs.OperationsFit.{IsCalculated, operated_fits}
+use Rattle.pli_meaning_typed.proofs.PartsWithin.{parts_within}
+use Rattle.pli_meaning_typed.proofs.ScopeLaws.{Known, Stand, slot_there, static_there}
+use Rattle.pli_meaning_typed.proofs.WorldLaws.{later_same, later_then, goods_later, error_named, held_answers, dummy_answers}
+
+some_same : {A : Type 0} {x y : A} → Some x ≡ Some y → x ≡ y
+some_same e = cc
+
+none_some : {A : Type 0} {x : A} → None ≡ Some x → ⊥
+none_some e = absurd (cc)
+
+-- what a variable holds is of its type
+equal_lengths : (n m : ℕ) → IsTrue (n == m) → (m ≤ n) × (n ≤ m)
+equal_lengths n m e = let h = eqb-true n m e in (omega (arith, h), omega (arith, h))
+
+pub held_is_of : (d : Description) (t : ValueType) (v : Value) → type_held d ≡ Some t → IsTrue (holds d v) → IsOf t v
+held_is_of (FixedBinary p) t (Number x) e h = subst (λ t. IsOf t (Number x)) (some_same e) (x, refl, ltb-true (unsigned_abs x) (2 ^ p) h)
+held_is_of (Character n) t (Characters s) e h =
+    let l = equal_lengths (length s) n h in subst (λ t. IsOf t (Characters s)) (some_same e) (s, refl, l.0, l.1)
+held_is_of (Varying n) t (Characters s) e h =
+    subst (λ t. IsOf t (Characters s)) (some_same e) (s, refl, omega arith, leb-true (length s) n h)
+held_is_of (Bit n) t (Bits s) e h =
+    let l = equal_lengths (length s) n h in subst (λ t. IsOf t (Bits s)) (some_same e) (s, refl, l.0, l.1)
+held_is_of d t v e h = absurd (cc)
+
+-- and a value of a narrower type is held
+narrow_in : (d : Description) (t wide : ValueType) (v : Value) → type_held d ≡ Some wide → IsWithin t wide → IsOf t v → IsTrue (holds d v)
+narrow_in (FixedBinary p) (Numbers q) wide v e le is =
+    let l : q ≤ p = subst (λ u. IsWithin (Numbers q) u) (sym (some_same e)) le in
+    subst (λ v. IsTrue (holds (FixedBinary p) v)) (sym is.1)
+    (lt-ltb (unsigned_abs is.0) (2 ^ p) (lt_of_lt_of_le is.2 (pow_mono l)))
+narrow_in (FixedBinary p) (Strings OfCharacters a b) wide v e le is =
+    absurd (subst (λ u. IsWithin (Strings OfCharacters a b) u) (sym (some_same e)) le)
+narrow_in (FixedBinary p) (Strings OfBits a b) wide v e le is =
+    absurd (subst (λ u. IsWithin (Strings OfBits a b) u) (sym (some_same e)) le)
+narrow_in (Character n) (Numbers q) wide v e le is = absurd (subst (λ u. IsWithin (Numbers q) u) (sym (some_same e)) le)
+narrow_in (Character n) (Strings OfCharacters a b) wide v e le is =
+    let l : (n ≤ a) × (b ≤ n) = subst (λ u. IsWithin (Strings OfCharacters a b) u) (sym (some_same e)) le in
+    subst (λ v. IsTrue (holds (Character n) v)) (sym is.1) (eq-eqb (length is.0) n (omega (arith, is.2, is.3, l.0, l.1)))
+narrow_in (Character n) (Strings OfBits a b) wide v e le is =
+    absurd (subst (λ u. IsWithin (Strings OfBits a b) u) (sym (some_same e)) le)
+narrow_in (Varying n) (Numbers q) wide v e le is = absurd (subst (λ u. IsWithin (Numbers q) u) (sym (some_same e)) le)
+narrow_in (Varying n) (Strings OfCharacters a b) wide v e le is =
+    let l : (0 ≤ a) × (b ≤ n) = subst (λ u. IsWithin (Strings OfCharacters a b) u) (sym (some_same e)) le in
+    subst (λ v. IsTrue (holds (Varying n) v)) (sym is.1) (le-leb (length is.0) n (omega (arith, is.3, l.1)))
+narrow_in (Varying n) (Strings OfBits a b) wide v e le is =
+    absurd (subst (λ u. IsWithin (Strings OfBits a b) u) (sym (some_same e)) le)
+narrow_in (Bit n) (Numbers q) wide v e le is = absurd (subst (λ u. IsWithin (Numbers q) u) (sym (some_same e)) le)
+narrow_in (Bit n) (Strings OfCharacters a b) wide v e le is =
+    absurd (subst (λ u. IsWithin (Strings OfCharacters a b) u) (sym (some_same e)) le)
+narrow_in (Bit n) (Strings OfBits a b) wide v e le is =
+    let l : (n ≤ a) × (b ≤ n) = subst (λ u. IsWithin (Strings OfBits a b) u) (sym (some_same e)) le in
+    subst (λ v. IsTrue (holds (Bit n) v)) (sym is.1) (eq-eqb (length is.0) n (omega (arith, is.2, is.3, l.0, l.1)))
+narrow_in d t wide v e le is = absurd (none_some e)
+
+pub narrow_held : (d : Description) (t : ValueType) (v : Value) → IsHeldBy d t → IsOf t v → IsTrue (holds d v)
+narrow_held d t v h is = narrow_in d t h.0 v h.1 h.2 is
+
+-- a scalar
+pub one_scalar : (d : Description) (t : ValueType) → type_held d ≡ Some t → (is_scalar d ≡ true) × (scalars_of d ≡ d ∷ [])
+one_scalar (FixedBinary p) t e = (refl, refl)
+one_scalar (Character n) t e = (refl, refl)
+one_scalar (Varying n) t e = (refl, refl)
+one_scalar (Bit n) t e = (refl, refl)
+one_scalar d t e = absurd (none_some e)
+
+-- the value of a function, or none
+abbrev pub IsReturned : Option Description → Option Value → Type 0
+IsReturned None None = Unit {0}
+IsReturned None (Some v) = ⊥
+IsReturned (Some d) None = ⊥
+IsReturned (Some d) (Some v) = IsTrue (holds d v)
+
+abbrev pub OfType : ValueType → Value → World → Type 0
+OfType t v w = IsOf t v
+
+abbrev pub AtPlace : Description → Place → World → Type 0
+AtPlace d p w = IsGood w d p
+
+abbrev pub Gives : Option Description → Option Value → World → Type 0
+Gives d v w = IsReturned d v
+
+-- procedures that are called mean something
+abbrev pub CallsMean : (unit : Name) → List Description → (ℕ → Option Signature) → (level : ℕ) → Calls → Type 0
+CallsMean unit statics procedures level call =
+    (block : ℕ) (p : Signature) → procedures block ≡ Some p → (known : Known) (x : Shape) (ss : List Shape) (blocks : List ScopeBlock)
+    → Stand known (x ∷ ss) (suc (length ss)) blocks → IsReached p.parent blocks p.around → IsBelow known (suc (length ss))
+    → (places : List Place) (w : World) (left : ℕ) → IsSound unit statics (x ∷ ss) w → AreGood w p.parameters places
+    → Means unit statics level left known (x ∷ ss) w (Gives p.value) (call block places w left)
+
+-- values and places in their order
+ordered_of : (done ts : List ValueType) (before vs : List Value) → AreOf done before → AreOf ts vs → AreOf (in_order done ts) (in_order before vs)
+ordered_of [] ts [] vs h g = g
+ordered_of [] ts (v ∷ before) vs h g = absurd h
+ordered_of (t ∷ done) ts [] vs h g = absurd h
+ordered_of (t ∷ done) ts (v ∷ before) vs h g = ordered_of done (t ∷ ts) before (v ∷ vs) h.1 (h.0, g)
+
+ordered_good : (w : World) (done ds : List Description) (before ps : List Place) → AreGood w done before → AreGood w ds ps
+    → AreGood w (in_order done ds) (in_order before ps)
+ordered_good w [] ds [] ps h g = g
+ordered_good w [] ds (p ∷ before) ps h g = absurd h
+ordered_good w (d ∷ done) ds [] ps h g = absurd h
+ordered_good w (d ∷ done) ds (p ∷ before) ps h g = ordered_good w done (d ∷ ds) before (p ∷ ps) h.1 (h.0, g)
+
+-- a place on the way to a part
+record IsOn (w : World) (whole : Description) (offset : ℕ) (d : Description) (p : Place) : Type 0 where
+  was_made : p.generation < w.made
+  outside : p.position ≡ 0
+  described : p.description ≡ d
+  part : (g : Generation) → generation_in w.storage p.generation ≡ Some g
+      → (base : ℕ) × IsPartAt g.description base whole × (p.offset ≡ base + offset)
+
+on_later : (v w : World) (whole : Description) (offset : ℕ) (d : Description) (p : Place) → IsLater v w → IsOn v whole offset d p → IsOn w whole offset d p
+on_later v w whole offset d p later h = record {
+  was_made = omega (arith, h.was_made, later.more);
+  outside = h.outside;
+  described = h.described;
+  part = λ x e. let old = later.lived p.generation x h.was_made e in
+      let b = h.part old.0 old.1 in (b.0, subst (λ e. IsPartAt e b.0 whole) old.2 b.1, b.2);
+}
+
+on_first : (w : World) (whole : Description) (offset : ℕ) (d : Description) (p : Place) → IsGood w whole p → IsOn w whole offset d (field_of offset d p)
+on_first w whole offset d p h =
+    record { was_made = h.was_made; outside = h.outside; described = refl; part = λ g e. (p.offset, h.part g e, refl) }
+
+on_next : (w : World) (whole : Description) (offset more : ℕ) (d : Description) (p : Place) → IsOn w whole offset d p
+    → IsOn w whole (offset + more) d (field_of more p.description p)
+on_next w whole offset more d p h = record {
+  was_made = h.was_made;
+  outside = h.outside;
+  described = h.described;
+  part = λ g e. let b = h.part g e in (b.0, b.1, ap (λ n. n + more) b.2 ∙ add_assoc b.0 offset more);
+}
+
+on_last : (w : World) (whole : Description) (offset k : ℕ) (d : Description) (p : Place) → first_scalar whole offset d ≡ Some k
+    → IsOn w whole offset d p → IsGood w d p
+on_last w whole offset k d p f h = record {
+  was_made = h.was_made;
+  outside = h.outside;
+  described = h.described;
+  part = λ g e. let b = h.part g e in
+      subst (λ n. IsPartAt g.description n d) (sym b.2)
+      (λ more c j i. let inner = parts_within whole offset d k f more c j i in
+      let outer = b.1 (offset + more) c inner.0 inner.1 in
+      (outer.0, subst (λ n. first_scalar g.description n c ≡ Some outer.0) (sym (add_assoc b.0 offset more)) outer.1));
+}
+
+module _ (greatest level : ℕ) (call : Calls) (unit : Name) (s : Scope) (known : Known) (x : Shape) (ss : List Shape)
+    (stand : Stand known (x ∷ ss) (suc (length ss)) s.blocks) (below : IsBelow known (suc (length ss)))
+    (calls : CallsMean unit s.statics s.procedures level call) where
+  abbrev Sound : World → Type 0
+  Sound w = IsSound unit s.statics (x ∷ ss) w
+
+  abbrev Here : {A : Type 0} → (left : ℕ) → World → (A → World → Type 0) → Effect A → Type 0
+  Here left u Is o = Means unit s.statics level left known (x ∷ ss) u Is o
+
+  then_here : {A B : Type 0} (P : A → World → Type 0) (Q : B → World → Type 0) (left : ℕ) (u : World) (o : Effect A) (go : A → Doing B)
+      → Here left u P o → ((x : A) (w : World) (l : ℕ) → P x w → Sound w → IsLater u w → Here l w Q (go x w l)) → Here left u Q (and_then o go)
+  then_here P Q left u o go h f =
+      then_means unit s.statics P Q level left known (x ∷ ss) u o go h (λ y w l le is sound later. f y w l is sound later)
+
+  -- where a reference begins
+  root_means : (r : Root) (d : Description) → root_of s r ≡ Some d → (w : World) (left : ℕ) → Sound w → Here left w (AtPlace d) (root_place r w left)
+  root_means (InSlot outward slot) d e w left sound = by (slice_get s.blocks outward) refl e
+    where
+      by : (o : Option ScopeBlock) → slice_get s.blocks outward ≡ o → slot_of o slot ≡ Some d
+          → Here left w (AtPlace d) (answered (slot_place outward slot w) left)
+      by None f e = absurd (none_some e)
+      by (Some b) f e =
+          let p = slot_there unit s.statics known (x ∷ ss) s.blocks w outward slot b d sound stand f e in
+          subst (λ a. Here left w (AtPlace d) (answered a left)) (sym p.1) (omega arith, p.2, sound, later_same w)
+  root_means (OfProgram number) d e w left sound =
+      let p = static_there unit s.statics x ss w number d sound e in
+      subst (λ a. Here left w (AtPlace d) (answered a left)) (sym p.1) (omega arith, p.2, sound, later_same w)
+
+  -- what an operation comes to
+  calculation_answers : (t : ValueType) (c : Calculation) (w : World) → Sound w → IsCalculated t c
+      → Answers (λ v u. IsOf t v × Sound u × IsLater w u) (calculation c w)
+  calculation_answers t (Calculates v) w sound h = (h, sound, later_same w)
+  calculation_answers t (RaisesCondition raised.Overflow) w sound h = error_named unit s.statics x ss w FixedOverflow sound
+  calculation_answers t (RaisesCondition raised.ZeroDivide) w sound h = error_named unit s.statics x ss w ZeroDivide sound
+  calculation_answers t OutOfString w sound h = error_named unit s.statics x ss w StringRange sound
+  calculation_answers t Misfits w sound h = absurd h
+
+  -- a subscript
+  abbrev OnWay : Description → ℕ → Description → Place → World → Type 0
+  OnWay whole offset d p w = IsOn w whole offset d p
+
+  -- the subscript's distance, of which one knows where it leads
+  element_found : (stride : Stride) (p : ℕ) (whole : Description) (offset : ℕ) (d : Description) (q : Place) (v : Value) (w : World) (left : ℕ)
+      → Sound w → IsOn w whole offset d q → IsOf (Numbers p) v → (go : Place → Doing Place)
+      → ((y : ℤ) (q : Place) (w : World) (l : ℕ) → IsTrue (int_le stride.low y) → IsTrue (int_le y stride.high) → Sound w
+      → IsOn w whole (offset + unsigned_abs (y -ℤ stride.low) * stride.multiplier) d q → Here l w (AtPlace d) (go q w l))
+      → Here left w (AtPlace d) (and_then (element_of stride.low stride.high stride.multiplier q v w left) go)
+  element_found stride p whole offset d q v w left sound on is go f =
+      subst (λ v. Here left w (AtPlace d) (and_then (element_of stride.low stride.high stride.multiplier q v w left) go)) (sym is.1)
+      (by (int_le stride.low is.0) (int_le is.0 stride.high) refl refl)
+    where
+      m : ℕ
+      m = unsigned_abs (is.0 -ℤ stride.low) * stride.multiplier
+
+      by : (b c : Bool) → int_le stride.low is.0 ≡ b → int_le is.0 stride.high ≡ c
+          → Here left w (AtPlace d) (and_then (answered (if b && c then Yields (field_of (unsigned_abs (is.0 -ℤ stride.low) * stride.multiplier) q.description q) w else Raises SubscriptRange w) left) go)
+      by true true e g =
+          f is.0 (field_of (unsigned_abs (is.0 -ℤ stride.low) * stride.multiplier) q.description q) w left e g sound (on_next w whole offset (unsigned_abs (is.0 -ℤ stride.low) * stride.multiplier) d q on)
+      by true false e g = error_named unit s.statics x ss w SubscriptRange sound
+      by false c e g = error_named unit s.statics x ss w SubscriptRange sound
+
+  -- what is held, and what a function gives, is of its type
+  held_of : (d : Description) (t : ValueType) (p : Place) (w : World) → type_held d ≡ Some t → (o : Answer Value)
+      → Answers (λ v u. IsTrue (holds d v) × Sound u × IsLater w u) o → Answers (λ v u. IsOf t v × Sound u × IsLater w u) o
+  held_of d t p w e (Yields v u) h = (held_is_of d t v e h.0, h.1, h.2)
+  held_of d t p w e (Raises r u) h = h
+  held_of d t p w e Wrong h = h
+
+  returned_means : (t : ValueType) (d : Description) (o : Option Description) (v : Option Value) (w : World) (left : ℕ) → o ≡ Some d
+      → type_held d ≡ Some t → Sound w → IsReturned o v → Here left w (OfType t) (a_value v w left)
+  returned_means t d None v w left e f sound is = absurd (none_some e)
+  returned_means t d (Some c) None w left e f sound is = absurd is
+  returned_means t d (Some c) (Some v) w left e f sound is =
+      (omega arith, held_is_of d t v f (subst (λ c. IsTrue (holds c v)) (some_same e) is), sound, later_same w)
+
+  mutual
+    pub value_means : (e : TypedExpression) (t : ValueType) → IsTyped greatest s e t → (w : World) (left : ℕ) → Sound w
+        → Here left w (OfType t) (value_of greatest call e w left)
+    value_means (Literal v) t typed w left sound = (omega arith, typed, sound, later_same w)
+    value_means (Held r) t typed w left sound =
+        let d = typed.0 in
+        let one = one_scalar d t typed.2 in
+        then_here (AtPlace d) (OfType t) left w (place_of greatest call r w left) _ (place_means r d typed.1 w left sound)
+        (λ p w l good sound later. answer_means unit s.statics (OfType t) level l known (x ∷ ss) w (held p w)
+        (held_of d t p w typed.2 (held p w) (held_answers unit s.statics x ss d p w sound good one.0 one.1)))
+    value_means (Calculated operation operands) t typed w left sound =
+        operated_means operands typed.0 operation [] [] t typed.1 tt typed.2 w left sound
+    value_means (Called block arguments) t typed w left sound =
+        then_here (Gives typed.0.value) (OfType t) left w (called_with greatest call block arguments [] w left) _
+        (called_means arguments typed.0.parameters block typed.0 [] [] typed.3 refl typed.1 typed.2 w left sound tt)
+        (λ v w l is sound later. returned_means t typed.4.0 typed.0.value v w l typed.4.1 typed.4.2 sound is)
+
+    operated_means : (operands : Operands) (ts : List ValueType) (operation : Operation) (before : List Value) (done : List ValueType) (t : ValueType)
+        → AreTyped greatest s operands ts → AreOf done before → Operates greatest operation (in_order done ts) t
+        → (w : World) (left : ℕ) → Sound w → Here left w (OfType t) (operated greatest call operation operands before w left)
+    operated_means NoOperand ts operation before done t typed are fits w left sound =
+        answer_means unit s.statics (OfType t) level left known (x ∷ ss) w (calculation (calculated greatest operation (in_order before [])) w)
+        (calculation_answers t (calculated greatest operation (in_order before [])) w sound
+        (operated_fits greatest operation (in_order done []) t (in_order before [])
+        (subst (λ ts. Operates greatest operation (in_order done ts) t) typed fits) (ordered_of done [] before [] are tt)))
+    operated_means (OperandThen e more) ts operation before done t typed are fits w left sound =
+        then_here (OfType typed.0) (OfType t) left w (value_of greatest call e w left) _ (value_means e typed.0 typed.3 w left sound)
+        (λ v w l is sound later. operated_means more typed.1 operation (v ∷ before) (typed.0 ∷ done) t typed.4 (is, are)
+        (subst (λ ts. Operates greatest operation (in_order done ts) t) typed.2 fits) w l sound)
+
+    pub place_means : (r : TypedReference) (d : Description) → IsPlaced greatest s r d → (w : World) (left : ℕ) → Sound w
+        → Here left w (AtPlace d) (place_of greatest call r w left)
+    place_means (Whole root) d placed w left sound = root_means root d placed w left sound
+    place_means (Part root offset part subscripts) d placed w left sound =
+        let whole = placed.1.0 in
+        then_here (AtPlace whole) (AtPlace d) left w (root_place root w left) _ (root_means root whole placed.1.1 w left sound)
+        (λ p w l good sound later. subscripts_mean subscripts whole offset d (field_of offset part p) placed.1.2 placed.2 w l sound
+        (subst (λ e. IsOn w whole offset d (field_of offset e p)) (sym placed.0) (on_first w whole offset d p good)))
+
+    subscripts_mean : (subscripts : Subscripts) (whole : Description) (offset : ℕ) (d : Description) (p : Place) → LeadTo whole offset subscripts d
+        → AreSubscripts greatest s subscripts → (w : World) (left : ℕ) → Sound w → IsOn w whole offset d p
+        → Here left w (AtPlace d) (element_at greatest call subscripts p w left)
+    subscripts_mean NoSubscript whole offset d p lead are w left sound on =
+        (omega arith, on_last w whole offset lead.0 d p lead.1 on, sound, later_same w)
+    subscripts_mean (SubscriptThen stride e more) whole offset d p lead are w left sound on =
+        then_here (OfType (Numbers are.0.0)) (AtPlace d) left w (value_of greatest call e w left) _ (value_means e (Numbers are.0.0) are.0.1 w left sound)
+        (λ v u l is sound later. element_found stride are.0.0 whole offset d p v u l sound (on_later w u whole offset d p later on) is
+        (λ q w left. element_at greatest call more q w left)
+        (λ y q w l low high sound on. subscripts_mean more whole (offset + unsigned_abs (y -ℤ stride.low) * stride.multiplier) d q (lead y low high) are.1 w l sound on))
+
+    pub called_means : (arguments : TypedArguments) (parameters : List Description) (block : ℕ) (p : Signature) (before : List Place) (done : List Description)
+        → ArePassed greatest s arguments parameters → in_order done parameters ≡ p.parameters → s.procedures block ≡ Some p
+        → IsReached p.parent s.blocks p.around → (w : World) (left : ℕ) → Sound w → AreGood w done before
+        → Here left w (Gives p.value) (called_with greatest call block arguments before w left)
+    called_means NoArgument parameters block p before done passed same found reached w left sound good =
+        calls block p found known x ss s.blocks stand reached below (in_order before []) w left sound
+        (subst (λ ds. AreGood w ds (in_order before [])) (ap (λ ds. in_order done ds) (sym passed) ∙ same) (ordered_good w done [] before [] good tt))
+    called_means (ByPlace r more) parameters block p before done passed same found reached w left sound good =
+        then_here (AtPlace passed.0) (Gives p.value) left w (place_of greatest call r w left) _ (place_means r passed.0 passed.3 w left sound)
+        (λ q u l is sound later. called_means more passed.1 block p (q ∷ before) (passed.0 ∷ done) passed.4
+        (ap (λ ds. in_order done ds) (sym passed.2) ∙ same) found reached u l sound (is, goods_later w u done before later good))
+    called_means (ByDummy d e more) parameters block p before done passed same found reached w left sound good =
+        let t = passed.2.0 in
+        let held = passed.2.2 in
+        let one = one_scalar d held.0 held.1 in
+        then_here (OfType t) (Gives p.value) left w (value_of greatest call e w left) _ (value_means e t passed.2.1 w left sound)
+        (λ v u l is sound later.
+        then_here (AtPlace d) (Gives p.value) l u (answered (dummy_of d v u) l) _
+        (answer_means unit s.statics (AtPlace d) level l known (x ∷ ss) u (dummy_of d v u) (dummy_answers unit s.statics x ss d v u sound (narrow_held d t v held is) one.1))
+        (λ q z l is sound later2. called_means more passed.0 block p (q ∷ before) (d ∷ done) passed.3
+        (ap (λ ds. in_order done ds) (sym passed.1) ∙ same) found reached z l sound (is, goods_later w z done before (later_then w u z later later2) good)))

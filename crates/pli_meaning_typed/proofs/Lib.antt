@@ -1,0 +1,11 @@
+pub mod ExpressionsMean
+pub mod MeansLemmas
+pub mod OperationsFit
+pub mod Parts
+pub mod PartsWithin
+pub mod ProgramsMean
+pub mod ScopeLaws
+pub mod StatementsMean
+pub mod StaticsMade
+pub mod StorageLemmas
+pub mod WorldLaws

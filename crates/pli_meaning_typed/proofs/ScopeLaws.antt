@@ -1,0 +1,305 @@
+-- What a scope knows is there: the blocks of the text stand among the activations, along static links.
+use Rattle.std.specs.Prelude.{◌≡◌, ℕ, zero, suc, ◌≤◌, ◌<◌, nat_eq, Bool, true, false, ◌&&◌, ◌||◌, IsTrue, Option, Some, None}
+use Rattle.std.specs.Prelude.{List, [], ◌∷◌, ◌++◌, ◌⊎◌, length, slice_get, if◌then◌else◌, refl}
+use Rattle.std.specs.List.{list_any}
+use Rattle.std.proofs.Common.{arith, sym, ap, ◌∙◌, subst, inl, inr}
+use Rattle.std.proofs.lemmas.Bool.{eqb-true, eq-eqb}
+use Rattle.pli_base.specs.Name.{Name}
+use Rattle.pli_base.specs.Words.{same_name}
+use Rattle.pli_map.specs.Description.{Description}
+use Rattle.pli_store.specs.Activations.{Activation, activation_at, outward_from, nearest_of, is_of}
+use Rattle.pli_store.specs.Storage.{Place}
+use Rattle.pli_store.specs.World.{World, Yields, known as there_is, further, height, height_of, slot_in, slot_place, static_place, newest_unit, static_in}
+use Rattle.pli_type_tree.specs.WellTyped.{ScopeBlock, AreAround, blocks_from, with_labels}
+use Rattle.pli_meaning_typed.specs.SoundWorlds.{IsGood, AreGood, Shape, AreShaped, IsSound}
+
+-- which labels of which activations, by their height, a jump may lead to
+abbrev pub Known : Type 0
+Known = (activation label : ℕ) → Bool
+
+abbrev pub AreKnown : Known → (activation : ℕ) → List ℕ → Type 0
+AreKnown known h labels = (label : ℕ) → IsTrue (list_any (nat_eq label) labels) → IsTrue (known h label)
+
+-- from the activation of a height on, along static links, stand the blocks of a scope
+abbrev pub Stand : Known → List Shape → (height : ℕ) → List ScopeBlock → Type 0
+Stand known [] h [] = Unit {0}
+Stand known [] h (b ∷ bs) = ⊥
+Stand known (s ∷ older) h [] = Unit {0}
+Stand known (s ∷ older) h (b ∷ bs) =
+    ((h ≤ length older) × Stand known older h (b ∷ bs))
+    ⊎ ((h ≡ suc (length older)) × (s.block ≡ b.number) × (s.slots ≡ b.slots) × AreKnown known h b.labels
+    × Stand known older s.link bs)
+
+none_some : {A : Type 0} {x : A} → None ≡ Some x → ⊥
+none_some e = absurd (cc)
+
+some_same : {A : Type 0} {x y : A} → Some x ≡ Some y → x ≡ y
+some_same e = cc
+
+unequal : (n m : ℕ) → n < m → nat_eq n m ≡ false
+unequal n m lt = by (nat_eq n m) refl
+  where
+    by : (b : Bool) → nat_eq n m ≡ b → b ≡ false
+    by true e = absurd (omega (arith, eqb-true n m e, lt))
+    by false e = refl
+
+pub same_self : (n : Name) → same_name n n ≡ true
+same_self [] = refl
+same_self (c ∷ cs) = ap (λ b. b && same_name cs cs) (eq-eqb c c refl) ∙ same_self cs
+
+pub shaped_length : (unit : Name) (w : World) (ss : List Shape) (stack : List Activation) → AreShaped unit w ss stack
+    → length stack ≡ length ss
+shaped_length unit w [] [] h = refl
+shaped_length unit w [] (a ∷ older) h = absurd h
+shaped_length unit w (s ∷ ss) [] h = absurd h
+shaped_length unit w (s ∷ ss) (a ∷ older) h = ap (λ n. suc n) (shaped_length unit w ss older h.4)
+
+-- the activation of a block outward
+pub record Found (known : Known) (w : World) (stack : List Activation) (from outward : ℕ) (b : ScopeBlock) : Type 0 where
+  pub height : ℕ
+  pub activation : Activation
+  pub walked : outward_from stack from outward ≡ Some height
+  pub there : activation_at stack height ≡ Some activation
+  pub good : AreGood w b.slots activation.slots
+  pub labels : AreKnown known height b.labels
+  pub below : height ≤ length stack
+
+-- behind an activation more
+found_older : (known : Known) (w : World) (a : Activation) (older : List Activation) (from outward : ℕ) (b : ScopeBlock)
+    → from ≤ length older → Found known w older from outward b → Found known w (a ∷ older) from outward b
+found_older known w a older from zero b le f = record {
+  height = f.height;
+  activation = f.activation;
+  walked = ap (λ c. if c then Some from else outward_from older from zero) (unequal from (suc (length older)) (omega (arith, le))) ∙ f.walked;
+  there = ap (λ c. if c then Some a else activation_at older f.height) (unequal f.height (suc (length older)) (omega (arith, f.below))) ∙ f.there;
+  good = f.good;
+  labels = f.labels;
+  below = omega (arith, f.below);
+}
+found_older known w a older from (suc outward) b le f = record {
+  height = f.height;
+  activation = f.activation;
+  walked = ap (λ c. if c then outward_from older a.link outward else outward_from older from (suc outward)) (unequal from (suc (length older)) (omega (arith, le))) ∙ f.walked;
+  there = ap (λ c. if c then Some a else activation_at older f.height) (unequal f.height (suc (length older)) (omega (arith, f.below))) ∙ f.there;
+  good = f.good;
+  labels = f.labels;
+  below = omega (arith, f.below);
+}
+
+-- along a link
+found_along : (known : Known) (w : World) (a : Activation) (older : List Activation) (from outward : ℕ) (b : ScopeBlock)
+    → from ≡ suc (length older) → Found known w older a.link outward b → Found known w (a ∷ older) from (suc outward) b
+found_along known w a older from outward b e f = record {
+  height = f.height;
+  activation = f.activation;
+  walked = ap (λ c. if c then outward_from older a.link outward else outward_from older from (suc outward)) (eq-eqb from (suc (length older)) e) ∙ f.walked;
+  there = ap (λ c. if c then Some a else activation_at older f.height) (unequal f.height (suc (length older)) (omega (arith, f.below))) ∙ f.there;
+  good = f.good;
+  labels = f.labels;
+  below = omega (arith, f.below);
+}
+
+module _ (unit : Name) (known : Known) (w : World) where
+  pub find : (ss : List Shape) (stack : List Activation) (h : ℕ) (blocks : List ScopeBlock) (outward : ℕ) (b : ScopeBlock)
+      → AreShaped unit w ss stack → Stand known ss h blocks → slice_get blocks outward ≡ Some b → Found known w stack h outward b
+  find [] stack h [] outward b shaped stand e = absurd (none_some e)
+  find [] stack h (c ∷ cs) outward b shaped stand e = absurd stand
+  find (s ∷ ss) [] h blocks outward b shaped stand e = absurd shaped
+  find (s ∷ ss) (a ∷ older) h [] outward b shaped stand e = absurd (none_some e)
+  find (s ∷ ss) (a ∷ older) h (c ∷ cs) zero b shaped (inl stand) e =
+      found_older known w a older h zero b (omega (arith, stand.0, shaped_length unit w ss older shaped.4))
+      (find ss older h (c ∷ cs) zero b shaped.4 stand.1 e)
+  find (s ∷ ss) (a ∷ older) h (c ∷ cs) (suc n) b shaped (inl stand) e =
+      found_older known w a older h (suc n) b (omega (arith, stand.0, shaped_length unit w ss older shaped.4))
+      (find ss older h (c ∷ cs) (suc n) b shaped.4 stand.1 e)
+  find (s ∷ ss) (a ∷ older) h (c ∷ cs) zero b shaped (inr stand) e =
+      let top : h ≡ suc (length older) = stand.0 ∙ ap (λ n. suc n) (sym (shaped_length unit w ss older shaped.4)) in
+      let same : c ≡ b = some_same e in record {
+        height = h;
+        activation = a;
+        walked = ap (λ t. if t then Some h else outward_from older h zero) (eq-eqb h (suc (length older)) top);
+        there = ap (λ t. if t then Some a else activation_at older h) (eq-eqb h (suc (length older)) top);
+        good = subst (λ c. AreGood w c.slots a.slots) same (subst (λ ds. AreGood w ds a.slots) stand.2 shaped.3);
+        labels = subst (λ c. AreKnown known h c.labels) same stand.3;
+        below = omega (arith, top);
+      }
+  find (s ∷ ss) (a ∷ older) h (c ∷ cs) (suc n) b shaped (inr stand) e =
+      let top : h ≡ suc (length older) = stand.0 ∙ ap (λ n. suc n) (sym (shaped_length unit w ss older shaped.4)) in
+      found_along known w a older h n b top
+      (subst (λ l. Found known w older l n b) (sym shaped.2) (find ss older s.link cs n b shaped.4 stand.4 e))
+
+-- with an activation more
+raised : (known : Known) (s : Shape) (ss : List Shape) (h : ℕ) (blocks : List ScopeBlock) → h ≤ length ss → Stand known ss h blocks
+    → Stand known (s ∷ ss) h blocks
+raised known s ss h [] le stand = tt
+raised known s ss h (b ∷ bs) le stand = inl (le, stand)
+
+-- the nearest activation of a block
+pub record Near (unit : Name) (known : Known) (ss : List Shape) (stack : List Activation) (from parent : ℕ) (blocks : List ScopeBlock) : Type 0 where
+  pub link : ℕ
+  pub walked : nearest_of unit parent stack from ≡ Some link
+  pub stand : Stand known ss link blocks
+  pub below : link ≤ length ss
+
+near_older : (unit : Name) (known : Known) (s : Shape) (ss : List Shape) (a : Activation) (older : List Activation)
+    (from parent : ℕ) (blocks : List ScopeBlock) → from < suc (length older)
+    → Near unit known ss older from parent blocks → Near unit known (s ∷ ss) (a ∷ older) from parent blocks
+near_older unit known s ss a older from parent blocks lt n = record {
+  link = n.link;
+  walked =
+      ap (λ c. if c then (if is_of unit parent a then Some from else nearest_of unit parent older a.link) else nearest_of unit parent older from)
+      (unequal from (suc (length older)) lt) ∙ n.walked;
+  stand = raised known s ss n.link blocks n.below n.stand;
+  below = omega (arith, n.below);
+}
+
+module _ (unit : Name) (known : Known) (w : World) where
+  is_this : (a : Activation) (parent : ℕ) (b : Bool) → a.unit ≡ unit → nat_eq a.block parent ≡ b → is_of unit parent a ≡ b
+  is_this a parent b e f =
+      ap (λ c. c && nat_eq a.block parent) (ap (λ n. same_name n unit) e ∙ same_self unit) ∙ f
+
+  pub near : (ss : List Shape) (stack : List Activation) (h parent : ℕ) (blocks found : List ScopeBlock)
+      → AreShaped unit w ss stack → Stand known ss h blocks → blocks_from parent blocks ≡ Some found
+      → Near unit known ss stack h parent found
+  near [] stack h parent [] found shaped stand e = absurd (none_some e)
+  near [] stack h parent (c ∷ cs) found shaped stand e = absurd stand
+  near (s ∷ ss) [] h parent blocks found shaped stand e = absurd shaped
+  near (s ∷ ss) (a ∷ older) h parent [] found shaped stand e = absurd (none_some e)
+  near (s ∷ ss) (a ∷ older) h parent (c ∷ cs) found shaped (inl stand) e =
+      near_older unit known s ss a older h parent found (omega (arith, stand.0, shaped_length unit w ss older shaped.4))
+      (near ss older h parent (c ∷ cs) found shaped.4 stand.1 e)
+  near (s ∷ ss) (a ∷ older) h parent (c ∷ cs) found shaped (inr stand) e =
+      by (nat_eq c.number parent) refl e (λ g. near ss older s.link parent cs found shaped.4 stand.4 g)
+    where
+      top : h ≡ suc (length older)
+      top = stand.0 ∙ ap (λ n. suc n) (sym (shaped_length unit w ss older shaped.4))
+
+      this : (b : Bool) → nat_eq c.number parent ≡ b → is_of unit parent a ≡ b
+      this b e = is_this a parent b shaped.0 (ap (λ n. nat_eq n parent) (shaped.1 ∙ stand.1) ∙ e)
+
+      walked : (b : Bool) (o : Option ℕ) → nat_eq c.number parent ≡ b → (if b then Some h else nearest_of unit parent older a.link) ≡ o
+          → nearest_of unit parent (a ∷ older) h ≡ o
+      walked b o e f =
+          ap (λ t. if t then (if is_of unit parent a then Some h else nearest_of unit parent older a.link) else nearest_of unit parent older h)
+          (eq-eqb h (suc (length older)) top)
+          ∙ ap (λ t. if t then Some h else nearest_of unit parent older a.link) (this b e) ∙ f
+
+      by : (b : Bool) → nat_eq c.number parent ≡ b → (if b then Some (c ∷ cs) else blocks_from parent cs) ≡ Some found
+          → (blocks_from parent cs ≡ Some found → Near unit known ss older s.link parent found)
+          → Near unit known (s ∷ ss) (a ∷ older) h parent found
+      by true e f rest = record {
+        link = h;
+        walked = walked true (Some h) e refl;
+        stand = subst (λ bs. Stand known (s ∷ ss) h bs) (some_same f) (inr stand);
+        below = omega (arith, stand.0);
+      }
+      by false e f rest =
+          let n = rest f in record {
+            link = n.link;
+            walked = walked false (Some n.link) e (ap (λ l. nearest_of unit parent older l) shaped.2 ∙ n.walked);
+            stand = raised known s ss n.link found n.below n.stand;
+            below = omega (arith, n.below);
+          }
+
+-- the blocks around a procedure
+pub stand_around : (known : Known) (ss : List Shape) (h : ℕ) (blocks around : List ScopeBlock) → AreAround blocks around
+    → Stand known ss h blocks → Stand known ss h around
+stand_around known [] h [] [] same stand = tt
+stand_around known [] h [] (c ∷ cs) same stand = absurd same
+stand_around known [] h (b ∷ bs) around same stand = absurd stand
+stand_around known (s ∷ ss) h [] [] same stand = tt
+stand_around known (s ∷ ss) h [] (c ∷ cs) same stand = absurd same
+stand_around known (s ∷ ss) h (b ∷ bs) [] same stand = absurd same
+stand_around known (s ∷ ss) h (b ∷ bs) (c ∷ cs) same (inl stand) =
+    inl (stand.0, stand_around known ss h (b ∷ bs) (c ∷ cs) same stand.1)
+stand_around known (s ∷ ss) h (b ∷ bs) (c ∷ cs) same (inr stand) =
+    inr (stand.0, stand.1 ∙ same.0, stand.2 ∙ same.1, λ l k. stand.3 l (same.2 l k), stand_around known ss s.link bs cs same.3 stand.4)
+
+-- labels more
+abbrev pub Wider : Known → Known → Type 0
+Wider known more = (h k : ℕ) → IsTrue (known h k) → IsTrue (more h k)
+
+in_either : (label : ℕ) (labels more : List ℕ) → list_any (nat_eq label) (labels ++ more) ≡ true
+    → (list_any (nat_eq label) labels ≡ true) ⊎ (list_any (nat_eq label) more ≡ true)
+in_either label [] more h = inr h
+in_either label (l ∷ ls) more h = by (nat_eq label l) h (in_either label ls more)
+  where
+    by : (b : Bool) → b || list_any (nat_eq label) (ls ++ more) ≡ true
+        → (list_any (nat_eq label) (ls ++ more) ≡ true → (list_any (nat_eq label) ls ≡ true) ⊎ (list_any (nat_eq label) more ≡ true))
+        → (b || list_any (nat_eq label) ls ≡ true) ⊎ (list_any (nat_eq label) more ≡ true)
+    by true h rest = inl refl
+    by false h rest = rest h
+
+pub stand_wider : (known more : Known) (ss : List Shape) (h : ℕ) (blocks : List ScopeBlock) → Wider known more
+    → Stand known ss h blocks → Stand more ss h blocks
+stand_wider known more [] h [] wide stand = tt
+stand_wider known more [] h (b ∷ bs) wide stand = absurd stand
+stand_wider known more (s ∷ ss) h [] wide stand = tt
+stand_wider known more (s ∷ ss) h (b ∷ bs) wide (inl stand) = inl (stand.0, stand_wider known more ss h (b ∷ bs) wide stand.1)
+stand_wider known more (s ∷ ss) h (b ∷ bs) wide (inr stand) =
+    inr (stand.0, stand.1, stand.2, λ l k. wide h l (stand.3 l k), stand_wider known more ss s.link bs wide stand.4)
+
+pub stand_labels : (known more : Known) (labels : List ℕ) (ss : List Shape) (h : ℕ) (blocks : List ScopeBlock) → Wider known more
+    → AreKnown more h labels → Stand known ss h blocks → Stand more ss h (with_labels labels blocks)
+stand_labels known more labels [] h [] wide new stand = tt
+stand_labels known more labels [] h (b ∷ bs) wide new stand = absurd stand
+stand_labels known more labels (s ∷ ss) h [] wide new stand = tt
+stand_labels known more labels (s ∷ ss) h (b ∷ bs) wide new (inl stand) =
+    inl (stand.0, stand_labels known more labels ss h (b ∷ bs) wide new stand.1)
+stand_labels known more labels (s ∷ ss) h (b ∷ bs) wide new (inr stand) =
+    inr (stand.0, stand.1, stand.2, λ l k. by l (in_either l labels b.labels k), stand_wider known more ss s.link bs wide stand.4)
+  where
+    by : (l : ℕ) → (list_any (nat_eq l) labels ≡ true) ⊎ (list_any (nat_eq l) b.labels ≡ true) → IsTrue (more h l)
+    by l (inl k) = new l k
+    by l (inr k) = wide h l (stand.3 l k)
+
+-- the operations that walk
+good_at : (w : World) (ds : List Description) (ps : List Place) (n : ℕ) (d : Description) → AreGood w ds ps → slice_get ds n ≡ Some d
+    → (p : Place) × (slice_get ps n ≡ Some p) × IsGood w d p
+good_at w [] ps n d good e = absurd (none_some e)
+good_at w (c ∷ ds) [] n d good e = absurd good
+good_at w (c ∷ ds) (p ∷ ps) zero d good e = (p, refl, subst (λ c. IsGood w c p) (some_same e) good.0)
+good_at w (c ∷ ds) (p ∷ ps) (suc n) d good e = good_at w ds ps n d good.1 e
+
+module _ (unit : Name) (statics : List Description) (known : Known) (ss : List Shape) (blocks : List ScopeBlock) where
+  walked_to : (w : World) (outward : ℕ) (b : ScopeBlock) → IsSound unit statics ss w → Stand known ss (length ss) blocks
+      → slice_get blocks outward ≡ Some b → Found known w w.activations (height w) outward b
+  walked_to w outward b sound stand e =
+      subst (λ h. Found known w w.activations h outward b) (sym (shaped_length unit w ss w.activations sound.stack))
+      (find unit known w ss w.activations (length ss) blocks outward b sound.stack stand e)
+
+  pub height_there : (w : World) (outward : ℕ) (b : ScopeBlock) → IsSound unit statics ss w → Stand known ss (length ss) blocks
+      → slice_get blocks outward ≡ Some b → (h : ℕ) × (height_of outward w ≡ Yields h w) × AreKnown known h b.labels
+  unfolding height_of
+  height_there w outward b sound stand e =
+      let f = walked_to w outward b sound stand e in (f.height, ap (λ o. there_is o w) f.walked, f.labels)
+
+  pub slot_there : (w : World) (outward slot : ℕ) (b : ScopeBlock) (d : Description) → IsSound unit statics ss w
+      → Stand known ss (length ss) blocks → slice_get blocks outward ≡ Some b → slice_get b.slots slot ≡ Some d
+      → (p : Place) × (slot_place outward slot w ≡ Yields p w) × IsGood w d p
+  unfolding slot_place height_of
+  slot_there w outward slot b d sound stand e g =
+      let f = walked_to w outward b sound stand e in
+      let p = good_at w b.slots f.activation.slots slot d f.good g in (
+        p.0,
+        ap (λ o. further (there_is o w) (λ h w. slot_in (activation_at w.activations h) slot w)) f.walked
+            ∙ ap (λ o. slot_in o slot w) f.there ∙ ap (λ o. there_is o w) p.1,
+        p.2,
+      )
+
+first_unit : (unit : Name) (w : World) (s : Shape) (ss : List Shape) (stack : List Activation) → AreShaped unit w (s ∷ ss) stack
+    → newest_unit stack ≡ Some unit
+first_unit unit w s ss [] h = absurd h
+first_unit unit w s ss (a ∷ older) h = ap (λ n. Some n) h.0
+
+pub static_there : (unit : Name) (statics : List Description) (s : Shape) (ss : List Shape) (w : World) (number : ℕ) (d : Description)
+    → IsSound unit statics (s ∷ ss) w → slice_get statics number ≡ Some d
+    → (p : Place) × (static_place number w ≡ Yields p w) × IsGood w d p
+unfolding static_place
+static_there unit statics s ss w number d sound e =
+    let p = sound.made number d e in (
+      p.0,
+      ap (λ o. further (there_is o w) (λ unit w. there_is (static_in w.statics unit number) w)) (first_unit unit w s ss w.activations sound.stack)
+          ∙ ap (λ o. there_is o w) p.1,
+      p.2,
+    )

@@ -1,0 +1,457 @@
+-- What well-typed statements mean.
+use Rattle.std.specs.Prelude.{◌≡◌, ◌≢◌, ℕ, zero, suc, nat_eq, Bool, true, false, ◌&&◌, ◌||◌, IsTrue, Option, Some, None}
+use Rattle.std.specs.Prelude.{List, [], ◌∷◌, ◌++◌, length, map, slice_get, if◌then◌else◌, refl}
+use Rattle.std.specs.List.{list_any}
+use Rattle.std.proofs.Common.{arith, sym, ap, ◌∙◌, subst, inr, true≢false}
+use Rattle.std.proofs.lemmas.Bool.{eqb-true, eq-eqb}
+use Rattle.pli_base.specs.Name.{Name}
+use Rattle.pli_code.specs.declared.ending.Ending.TheVariants.{Ended, MachineFault}
+use Rattle.pli_map.specs.Description.{Description}
+use Rattle.pli_store.specs.Activations.{nearest_of}
+use Rattle.pli_store.specs.Storage.{Place}
+use Rattle.pli_store.specs.World.{World, Answer, Yields, Raises, Wrong, Head, entered, held, stored, copied, height, at_statement, line_ended}
+use Rattle.pli_value.specs.Conversions.{bit_constant}
+use Rattle.pli_value.specs.Value.{Value}
+use Rattle.pli_type_tree.specs.Templates.{Template, variable_of}
+use Rattle.pli_type_tree.specs.TypedTree.{TypedExpression, TypedReference, TypedArguments, BlockHead, TypedStatement, Statement, Form, Null, Assign}
+use Rattle.pli_type_tree.specs.TypedTree.{AssignAggregate, Put, If, Begin, Group, While, Call, Goto, Return, ReturnValue, Stop, OtherWise, NoElse, Else}
+use Rattle.pli_type_tree.specs.TypedTree.{TypedStatements, NoStatement, StatementThen}
+use Rattle.pli_type_tree.specs.ValueTypes.{StringKind, OfCharacters, OfBits, ValueType, Strings, IsOf}
+use Rattle.pli_type_tree.specs.WellTyped.{AreMade, ScopeBlock, Scope, blocks_from, IsTyped, IsPlaced, IsString, AreItems, labels_of, with_labels}
+use Rattle.pli_type_tree.specs.WellTyped.{in_group, block_of, in_begin, knows_label, IsTypedStatement, IsTypedForm, IsTypedElse, AreTypedStatements}
+use Rattle.pli_meaning_tree.specs.Effects.{Effect, Gives, Jumps, Flow, Next, Returned, Doing, and_then, followed, answered, back_at, truth}
+use Rattle.pli_meaning_tree.specs.Effects.{leaving, block_end}
+use Rattle.pli_meaning_tree.specs.TreeMeaning.{Calls, no_value, printed_item, value_of, place_of, called_with, condition, assigns, assigns_aggregate, puts, skips}
+use Rattle.pli_meaning_tree.specs.TreeMeaning.{does_call, returns_value, jumps_to, number_of, labels_in, head_in, static_link, activation_of, in_block, does, does_form, does_else}
+use Rattle.pli_meaning_tree.specs.TreeMeaning.{does_list, does_from}
+use Rattle.pli_meaning_typed.specs.SoundWorlds.{AreGood, Shape, IsSound, IsLater, Answers}
+use Rattle.pli_meaning_typed.proofs.MeansLemmas.{IsBelow, also, Means, Anything, means_from, then_means, answer_kept, statement_means, chosen_means}
+use Rattle.pli_meaning_typed.proofs.MeansLemmas.{caught_means, leaving_means, full_means, followed_means, turns_means}
+use Rattle.pli_meaning_typed.proofs.ExpressionsMean.{IsReturned, Gives as GivesBack, OfType, AtPlace, CallsMean, narrow_held, one_scalar, value_means, place_means, called_means}
+use Rattle.pli_meaning_typed.proofs.ScopeLaws.{Known, Wider, AreKnown, Stand, near, stand_wider, stand_labels, height_there, shaped_length}
+use Rattle.pli_meaning_typed.proofs.WorldLaws.{later_same, good_later, stored_answers, copied_answers, entered_answers, left_sound, left_later, statement_sound, printed_sound, line_sound}
+
+none_some : {A : Type 0} {x : A} → None ≡ Some x → ⊥
+none_some e = absurd (cc)
+
+ended_other : Ended ≢ MachineFault
+ended_other e = absurd (cc)
+
+-- how a statement goes on
+abbrev pub FlowIs : (begins : ℕ) → Option Description → Flow → World → Type 0
+FlowIs begins value Next w = Unit {0}
+FlowIs begins value (Returned outward v) w = (outward ≡ begins) × IsReturned value v
+
+-- what a scope knows is there, in a block
+pub record Fits (known : Known) (x : Shape) (ss : List Shape) (s : Scope) (block : ℕ) : Type 0 where
+  pub stand : Stand known (x ∷ ss) (suc (length ss)) s.blocks
+  pub below : IsBelow known (suc (length ss))
+  pub first : ScopeBlock
+  pub others : List ScopeBlock
+  pub blocks : s.blocks ≡ first ∷ others
+  pub own : first.number ≡ block
+
+-- labels
+pub held_labels : (statements : TypedStatements) (label : ℕ) → IsTrue (list_any (nat_eq label) (labels_of statements)) → labels_in statements label ≡ true
+held_labels NoStatement label h = h
+held_labels (StatementThen (Statement number form) more) label h =
+    by (nat_eq label number) (nat_eq number label) refl refl h (held_labels more label)
+  where
+    by : (b c : Bool) → nat_eq label number ≡ b → nat_eq number label ≡ c → b || list_any (nat_eq label) (labels_of more) ≡ true
+        → (list_any (nat_eq label) (labels_of more) ≡ true → labels_in more label ≡ true) → c || labels_in more label ≡ true
+    by b true e f h rest = refl
+    by true false e f h rest = absurd (true≢false (sym (eq-eqb number label (sym (eqb-true label number e))) ∙ f))
+    by false false e f h rest = rest h
+
+also_wide : (held : ℕ → Bool) (height : ℕ) (known : Known) → Wider known (also held height known)
+also_wide held height known h k t = by (nat_eq h height && held k)
+  where
+    by : (b : Bool) → (if b then true else known h k) ≡ true
+    by true = refl
+    by false = t
+
+also_new : (statements : TypedStatements) (height : ℕ) (known : Known) → AreKnown (also (labels_in statements) height known) height (labels_of statements)
+also_new statements height known l h =
+    ap (λ b. if b && labels_in statements l then true else known height l) (eq-eqb height height refl)
+    ∙ ap (λ b. if b then true else known height l) (held_labels statements l h)
+
+also_below : (held : ℕ → Bool) (height : ℕ) (known : Known) → IsBelow known height → IsBelow (also held height known) height
+also_below held height known below h k lt = by (nat_eq h height) refl
+  where
+    by : (b : Bool) → nat_eq h height ≡ b → (if b && held k then true else known h k) ≡ false
+    by true e = absurd (omega (arith, eqb-true h height e, lt))
+    by false e = below h k lt
+
+-- a list begins at its front or at a label of its own
+abbrev Starts : TypedStatements → Option ℕ → Type 0
+Starts statements None = Unit {0}
+Starts statements (Some label) = labels_in statements label ≡ true
+
+in_own_group : (known : Known) (x : Shape) (ss : List Shape) (s : Scope) (block : ℕ) (statements : TypedStatements) → Fits known x ss s block
+    → Fits (also (labels_in statements) (suc (length ss)) known) x ss (in_group statements s) block
+in_own_group known x ss s block statements f =
+    let more = also (labels_in statements) (suc (length ss)) known in record {
+      stand =
+          stand_labels known more (labels_of statements) (x ∷ ss) (suc (length ss)) s.blocks (also_wide (labels_in statements) (suc (length ss)) known)
+          (also_new statements (suc (length ss)) known) f.stand;
+      below = also_below (labels_in statements) (suc (length ss)) known f.below;
+      first = record f.first { labels = labels_of statements ++ f.first.labels };
+      others = f.others;
+      blocks = ap (λ bs. with_labels (labels_of statements) bs) f.blocks;
+      own = f.own;
+    }
+
+-- the slots of a block
+variables_described : (ts : List Template) → map (λ v. v.description) (map variable_of ts) ≡ map (λ t. t.description) ts
+variables_described [] = refl
+variables_described (t ∷ ts) = ap (λ ds. t.description ∷ ds) (variables_described ts)
+
+-- a block's own statements
+pub in_own_block : (known : Known) (head : BlockHead) (parameters : List Description) (statements : TypedStatements) (link : ℕ) (ss : List Shape)
+    (s : Scope) (around : List ScopeBlock) → s.blocks ≡ block_of head parameters statements ∷ around → Stand known ss link around → IsBelow known (length ss)
+    → Fits (also (labels_in statements) (suc (length ss)) known)
+    (record { block = head.number; link = link; slots = parameters ++ map (λ v. v.description) (map variable_of head.variables) }) ss s head.number
+in_own_block known head parameters statements link ss s around e stand below =
+    let h = suc (length ss) in
+    let more = also (labels_in statements) h known in
+    let y : Shape = record { block = head.number; link = link; slots = parameters ++ map (λ v. v.description) (map variable_of head.variables) } in record {
+      stand = subst (λ bs. Stand more (y ∷ ss) h bs) (sym e)
+          (inr (
+            refl,
+            refl,
+            ap (λ ds. parameters ++ ds) (variables_described head.variables),
+            also_new statements h known,
+            stand_wider known more ss link around (also_wide (labels_in statements) h known) stand,
+          ));
+      below = also_below (labels_in statements) h known (λ i k lt. below i k (omega (arith, lt)));
+      first = block_of head parameters statements;
+      others = around;
+      blocks = e;
+      own = refl;
+    }
+
+-- an activation: it is entered, runs and is left
+pub activation_means : {A : Type 0} (unit : Name) (statics : List Description) (P : Flow → World → Type 0) (Q : A → World → Type 0) (n : ℕ) (known : Known)
+    (ss : List Shape) (head : Head) (link : ℕ) (places : List Place) (parameters : List Description) (run : Doing Flow) (end : Flow → Doing A)
+    (w : World) (left : ℕ) → IsBelow known (length ss) → IsSound unit statics ss w → head.unit ≡ unit → AreGood w parameters places → AreMade head.variables
+    → ((v : World) (l : ℕ) → IsSound unit statics (record { block = head.block; link = link; slots = parameters ++ map (λ v. v.description) head.variables } ∷ ss) v
+    → Means unit statics n l known (record { block = head.block; link = link; slots = parameters ++ map (λ v. v.description) head.variables } ∷ ss) v P (run v l))
+    → ((x : Flow) (v : World) (l : ℕ) → P x v → IsSound unit statics (record { block = head.block; link = link; slots = parameters ++ map (λ v. v.description) head.variables } ∷ ss) v
+    → Means unit statics n l known ss v Q (end x v l))
+    → Means unit statics n left known ss w Q (activation_of head link places run end w left)
+activation_means unit statics P Q n known ss head link places parameters run end w left below sound e good made f g =
+    by (entered head link places w) (entered_answers unit statics head link places parameters ss w sound e good made)
+  where
+    y : Shape
+    y = record { block = head.block; link = link; slots = parameters ++ map (λ v. v.description) head.variables }
+
+    by : (o : Answer (Unit {0})) → Answers (λ _ v. IsSound unit statics (y ∷ ss) v × IsLater w v) o
+        → Means unit statics n left known ss w Q (and_then (answered o left) (λ _ w left. leaving (run w left) end))
+    by (Yields _ v) h =
+        means_from unit statics Q n left left known ss w v (leaving (run v left) end) (omega arith) h.1
+        (leaving_means unit statics P Q n left known y ss v (run v left) end below (f v left h.0) (λ x u l le is s later. g x u l is s))
+    by (Raises r v) h = h
+    by Wrong h = h
+
+module _ (greatest level : ℕ) (call : Calls) (unit : Name) where
+  abbrev Here : {A : Type 0} → Scope → Known → Shape → List Shape → (left : ℕ) → World → (A → World → Type 0) → Effect A → Type 0
+  Here s known x ss left u Is o = Means unit s.statics level left known (x ∷ ss) u Is o
+
+  abbrev Flows : Scope → Flow → World → Type 0
+  Flows s = FlowIs s.begins s.value
+
+  abbrev CallsIn : Scope → Type 0
+  CallsIn s = CallsMean unit s.statics s.procedures level call
+
+  -- straight statements, in a scope
+  module _ (s : Scope) (known : Known) (x : Shape) (ss : List Shape) (block : ℕ) (fits : Fits known x ss s block) (calls : CallsIn s) where
+    abbrev Sound : World → Type 0
+    Sound w = IsSound unit s.statics (x ∷ ss) w
+
+    then_here : {A B : Type 0} (P : A → World → Type 0) (Q : B → World → Type 0) (left : ℕ) (u : World) (o : Effect A) (go : A → Doing B)
+        → Here s known x ss left u P o → ((y : A) (w : World) (l : ℕ) → P y w → Sound w → IsLater u w → Here s known x ss l w Q (go y w l))
+        → Here s known x ss left u Q (and_then o go)
+    then_here P Q left u o go h f = then_means unit s.statics P Q level left known (x ∷ ss) u o go h (λ y w l le is sound later. f y w l is sound later)
+
+    value : (e : TypedExpression) (t : ValueType) → IsTyped greatest s e t → (w : World) (left : ℕ) → Sound w
+        → Here s known x ss left w (OfType t) (value_of greatest call e w left)
+    value = value_means greatest level call unit s known x ss fits.stand fits.below calls
+
+    place : (r : TypedReference) (d : Description) → IsPlaced greatest s r d → (w : World) (left : ℕ) → Sound w
+        → Here s known x ss left w (AtPlace d) (place_of greatest call r w left)
+    place = place_means greatest level call unit s known x ss fits.stand fits.below calls
+
+    ends : (w : World) (left : ℕ) → Sound w → Here s known x ss left w (Flows s) (Gives Next w left)
+    ends w left sound = (omega arith, tt, sound, later_same w)
+
+    truth_means : (a b : ℕ) (v : Value) (w : World) (left : ℕ) → IsOf (Strings OfBits a b) v → Sound w → Here s known x ss left w Anything (truth v w left)
+    truth_means a b v w left is sound =
+        subst (λ v. Here s known x ss left w Anything (truth v w left)) (sym is.1) (omega arith, tt, sound, later_same w)
+
+    pub condition_means : (e : TypedExpression) → IsString greatest s OfBits e → (w : World) (left : ℕ) → Sound w
+        → Here s known x ss left w Anything (condition greatest call e w left)
+    condition_means e typed w left sound =
+        then_here (OfType (Strings OfBits typed.0 typed.1)) Anything left w (value_of greatest call e w left) truth (value e (Strings OfBits typed.0 typed.1) typed.2 w left sound)
+        (λ v w l is sound later. truth_means typed.0 typed.1 v w l is sound)
+
+    pub assigns_means : (target : TypedReference) (e : TypedExpression) → IsTypedForm greatest s (Assign target e) → (w : World) (left : ℕ) → Sound w
+        → Here s known x ss left w (Flows s) (assigns greatest call target e w left)
+    assigns_means target e typed w left sound =
+        let d = typed.0 in
+        let t = typed.2.0 in
+        let held = typed.2.2 in
+        then_here (AtPlace d) (Flows s) left w (place_of greatest call target w left) _ (place target d typed.1 w left sound)
+        (λ p v l good sound later. then_here (OfType t) (Flows s) l v (value_of greatest call e v l) _ (value e t typed.2.1 v l sound)
+        (λ y u l is sound later. then_here Anything (Flows s) l u (answered (stored p y u) l) _
+        (answer_kept unit s.statics level l known (x ∷ ss) u (stored p y u)
+        (stored_answers unit s.statics x ss d p y u sound (good_later v u d p later good) (narrow_held d t y held is) (one_scalar d held.0 held.1).1))
+        (λ _ w l any sound later. ends w l sound)))
+
+    pub aggregate_means : (target source : TypedReference) → IsTypedForm greatest s (AssignAggregate target source) → (w : World) (left : ℕ) → Sound w
+        → Here s known x ss left w (Flows s) (assigns_aggregate greatest call target source w left)
+    aggregate_means target source typed w left sound =
+        let d = typed.0 in
+        then_here (AtPlace d) (Flows s) left w (place_of greatest call target w left) _ (place target d typed.1 w left sound)
+        (λ p v l good sound later. then_here (AtPlace d) (Flows s) l v (place_of greatest call source v l) _ (place source d typed.2 v l sound)
+        (λ q u l from sound later. then_here Anything (Flows s) l u (answered (copied q p u) l) _
+        (answer_kept unit s.statics level l known (x ∷ ss) u (copied q p u) (copied_answers unit s.statics x ss d q p u sound from (good_later v u d p later good)))
+        (λ _ w l any sound later. ends w l sound)))
+
+    item_means : (k : StringKind) (a b : ℕ) (v : Value) (w : World) (left : ℕ) → IsOf (Strings k a b) v → Sound w
+        → Here s known x ss left w (Flows s) (printed_item v w left)
+    item_means OfCharacters a b v w left is sound =
+        let p = printed_sound unit s.statics (x ∷ ss) is.0 w sound in
+        subst (λ v. Here s known x ss left w (Flows s) (printed_item v w left)) (sym is.1) (omega arith, tt, p.0, p.1)
+    item_means OfBits a b v w left is sound =
+        let p = printed_sound unit s.statics (x ∷ ss) (bit_constant is.0) w sound in
+        subst (λ v. Here s known x ss left w (Flows s) (printed_item v w left)) (sym is.1) (omega arith, tt, p.0, p.1)
+
+    pub puts_means : (items : List TypedExpression) → AreItems greatest s items → (w : World) (left : ℕ) → Sound w
+        → Here s known x ss left w (Flows s) (puts greatest call items w left)
+    puts_means [] typed w left sound = ends w left sound
+    puts_means (e ∷ es) typed w left sound =
+        let k = typed.0.0 in
+        let a = typed.0.1.0 in
+        let b = typed.0.1.1 in
+        followed_means unit s.statics (Flows s) level left known (x ∷ ss) w (and_then (value_of greatest call e w left) (λ v w left. printed_item v w left)) (puts greatest call es)
+        (then_here (OfType (Strings k a b)) (Flows s) left w (value_of greatest call e w left) _ (value e (Strings k a b) typed.0.1.2 w left sound)
+        (λ v w l is sound later. item_means k a b v w l is sound))
+        (λ w l le sound. puts_means es typed.1 w l sound)
+
+    pub skips_means : (skip : Bool) (items : List TypedExpression) → AreItems greatest s items → (w : World) (left : ℕ) → Sound w
+        → Here s known x ss left w (Flows s) (skips greatest call skip (puts greatest call items) w left)
+    skips_means false items typed w left sound = puts_means items typed w left sound
+    skips_means true items typed w left sound =
+        let l = line_sound unit s.statics (x ∷ ss) w sound in
+        means_from unit s.statics (Flows s) level left left known (x ∷ ss) w (line_ended w) (puts greatest call items (line_ended w) left) (omega arith) l.1
+        (puts_means items typed (line_ended w) left l.0)
+
+    no_value_means : (o : Option Description) (v : Option Value) (w : World) (left : ℕ) → o ≡ None → IsReturned o v → Sound w
+        → Here s known x ss left w (Flows s) (no_value v w left)
+    no_value_means o None w left e is sound = ends w left sound
+    no_value_means None (Some v) w left e is sound = absurd is
+    no_value_means (Some d) (Some v) w left e is sound = absurd (none_some (sym e))
+
+    pub call_means : (called : ℕ) (arguments : TypedArguments) → IsTypedForm greatest s (Call called arguments) → (w : World) (left : ℕ) → Sound w
+        → Here s known x ss left w (Flows s) (does_call greatest call called arguments w left)
+    call_means called arguments typed w left sound =
+        let p = typed.0 in
+        then_here (GivesBack p.value) (Flows s) left w (called_with greatest call called arguments [] w left) no_value
+        (called_means greatest level call unit s known x ss fits.stand fits.below calls arguments p.parameters called p [] [] typed.3 refl typed.1 typed.2 w left sound tt)
+        (λ v w l is sound later. no_value_means p.value v w l typed.4 is sound)
+
+    pub jump_means : (outward label : ℕ) → knows_label (slice_get s.blocks outward) label → (w : World) (left : ℕ) → Sound w
+        → Means unit s.statics level (suc left) known (x ∷ ss) w (Flows s) (jumps_to outward label w left)
+    jump_means outward label typed w left sound = by (slice_get s.blocks outward) refl typed
+      where
+        by : (o : Option ScopeBlock) → slice_get s.blocks outward ≡ o → knows_label o label
+            → Means unit s.statics level (suc left) known (x ∷ ss) w (Flows s) (jumps_to outward label w left)
+        by None e k = absurd k
+        by (Some b) e k =
+            let h = height_there unit s.statics known (x ∷ ss) s.blocks w outward b sound fits.stand e in
+            subst (λ a. Means unit s.statics level (suc left) known (x ∷ ss) w (Flows s) (and_then (answered a left) (λ h w left. Jumps h label w left))) (sym h.1)
+            (omega arith, h.2 label k, sound, later_same w)
+
+    pub return_means : (outward : ℕ) → outward ≡ s.begins → s.value ≡ None → (w : World) (left : ℕ) → Sound w
+        → Here s known x ss left w (Flows s) (Gives (Returned outward None) w left)
+    return_means outward e none w left sound = (omega arith, (e, subst (λ o. IsReturned o None) (sym none) tt), sound, later_same w)
+
+    pub value_returned : (outward : ℕ) (e : TypedExpression) → IsTypedForm greatest s (ReturnValue outward e) → (w : World) (left : ℕ) → Sound w
+        → Here s known x ss left w (Flows s) (returns_value greatest call outward e w left)
+    value_returned outward e typed w left sound =
+        let d = typed.1.0 in
+        let t = typed.1.2.0 in
+        then_here (OfType t) (Flows s) left w (value_of greatest call e w left) _ (value e t typed.1.2.1 w left sound)
+        (λ v w l is sound later. (
+          omega arith,
+          (typed.0, subst (λ o. IsReturned o (Some v)) (sym typed.1.1) (narrow_held d t v typed.1.2.2 is)),
+          sound,
+          later_same w,
+        ))
+
+  -- what a list does from a label
+  picked : (s : Scope) (known : Known) (x : Shape) (ss : List Shape) (w : World) (left : ℕ) (b c : Bool) (o other : Effect Flow) → b || c ≡ true
+      → Here s known x ss left w (Flows s) o → (c ≡ true → Here s known x ss left w (Flows s) other)
+      → Here s known x ss left w (Flows s) (if b then o else other)
+  picked s known x ss w left true c o other h f g = f
+  picked s known x ss w left false c o other h f g = g h
+
+  grown : (s : Scope) (known : Known) (x : Shape) (ss : List Shape) (w : World) (left : ℕ) (o : Effect Flow) → Here s known x ss left w (Flows s) o
+      → Means unit s.statics level (suc left) known (x ∷ ss) w (Flows s) o
+  grown s known x ss w left o h = means_from unit s.statics (Flows s) level left (suc left) known (x ∷ ss) w w o (omega arith) (later_same w) h
+
+  -- a list, which catches the jumps to its labels
+  list_run : (s : Scope) (known : Known) (x : Shape) (ss : List Shape) (block : ℕ) (statements : TypedStatements)
+      → ((from : Option ℕ) → Starts statements from → (w : World) (left : ℕ) → IsSound unit s.statics (x ∷ ss) w
+      → Here s (also (labels_in statements) (suc (length ss)) known) x ss left w (Flows s) (does_from greatest call unit level block statements from w left))
+      → (w : World) (left : ℕ) → IsSound unit s.statics (x ∷ ss) w
+      → Here s known x ss left w (Flows s) (does_list greatest call unit level block statements w left)
+  list_run s known x ss block statements f w left sound =
+      caught_means unit s.statics (Flows s) level known (x ∷ ss) (labels_in statements) (does_from greatest call unit level block statements)
+      (Starts statements) (λ k e. e) f level (omega arith) None tt w left sound
+
+  -- a BEGIN block
+  begun : (s : Scope) (known : Known) (x : Shape) (ss : List Shape) (block : ℕ) (head : BlockHead) (statements : TypedStatements) → Fits known x ss s block
+      → AreMade (map variable_of head.variables)
+      → ((y : Shape) → Fits (also (labels_in statements) (suc (length (x ∷ ss))) known) y (x ∷ ss) (in_begin head statements s) head.number
+      → (w : World) (left : ℕ) → IsSound unit s.statics (y ∷ x ∷ ss) w
+      → Here (in_begin head statements s) known y (x ∷ ss) left w (Flows (in_begin head statements s)) (does_list greatest call unit level head.number statements w left))
+      → (w : World) (left : ℕ) → IsSound unit s.statics (x ∷ ss) w
+      → Here s known x ss left w (Flows s)
+      (in_block (head_in unit head) (static_link unit (Some block) w) (does_list greatest call unit level head.number statements) w left)
+  begun s known x ss block head statements fits made f w left sound =
+      let own : blocks_from block s.blocks ≡ Some s.blocks = first_block s.blocks fits.first fits.others fits.blocks fits.own in
+      let n = near unit known w (x ∷ ss) w.activations (suc (length ss)) block s.blocks s.blocks sound.stack fits.stand own in
+      let link : static_link unit (Some block) w ≡ Some n.link =
+      ap (λ h. nearest_of unit block w.activations h) (shaped_length unit w (x ∷ ss) w.activations sound.stack) ∙ n.walked in
+      subst (λ o. Here s known x ss left w (Flows s) (in_block (head_in unit head) o (does_list greatest call unit level head.number statements) w left)) (sym link)
+      (full_means unit s.statics (Flows s) level left known x ss
+      (activation_of (head_in unit head) n.link [] (does_list greatest call unit level head.number statements) block_end) w sound
+      (activation_means unit s.statics (Flows (in_begin head statements s)) (Flows s) level known (x ∷ ss) (head_in unit head) n.link [] []
+      (does_list greatest call unit level head.number statements) block_end w left fits.below sound refl tt made
+      (λ v l sound. f (inner n.link) (in_own_block known head [] statements n.link (x ∷ ss) (in_begin head statements s) s.blocks refl n.stand fits.below) v l sound)
+      (λ y v l is sound. ended (inner n.link) y v l is sound)))
+    where
+      inner : ℕ → Shape
+      inner link = record { block = head.number; link = link; slots = [] ++ map (λ v. v.description) (map variable_of head.variables) }
+
+      first_block : (blocks : List ScopeBlock) (b : ScopeBlock) (bs : List ScopeBlock) → blocks ≡ b ∷ bs → b.number ≡ block
+          → blocks_from block blocks ≡ Some blocks
+      first_block blocks b bs e same =
+          subst (λ blocks. blocks_from block blocks ≡ Some blocks) (sym e)
+          (ap (λ t. if t then Some (b ∷ bs) else blocks_from block bs) (eq-eqb b.number block same))
+
+      ended : (z : Shape) (y : Flow) (v : World) (l : ℕ) → FlowIs (suc s.begins) s.value y v → IsSound unit s.statics (z ∷ x ∷ ss) v
+          → Here s known x ss l v (Flows s) (block_end y v l)
+      ended z Next v l is sound = (omega arith, tt, left_sound unit s.statics z (x ∷ ss) v sound, left_later unit s.statics v)
+      ended z (Returned zero o) v l is sound = absurd (cc)
+      ended z (Returned (suc outward) o) v l is sound = (
+        omega arith,
+        (let e = is.0 in omega (arith, e), is.1),
+        left_sound unit s.statics z (x ∷ ss) v sound,
+        left_later unit s.statics v,
+      )
+
+  -- a condition, with the statement as it was
+  test_means : (s : Scope) (known : Known) (x : Shape) (ss : List Shape) (block number : ℕ) (e : TypedExpression) → IsString greatest s OfBits e
+      → Fits known x ss s block → CallsIn s → (w : World) (left : ℕ) → IsSound unit s.statics (x ∷ ss) w
+      → Here s known x ss left w Anything (back_at number (condition greatest call e) w left)
+  test_means s known x ss block number e typed fits calls w left sound =
+      let t = statement_sound unit s.statics (x ∷ ss) number w sound in
+      means_from unit s.statics Anything level left left known (x ∷ ss) w (at_statement number w) (condition greatest call e (at_statement number w) left) (omega arith) t.1
+      (condition_means s known x ss block fits calls e typed (at_statement number w) left t.0)
+
+  mutual
+    pub does_means : (st : TypedStatement) (s : Scope) (known : Known) (x : Shape) (ss : List Shape) (block : ℕ) → IsTypedStatement greatest s st
+        → Fits known x ss s block → CallsIn s → (w : World) (left : ℕ) → IsSound unit s.statics (x ∷ ss) w
+        → Here s known x ss left w (Flows s) (does greatest call unit level block st w left)
+    does_means (Statement number form) s known x ss block typed fits calls w left sound =
+        statement_means unit s.statics (Flows s) level known (x ∷ ss) number (does_form greatest call unit level block number form) w left sound
+        (λ v l e sound. form_means form s known x ss block number typed fits calls v l sound)
+
+    form_means : (form : Form) (s : Scope) (known : Known) (x : Shape) (ss : List Shape) (block number : ℕ) → IsTypedForm greatest s form
+        → Fits known x ss s block → CallsIn s → (w : World) (left : ℕ) → IsSound unit s.statics (x ∷ ss) w
+        → Means unit s.statics level (suc left) known (x ∷ ss) w (Flows s) (does_form greatest call unit level block number form w left)
+    form_means Null s known x ss block number typed fits calls w left sound = (omega arith, tt, sound, later_same w)
+    form_means (Assign target e) s known x ss block number typed fits calls w left sound =
+        grown s known x ss w left (assigns greatest call target e w left) (assigns_means s known x ss block fits calls target e typed w left sound)
+    form_means (AssignAggregate target source) s known x ss block number typed fits calls w left sound =
+        grown s known x ss w left (assigns_aggregate greatest call target source w left)
+        (aggregate_means s known x ss block fits calls target source typed w left sound)
+    form_means (Put skip items) s known x ss block number typed fits calls w left sound =
+        grown s known x ss w left (skips greatest call skip (puts greatest call items) w left)
+        (skips_means s known x ss block fits calls skip items typed w left sound)
+    form_means (If e consequence alternative) s known x ss block number typed fits calls w left sound =
+        grown s known x ss w left (does_form greatest call unit level block number (If e consequence alternative) w left)
+        (then_means unit s.statics Anything (Flows s) level left known (x ∷ ss) w (condition greatest call e w left) _
+        (condition_means s known x ss block fits calls e typed.0 w left sound)
+        (λ b v l le any sound later. chosen_means unit s.statics (Flows s) level l known (x ∷ ss) v b
+        (does greatest call unit level block consequence) (does_else greatest call unit level block alternative) v l
+        (does_means consequence s known x ss block typed.1 fits calls v l sound)
+        (else_means alternative s known x ss block typed.2 fits calls v l sound)))
+    form_means (Begin head statements) s known x ss block number typed fits calls w left sound =
+        grown s known x ss w left (does_form greatest call unit level block number (Begin head statements) w left)
+        (begun s known x ss block head statements fits typed.0
+        (λ y f v l sound. list_run (in_begin head statements s) known y (x ∷ ss) head.number statements
+        (λ from starts u m sound. from_means statements from (in_begin head statements s) (also (labels_in statements) (suc (length (x ∷ ss))) known) y (x ∷ ss) head.number typed.1 f calls starts u m sound)
+        v l sound) w left sound)
+    form_means (Group statements) s known x ss block number typed fits calls w left sound =
+        grown s known x ss w left (does_list greatest call unit level block statements w left)
+        (list_run (in_group statements s) known x ss block statements
+        (λ from starts u m sound. from_means statements from (in_group statements s) (also (labels_in statements) (suc (length ss)) known) x ss block typed (in_own_group known x ss s block statements fits) calls starts u m sound)
+        w left sound)
+    form_means (While e statements) s known x ss block number typed fits calls w left sound =
+        grown s known x ss w left (does_form greatest call unit level block number (While e statements) w left)
+        (turns_means unit s.statics (Flows s) level known (x ∷ ss) number (back_at number (condition greatest call e))
+        (does_list greatest call unit level block statements) (λ w. tt)
+        (λ v l sound. test_means s known x ss block number e typed.0 fits calls v l sound)
+        (λ v l sound. list_run (in_group statements s) known x ss block statements
+        (λ from starts u m sound. from_means statements from (in_group statements s) (also (labels_in statements) (suc (length ss)) known) x ss block typed.1 (in_own_group known x ss s block statements fits) calls starts u m sound)
+        v l sound)
+        level (omega arith) w left sound)
+    form_means (Call called arguments) s known x ss block number typed fits calls w left sound =
+        grown s known x ss w left (does_call greatest call called arguments w left)
+        (call_means s known x ss block fits calls called arguments typed w left sound)
+    form_means (Goto outward label) s known x ss block number typed fits calls w left sound =
+        jump_means s known x ss block fits calls outward label typed w left sound
+    form_means (Return outward) s known x ss block number typed fits calls w left sound =
+        grown s known x ss w left (Gives (Returned outward None) w left)
+        (return_means s known x ss block fits calls outward typed.0 typed.1 w left sound)
+    form_means (ReturnValue outward e) s known x ss block number typed fits calls w left sound =
+        grown s known x ss w left (returns_value greatest call outward e w left)
+        (value_returned s known x ss block fits calls outward e typed w left sound)
+    form_means Stop s known x ss block number typed fits calls w left sound = ended_other
+
+    else_means : (alternative : OtherWise) (s : Scope) (known : Known) (x : Shape) (ss : List Shape) (block : ℕ) → IsTypedElse greatest s alternative
+        → Fits known x ss s block → CallsIn s → (w : World) (left : ℕ) → IsSound unit s.statics (x ∷ ss) w
+        → Here s known x ss left w (Flows s) (does_else greatest call unit level block alternative w left)
+    else_means NoElse s known x ss block typed fits calls w left sound = (omega arith, tt, sound, later_same w)
+    else_means (Else st) s known x ss block typed fits calls w left sound = does_means st s known x ss block typed fits calls w left sound
+
+    from_means : (statements : TypedStatements) (from : Option ℕ) (s : Scope) (known : Known) (x : Shape) (ss : List Shape) (block : ℕ)
+        → AreTypedStatements greatest s statements → Fits known x ss s block → CallsIn s → Starts statements from
+        → (w : World) (left : ℕ) → IsSound unit s.statics (x ∷ ss) w
+        → Here s known x ss left w (Flows s) (does_from greatest call unit level block statements from w left)
+    from_means NoStatement None s known x ss block typed fits calls starts w left sound = (omega arith, tt, sound, later_same w)
+    from_means NoStatement (Some label) s known x ss block typed fits calls starts w left sound = absurd (cc)
+    from_means (StatementThen st more) None s known x ss block typed fits calls starts w left sound =
+        followed_means unit s.statics (Flows s) level left known (x ∷ ss) w (does greatest call unit level block st w left) _
+        (does_means st s known x ss block typed.0 fits calls w left sound)
+        (λ v l le sound. from_means more None s known x ss block typed.1 fits calls tt v l sound)
+    from_means (StatementThen st more) (Some label) s known x ss block typed fits calls starts w left sound =
+        picked s known x ss w left (nat_eq (number_of st) label) (labels_in more label)
+        (followed (does greatest call unit level block st w left) (does_from greatest call unit level block more None))
+        (does_from greatest call unit level block more (Some label) w left) starts
+        (followed_means unit s.statics (Flows s) level left known (x ∷ ss) w (does greatest call unit level block st w left) _
+        (does_means st s known x ss block typed.0 fits calls w left sound)
+        (λ v l le sound. from_means more None s known x ss block typed.1 fits calls tt v l sound))
+        (λ there. from_means more (Some label) s known x ss block typed.1 fits calls there w left sound)
+
+  pub list_means : (statements : TypedStatements) (s : Scope) (known : Known) (x : Shape) (ss : List Shape) (block : ℕ)
+      → AreTypedStatements greatest s statements → Fits (also (labels_in statements) (suc (length ss)) known) x ss s block → CallsIn s
+      → (w : World) (left : ℕ) → IsSound unit s.statics (x ∷ ss) w
+      → Here s known x ss left w (Flows s) (does_list greatest call unit level block statements w left)
+  list_means statements s known x ss block typed fits calls w left sound =
+      list_run s known x ss block statements
+      (λ from starts v l sound. from_means statements from s (also (labels_in statements) (suc (length ss)) known) x ss block typed fits calls starts v l sound)
+      w left sound

@@ -1,0 +1,494 @@
+-- The operations keep worlds sound, and none is wrong where what it needs is there.
+use Rattle.std.specs.Prelude.{◌≡◌, ◌≢◌, ℕ, suc, ◌+◌, ◌≤◌, ◌<◌, nat_eq, nat_lt, nat_le, Bool, true, false, ◌&&◌, IsTrue, Option, Some, None}
+use Rattle.std.specs.Prelude.{List, [], ◌∷◌, ◌++◌, ◌⊎◌, map, if◌then◌else◌, refl}
+use Rattle.std.proofs.Common.{arith, sym, ap, ◌∙◌, subst, inl, inr, append_assoc, append-nil, lt-ltb, le-leb}
+use Rattle.pli_base.specs.Name.{Name}
+use Rattle.pli_code.specs.declared.ending.Ending.TheVariants.{MachineFault}
+use Rattle.pli_code.specs.declared.ending.RunError.{RunError}
+use Rattle.pli_code.specs.declared.ending.RunError.TheVariants.{DeadLocator, StorageLimit}
+use Rattle.pli_map.specs.Description.{Description}
+use Rattle.pli_map.specs.Same.{same}
+use Rattle.pli_map.specs.laws.SameLaws.{same_decides}
+use Rattle.pli_map.specs.Scalars.{first_scalar, is_scalar, scalars_in}
+use Rattle.pli_map.specs.Sizes.{size_of}
+use Rattle.pli_store.specs.Activations.{Activation, with_newest, without_newest}
+use Rattle.pli_store.specs.Storage.{Generation, Made, Automatic, Dummy, Place, whole, generation_in, scalar_at, values_from, with_values_at}
+use Rattle.pli_store.specs.Storage.{with_values, without, live_bytes, byte_limit, generation_limit}
+use Rattle.pli_store.specs.Values.{holds}
+use Rattle.pli_store.specs.World.{World, Answer, Yields, Raises, Wrong, further, known, made_of, unless_dead, parts_held}
+use Rattle.pli_store.specs.World.{parts_stored, single, held, stored, copied, Variable, Head, in_newest, with_slot, made_all}
+use Rattle.pli_store.specs.World.{without_handed, begun_in, entered, ended_with, prepared_by, left_by, cleared, at_statement, stepped, dummy_of}
+use Rattle.pli_store.specs.World.{static_in, printed, line_ended, error_in, error_at}
+use Rattle.pli_value.specs.Value.{Value}
+use Rattle.pli_type_tree.specs.WellTyped.{scalars_of, AreHeld, AreMade}
+use Rattle.pli_meaning_typed.specs.SoundWorlds.{IsPartAt, IsGood, AreGood, HoldsValues, Shape, AreShaped, AreStatics}
+use Rattle.pli_meaning_typed.specs.SoundWorlds.{IsSound, IsLater, Answers}
+use Rattle.pli_meaning_typed.proofs.Parts.{part_held, part_stored, first_itself}
+use Rattle.pli_meaning_typed.proofs.StorageLemmas.{appended, replaced, lived_before}
+
+some_same : {A : Type 0} {x y : A} → Some x ≡ Some y → x ≡ y
+some_same e = cc
+
+-- later worlds
+
+pub later_same : (w : World) → IsLater w w
+later_same w = record { more = omega arith; lived = λ n g lt h. (g, h, refl) }
+
+pub later_then : (u v w : World) → IsLater u v → IsLater v w → IsLater u w
+later_then u v w f g = record {
+  more = omega (arith, f.more, g.more);
+  lived = λ n x lt h.
+      let y = g.lived n x (omega (arith, lt, f.more)) h in
+      let z = f.lived n y.0 lt y.1 in
+      (z.0, z.1, z.2 ∙ y.2);
+}
+
+pub good_later : (v w : World) (d : Description) (p : Place) → IsLater v w → IsGood v d p → IsGood w d p
+good_later v w d p later g = record {
+  was_made = omega (arith, g.was_made, later.more);
+  outside = g.outside;
+  described = g.described;
+  part = λ x h. let old = later.lived p.generation x g.was_made h in
+      subst (λ e. IsPartAt e p.offset d) old.2 (g.part old.0 old.1);
+}
+
+pub goods_later : (v w : World) (ds : List Description) (ps : List Place) → IsLater v w → AreGood v ds ps → AreGood w ds ps
+goods_later v w [] [] later g = tt
+goods_later v w [] (p ∷ ps) later g = absurd g
+goods_later v w (d ∷ ds) [] later g = absurd g
+goods_later v w (d ∷ ds) (p ∷ ps) later g = (good_later v w d p later g.0, goods_later v w ds ps later g.1)
+
+module _ (unit : Name) (statics : List Description) where
+  pub shaped_later : (v w : World) (ss : List Shape) (stack : List Activation) → IsLater v w → AreShaped unit v ss stack
+      → AreShaped unit w ss stack
+  shaped_later v w [] [] later h = tt
+  shaped_later v w [] (a ∷ older) later h = absurd h
+  shaped_later v w (s ∷ ss) [] later h = absurd h
+  shaped_later v w (s ∷ ss) (a ∷ older) later h =
+      (h.0, h.1, h.2, goods_later v w s.slots a.slots later h.3, shaped_later v w ss older later h.4)
+
+  statics_later : (v w : World) → IsLater v w → w.statics ≡ v.statics → AreStatics unit statics v → AreStatics unit statics w
+  statics_later v w later e h n d g =
+      let p = h n d g in
+      (p.0, subst (λ ss. static_in ss unit n ≡ Some p.0) (sym e) p.1, good_later v w d p.0 later p.2)
+
+  -- the stack as it was
+  pub same_stack : (ss : List Shape) (v w : World) → IsSound unit statics ss v → IsLater v w → HoldsValues w
+      → w.activations ≡ v.activations → w.statics ≡ v.statics → IsSound unit statics ss w
+  same_stack ss v w s later values e f = record {
+    values = values;
+    stack = subst (λ stack. AreShaped unit w ss stack) (sym e) (shaped_later v w ss v.activations later s.stack);
+    made = statics_later v w later f s.made;
+  }
+
+  -- the newest changed
+  pub newest_later : (change : Activation → Activation) (w : World) → IsLater w (in_newest change w)
+  newest_later change w = record { more = omega arith; lived = λ n g lt h. (g, h, refl) }
+
+  pub newest_sound : (change : Activation → Activation) (ss ts : List Shape) (w : World) → IsSound unit statics ss w
+      → AreShaped unit w ts (with_newest change w.activations) → IsSound unit statics ts (in_newest change w)
+  newest_sound change ss ts w sound h = record {
+    values = sound.values;
+    stack = shaped_later w (in_newest change w) ts (with_newest change w.activations) (newest_later change w) h;
+    made = statics_later w (in_newest change w) (newest_later change w) refl sound.made;
+  }
+
+  -- an error names a statement
+  named : (s : Shape) (ss : List Shape) (w : World) (e : RunError) (stack : List Activation) → AreShaped unit w (s ∷ ss) stack
+      → error_in e stack ≢ MachineFault
+  named s ss w e [] h = absurd h
+  named s ss w e (a ∷ older) h = λ f. absurd (cc)
+
+  pub error_named : (s : Shape) (ss : List Shape) (w : World) (e : RunError) → IsSound unit statics (s ∷ ss) w
+      → error_at e w ≢ MachineFault
+  unfolding error_at
+  error_named s ss w e h = named s ss w e w.activations h.stack
+
+-- one operation after another
+pub further_answers : {A B : Type 0} (P : A → World → Type 0) (Q : B → World → Type 0) (o : Answer A)
+    (go : A → World → Answer B) → Answers P o → ((x : A) (w : World) → P x w → Answers Q (go x w)) → Answers Q (further o go)
+further_answers P Q (Yields x w) go h f = f x w h
+further_answers P Q (Raises e w) go h f = h
+further_answers P Q Wrong go h f = absurd h
+
+-- a new generation
+new_part : (d : Description) → IsPartAt d 0 d
+new_part d more e k h = let z : more ≡ 0 + more = omega arith in (k, subst (λ n. first_scalar d n e ≡ Some k) z h)
+
+abbrev pub new_generation : Description → Made → List Value → World → Generation
+new_generation d how vs w = record { number = w.made; description = d; made = how; values = vs }
+
+abbrev pub with_new : Description → Made → List Value → World → World
+with_new d how vs w = record w { storage = w.storage ++ new_generation d how vs w ∷ []; made = suc w.made }
+
+module _ (d : Description) (how : Made) (vs : List Value) (w : World) (old : HoldsValues w) (h : AreHeld (scalars_of d) vs) where
+  abbrev g : Generation
+  g = new_generation d how vs w
+
+  pub new_later : IsLater w (with_new d how vs w)
+  new_later = record { more = omega arith; lived = λ n x lt e. before n x lt (appended w.storage g n x e) }
+    where
+      before : (n : ℕ) (x : Generation) → n < w.made → (generation_in w.storage n ≡ Some x) ⊎ ((w.made ≡ n) × (g ≡ x))
+          → (o : Generation) × (generation_in w.storage n ≡ Some o) × (o.description ≡ x.description)
+      before n x lt (inl e) = (x, e, refl)
+      before n x lt (inr e) = absurd (omega (arith, lt, e.0))
+
+  pub new_values : HoldsValues (with_new d how vs w)
+  new_values n x e = by (appended w.storage g n x e)
+    where
+      by : (generation_in w.storage n ≡ Some x) ⊎ ((w.made ≡ n) × (g ≡ x)) → (n < suc w.made) × AreHeld (scalars_of x.description) x.values
+      by (inl e) = let o = old n x e in (omega (arith, o.0), o.1)
+      by (inr e) = (omega (arith, e.0), subst (λ x. AreHeld (scalars_of x.description) x.values) e.1 h)
+
+  pub new_good : IsGood (with_new d how vs w) d (whole w.made d)
+  new_good = record { was_made = omega arith; outside = refl; described = refl; part = λ x e. by x (appended w.storage g w.made x e) }
+    where
+      by : (x : Generation) → (generation_in w.storage w.made ≡ Some x) ⊎ ((w.made ≡ w.made) × (g ≡ x)) → IsPartAt x.description 0 d
+      by x (inl e) = absurd (omega (arith, (old w.made x e).0))
+      by x (inr e) = subst (λ x. IsPartAt x.description 0 d) e.1 (new_part d)
+
+  pub room_gives : w.made < generation_limit → live_bytes w.storage + size_of d ≤ byte_limit
+      → made_of d how vs w ≡ Yields (whole w.made d) (with_new d how vs w)
+  unfolding made_of
+  room_gives few small =
+      ap (λ b. if b && nat_le (live_bytes w.storage + size_of d) byte_limit then Yields (whole w.made d) (with_new d how vs w) else Raises StorageLimit w)
+      (lt-ltb w.made generation_limit few)
+      ∙ ap (λ b. if b then Yields (whole w.made d) (with_new d how vs w) else Raises StorageLimit w) (le-leb (live_bytes w.storage + size_of d) byte_limit small)
+
+module _ (unit : Name) (statics : List Description) (s : Shape) (ss : List Shape) where
+  abbrev Sound : World → Type 0
+  Sound w = IsSound unit statics (s ∷ ss) w
+
+  abbrev MadeAt : World → Description → Place → World → Type 0
+  MadeAt w d p v = IsGood v d p × Sound v × IsLater w v
+
+  pub made_answers : (d : Description) (how : Made) (vs : List Value) (w : World) → Sound w → AreHeld (scalars_of d) vs
+      → Answers (MadeAt w d) (made_of d how vs w)
+  unfolding made_of
+  made_answers d how vs w sound h =
+      by (nat_lt w.made generation_limit && nat_le (live_bytes w.storage + size_of d) byte_limit)
+    where
+      by : (b : Bool) → Answers (MadeAt w d) (if b then Yields (whole w.made d) (with_new d how vs w) else Raises StorageLimit w)
+      by true =
+          let later = new_later d how vs w sound.values h in (
+            new_good d how vs w sound.values h,
+            same_stack unit statics (s ∷ ss) w (with_new d how vs w) sound later (new_values d how vs w sound.values h) refl refl,
+            later,
+          )
+      by false = error_named unit statics s ss w StorageLimit sound
+
+  -- what a place holds
+  first_there : (d : Description) (p : Place) (w : World) (g : Generation) → IsGood w d p → generation_in w.storage p.generation ≡ Some g
+      → (k : ℕ) × (scalar_at g p ≡ Some k) × (first_scalar g.description p.offset d ≡ Some k)
+  first_there d p w g good e =
+      let f = good.part g e 0 d 0 (first_itself d) in
+      let z : p.offset + 0 ≡ p.offset = omega arith in
+      let there : first_scalar g.description p.offset d ≡ Some f.0 = subst (λ n. first_scalar g.description n d ≡ Some f.0) z f.1 in (
+        f.0,
+        ap (λ n. if nat_eq n 0 then first_scalar g.description p.offset p.description else None) good.outside
+            ∙ ap (λ e. first_scalar g.description p.offset e) good.described ∙ there,
+        there,
+      )
+
+  abbrev HeldAt : World → Description → List Value → World → Type 0
+  HeldAt w d vs v = AreHeld (scalars_of d) vs × Sound v × IsLater w v
+
+  pub parts_held_answers : (d : Description) (p : Place) (w : World) → Sound w → IsGood w d p
+      → Answers (HeldAt w d) (parts_held p w)
+  unfolding parts_held
+  parts_held_answers d p w sound good = by (generation_in w.storage p.generation) refl
+    where
+      by : (o : Option Generation) → generation_in w.storage p.generation ≡ o
+          → Answers (HeldAt w d)
+          (further (unless_dead o w) (λ g w. further (known (scalar_at g p) w) (λ k w. Yields (values_from k (scalars_in p.description) g.values) w)))
+      by None e = error_named unit statics s ss w DeadLocator sound
+      by (Some g) e =
+          let f = first_there d p w g good e in
+          subst (λ o. Answers (HeldAt w d) (further (known o w) (λ k w. Yields (values_from k (scalars_in p.description) g.values) w))) (sym f.1) (
+            subst (λ e. AreHeld (scalars_of d) (values_from f.0 (scalars_in e) g.values)) (sym good.described)
+                (part_held g.description p.offset d f.0 g.values f.2 (sound.values p.generation g e).1),
+            sound,
+            later_same w,
+          )
+
+  -- values put at a place
+  abbrev Kept : World → Unit {0} → World → Type 0
+  Kept w _ v = Sound v × IsLater w v
+
+  pub parts_stored_answers : (d : Description) (p : Place) (vs : List Value) (w : World) → Sound w → IsGood w d p
+      → AreHeld (scalars_of d) vs → Answers (Kept w) (parts_stored p vs w)
+  unfolding parts_stored
+  parts_stored_answers d p vs w sound good h = by (generation_in w.storage p.generation) refl
+    where
+      put : Generation → ℕ → World → Answer Unit
+      put g k w = Yields tt (record w { storage = with_values w.storage p.generation (with_values_at k vs g.values) })
+
+      by : (o : Option Generation) → generation_in w.storage p.generation ≡ o
+          → Answers (Kept w) (further (unless_dead o w) (λ g w. further (known (scalar_at g p) w) (λ k w. Yields tt (record w { storage = with_values w.storage p.generation (with_values_at k vs g.values) }))))
+      by None e = error_named unit statics s ss w DeadLocator sound
+      by (Some g) e =
+          let f = first_there d p w g good e in
+          let xs = with_values_at f.0 vs g.values in
+          let new : World = record w { storage = with_values w.storage p.generation xs } in
+          let later : IsLater w new = record {
+            more = omega arith;
+            lived = λ n x lt e. let r = replaced w.storage p.generation xs n x e in (r.old, r.there, r.described);
+          } in
+          subst (λ o. Answers (Kept w) (further (known o w) (λ k w. Yields tt (record w { storage = with_values w.storage p.generation (with_values_at k vs g.values) })))) (sym f.1)
+          (same_stack unit statics (s ∷ ss) w new sound later (values g e f.0 f.2) refl refl, later)
+        where
+          values : (g : Generation) → generation_in w.storage p.generation ≡ Some g → (k : ℕ) → first_scalar g.description p.offset d ≡ Some k
+              → HoldsValues (record w { storage = with_values w.storage p.generation (with_values_at k vs g.values) })
+          values g e k f n x c =
+              let r = replaced w.storage p.generation (with_values_at k vs g.values) n x c in
+              ((sound.values n r.old r.there).0, found r.old r.there r.described r.held)
+            where
+              found : (old : Generation) → generation_in w.storage n ≡ Some old → old.description ≡ x.description
+                  → (old.values ≡ x.values) ⊎ ((p.generation ≡ n) × (with_values_at k vs g.values ≡ x.values))
+                  → AreHeld (scalars_of x.description) x.values
+              found old there e2 (inl e3) =
+                  subst (λ d. AreHeld (scalars_of d) x.values) e2
+                  (subst (λ vs. AreHeld (scalars_of old.description) vs) e3 (sound.values n old there).1)
+              found old there e2 (inr e3) =
+                  let same : g ≡ old = some_same (sym e ∙ ap (λ m. generation_in w.storage m) e3.0 ∙ there) in
+                  subst (λ d. AreHeld (scalars_of d) x.values) (ap (λ g. g.description) same ∙ e2)
+                  (subst (λ vs. AreHeld (scalars_of g.description) vs) e3.1
+                  (part_stored g.description p.offset d k vs g.values f h (sound.values p.generation g e).1))
+
+  -- one scalar
+  alone_held : (d : Description) (vs : List Value) (w v : World) → AreHeld (d ∷ []) vs → Sound v → IsLater w v
+      → Answers (λ x u. IsTrue (holds d x) × Sound u × IsLater w u) (single vs v)
+  alone_held d [] w v h sound later = absurd h
+  alone_held d (x ∷ []) w v h sound later = (h.0, sound, later)
+  alone_held d (x ∷ y ∷ vs) w v h sound later = absurd h.1
+
+  abbrev HeldBy : World → Description → Value → World → Type 0
+  HeldBy w d x v = IsTrue (holds d x) × Sound v × IsLater w v
+
+  pub held_answers : (d : Description) (p : Place) (w : World) → Sound w → IsGood w d p → is_scalar d ≡ true
+      → scalars_of d ≡ d ∷ [] → Answers (HeldBy w d) (held p w)
+  unfolding held
+  held_answers d p w sound good scalar one =
+      further_answers (HeldAt w d) (HeldBy w d) (parts_held p w) (λ vs w. if is_scalar p.description then single vs w else Wrong)
+      (parts_held_answers d p w sound good)
+      (λ vs v h. subst (λ b. Answers (HeldBy w d) (if b then single vs v else Wrong)) (sym (ap (λ d. is_scalar d) good.described ∙ scalar))
+      (alone_held d vs w v (subst (λ ds. AreHeld ds vs) one h.0) h.1 h.2))
+
+  pub stored_answers : (d : Description) (p : Place) (x : Value) (w : World) → Sound w → IsGood w d p → IsTrue (holds d x)
+      → scalars_of d ≡ d ∷ [] → Answers (Kept w) (stored p x w)
+  unfolding stored
+  stored_answers d p x w sound good h one = by (generation_in w.storage p.generation)
+    where
+      put : Answers (Kept w) (parts_stored p (x ∷ []) w)
+      put = parts_stored_answers d p (x ∷ []) w sound good (subst (λ ds. AreHeld ds (x ∷ [])) (sym one) (h, tt))
+
+      by : (o : Option Generation)
+          → Answers (Kept w) (further (unless_dead o w) (λ g w. if holds p.description x then parts_stored p (x ∷ []) w else Wrong))
+      by None = error_named unit statics s ss w DeadLocator sound
+      by (Some g) =
+          subst (λ b. Answers (Kept w) (if b then parts_stored p (x ∷ []) w else Wrong)) (sym (ap (λ d. holds d x) good.described ∙ h)) put
+
+  pub copied_answers : (d : Description) (source target : Place) (w : World) → Sound w → IsGood w d source → IsGood w d target
+      → Answers (Kept w) (copied source target w)
+  unfolding copied
+  copied_answers d source target w sound from to =
+      let alike : same source.description target.description ≡ true =
+      (same_decides source.description target.description).1 (from.described ∙ sym to.described) in
+      subst (λ b. Answers (Kept w) (if b then further (parts_held source w) (λ vs w. parts_stored target vs w) else Wrong)) (sym alike)
+      (further_answers (HeldAt w d) (Kept w) (parts_held source w) (λ vs w. parts_stored target vs w)
+      (parts_held_answers d source w sound from) (λ vs v h. put vs v h))
+    where
+      weaken : (v : World) (a : Answer Unit) → IsLater w v → Answers (Kept v) a → Answers (Kept w) a
+      weaken v (Yields x u) later h = (h.0, later_then w v u later h.1)
+      weaken v (Raises e u) later h = h
+      weaken v Wrong later h = h
+
+      put : (vs : List Value) (v : World) → HeldAt w d vs v → Answers (Kept w) (parts_stored target vs v)
+      put vs v h =
+          weaken v (parts_stored target vs v) h.2
+          (parts_stored_answers d target vs v h.1 (good_later w v d target h.2 to) h.0)
+
+  -- a dummy argument
+  pub dummy_answers : (d : Description) (x : Value) (w : World) → Sound w → IsTrue (holds d x) → scalars_of d ≡ d ∷ []
+      → Answers (MadeAt w d) (dummy_of d x w)
+  unfolding dummy_of
+  dummy_answers d x w sound h one =
+      subst (λ b. Answers (MadeAt w d) (if b then further (made_of d Dummy (x ∷ []) w) (λ p w. Yields p (in_newest (λ a. record a { pending = a.pending ++ p.generation ∷ [] }) w)) else Wrong)) (sym h)
+      (further_answers (MadeAt w d) (MadeAt w d) (made_of d Dummy (x ∷ []) w) (λ p w. Yields p (in_newest (λ a. record a { pending = a.pending ++ p.generation ∷ [] }) w))
+      (made_answers d Dummy (x ∷ []) w sound (subst (λ ds. AreHeld ds (x ∷ [])) (sym one) (h, tt)))
+      (λ p v m. pending p v m.0 m.1 m.2))
+    where
+      change : Place → Activation → Activation
+      change p a = record a { pending = a.pending ++ p.generation ∷ [] }
+
+      shaped : (p : Place) (v : World) (stack : List Activation) → AreShaped unit v (s ∷ ss) stack
+          → AreShaped unit v (s ∷ ss) (with_newest (λ a. record a { pending = a.pending ++ p.generation ∷ [] }) stack)
+      shaped p v [] h = absurd h
+      shaped p v (a ∷ older) h = h
+
+      pending : (p : Place) (v : World) → IsGood v d p → Sound v → IsLater w v
+          → MadeAt w d p (in_newest (λ a. record a { pending = a.pending ++ p.generation ∷ [] }) v)
+      pending p v good sound later =
+          let after : IsLater v (in_newest (change p) v) = newest_later unit statics (change p) v in (
+            good_later v (in_newest (change p) v) d p after good,
+            newest_sound unit statics (change p) (s ∷ ss) (s ∷ ss) v sound (shaped p v v.activations sound.stack),
+            later_then w v (in_newest (change p) v) later after,
+          )
+
+-- activations
+
+module _ (unit : Name) (statics : List Description) where
+  -- a slot more
+  goods_more : (w : World) (ds : List Description) (ps : List Place) (d : Description) (p : Place) → AreGood w ds ps → IsGood w d p
+      → AreGood w (ds ++ d ∷ []) (ps ++ p ∷ [])
+  goods_more w [] [] d p h g = (g, tt)
+  goods_more w [] (q ∷ qs) d p h g = absurd h
+  goods_more w (e ∷ es) [] d p h g = absurd h
+  goods_more w (e ∷ es) (q ∷ qs) d p h g = (h.0, goods_more w es qs d p h.1 g)
+
+  abbrev shape : (block link : ℕ) → List Description → Shape
+  shape block link slots = record { block = block; link = link; slots = slots }
+
+  slotted : (block link : ℕ) (slots : List Description) (ss : List Shape) (w : World) (d : Description) (p : Place) (stack : List Activation)
+      → AreShaped unit w (shape block link slots ∷ ss) stack → IsGood w d p
+      → AreShaped unit w (shape block link (slots ++ d ∷ []) ∷ ss) (with_newest (with_slot p) stack)
+  slotted block link slots ss w d p [] h g = absurd h
+  slotted block link slots ss w d p (a ∷ older) h g = (h.0, h.1, h.2, goods_more w slots a.slots d p h.3 g, h.4)
+
+  abbrev Entered : World → List Shape → Unit {0} → World → Type 0
+  Entered w ss _ v = IsSound unit statics ss v × IsLater w v
+
+  weaken : (ss : List Shape) (w v : World) (a : Answer Unit) → IsLater w v → Answers (Entered v ss) a → Answers (Entered w ss) a
+  weaken ss w v (Yields x u) later h = (h.0, later_then w v u later h.1)
+  weaken ss w v (Raises e u) later h = h
+  weaken ss w v Wrong later h = h
+
+  made_all_answers : (vs : List Variable) (block link : ℕ) (slots : List Description) (ss : List Shape) (w : World)
+      → IsSound unit statics (shape block link slots ∷ ss) w → AreMade vs
+      → Answers (Entered w (shape block link (slots ++ map (λ v. v.description) vs) ∷ ss)) (made_all vs w)
+  made_all_answers [] block link slots ss w sound h =
+      (subst (λ ds. IsSound unit statics (shape block link ds ∷ ss) w) (sym (append-nil slots)) sound, later_same w)
+  made_all_answers (x ∷ vs) block link slots ss w sound h =
+      let top = shape block link slots in
+      let rest = map (λ v. v.description) vs in
+      further_answers (MadeAt unit statics top ss w x.description)
+      (Entered w (shape block link (slots ++ map (λ v. v.description) (x ∷ vs)) ∷ ss))
+      (made_of x.description Automatic x.initial w) (λ p w. made_all vs (in_newest (with_slot p) w))
+      (made_answers unit statics top ss x.description Automatic x.initial w sound h.0)
+      (λ p v m. let u = in_newest (with_slot p) v in
+      subst (λ ds. Answers (Entered w (shape block link ds ∷ ss)) (made_all vs u)) (append_assoc slots (x.description ∷ []) rest)
+      (weaken (shape block link ((slots ++ x.description ∷ []) ++ rest) ∷ ss) w u (made_all vs u)
+      (later_then w v u m.2 (newest_later unit statics (with_slot p) v))
+      (made_all_answers vs block link (slots ++ x.description ∷ []) ss u
+      (newest_sound unit statics (with_slot p) (top ∷ ss) (shape block link (slots ++ x.description ∷ []) ∷ ss) v m.1
+      (slotted block link slots ss v x.description p v.activations m.1.stack m.0)) h.1)))
+
+  handed_shaped : (ss : List Shape) (w : World) (given : List Place) (stack : List Activation) → AreShaped unit w ss stack
+      → AreShaped unit w ss (with_newest (without_handed given) stack)
+  handed_shaped [] w given [] h = h
+  handed_shaped [] w given (a ∷ older) h = absurd h
+  handed_shaped (s ∷ ss) w given [] h = absurd h
+  handed_shaped (s ∷ ss) w given (a ∷ older) h = h
+
+  pub entered_answers : (head : Head) (link : ℕ) (given : List Place) (parameters : List Description) (ss : List Shape) (w : World)
+      → IsSound unit statics ss w → head.unit ≡ unit → AreGood w parameters given → AreMade head.variables
+      → Answers (Entered w (shape head.block link (parameters ++ map (λ v. v.description) head.variables) ∷ ss)) (entered head link given w)
+  unfolding entered
+  entered_answers head link given parameters ss w sound e good h =
+      let u = begun_in head link given w in
+      let later : IsLater w u = record { more = omega arith; lived = λ n g lt h. (g, h, refl) } in
+      weaken (shape head.block link (parameters ++ map (λ v. v.description) head.variables) ∷ ss) w u (made_all head.variables u) later
+      (made_all_answers head.variables head.block link parameters ss u (record {
+        values = sound.values;
+        stack = (
+          e,
+          refl,
+          refl,
+          goods_later w u parameters given later good,
+          shaped_later unit statics w u ss _ later (handed_shaped ss w given w.activations sound.stack),
+        );
+        made = statics_later unit statics w u later refl sound.made;
+      }) h)
+
+  -- the newest ends
+  ended_later : (numbers : List ℕ) (w v : World) → v.storage ≡ without numbers w.storage → v.made ≡ w.made → IsLater w v
+  ended_later numbers w v e f = record {
+    more = omega (arith, f);
+    lived = λ n g lt h. (g, lived_before numbers w.storage n g (sym (ap (λ gs. generation_in gs n) e) ∙ h), refl);
+  }
+
+  older_shaped : (s : Shape) (ss : List Shape) (w : World) (stack : List Activation) → AreShaped unit w (s ∷ ss) stack
+      → AreShaped unit w ss (without_newest stack)
+  older_shaped s ss w [] h = absurd h
+  older_shaped s ss w (a ∷ older) h = h.4
+
+  pub left_later : (w : World) → IsLater w (left_by w)
+  unfolding left_by
+  left_later w = ended_later (ended_with w.activations) w (left_by w) refl refl
+
+  pub left_sound : (s : Shape) (ss : List Shape) (w : World) → IsSound unit statics (s ∷ ss) w → IsSound unit statics ss (left_by w)
+  unfolding left_by
+  left_sound s ss w sound =
+      let later = ended_later (ended_with w.activations) w (left_by w) refl refl in record {
+        values = λ n g h. sound.values n g (lived_before (ended_with w.activations) w.storage n g h);
+        stack = shaped_later unit statics w (left_by w) ss (without_newest w.activations) later (older_shaped s ss w w.activations sound.stack);
+        made = statics_later unit statics w (left_by w) later refl sound.made;
+      }
+
+  -- the calls that it prepares are given up
+  cleared_shaped : (ss : List Shape) (w : World) (stack : List Activation) → AreShaped unit w ss stack
+      → AreShaped unit w ss (with_newest (λ a. record a { pending = [] }) stack)
+  cleared_shaped [] w [] h = h
+  cleared_shaped [] w (a ∷ older) h = absurd h
+  cleared_shaped (s ∷ ss) w [] h = absurd h
+  cleared_shaped (s ∷ ss) w (a ∷ older) h = h
+
+  pub cleared_later : (w : World) → IsLater w (cleared w)
+  unfolding cleared
+  cleared_later w = ended_later (prepared_by w.activations) w (cleared w) refl refl
+
+  pub cleared_sound : (ss : List Shape) (w : World) → IsSound unit statics ss w → IsSound unit statics ss (cleared w)
+  unfolding cleared
+  cleared_sound ss w sound =
+      let later = ended_later (prepared_by w.activations) w (cleared w) refl refl in record {
+        values = λ n g h. sound.values n g (lived_before (prepared_by w.activations) w.storage n g h);
+        stack = shaped_later unit statics w (cleared w) ss _ later (cleared_shaped ss w w.activations sound.stack);
+        made = statics_later unit statics w (cleared w) later refl sound.made;
+      }
+
+  -- a statement, a step, output
+  statement_shaped : (ss : List Shape) (w : World) (n : ℕ) (stack : List Activation) → AreShaped unit w ss stack
+      → AreShaped unit w ss (with_newest (λ a. record a { statement = n }) stack)
+  statement_shaped [] w n [] h = h
+  statement_shaped [] w n (a ∷ older) h = absurd h
+  statement_shaped (s ∷ ss) w n [] h = absurd h
+  statement_shaped (s ∷ ss) w n (a ∷ older) h = h
+
+  pub statement_sound : (ss : List Shape) (n : ℕ) (w : World) → IsSound unit statics ss w
+      → IsSound unit statics ss (at_statement n w) × IsLater w (at_statement n w)
+  unfolding at_statement
+  statement_sound ss n w sound = (
+    newest_sound unit statics (λ a. record a { statement = n }) ss ss w sound (statement_shaped ss w n w.activations sound.stack),
+    newest_later unit statics (λ a. record a { statement = n }) w,
+  )
+
+  pub stepped_sound : (ss : List Shape) (w : World) → IsSound unit statics ss w
+      → IsSound unit statics ss (stepped w) × IsLater w (stepped w)
+  unfolding stepped
+  stepped_sound ss w sound =
+      let later : IsLater w (stepped w) = record { more = omega arith; lived = λ n g lt h. (g, h, refl) } in
+      (same_stack unit statics ss w (stepped w) sound later sound.values refl refl, later)
+
+  pub printed_sound : (ss : List Shape) (text : List ℕ) (w : World) → IsSound unit statics ss w
+      → IsSound unit statics ss (printed text w) × IsLater w (printed text w)
+  unfolding printed
+  printed_sound ss text w sound =
+      let later : IsLater w (printed text w) = record { more = omega arith; lived = λ n g lt h. (g, h, refl) } in
+      (same_stack unit statics ss w (printed text w) sound later sound.values refl refl, later)
+
+  pub line_sound : (ss : List Shape) (w : World) → IsSound unit statics ss w
+      → IsSound unit statics ss (line_ended w) × IsLater w (line_ended w)
+  unfolding line_ended
+  line_sound ss w sound =
+      let later : IsLater w (line_ended w) = record { more = omega arith; lived = λ n g lt h. (g, h, refl) } in
+      (same_stack unit statics ss w (line_ended w) sound later sound.values refl refl, later)

@@ -1,0 +1,2 @@
+pub mod SoundWorlds
+pub mod TypedPrograms

@@ -1,0 +1,71 @@
+-- Sound worlds: what the operations keep, and what they need so that none asks for what is not there.
+use Rattle.std.specs.Prelude.{◌≡◌, ◌≢◌, ℕ, ◌+◌, ◌≤◌, ◌<◌, Some, List, [], ◌∷◌, slice_get}
+use Rattle.pli_base.specs.Name.{Name}
+use Rattle.pli_code.specs.declared.ending.Ending.TheVariants.{MachineFault}
+use Rattle.pli_map.specs.Description.{Description}
+use Rattle.pli_map.specs.Scalars.{first_scalar}
+use Rattle.pli_store.specs.Activations.{Activation}
+use Rattle.pli_store.specs.Storage.{Generation, Place, generation_in}
+use Rattle.pli_store.specs.World.{World, Answer, Yields, Raises, Wrong, static_in, error_at}
+use Rattle.pli_type_tree.specs.WellTyped.{scalars_of, AreHeld}
+
+-- each part of one description is a part of another, so many bytes further
+abbrev pub IsPartAt : (whole : Description) → (offset : ℕ) → (part : Description) → Type 0
+IsPartAt whole offset part =
+    (more : ℕ) (d : Description) (k : ℕ) → first_scalar part more d ≡ Some k
+    → (j : ℕ) × (first_scalar whole (offset + more) d ≡ Some j)
+
+-- a place of a description: its generation was made and, if it lives, has such a part there
+pub record IsGood (w : World) (d : Description) (p : Place) : Type 0 where
+  pub was_made : p.generation < w.made
+  pub outside : p.position ≡ 0
+  pub described : p.description ≡ d
+  pub part : (g : Generation) → generation_in w.storage p.generation ≡ Some g → IsPartAt g.description p.offset d
+
+abbrev pub AreGood : World → List Description → List Place → Type 0
+AreGood w [] [] = Unit {0}
+AreGood w (d ∷ ds) (p ∷ ps) = IsGood w d p × AreGood w ds ps
+AreGood w ds ps = ⊥
+
+-- what lives was made, and holds a value for each of its scalars
+abbrev pub HoldsValues : World → Type 0
+HoldsValues w =
+    (number : ℕ) (g : Generation) → generation_in w.storage number ≡ Some g
+    → (number < w.made) × AreHeld (scalars_of g.description) g.values
+
+-- what stays of an activation while it runs: its block, its static link, and the descriptions of its slots
+pub record Shape : Type 0 where
+  pub block : ℕ
+  pub link : ℕ
+  pub slots : List Description
+
+-- activations of a unit are of these shapes
+abbrev pub AreShaped : (unit : Name) → World → List Shape → List Activation → Type 0
+AreShaped unit w [] [] = Unit {0}
+AreShaped unit w (s ∷ ss) (a ∷ older) =
+    (a.unit ≡ unit) × (a.block ≡ s.block) × (a.link ≡ s.link) × AreGood w s.slots a.slots × AreShaped unit w ss older
+AreShaped unit w ss stack = ⊥
+
+-- the variables of a unit that were made before the program began
+abbrev pub AreStatics : (unit : Name) → List Description → World → Type 0
+AreStatics unit statics w =
+    (number : ℕ) (d : Description) → slice_get statics number ≡ Some d
+    → (p : Place) × (static_in w.statics unit number ≡ Some p) × IsGood w d p
+
+pub record IsSound (unit : Name) (statics : List Description) (shapes : List Shape) (w : World) : Type 0 where
+  pub values : HoldsValues w
+  pub stack : AreShaped unit w shapes w.activations
+  pub made : AreStatics unit statics w
+
+-- a later world: what lives there and was made before lived before, and is of the same description
+pub record IsLater (before after : World) : Type 0 where
+  pub more : before.made ≤ after.made
+  pub lived :
+      (number : ℕ) (g : Generation) → number < before.made → generation_in after.storage number ≡ Some g
+      → (old : Generation) × (generation_in before.storage number ≡ Some old) × (old.description ≡ g.description)
+
+-- an operation gives what it should, or an error that names a statement; it is not wrong
+abbrev pub Answers : {A : Type 0} → (A → World → Type 0) → Answer A → Type 0
+Answers Is (Yields x w) = Is x w
+Answers Is (Raises e w) = error_at e w ≢ MachineFault
+Answers Is Wrong = ⊥

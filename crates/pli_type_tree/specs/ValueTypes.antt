@@ -1,0 +1,113 @@
+-- Types of the values that expressions give, and what operations take and give of them.
+use Rattle.std.specs.Prelude.{◌≡◌, ℕ, suc, ◌≤◌, ◌<◌, ◌^◌, max, Bool, ℤ, unsigned_abs, Option, Some, None, List, []}
+use Rattle.std.specs.Prelude.{◌∷◌, ◌⊎◌, length}
+use Rattle.pli_map.specs.Description.{Description, FixedBinary, Character, Varying, Bit}
+use Rattle.pli_operation.specs.Operations.{Operation, Negate, Absolute, Sign, Not, LengthOf, FromBits, ToCharacters}
+use Rattle.pli_operation.specs.Operations.{Fit, Add, Subtract, Multiply, Modulo, Greatest, Least, Divide, Compare}
+use Rattle.pli_operation.specs.Operations.{Concatenate, And, Or, Index, Rest, Substring}
+use Rattle.pli_value.specs.Value.{Value, Number, Characters, Bits}
+
+-- what a string is made of
+pub data StringKind : Type 0 where
+  OfCharacters OfBits : StringKind
+
+-- numbers of at most so many binary digits; strings of at least and at most so many elements
+pub data ValueType : Type 0 where
+  Numbers : (digits : ℕ) → ValueType
+  Strings : (kind : StringKind) (least most : ℕ) → ValueType
+
+-- what a variable of a description holds; nothing yet for other descriptions
+abbrev pub type_held : Description → Option ValueType
+type_held (FixedBinary precision) = Some (Numbers precision)
+type_held (Character n) = Some (Strings OfCharacters n n)
+type_held (Varying n) = Some (Strings OfCharacters 0 n)
+type_held (Bit n) = Some (Strings OfBits n n)
+type_held d = None
+
+-- a value is of a type
+abbrev pub IsOf : ValueType → Value → Type 0
+IsOf (Numbers p) v = (x : ℤ) × (v ≡ Number x) × (unsigned_abs x < 2 ^ p)
+IsOf (Strings OfCharacters a b) v = (s : List ℕ) × (v ≡ Characters s) × (a ≤ length s) × (length s ≤ b)
+IsOf (Strings OfBits a b) v = (s : List Bool) × (v ≡ Bits s) × (a ≤ length s) × (length s ≤ b)
+
+abbrev pub AreOf : List ValueType → List Value → Type 0
+AreOf [] [] = Unit {0}
+AreOf (t ∷ ts) (v ∷ vs) = IsOf t v × AreOf ts vs
+AreOf ts vs = ⊥
+
+-- each value of the first type is one of the second
+abbrev pub IsWithin : (narrow wide : ValueType) → Type 0
+IsWithin (Numbers p) (Numbers q) = p ≤ q
+IsWithin (Strings OfCharacters a b) (Strings OfCharacters c d) = (c ≤ a) × (b ≤ d)
+IsWithin (Strings OfBits a b) (Strings OfBits c d) = (c ≤ a) × (b ≤ d)
+IsWithin t u = ⊥
+
+-- a variable of the description may hold each value of the type
+abbrev pub IsHeldBy : Description → ValueType → Type 0
+IsHeldBy d t = (wide : ValueType) × (type_held d ≡ Some wide) × IsWithin t wide
+
+-- each value of the type can be fitted to the description: both are of numbers, or of the same kind of strings
+abbrev pub IsFitted : Description → ValueType → Type 0
+IsFitted (FixedBinary precision) (Numbers p) = Unit {0}
+IsFitted (Character n) (Strings OfCharacters a b) = Unit {0}
+IsFitted (Varying n) (Strings OfCharacters a b) = Unit {0}
+IsFitted (Bit n) (Strings OfBits a b) = Unit {0}
+IsFitted d t = ⊥
+
+-- no string is longer, and the precision of a length
+abbrev pub longest : ℕ
+longest = 32767
+
+abbrev pub length_precision : ℕ
+length_precision = 15
+
+-- numbers of so many binary digits have room in so many columns, with a sign
+abbrev pub HaveColumns : (width digits : ℕ) → Type 0
+HaveColumns width p = (p ≤ 31) × (n : ℕ) × (width ≡ suc n) × (2 ^ p ≤ 10 ^ n)
+
+-- the operands are one number, two numbers, one string, or two strings of one kind
+abbrev pub OnNumber : List ValueType → (ℕ → Type 0) → Type 0
+OnNumber ts Of = (p : ℕ) × (ts ≡ Numbers p ∷ []) × Of p
+
+abbrev pub OnNumbers : List ValueType → (ℕ → ℕ → Type 0) → Type 0
+OnNumbers ts Of = (p : ℕ) × (q : ℕ) × (ts ≡ Numbers p ∷ Numbers q ∷ []) × Of p q
+
+abbrev pub OnString : List ValueType → (StringKind → ℕ → ℕ → Type 0) → Type 0
+OnString ts Of = (k : StringKind) × (a : ℕ) × (b : ℕ) × (ts ≡ Strings k a b ∷ []) × Of k a b
+
+abbrev pub OnStrings : List ValueType → (StringKind → ℕ → ℕ → Type 0) → Type 0
+OnStrings ts Of =
+    (k : StringKind) × (a : ℕ) × (b : ℕ) × (c : ℕ) × (d : ℕ)
+    × (ts ≡ Strings k a b ∷ Strings k c d ∷ []) × Of k b d
+
+-- an operation takes operands of these types and gives a value of this one; no number has more than so many
+-- binary digits
+abbrev pub Operates : (greatest : ℕ) → Operation → List ValueType → ValueType → Type 0
+Operates n Negate ts t = OnNumber ts (λ p. t ≡ Numbers p)
+Operates n Absolute ts t = OnNumber ts (λ p. t ≡ Numbers p)
+Operates n Sign ts t = OnNumber ts (λ p. t ≡ Numbers 1)
+Operates n Not ts t = OnString ts (λ k a b. (k ≡ OfBits) × (t ≡ Strings OfBits a b))
+Operates n LengthOf ts t = OnString ts (λ k a b. (b ≤ longest) × (t ≡ Numbers length_precision))
+Operates n FromBits ts t = OnString ts (λ k a b. (k ≡ OfBits) × (t ≡ Strings OfCharacters a b))
+Operates n (ToCharacters width) ts t =
+    OnNumber ts (λ p. HaveColumns width p × (t ≡ Strings OfCharacters width width))
+Operates n (Fit d) ts t = (u : ValueType) × (ts ≡ u ∷ []) × IsFitted d u × (type_held d ≡ Some t)
+Operates n Add ts t = OnNumbers ts (λ p q. t ≡ Numbers n)
+Operates n Subtract ts t = OnNumbers ts (λ p q. t ≡ Numbers n)
+Operates n Multiply ts t = OnNumbers ts (λ p q. t ≡ Numbers n)
+Operates n Modulo ts t = OnNumbers ts (λ p q. t ≡ Numbers q)
+Operates n Greatest ts t = OnNumbers ts (λ p q. t ≡ Numbers (max p q))
+Operates n Least ts t = OnNumbers ts (λ p q. t ≡ Numbers (max p q))
+Operates n (Divide precision) ts t = OnNumbers ts (λ p q. t ≡ Numbers precision)
+Operates n (Compare relation) ts t =
+    (OnNumbers ts (λ p q. Unit {0}) ⊎ OnStrings ts (λ k b d. Unit {0})) × (t ≡ Strings OfBits 1 1)
+Operates n Concatenate ts t = OnStrings ts (λ k b d. t ≡ Strings k 0 longest)
+Operates n And ts t = OnStrings ts (λ k b d. (k ≡ OfBits) × (t ≡ Strings OfBits 0 (max b d)))
+Operates n Or ts t = OnStrings ts (λ k b d. (k ≡ OfBits) × (t ≡ Strings OfBits 0 (max b d)))
+Operates n Index ts t = OnStrings ts (λ k b d. (b ≤ longest) × (t ≡ Numbers length_precision))
+Operates n Rest ts t =
+    (k : StringKind) × (a : ℕ) × (b : ℕ) × (p : ℕ) × (ts ≡ Strings k a b ∷ Numbers p ∷ [])
+    × (t ≡ Strings k 0 b)
+Operates n Substring ts t =
+    (k : StringKind) × (a : ℕ) × (b : ℕ) × (p : ℕ) × (q : ℕ)
+    × (ts ≡ Strings k a b ∷ Numbers p ∷ Numbers q ∷ []) × (t ≡ Strings k 0 b)

@@ -1,0 +1,226 @@
+-- Well-typed trees: what a type checker promises, so that a run never asks for what is not there. A scope says
+-- what is known at a place of the text: the blocks around it, the innermost first, each with the descriptions of
+-- its slots and the labels that a GOTO may lead to.
+use Rattle.std.specs.Prelude.{◌≡◌, ℕ, suc, ◌+◌, ◌*◌, nat_eq, ℤ, ◌-ℤ◌, int_le, unsigned_abs, IsTrue, Option, Some, None}
+use Rattle.std.specs.Prelude.{List, [], ◌∷◌, ◌++◌, map, slice_get, if◌then◌else◌}
+use Rattle.std.specs.List.{list_any}
+use Rattle.std.specs.List.{flat_map}
+use Rattle.std.specs.Prelude.{replicate}
+use Rattle.pli_map.specs.Description.{Description, Array, Structure, Members, NoMembers, MemberThen}
+use Rattle.pli_map.specs.Scalars.{first_scalar}
+use Rattle.pli_map.specs.Sizes.{count_of}
+use Rattle.pli_store.specs.Values.{holds}
+use Rattle.pli_store.specs.World.{Variable}
+use Rattle.pli_value.specs.Value.{Value}
+use Rattle.pli_type_tree.specs.Templates.{variable_of}
+use Rattle.pli_type_tree.specs.TypedTree.{Root, InSlot, OfProgram, TypedExpression, Literal, Held, Calculated}
+use Rattle.pli_type_tree.specs.TypedTree.{Called, TypedReference, Whole, Part, Operands, NoOperand, OperandThen}
+use Rattle.pli_type_tree.specs.TypedTree.{Subscripts, NoSubscript, SubscriptThen, TypedArguments, NoArgument}
+use Rattle.pli_type_tree.specs.TypedTree.{ByPlace, ByDummy, BlockHead, TypedStatement, Statement, Form, Null, Assign}
+use Rattle.pli_type_tree.specs.TypedTree.{AssignAggregate, Put, If, Begin, Group, While, Call, Goto, Return}
+use Rattle.pli_type_tree.specs.TypedTree.{ReturnValue, Stop, OtherWise, NoElse, Else, TypedStatements, NoStatement}
+use Rattle.pli_type_tree.specs.TypedTree.{StatementThen}
+use Rattle.pli_type_tree.specs.ValueTypes.{StringKind, OfBits, ValueType, Numbers, Strings, type_held, IsOf, IsHeldBy}
+use Rattle.pli_type_tree.specs.ValueTypes.{Operates}
+
+-- the scalars of a description, in the order in which they stand
+abbrev mutual
+  pub scalars_of : Description → List Description
+  scalars_of (Array bounds element) = flat_map (λ ds. ds) (replicate (count_of bounds) (scalars_of element))
+  scalars_of (Structure members) = scalars_of_members members
+  scalars_of scalar = scalar ∷ []
+
+  pub scalars_of_members : Members → List Description
+  scalars_of_members NoMembers = []
+  scalars_of_members (MemberThen d ds) = scalars_of d ++ scalars_of_members ds
+
+-- a value for each scalar
+abbrev pub AreHeld : List Description → List Value → Type 0
+AreHeld [] [] = Unit {0}
+AreHeld (d ∷ ds) (v ∷ vs) = IsTrue (holds d v) × AreHeld ds vs
+AreHeld ds vs = ⊥
+
+-- a variable begins with values of its scalars
+abbrev pub AreMade : List Variable → Type 0
+AreMade [] = Unit {0}
+AreMade (v ∷ vs) = AreHeld (scalars_of v.description) v.initial × AreMade vs
+
+-- a block around: its number, its slots, and the labels of its lists
+pub record ScopeBlock : Type 0 where
+  pub number : ℕ
+  pub slots : List Description
+  pub labels : List ℕ
+
+-- a procedure: the block around it and the blocks around it as its statements know them, its parameters, and
+-- its value if it is a function
+pub record Signature : Type 0 where
+  pub parent : Option ℕ
+  pub around : List ScopeBlock
+  pub parameters : List Description
+  pub value : Option Description
+
+-- what is known: the variables that are made before the program begins and the procedures of the unit, the
+-- blocks around, of which so many are BEGIN blocks of the procedure, and its value if it is a function
+pub record Scope : Type 0 where
+  pub statics : List Description
+  pub procedures : (number : ℕ) → Option Signature
+  pub blocks : List ScopeBlock
+  pub begins : ℕ
+  pub value : Option Description
+
+-- references
+
+abbrev pub slot_of : Option ScopeBlock → (slot : ℕ) → Option Description
+slot_of None slot = None
+slot_of (Some b) slot = slice_get b.slots slot
+
+abbrev pub root_of : Scope → Root → Option Description
+root_of s (InSlot outward slot) = slot_of (slice_get s.blocks outward) slot
+root_of s (OfProgram number) = slice_get s.statics number
+
+-- the subscripts, where they are within their bounds, lead to a part of this description
+abbrev pub LeadTo : (whole : Description) → (offset : ℕ) → Subscripts → (part : Description) → Type 0
+LeadTo whole offset NoSubscript part = (k : ℕ) × (first_scalar whole offset part ≡ Some k)
+LeadTo whole offset (SubscriptThen stride e more) part =
+    (x : ℤ) → IsTrue (int_le stride.low x) → IsTrue (int_le x stride.high)
+    → LeadTo whole (offset + unsigned_abs (x -ℤ stride.low) * stride.multiplier) more part
+
+-- calls
+
+-- the same blocks, where at least these labels are known
+abbrev pub AreAround : (here around : List ScopeBlock) → Type 0
+AreAround [] [] = Unit {0}
+AreAround (b ∷ bs) (c ∷ cs) =
+    (b.number ≡ c.number) × (b.slots ≡ c.slots)
+    × ((label : ℕ) → IsTrue (list_any (nat_eq label) c.labels) → IsTrue (list_any (nat_eq label) b.labels))
+    × AreAround bs cs
+AreAround bs cs = ⊥
+
+-- the blocks around from the nearest of a number on
+abbrev pub blocks_from : (number : ℕ) → List ScopeBlock → Option (List ScopeBlock)
+blocks_from number [] = None
+blocks_from number (b ∷ bs) = if nat_eq b.number number then Some (b ∷ bs) else blocks_from number bs
+
+-- a procedure whose block around has this number, or which has none, is reached
+abbrev pub IsReached : Option ℕ → (here around : List ScopeBlock) → Type 0
+IsReached None here around = around ≡ []
+IsReached (Some parent) here around =
+    (found : List ScopeBlock) × (blocks_from parent here ≡ Some found) × AreAround found around
+
+-- expressions
+abbrev mutual
+  -- an expression gives values of a type
+  pub IsTyped : (greatest : ℕ) → Scope → TypedExpression → ValueType → Type 0
+  IsTyped n s (Literal v) t = IsOf t v
+  IsTyped n s (Held r) t = (d : Description) × IsPlaced n s r d × (type_held d ≡ Some t)
+  IsTyped n s (Calculated operation operands) t =
+      (ts : List ValueType) × AreTyped n s operands ts × Operates n operation ts t
+  IsTyped n s (Called block arguments) t =
+      (p : Signature) × (s.procedures block ≡ Some p) × IsReached p.parent s.blocks p.around
+      × ArePassed n s arguments p.parameters
+      × ((d : Description) × (p.value ≡ Some d) × (type_held d ≡ Some t))
+
+  -- a reference leads to a variable or a part of this description
+  pub IsPlaced : (greatest : ℕ) → Scope → TypedReference → Description → Type 0
+  IsPlaced n s (Whole root) d = root_of s root ≡ Some d
+  IsPlaced n s (Part root offset part subscripts) d =
+      (part ≡ d) × ((whole : Description) × (root_of s root ≡ Some whole) × LeadTo whole offset subscripts d)
+      × AreSubscripts n s subscripts
+
+  pub AreTyped : (greatest : ℕ) → Scope → Operands → List ValueType → Type 0
+  AreTyped n s NoOperand ts = ts ≡ []
+  AreTyped n s (OperandThen e more) ts =
+      (t : ValueType) × (others : List ValueType) × (ts ≡ t ∷ others) × IsTyped n s e t × AreTyped n s more others
+
+  pub AreSubscripts : (greatest : ℕ) → Scope → Subscripts → Type 0
+  AreSubscripts n s NoSubscript = Unit {0}
+  AreSubscripts n s (SubscriptThen stride e more) =
+      ((p : ℕ) × IsTyped n s e (Numbers p)) × AreSubscripts n s more
+
+  -- arguments fit parameters: a place of the parameter's description, or a value that a dummy of it holds
+  pub ArePassed : (greatest : ℕ) → Scope → TypedArguments → List Description → Type 0
+  ArePassed n s NoArgument parameters = parameters ≡ []
+  ArePassed n s (ByPlace r more) parameters =
+      (d : Description) × (others : List Description) × (parameters ≡ d ∷ others) × IsPlaced n s r d
+      × ArePassed n s more others
+  ArePassed n s (ByDummy d e more) parameters =
+      (others : List Description) × (parameters ≡ d ∷ others)
+      × ((t : ValueType) × IsTyped n s e t × IsHeldBy d t) × ArePassed n s more others
+
+-- an expression gives values that a variable of the description holds
+abbrev pub IsValueFor : (greatest : ℕ) → Scope → Description → TypedExpression → Type 0
+IsValueFor n s d e = (t : ValueType) × IsTyped n s e t × IsHeldBy d t
+
+-- an expression gives strings of a kind
+abbrev pub IsString : (greatest : ℕ) → Scope → StringKind → TypedExpression → Type 0
+IsString n s kind e = (least : ℕ) × (most : ℕ) × IsTyped n s e (Strings kind least most)
+
+abbrev pub AreItems : (greatest : ℕ) → Scope → List TypedExpression → Type 0
+AreItems n s [] = Unit {0}
+AreItems n s (e ∷ es) = ((kind : StringKind) × IsString n s kind e) × AreItems n s es
+
+-- statements
+
+-- the labels of a list are the numbers of its statements
+abbrev pub labels_of : TypedStatements → List ℕ
+labels_of NoStatement = []
+labels_of (StatementThen (Statement number form) more) = number ∷ labels_of more
+
+-- in a group, its labels are known too
+abbrev pub with_labels : List ℕ → List ScopeBlock → List ScopeBlock
+with_labels labels [] = []
+with_labels labels (b ∷ bs) = record b { labels = labels ++ b.labels } ∷ bs
+
+abbrev pub in_group : TypedStatements → Scope → Scope
+in_group statements s = record s { blocks = with_labels (labels_of statements) s.blocks }
+
+-- a block as its own statements know it
+abbrev pub block_of : BlockHead → (parameters : List Description) → TypedStatements → ScopeBlock
+block_of head parameters statements = record {
+  number = head.number;
+  slots = parameters ++ map (λ v. v.description) head.variables;
+  labels = labels_of statements;
+}
+
+-- in a BEGIN block
+abbrev pub in_begin : BlockHead → TypedStatements → Scope → Scope
+in_begin head statements s =
+    record s { blocks = block_of head [] statements ∷ s.blocks; begins = suc s.begins }
+
+abbrev pub knows_label : Option ScopeBlock → (label : ℕ) → Type 0
+knows_label None label = ⊥
+knows_label (Some b) label = IsTrue (list_any (nat_eq label) b.labels)
+
+abbrev mutual
+  pub IsTypedStatement : (greatest : ℕ) → Scope → TypedStatement → Type 0
+  IsTypedStatement n s (Statement number form) = IsTypedForm n s form
+
+  pub IsTypedForm : (greatest : ℕ) → Scope → Form → Type 0
+  IsTypedForm n s Null = Unit {0}
+  IsTypedForm n s (Assign target e) = (d : Description) × IsPlaced n s target d × IsValueFor n s d e
+  IsTypedForm n s (AssignAggregate target source) =
+      (d : Description) × IsPlaced n s target d × IsPlaced n s source d
+  IsTypedForm n s (Put skip items) = AreItems n s items
+  IsTypedForm n s (If condition consequence alternative) =
+      IsString n s OfBits condition × IsTypedStatement n s consequence × IsTypedElse n s alternative
+  IsTypedForm n s (Begin head statements) =
+      AreMade (map variable_of head.variables) × AreTypedStatements n (in_begin head statements s) statements
+  IsTypedForm n s (Group statements) = AreTypedStatements n (in_group statements s) statements
+  IsTypedForm n s (While condition statements) =
+      IsString n s OfBits condition × AreTypedStatements n (in_group statements s) statements
+  IsTypedForm n s (Call block arguments) =
+      (p : Signature) × (s.procedures block ≡ Some p) × IsReached p.parent s.blocks p.around
+      × ArePassed n s arguments p.parameters × (p.value ≡ None)
+  IsTypedForm n s (Goto outward label) = knows_label (slice_get s.blocks outward) label
+  IsTypedForm n s (Return outward) = (outward ≡ s.begins) × (s.value ≡ None)
+  IsTypedForm n s (ReturnValue outward e) =
+      (outward ≡ s.begins) × ((d : Description) × (s.value ≡ Some d) × IsValueFor n s d e)
+  IsTypedForm n s Stop = Unit {0}
+
+  pub IsTypedElse : (greatest : ℕ) → Scope → OtherWise → Type 0
+  IsTypedElse n s NoElse = Unit {0}
+  IsTypedElse n s (Else statement) = IsTypedStatement n s statement
+
+  pub AreTypedStatements : (greatest : ℕ) → Scope → TypedStatements → Type 0
+  AreTypedStatements n s NoStatement = Unit {0}
+  AreTypedStatements n s (StatementThen first more) = IsTypedStatement n s first × AreTypedStatements n s more
