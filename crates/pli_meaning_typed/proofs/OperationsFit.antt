@@ -3,6 +3,11 @@ use Rattle.std.specs.Prelude.{◌≡◌, ℕ, zero, suc, ◌+◌, ◌-◌, ◌%�
 use Rattle.std.specs.Prelude.{not, ℤ, pos, negsuc, ◌+ℤ◌, ◌-ℤ◌, ◌*ℤ◌, neg_ℤ, unsigned_abs, int_lt, int_le, int_div, Ok, Err}
 use Rattle.std.specs.Prelude.{Option, Some, None, option_map, List, [], ◌∷◌, ◌++◌, ◌⊎◌, length, map, take, drop, replicate, if◌then◌else◌, refl}
 use Rattle.std.proofs.Common.{arith, sym, ap, ◌∙◌, subst, inl, inr, ltb-true, leb-true, le-leb, pow_mono, lt_of_lt_of_le}
+use Rattle.std.proofs.Common.{ltb, pow-suc, pow-add, pow_pos, mul-le-mul, le_of_lt}
+use Rattle.std.proofs.lemmas.Bool.{cases_lt, cond_both}
+use Rattle.std.proofs.lemmas.Int.{unsigned_abs-mul}
+use Rattle.std.specs.Prelude.{◌*◌, min}
+use lib.IntN.{sub_ℕ}
 use Rattle.std.proofs.Common.{le_trans, true≢false, mod-lt, length-append, length-take, length-drop}
 use Rattle.std.proofs.lemmas.List.{length-map, length-replicate}
 use Rattle.std.proofs.lemmas.List.FromFn.{length-map-range_with_len}
@@ -86,6 +91,47 @@ within_is p x = by (has_digits p x) refl
     by : (b : Bool) → has_digits p x ≡ b → IsCalculated (Numbers p) (as_number (if b then Ok x else Err raised.Overflow))
     by true e = (x, refl, ltb-true (unsigned_abs x) (2 ^ p) e)
     by false e = tt
+
+-- a number within both bounds
+both_small : (m n k : ℕ) → m < 2 ^ n → m < 2 ^ k → m < 2 ^ min n k
+both_small m n k f g = by (cases_lt n k)
+  where
+    by : (n < k) ⊎ (k ≤ n) → m < 2 ^ min n k
+    by (inl lt) = let e : n ≡ min n k = omega (arith, lt) in subst (λ j. m < 2 ^ j) e f
+    by (inr le) = let e : k ≡ min n k = omega (arith, le) in subst (λ j. m < 2 ^ j) e g
+
+within_both : (n k : ℕ) (x : ℤ) → unsigned_abs x < 2 ^ k → IsCalculated (Numbers (min n k)) (as_number (within n x))
+within_both n k x small = by (has_digits n x) refl
+  where
+    by : (b : Bool) → has_digits n x ≡ b → IsCalculated (Numbers (min n k)) (as_number (if b then Ok x else Err raised.Overflow))
+    by true e = (x, refl, both_small (unsigned_abs x) n k (ltb-true (unsigned_abs x) (2 ^ n) e) small)
+    by false e = tt
+
+difference_le : (a b : ℕ) → unsigned_abs (sub_ℕ a b) ≤ a + b
+difference_le a b =
+    cond_both (ltb a b) (negsuc (b - suc a)) (pos (a - b)) (λ z. unsigned_abs z ≤ a + b) (λ e. omega (arith, ltb-true a b e)) (λ e. omega arith)
+
+sum_le : (x y : ℤ) → unsigned_abs (x +ℤ y) ≤ unsigned_abs x + unsigned_abs y
+sum_le (pos a) (pos b) = omega arith
+sum_le (pos a) (negsuc b) = difference_le a (suc b)
+sum_le (negsuc a) (pos b) = omega (arith, difference_le b (suc a))
+sum_le (negsuc a) (negsuc b) = omega arith
+
+sum_small : (x y : ℤ) (p q : ℕ) → unsigned_abs x < 2 ^ p → unsigned_abs y < 2 ^ q → unsigned_abs (x +ℤ y) < 2 ^ (max p q + 1)
+sum_small x y p q hx hy =
+    let m = max p q in
+    let left : 2 ^ p ≤ 2 ^ m = let le : p ≤ m = omega arith in pow_mono le in
+    let right : 2 ^ q ≤ 2 ^ m = let le : q ≤ m = omega arith in pow_mono le in
+    let e : suc m ≡ m + 1 = omega arith in
+    subst (λ k. unsigned_abs (x +ℤ y) < 2 ^ k) e (omega (arith, sum_le x y, hx, hy, left, right, pow-suc 2 m))
+
+product_small : (x y : ℤ) (p q : ℕ) → unsigned_abs x < 2 ^ p → unsigned_abs y < 2 ^ q → unsigned_abs (x *ℤ y) < 2 ^ (p + q + 1)
+product_small x y p q hx hy =
+    let top : unsigned_abs x * unsigned_abs y ≤ 2 ^ p * 2 ^ q = mul-le-mul (le_of_lt hx) (le_of_lt hy) in
+    let least : 1 ≤ 2 ^ (p + q) = pow_pos (p + q) in
+    let e : suc (p + q) ≡ p + q + 1 = omega arith in
+    subst (λ k. unsigned_abs (x *ℤ y) < 2 ^ k) e
+    (omega (arith, unsigned_abs-mul x y, top, pow-add 2 p q, pow-suc 2 (p + q), least))
 
 -- magnitudes
 negated : (x : ℤ) → unsigned_abs (neg_ℤ x) ≡ unsigned_abs x
@@ -314,13 +360,17 @@ module _ (n : ℕ) where
       (λ v hv. fitted_is d h.0 t v h.2 h.3 hv)
   operated_fits Add ts t vs h b =
       on_numbers n Add t ts vs h.0 h.1 h.2 b
-      (λ x y hx hy. subst (λ t. IsCalculated t (as_number (within n (x +ℤ y)))) (sym h.3) (within_is n (x +ℤ y)))
+      (λ x y hx hy. subst (λ t. IsCalculated t (as_number (within n (x +ℤ y)))) (sym h.3)
+      (within_both n (max h.0 h.1 + 1) (x +ℤ y) (sum_small x y h.0 h.1 hx hy)))
   operated_fits Subtract ts t vs h b =
       on_numbers n Subtract t ts vs h.0 h.1 h.2 b
-      (λ x y hx hy. subst (λ t. IsCalculated t (as_number (within n (x -ℤ y)))) (sym h.3) (within_is n (x -ℤ y)))
+      (λ x y hx hy. subst (λ t. IsCalculated t (as_number (within n (x -ℤ y)))) (sym h.3)
+      (within_both n (max h.0 h.1 + 1) (x -ℤ y)
+      (sum_small x (neg_ℤ y) h.0 h.1 hx (subst (λ m. m < 2 ^ h.1) (sym (negated y)) hy))))
   operated_fits Multiply ts t vs h b =
       on_numbers n Multiply t ts vs h.0 h.1 h.2 b
-      (λ x y hx hy. subst (λ t. IsCalculated t (as_number (within n (x *ℤ y)))) (sym h.3) (within_is n (x *ℤ y)))
+      (λ x y hx hy. subst (λ t. IsCalculated t (as_number (within n (x *ℤ y)))) (sym h.3)
+      (within_both n (h.0 + h.1 + 1) (x *ℤ y) (product_small x y h.0 h.1 hx hy)))
   operated_fits Modulo ts t vs h b =
       on_numbers n Modulo t ts vs h.0 h.1 h.2 b
       (λ x y hx hy. subst (λ t. IsCalculated t (as_number (remainder x y))) (sym h.3) (remainder_is x y h.1 hy))

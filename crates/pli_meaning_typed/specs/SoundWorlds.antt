@@ -20,7 +20,8 @@ pub record IsGood (w : World) (d : Description) (p : Place) : Type 0 where
   pub was_made : p.generation < w.made
   pub outside : p.position ≡ 0
   pub described : p.description ≡ d
-  pub part : (g : Generation) → generation_in w.storage p.generation ≡ Some g → IsPartAt g.description p.offset d
+  pub part :
+      (g : Generation) → generation_in w.storage p.generation ≡ Some g → IsPartAt g.description p.offset d
 
 abbrev pub AreGood : World → List Description → List Place → Type 0
 AreGood w [] [] = Unit {0}
@@ -43,7 +44,8 @@ pub record Shape : Type 0 where
 abbrev pub AreShaped : (unit : Name) → World → List Shape → List Activation → Type 0
 AreShaped unit w [] [] = Unit {0}
 AreShaped unit w (s ∷ ss) (a ∷ older) =
-    (a.unit ≡ unit) × (a.block ≡ s.block) × (a.link ≡ s.link) × AreGood w s.slots a.slots × AreShaped unit w ss older
+    (a.unit ≡ unit) × (a.block ≡ s.block) × (a.link ≡ s.link) × AreGood w s.slots a.slots
+    × AreShaped unit w ss older
 AreShaped unit w ss stack = ⊥
 
 -- the variables of a unit that were made before the program began
@@ -62,7 +64,8 @@ pub record IsLater (before after : World) : Type 0 where
   pub more : before.made ≤ after.made
   pub lived :
       (number : ℕ) (g : Generation) → number < before.made → generation_in after.storage number ≡ Some g
-      → (old : Generation) × (generation_in before.storage number ≡ Some old) × (old.description ≡ g.description)
+      → (old : Generation) × (generation_in before.storage number ≡ Some old)
+      × (old.description ≡ g.description)
 
 -- an operation gives what it should, or an error that names a statement; it is not wrong
 abbrev pub Answers : {A : Type 0} → (A → World → Type 0) → Answer A → Type 0

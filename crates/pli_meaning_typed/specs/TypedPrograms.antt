@@ -1,6 +1,7 @@
--- Well-typed programs: each procedure of each unit is, and the variables that are made before the program begins
--- have room.
-use Rattle.std.specs.Prelude.{◌≡◌, ℕ, ◌+◌, ◌≤◌, IsFalse, Option, Some, None, List, [], ◌∷◌, length, map, slice_get}
+-- Well-typed programs: each procedure of each unit is, and the variables that are made before the program
+-- begins have room.
+use Rattle.std.specs.Prelude.{◌≡◌, ℕ, ◌+◌, ◌≤◌, IsFalse, Option, Some, None, List, [], ◌∷◌, length, map}
+use Rattle.std.specs.Prelude.{slice_get}
 use Rattle.pli_base.specs.Name.{Name}
 use Rattle.pli_base.specs.Words.{same_name}
 use Rattle.pli_map.specs.Description.{Description}
@@ -15,9 +16,9 @@ use Rattle.pli_meaning_tree.specs.TreeMeaning.{TypedProgram, procedure_in, whole
 abbrev pub descriptions : List Template → List Description
 descriptions ts = map (λ t. t.description) ts
 
--- what a function's own statements know
-abbrev pub scope_in : (statics : List Description) → (procedures : ℕ → Option Signature) → Signature → TypedProcedure
-    → Scope
+-- what a procedure's own statements know
+abbrev pub scope_in : (statics : List Description) → (procedures : ℕ → Option Signature) → Signature
+    → TypedProcedure → Scope
 scope_in statics procedures p f = record {
   statics = statics;
   procedures = procedures;
@@ -90,7 +91,8 @@ pub record WellTyped (p : TypedProgram) : Type 0 where
   pub count : static_count p.units ≤ generation_limit
   pub main : HasMain p.greatest (slice_get p.units p.main)
 
--- Every run of a well-typed program has a meaning: it is never lost, no bound of the definition is too low, no
--- jump leads out of the program, and it does not end in a fault of the machine.
+-- Every run of a well-typed program has a meaning: it is never lost, no bound of the definition is too low,
+-- no jump leads out of the program, and it does not end in a fault of the machine.
 abbrev pub EveryRunIsMeant : Type 0
-EveryRunIsMeant = (p : TypedProgram) → WellTyped p → (steps : ℕ) → (o : Outcome) × (whole_run p steps ≡ Some o)
+EveryRunIsMeant =
+    (p : TypedProgram) → WellTyped p → (steps : ℕ) → (o : Outcome) × (whole_run p steps ≡ Some o)

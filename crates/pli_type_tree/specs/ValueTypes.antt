@@ -1,9 +1,12 @@
 -- Types of the values that expressions give, and what operations take and give of them.
-use Rattle.std.specs.Prelude.{◌≡◌, ℕ, suc, ◌≤◌, ◌<◌, ◌^◌, max, Bool, ℤ, unsigned_abs, Option, Some, None, List, []}
+use Rattle.std.specs.Prelude.{◌≡◌, ℕ, suc, ◌≤◌, ◌<◌, ◌^◌, ◌+◌, min, max, Bool, ℤ, unsigned_abs, Option}
+use Rattle.std.specs.Prelude.{Some, None, List, []}
 use Rattle.std.specs.Prelude.{◌∷◌, ◌⊎◌, length}
 use Rattle.pli_map.specs.Description.{Description, FixedBinary, Character, Varying, Bit}
-use Rattle.pli_operation.specs.Operations.{Operation, Negate, Absolute, Sign, Not, LengthOf, FromBits, ToCharacters}
-use Rattle.pli_operation.specs.Operations.{Fit, Add, Subtract, Multiply, Modulo, Greatest, Least, Divide, Compare}
+use Rattle.pli_operation.specs.Operations.{Operation, Negate, Absolute, Sign, Not, LengthOf, FromBits}
+use Rattle.pli_operation.specs.Operations.{ToCharacters}
+use Rattle.pli_operation.specs.Operations.{Fit, Add, Subtract, Multiply, Modulo, Greatest, Least, Divide}
+use Rattle.pli_operation.specs.Operations.{Compare}
 use Rattle.pli_operation.specs.Operations.{Concatenate, And, Or, Index, Rest, Substring}
 use Rattle.pli_value.specs.Value.{Value, Number, Characters, Bits}
 
@@ -46,7 +49,8 @@ IsWithin t u = ⊥
 abbrev pub IsHeldBy : Description → ValueType → Type 0
 IsHeldBy d t = (wide : ValueType) × (type_held d ≡ Some wide) × IsWithin t wide
 
--- each value of the type can be fitted to the description: both are of numbers, or of the same kind of strings
+-- each value of the type can be fitted to the description: both are of numbers, or of the same kind of
+-- strings
 abbrev pub IsFitted : Description → ValueType → Type 0
 IsFitted (FixedBinary precision) (Numbers p) = Unit {0}
 IsFitted (Character n) (Strings OfCharacters a b) = Unit {0}
@@ -92,9 +96,9 @@ Operates n FromBits ts t = OnString ts (λ k a b. (k ≡ OfBits) × (t ≡ Strin
 Operates n (ToCharacters width) ts t =
     OnNumber ts (λ p. HaveColumns width p × (t ≡ Strings OfCharacters width width))
 Operates n (Fit d) ts t = (u : ValueType) × (ts ≡ u ∷ []) × IsFitted d u × (type_held d ≡ Some t)
-Operates n Add ts t = OnNumbers ts (λ p q. t ≡ Numbers n)
-Operates n Subtract ts t = OnNumbers ts (λ p q. t ≡ Numbers n)
-Operates n Multiply ts t = OnNumbers ts (λ p q. t ≡ Numbers n)
+Operates n Add ts t = OnNumbers ts (λ p q. t ≡ Numbers (min n (max p q + 1)))
+Operates n Subtract ts t = OnNumbers ts (λ p q. t ≡ Numbers (min n (max p q + 1)))
+Operates n Multiply ts t = OnNumbers ts (λ p q. t ≡ Numbers (min n (p + q + 1)))
 Operates n Modulo ts t = OnNumbers ts (λ p q. t ≡ Numbers q)
 Operates n Greatest ts t = OnNumbers ts (λ p q. t ≡ Numbers (max p q))
 Operates n Least ts t = OnNumbers ts (λ p q. t ≡ Numbers (max p q))

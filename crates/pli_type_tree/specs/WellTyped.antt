@@ -1,7 +1,8 @@
--- Well-typed trees: what a type checker promises, so that a run never asks for what is not there. A scope says
--- what is known at a place of the text: the blocks around it, the innermost first, each with the descriptions of
--- its slots and the labels that a GOTO may lead to.
-use Rattle.std.specs.Prelude.{◌≡◌, ℕ, suc, ◌+◌, ◌*◌, nat_eq, ℤ, ◌-ℤ◌, int_le, unsigned_abs, IsTrue, Option, Some, None}
+-- Well-typed trees: what a type checker promises, so that a run never asks for what is not there. A scope
+-- says what is known at a place of the text: the blocks around it, the innermost first, each with the
+-- descriptions of its slots and the labels that a GOTO may lead to.
+use Rattle.std.specs.Prelude.{◌≡◌, ℕ, suc, ◌+◌, ◌*◌, nat_eq, ℤ, ◌-ℤ◌, int_le, unsigned_abs, IsTrue}
+use Rattle.std.specs.Prelude.{Option, Some, None}
 use Rattle.std.specs.Prelude.{List, [], ◌∷◌, ◌++◌, map, slice_get, if◌then◌else◌}
 use Rattle.std.specs.List.{list_any}
 use Rattle.std.specs.List.{flat_map}
@@ -14,13 +15,17 @@ use Rattle.pli_store.specs.World.{Variable}
 use Rattle.pli_value.specs.Value.{Value}
 use Rattle.pli_type_tree.specs.Templates.{variable_of}
 use Rattle.pli_type_tree.specs.TypedTree.{Root, InSlot, OfProgram, TypedExpression, Literal, Held, Calculated}
-use Rattle.pli_type_tree.specs.TypedTree.{Called, TypedReference, Whole, Part, Operands, NoOperand, OperandThen}
+use Rattle.pli_type_tree.specs.TypedTree.{Called, TypedReference, Whole, Part, Operands, NoOperand}
+use Rattle.pli_type_tree.specs.TypedTree.{OperandThen}
 use Rattle.pli_type_tree.specs.TypedTree.{Subscripts, NoSubscript, SubscriptThen, TypedArguments, NoArgument}
-use Rattle.pli_type_tree.specs.TypedTree.{ByPlace, ByDummy, BlockHead, TypedStatement, Statement, Form, Null, Assign}
+use Rattle.pli_type_tree.specs.TypedTree.{ByPlace, ByDummy, BlockHead, TypedStatement, Statement, Form}
+use Rattle.pli_type_tree.specs.TypedTree.{Null, Assign}
 use Rattle.pli_type_tree.specs.TypedTree.{AssignAggregate, Put, If, Begin, Group, While, Call, Goto, Return}
-use Rattle.pli_type_tree.specs.TypedTree.{ReturnValue, Stop, OtherWise, NoElse, Else, TypedStatements, NoStatement}
+use Rattle.pli_type_tree.specs.TypedTree.{ReturnValue, Stop, OtherWise, NoElse, Else, TypedStatements}
+use Rattle.pli_type_tree.specs.TypedTree.{NoStatement}
 use Rattle.pli_type_tree.specs.TypedTree.{StatementThen}
-use Rattle.pli_type_tree.specs.ValueTypes.{StringKind, OfBits, ValueType, Numbers, Strings, type_held, IsOf, IsHeldBy}
+use Rattle.pli_type_tree.specs.ValueTypes.{StringKind, OfBits, ValueType, Numbers, Strings, type_held}
+use Rattle.pli_type_tree.specs.ValueTypes.{IsOf, IsHeldBy}
 use Rattle.pli_type_tree.specs.ValueTypes.{Operates}
 
 -- the scalars of a description, in the order in which they stand
@@ -130,7 +135,8 @@ abbrev mutual
   pub AreTyped : (greatest : ℕ) → Scope → Operands → List ValueType → Type 0
   AreTyped n s NoOperand ts = ts ≡ []
   AreTyped n s (OperandThen e more) ts =
-      (t : ValueType) × (others : List ValueType) × (ts ≡ t ∷ others) × IsTyped n s e t × AreTyped n s more others
+      (t : ValueType) × (others : List ValueType) × (ts ≡ t ∷ others) × IsTyped n s e t
+      × AreTyped n s more others
 
   pub AreSubscripts : (greatest : ℕ) → Scope → Subscripts → Type 0
   AreSubscripts n s NoSubscript = Unit {0}
