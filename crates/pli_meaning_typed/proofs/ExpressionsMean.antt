@@ -10,7 +10,7 @@ use Rattle.pli_map.specs.Description.{Description, FixedBinary, Character, Varyi
 use Rattle.pli_map.specs.Scalars.{first_scalar, is_scalar}
 use Rattle.pli_operation.specs.Operations.{Operation, Calculation, Calculates, RaisesCondition, OutOfString, Misfits, calculated}
 use Rattle.pli_store.specs.Storage.{Generation, Place, field_of, generation_in}
-use Rattle.pli_store.specs.Values.{holds}
+use Rattle.pli_map.specs.Values.{holds}
 use Rattle.pli_store.specs.World.{World, Answer, Yields, Raises, Wrong, held, slot_place, calculation, dummy_of}
 use Rattle.pli_value.specs.Value.{Value, Number, Characters, Bits}
 use Rattle.pli_value.specs.declared.number.Raised.TheVariants as raised

@@ -14,7 +14,7 @@ use Rattle.pli_map.specs.Sizes.{size_of}
 use Rattle.pli_store.specs.Activations.{Activation, with_newest, without_newest}
 use Rattle.pli_store.specs.Storage.{Generation, Made, Automatic, Dummy, Place, whole, generation_in, scalar_at, values_from, with_values_at}
 use Rattle.pli_store.specs.Storage.{with_values, without, live_bytes, byte_limit, generation_limit}
-use Rattle.pli_store.specs.Values.{holds}
+use Rattle.pli_map.specs.Values.{holds}
 use Rattle.pli_store.specs.World.{World, Answer, Yields, Raises, Wrong, further, known, made_of, unless_dead, parts_held}
 use Rattle.pli_store.specs.World.{parts_stored, single, held, stored, copied, Variable, Head, in_newest, with_slot, made_all}
 use Rattle.pli_store.specs.World.{without_handed, begun_in, entered, ended_with, prepared_by, left_by, cleared, at_statement, stepped, dummy_of}

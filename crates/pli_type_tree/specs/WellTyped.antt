@@ -10,7 +10,7 @@ use Rattle.std.specs.Prelude.{replicate}
 use Rattle.pli_map.specs.Description.{Description, Array, Structure, Members, NoMembers, MemberThen}
 use Rattle.pli_map.specs.Scalars.{first_scalar}
 use Rattle.pli_map.specs.Sizes.{count_of}
-use Rattle.pli_store.specs.Values.{holds}
+use Rattle.pli_map.specs.Values.{holds}
 use Rattle.pli_store.specs.World.{Variable}
 use Rattle.pli_value.specs.Value.{Value}
 use Rattle.pli_type_tree.specs.Templates.{variable_of}
