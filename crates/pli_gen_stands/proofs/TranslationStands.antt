@@ -180,11 +180,11 @@ module _ (u : UnitCode) (places : List (ℕ × ℕ)) where
   abbrev at : ℕ → ℕ
   at = statement_place places
 
-  deeper_fits : (c : Context) → Fits c → Fits (stand.deeper 0 c)
+  deeper_fits : (c : Context) → Fits c → Fits (stand.deeper c)
   deeper_fits c f = let a = f.most in let b = f.depth in record { most = omega (arith, a); depth = omega (arith, b) }
 
-  nests : (c : Context) → Fits c → 2 ≤ c.bound → stand.Nests 0 c
-  nests c f two = let b = f.depth in record { least = two; most = f.most; room = omega (arith, b) }
+  nests : (c : Context) → Fits c → 2 ≤ c.bound → stand.Nests c
+  nests c f two = record { least = two; most = f.most }
 
   -- a statement's label is where it begins
   starts : (s : TypedStatement) (p : ℕ) → Known (places_in s p) → at (number_of s) ≡ p
@@ -276,7 +276,7 @@ module _ (u : UnitCode) (places : List (ℕ × ℕ)) where
             does = record {
               middle = q;
               fst = record { here = r.1.0.1.0; ends = refl };
-              snd = list_stands statements block (stand.deeper 0 c) (deeper_fits c fits) room.1 inner q known r.1.0.1.1;
+              snd = list_stands statements block (stand.deeper c) (deeper_fits c fits) room.1 inner q known r.1.0.1.1;
             };
             does_between = refl;
             back = record { here = r.1.1.0; ends = refl };
