@@ -3,4 +3,4 @@
 
 mod laws;
 
-pub use laws::simulates;
+pub use laws::{goes_on, simulates};
