@@ -1,6 +1,6 @@
 -- The code of typed units, as a relation: which instructions stand from a place up to a place for each form.
 -- The inner places are parts of it.
-use Rattle.std.specs.Prelude.{◌≡◌, ℕ, suc, ◌+◌, ◌-◌, ◌≤◌, Bool, true, false, Option, Some, None}
+use Rattle.std.specs.Prelude.{◌≡◌, ℕ, suc, ◌-◌, ◌≤◌, Bool, true, false, Option, Some, None}
 use Rattle.std.specs.Prelude.{List, [], ◌∷◌, map, slice_get}
 use Rattle.pli_code.specs.declared.ending.RunError.TheVariants.{NoReturnedValue}
 use Rattle.pli_machine_step.specs.Program as op
@@ -37,10 +37,6 @@ pub record Context : Type 0 where
   pub size : ℕ
   pub depth : ℕ
   pub bound : ℕ
-
--- with so many temporaries more in use
-abbrev pub longer : (more : ℕ) → Context → Context
-longer more c = record { size = c.size; depth = c.depth + more; bound = c.bound }
 
 -- in the list of an iterative group: the jump to its next turn is yet to come
 abbrev pub deeper : Context → Context
