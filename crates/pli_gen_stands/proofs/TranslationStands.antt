@@ -10,12 +10,14 @@ use Rattle.pli_machine_step.specs.Program.{Instruction, Block, Procedure, BeginB
 use Rattle.pli_type_tree.specs.TypedTree.{Root, InSlot, OfProgram, TypedExpression, Literal, Held, Calculated, Called, TypedReference, Whole, Part, Operands, NoOperand, OperandThen}
 use Rattle.pli_type_tree.specs.TypedTree.{Subscripts, NoSubscript, SubscriptThen, TypedArguments, NoArgument, ByPlace, ByDummy, TypedStatement, Statement}
 use Rattle.pli_type_tree.specs.TypedTree.{Form, Null, Assign, AssignAggregate, Put, If, Begin, Group, While, Call, Goto, Return, ReturnValue, Stop}
-use Rattle.pli_type_tree.specs.TypedTree.{NoElse, Else, TypedStatements, NoStatement, StatementThen, TypedProcedure, TypedUnit}
+use Rattle.pli_type_tree.specs.TypedTree.{OtherWise, NoElse, Else, TypedStatements, NoStatement, StatementThen, TypedProcedure, TypedUnit}
 use Rattle.pli_gen_tree.specs.TreeTranslation.{argument_count, root_code, value_code, place_code, operands_code, subscripts_code, arguments_code, call_code, skip_code, items_code, behind}
-use Rattle.pli_gen_tree.specs.TreeTranslation.{statement_code, form_code, list_code, places_in, places_in_form, places_among, statement_place, with_target, BlockTree, begin_block}
+use Rattle.pli_gen_tree.specs.TreeTranslation.{statement_code, form_code, list_code, places_in, places_in_form, places_in_else, places_among, statement_place, with_target, BlockTree, begin_block}
 use Rattle.pli_gen_tree.specs.TreeTranslation.{blocks_in, blocks_of_form, blocks_among, blocks_of_procedure, blocks_of, end_code, block_code, blocks_code, places_of, block_at, blocks_at, unit_code}
 use Rattle.pli_gen_tree.specs.laws.ListLaws.{all_front, all_back}
 use Rattle.pli_gen_tree.specs.WellNumbered.{AreDistinct, HasRoom, HaveRoom, IsWellNumbered}
+use Rattle.pli_gen_tree.specs.WellNumbered.{numbers_in, numbers_in_form, numbers_in_else, numbers_among, numbers_of}
+use Rattle.std.proofs.lemmas.List.{map-append}
 use Rattle.pli_meaning_tree.specs.TreeMeaning.{number_of}
 use Rattle.pli_meaning_simulation.specs.CodeStands as stand
 use Rattle.pli_meaning_simulation.specs.CodeStands.{Span, Empty, Then, Context, arguments_in, UnitStands}
@@ -381,6 +383,49 @@ each_has_its_place [] distinct = tt
 each_has_its_place ((n, p) ∷ es) distinct =
     (ap (λ b. if b then p else statement_place es n) (eq-eqb n n refl), not_hidden n p es es distinct.0 (each_has_its_place es distinct.1))
 
+-- the numbers of two parts
+both_numbered : (xs ys : List (ℕ × ℕ)) (ns ms : List ℕ) → map (λ e. e.0) xs ≡ ns → map (λ e. e.0) ys ≡ ms → map (λ e. e.0) (xs ++ ys) ≡ ns ++ ms
+both_numbered xs ys ns ms n m = map-append (λ e. e.0) xs ys ∙ ap (λ ns. ns ++ map (λ e. e.0) ys) n ∙ ap (λ ms. ns ++ ms) m
+
+-- the statements that have places are those of the tree
+mutual
+  numbered_in : (s : TypedStatement) (p : ℕ) → map (λ e. e.0) (places_in s p) ≡ numbers_in s
+  numbered_in (Statement number form) p = ap (λ ns. number ∷ ns) (numbered_in_form form (suc p))
+
+  numbered_in_form : (f : Form) (p : ℕ) → map (λ e. e.0) (places_in_form f p) ≡ numbers_in_form f
+  numbered_in_form (If e consequence alternative) p =
+      let q = suc (behind (value_code e) p) in
+      let r = suc (behind (statement_code consequence q) q) in
+      both_numbered (places_in consequence q) (places_in_else alternative r) (numbers_in consequence) (numbers_in_else alternative) (numbered_in consequence q) (numbered_in_else alternative r)
+  numbered_in_form (Group statements) p = numbered_among statements p
+  numbered_in_form (While e statements) p = numbered_among statements (suc (suc (behind (value_code e) (suc p))))
+  numbered_in_form Null p = refl
+  numbered_in_form (Assign target e) p = refl
+  numbered_in_form (AssignAggregate target source) p = refl
+  numbered_in_form (Put skip items) p = refl
+  numbered_in_form (Begin head statements) p = refl
+  numbered_in_form (Call block args) p = refl
+  numbered_in_form (Goto outward label) p = refl
+  numbered_in_form (Return outward) p = refl
+  numbered_in_form (ReturnValue outward e) p = refl
+  numbered_in_form Stop p = refl
+
+  numbered_in_else : (a : OtherWise) (p : ℕ) → map (λ e. e.0) (places_in_else a p) ≡ numbers_in_else a
+  numbered_in_else NoElse p = refl
+  numbered_in_else (Else s) p = numbered_in s p
+
+  numbered_among : (ss : TypedStatements) (p : ℕ) → map (λ e. e.0) (places_among ss p) ≡ numbers_among ss
+  numbered_among NoStatement p = refl
+  numbered_among (StatementThen s more) p =
+      let q = behind (statement_code s p) p in
+      both_numbered (places_in s p) (places_among more q) (numbers_in s) (numbers_among more) (numbered_in s p) (numbered_among more q)
+
+numbered_blocks : (bs : List BlockTree) (p : ℕ) → map (λ e. e.0) (places_of bs p) ≡ numbers_of bs
+numbered_blocks [] p = refl
+numbered_blocks (b ∷ bs) p =
+    let q = behind (block_code b p) p in
+    both_numbered (places_among b.statements p) (places_of bs q) (numbers_among b.statements) (numbers_of bs) (numbered_among b.statements p) (numbered_blocks bs q)
+
 pub code_stands : (t : TypedUnit) → IsWellNumbered t → UnitStands t (unit_code t)
 code_stands t well =
     let bs = blocks_of t in
@@ -389,7 +434,7 @@ code_stands t well =
     let code = blocks_code bs 0 in
     let zero_and : (k : ℕ) → 0 + k ≡ k = λ k. omega arith in
     let all = stand_all u places code 0 (λ k. ap (slice_get u.instructions) (zero_and k)) in
-    let find = found u places bs 0 (slice_get u.blocks) all (λ i. refl) (each_has_its_place places well.statements) in
+    let find = found u places bs 0 (slice_get u.blocks) all (λ i. refl) (each_has_its_place places (subst AreDistinct (sym (numbered_blocks bs 0)) well.statements)) in
     record {
       at = statement_place places;
       names = refl;

@@ -1,15 +1,39 @@
 -- What is asked of a unit for its code to stand: how blocks and statements are numbered, and how deep loops
 -- nest.
-use Rattle.std.specs.Prelude.{◌≡◌, ℕ, ◌≤◌, ◌-◌, nat_eq, false, Some, List, [], ◌∷◌, map, slice_get}
+use Rattle.std.specs.Prelude.{◌≡◌, ℕ, ◌≤◌, ◌-◌, nat_eq, false, Some, List, [], ◌∷◌, ◌++◌, slice_get}
 use Rattle.std.specs.List.{flat_map, list_any, AllByRecursion}
 use Rattle.pli_type_tree.specs.TypedTree.{TypedStatement, Statement, Form, If, Group, While, OtherWise, NoElse}
 use Rattle.pli_type_tree.specs.TypedTree.{Else, TypedStatements, NoStatement, StatementThen, TypedUnit}
-use Rattle.pli_gen_tree.specs.TreeTranslation.{blocks_of_procedure, blocks_of, places_of}
+use Rattle.pli_gen_tree.specs.TreeTranslation.{BlockTree, blocks_of_procedure, blocks_of}
 
 -- no number stands twice in a list
 abbrev pub AreDistinct : List ℕ → Type 0
 AreDistinct [] = Unit {0}
 AreDistinct (n ∷ ns) = (list_any (nat_eq n) ns ≡ false) × AreDistinct ns
+
+-- the numbers of statements, those of a BEGIN block apart
+abbrev mutual
+  pub numbers_in : TypedStatement → List ℕ
+  numbers_in (Statement number form) = number ∷ numbers_in_form form
+
+  pub numbers_in_form : Form → List ℕ
+  numbers_in_form (If condition consequence alternative) =
+      numbers_in consequence ++ numbers_in_else alternative
+  numbers_in_form (Group statements) = numbers_among statements
+  numbers_in_form (While condition statements) = numbers_among statements
+  numbers_in_form form = []
+
+  pub numbers_in_else : OtherWise → List ℕ
+  numbers_in_else NoElse = []
+  numbers_in_else (Else statement) = numbers_in statement
+
+  pub numbers_among : TypedStatements → List ℕ
+  numbers_among NoStatement = []
+  numbers_among (StatementThen first more) = numbers_in first ++ numbers_among more
+
+-- those of blocks, block after block
+abbrev pub numbers_of : List BlockTree → List ℕ
+numbers_of bs = flat_map (λ b. numbers_among b.statements) bs
 
 -- where an activation may make so many backward jumps without a step, the loops of its block nest less deep
 -- than that: in a loop there is one less for the loops inside it, and each needs two
@@ -36,5 +60,5 @@ abbrev mutual
 pub record IsWellNumbered (t : TypedUnit) : Type 0 where
   pub blocks : AllByRecursion (λ b. slice_get (blocks_of t) b.head.number ≡ Some b)
       (flat_map blocks_of_procedure t.procedures)
-  pub statements : AreDistinct (map (λ e. e.0) (places_of (blocks_of t) 0))
+  pub statements : AreDistinct (numbers_of (blocks_of t))
   pub loops : AllByRecursion (λ b. HaveRoom 64 b.statements) (flat_map blocks_of_procedure t.procedures)

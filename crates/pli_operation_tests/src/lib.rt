@@ -1,0 +1,5 @@
+//! Tests of operations.
+#![tactic(auto)]
+
+#[cfg(test)]
+mod copies;
