@@ -1,6 +1,6 @@
 -- The code of a unit with its tables: descriptions, templates and values are numbered by first use, and equal
--- ones once (own). First come the variables that are made before the program begins, then those of the blocks,
--- then the instructions, block after block.
+-- ones once (own). First come the variables that are made before the program begins, then those of the
+-- blocks, then the instructions, block after block.
 use Rattle.std.specs.Prelude.{ℕ, suc, nat_eq, Bool, false, ◌&&◌, ◌==◌, List, [], ◌∷◌, ◌++◌, map, length}
 use Rattle.std.specs.Prelude.{if◌then◌else◌}
 use Rattle.std.specs.Bool.{beq}

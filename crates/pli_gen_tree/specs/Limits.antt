@@ -1,6 +1,6 @@
--- Which code is too long, so that a unit is G1 (own): a table of more than 65,535 entries, a block of more than
--- 65,535 slots, a structure of more than 65,535 members, or templates with initial values whose sizes come to
--- more than 16,777,216 bytes.
+-- Which code is too long, so that a unit is G1 (own): a table of more than 65,535 entries, a block of more
+-- than 65,535 slots, a structure of more than 65,535 members, or templates with initial values whose sizes
+-- come to more than 16,777,216 bytes.
 use Rattle.std.specs.Prelude.{ℕ, suc, ◌+◌, nat_lt, Bool, false, ◌||◌, Option, Some, None, List, [], ◌∷◌}
 use Rattle.std.specs.Prelude.{length, slice_get}
 use Rattle.std.specs.List.{list_any, sum_by}

@@ -2,8 +2,9 @@
 -- nest.
 use Rattle.std.specs.Prelude.{◌≡◌, ℕ, ◌≤◌, ◌-◌, nat_eq, false, Some, List, [], ◌∷◌, ◌++◌, slice_get}
 use Rattle.std.specs.List.{flat_map, list_any, AllByRecursion}
-use Rattle.pli_type_tree.specs.TypedTree.{TypedStatement, Statement, Form, If, Group, While, OtherWise, NoElse}
-use Rattle.pli_type_tree.specs.TypedTree.{Else, TypedStatements, NoStatement, StatementThen, TypedUnit}
+use Rattle.pli_type_tree.specs.TypedTree.{TypedStatement, Statement, Form, If, Group, While, OtherWise}
+use Rattle.pli_type_tree.specs.TypedTree.{NoElse, Else, TypedStatements, NoStatement, StatementThen}
+use Rattle.pli_type_tree.specs.TypedTree.{TypedUnit}
 use Rattle.pli_gen_tree.specs.TreeTranslation.{BlockTree, blocks_of_procedure, blocks_of}
 
 -- no number stands twice in a list

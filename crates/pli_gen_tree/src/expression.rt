@@ -3,7 +3,8 @@ ghost use Rattle.std.specs.Prelude.{◌≡◌, ◌++◌, ◌∷◌, [], OnOk};
 ghost use Rattle.pli_type_tree.specs.views.TypedView.{root_view, expression_view, reference_view, argument_before};
 ghost use Rattle.pli_type_tree.specs.views.TypedView.{operands_view, subscripts_view, arguments_view};
 ghost use Rattle.pli_type_tree.specs.TypedTree.{NoArgument};
-ghost use Rattle.pli_gen_tree.specs.TreeTranslation.{root_code, value_code, place_code, operands_code, subscripts_code, arguments_code};
+ghost use Rattle.pli_gen_tree.specs.TreeTranslation.{root_code, value_code, place_code};
+ghost use Rattle.pli_gen_tree.specs.TreeTranslation.{operands_code, subscripts_code, arguments_code};
 ghost use Rattle.pli_gen_tree.specs.views.NamingView.{naming_code};
 
 use crate::naming::NamingInstruction;

@@ -1,7 +1,7 @@
 -- Typed trees: a unit with what each name means and with the type of each part worked out, as definitions
--- speak of them. There is one form for each form of the language; a conversion is an operation like any other,
--- and so is the reading of bits as characters. A block is a procedure or a BEGIN block; an activation is
--- reached by how many static links outward it is.
+-- speak of them. There is one form for each form of the language; a conversion is an operation like any
+-- other, and so is the reading of bits as characters. A block is a procedure or a BEGIN block; an activation
+-- is reached by how many static links outward it is.
 use Rattle.std.specs.Prelude.{ℕ, ℤ, Bool, Option, List}
 use Rattle.pli_base.specs.Name.{Name}
 use Rattle.pli_map.specs.Description.{Description}
