@@ -1,3 +1,4 @@
+pub mod ExamplesAreTyped
 pub mod ExpressionsMean
 pub mod MeansLemmas
 pub mod OperationsFit

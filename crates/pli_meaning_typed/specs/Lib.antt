@@ -1,2 +1,3 @@
 pub mod SoundWorlds
 pub mod TypedPrograms
+pub mod examples

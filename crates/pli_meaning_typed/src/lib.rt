@@ -3,4 +3,4 @@
 
 mod laws;
 
-pub use laws::every_run_is_meant;
+pub use laws::{every_run_is_meant, worked_examples};
