@@ -4,16 +4,16 @@ use Rattle.std.proofs.Common.{arith, ap, subst, inl}
 use Rattle.std.proofs.lemmas.Bool.{eqb-true}
 use Rattle.pli_type_tree.specs.TypedTree.{TypedProcedure, TypedUnit, Held}
 use Rattle.pli_type_tree.specs.ValueTypes.{OfCharacters, Numbers}
-use Rattle.pli_type_tree.specs.WellTyped.{Signature, Scope, IsTyped, AreTypedStatements}
+use Rattle.pli_type_tree.specs.WellTyped.{Signature, TypingContext, IsTyped, AreTypedStatements}
 use Rattle.pli_meaning_tree.specs.TreeMeaning.{procedure_in}
-use Rattle.pli_meaning_typed.specs.TypedPrograms.{scope_in, IsTypedProcedure, IsTypedUnit}
+use Rattle.pli_meaning_typed.specs.TypedPrograms.{context_in, IsTypedProcedure, IsTypedUnit}
 use Rattle.pli_meaning_typed.specs.examples.TypedExamples.{number, counter, counting, returning, caller, successor, of_caller, of_successor, signatures, ExampleIsWellTyped}
 
-abbrev in_caller : Scope
-in_caller = scope_in [] signatures of_caller caller
+abbrev in_caller : TypingContext
+in_caller = context_in [] signatures of_caller caller
 
-abbrev in_successor : Scope
-in_successor = scope_in [] signatures of_successor successor
+abbrev in_successor : TypingContext
+in_successor = context_in [] signatures of_successor successor
 
 counter_in_caller : IsTyped 31 in_caller (Held counter) (Numbers 31)
 counter_in_caller = (number, refl, refl)

@@ -18,7 +18,7 @@ use Rattle.pli_type_tree.specs.TypedTree.{Root, InSlot, OfProgram, Stride, Typed
 use Rattle.pli_type_tree.specs.TypedTree.{Whole, Part, Operands, NoOperand, OperandThen, Subscripts, NoSubscript, SubscriptThen}
 use Rattle.pli_type_tree.specs.TypedTree.{TypedArguments, NoArgument, ByPlace, ByDummy}
 use Rattle.pli_type_tree.specs.ValueTypes.{OfCharacters, OfBits, ValueType, Numbers, Strings, type_held, IsOf, AreOf, IsWithin, IsHeldBy, Operates}
-use Rattle.pli_type_tree.specs.WellTyped.{scalars_of, ScopeBlock, Signature, Scope, slot_of, root_of, LeadTo, IsReached, IsTyped, IsPlaced, AreTyped}
+use Rattle.pli_type_tree.specs.WellTyped.{scalars_of, BlockAround, Signature, TypingContext, slot_of, root_of, LeadTo, IsReached, IsTyped, IsPlaced, AreTyped}
 use Rattle.pli_type_tree.specs.WellTyped.{AreSubscripts, ArePassed}
 use Rattle.pli_meaning_tree.specs.Effects.{Effect, Doing, and_then, answered}
 use Rattle.pli_meaning_tree.specs.TreeMeaning.{Calls, a_value, in_order, root_place, element_of, value_of, operated, place_of, element_at, called_with}
@@ -26,7 +26,7 @@ use Rattle.pli_meaning_typed.specs.SoundWorlds.{IsPartAt, IsGood, AreGood, Shape
 use Rattle.pli_meaning_typed.proofs.MeansLemmas.{IsBelow, Means, then_means, answer_means}
 use Rattle.pli_meaning_typed.proofs.OperationsFit.{IsCalculated, operated_fits}
 use Rattle.pli_meaning_typed.proofs.PartsWithin.{parts_within}
-use Rattle.pli_meaning_typed.proofs.ScopeLaws.{Known, Stand, slot_there, static_there}
+use Rattle.pli_meaning_typed.proofs.ContextLaws.{Known, Stand, slot_there, static_there}
 use Rattle.pli_meaning_typed.proofs.WorldLaws.{later_same, later_then, goods_later, error_named, held_answers, dummy_answers}
 
 some_same : {A : Type 0} {x y : A} → Some x ≡ Some y → x ≡ y
@@ -109,7 +109,7 @@ Gives d v w = IsReturned d v
 -- procedures that are called mean something
 abbrev pub CallsMean : (unit : Name) → List Description → (ℕ → Option Signature) → (level : ℕ) → Calls → Type 0
 CallsMean unit statics procedures level call =
-    (block : ℕ) (p : Signature) → procedures block ≡ Some p → (known : Known) (x : Shape) (ss : List Shape) (blocks : List ScopeBlock)
+    (block : ℕ) (p : Signature) → procedures block ≡ Some p → (known : Known) (x : Shape) (ss : List Shape) (blocks : List BlockAround)
     → Stand known (x ∷ ss) (suc (length ss)) blocks → IsReached p.parent blocks p.around → IsBelow known (suc (length ss))
     → (places : List Place) (w : World) (left : ℕ) → IsSound unit statics (x ∷ ss) w → AreGood w p.parameters places
     → Means unit statics level left known (x ∷ ss) w (Gives p.value) (call block places w left)
@@ -171,7 +171,7 @@ on_last w whole offset k d p f h = record {
       (outer.0, subst (λ n. first_scalar g.description n c ≡ Some outer.0) (sym (add_assoc b.0 offset more)) outer.1));
 }
 
-module _ (greatest level : ℕ) (call : Calls) (unit : Name) (s : Scope) (known : Known) (x : Shape) (ss : List Shape)
+module _ (greatest level : ℕ) (call : Calls) (unit : Name) (s : TypingContext) (known : Known) (x : Shape) (ss : List Shape)
     (stand : Stand known (x ∷ ss) (suc (length ss)) s.blocks) (below : IsBelow known (suc (length ss)))
     (calls : CallsMean unit s.statics s.procedures level call) where
   abbrev Sound : World → Type 0
@@ -189,7 +189,7 @@ module _ (greatest level : ℕ) (call : Calls) (unit : Name) (s : Scope) (known 
   root_means : (r : Root) (d : Description) → root_of s r ≡ Some d → (w : World) (left : ℕ) → Sound w → Here left w (AtPlace d) (root_place r w left)
   root_means (InSlot outward slot) d e w left sound = by (slice_get s.blocks outward) refl e
     where
-      by : (o : Option ScopeBlock) → slice_get s.blocks outward ≡ o → slot_of o slot ≡ Some d
+      by : (o : Option BlockAround) → slice_get s.blocks outward ≡ o → slot_of o slot ≡ Some d
           → Here left w (AtPlace d) (answered (slot_place outward slot w) left)
       by None f e = absurd (none_some e)
       by (Some b) f e =

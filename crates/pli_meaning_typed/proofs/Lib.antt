@@ -1,3 +1,4 @@
+pub mod ContextLaws
 pub mod ExamplesAreTyped
 pub mod ExpressionsMean
 pub mod MeansLemmas
@@ -5,7 +6,6 @@ pub mod OperationsFit
 pub mod Parts
 pub mod PartsWithin
 pub mod ProgramsMean
-pub mod ScopeLaws
 pub mod StatementsMean
 pub mod StaticsMade
 pub mod StorageLemmas

@@ -13,7 +13,7 @@ use Rattle.pli_meaning_tree.specs.Effects.{Effect, Gives, Jumps, Fails, Spent, L
 use Rattle.pli_meaning_tree.specs.Effects.{after_flow, followed, answered, as_step, as_statement, chosen, turns, on_jump, caught}
 use Rattle.pli_meaning_tree.specs.Effects.{unless_full, leaving, nothing_done}
 use Rattle.pli_meaning_typed.specs.SoundWorlds.{Shape, IsSound, IsLater, Answers}
-use Rattle.pli_meaning_typed.proofs.ScopeLaws.{Known, shaped_length}
+use Rattle.pli_meaning_typed.proofs.ContextLaws.{Known, shaped_length}
 use Rattle.pli_meaning_typed.proofs.WorldLaws.{later_same, later_then, error_named, statement_sound, stepped_sound, cleared_sound, cleared_later, left_sound, left_later}
 
 -- no jump leads further in than the newest activation

@@ -15,15 +15,15 @@ use Rattle.pli_store.specs.World.{World, at_statement, stepped}
 use Rattle.pli_value.specs.Value.{Value}
 use Rattle.pli_type_tree.specs.Templates.{variable_of}
 use Rattle.pli_type_tree.specs.TypedTree.{TypedProcedure, TypedUnit}
-use Rattle.pli_type_tree.specs.WellTyped.{ScopeBlock, Signature, IsReached}
+use Rattle.pli_type_tree.specs.WellTyped.{BlockAround, Signature, IsReached}
 use Rattle.pli_meaning_tree.specs.Effects.{Effect, Gives, Jumps, Fails, Spent, Lost, Short, Flow, Next, Returned, and_then, answered, unless_full, procedure_end}
 use Rattle.pli_meaning_tree.specs.TreeMeaning.{Calls, static_link, head_in, activation_of, does_list, procedure_run, activates_in, activates, procedure_in, calls}
 use Rattle.pli_meaning_tree.specs.TreeMeaning.{main_run, unit_run, ended_as, ran}
 use Rattle.pli_meaning_typed.specs.SoundWorlds.{AreGood, Shape, HoldsValues, AreShaped, AreStatics, IsSound}
-use Rattle.pli_meaning_typed.specs.TypedPrograms.{descriptions, scope_in, HasEnd, IsTypedProcedure, IsTypedUnit, HasMain, EveryRunIsMeant}
+use Rattle.pli_meaning_typed.specs.TypedPrograms.{descriptions, context_in, HasEnd, IsTypedProcedure, IsTypedUnit, HasMain, EveryRunIsMeant}
 use Rattle.pli_meaning_typed.proofs.ExpressionsMean.{IsReturned, Gives as GivesBack, CallsMean}
 use Rattle.pli_meaning_typed.proofs.MeansLemmas.{IsBelow, Means, behind_step, full_means}
-use Rattle.pli_meaning_typed.proofs.ScopeLaws.{Known, Stand, near, stand_around, shaped_length}
+use Rattle.pli_meaning_typed.proofs.ContextLaws.{Known, Stand, near, stand_around, shaped_length}
 use Rattle.pli_meaning_typed.proofs.StatementsMean.{FlowIs, in_own_block, activation_means, list_means}
 use Rattle.pli_meaning_typed.proofs.StaticsMade.{statics_there}
 use Rattle.pli_meaning_typed.proofs.WorldLaws.{goods_later, error_named, stepped_sound, statement_sound, left_sound, left_later}
@@ -70,7 +70,7 @@ module _ (greatest : ℕ) (u : TypedUnit) (procedures : ℕ → Option Signature
       → Means u.name statics level left known ss w (GivesBack p.value)
       (activation_of (head_in u.name f.head) link places (does_list greatest call u.name level f.head.number f.statements) (procedure_end f.function_end) w left)
   run_means level call f p known ss link places typed means stand below w left sound good =
-      let s = scope_in statics procedures p f in
+      let s = context_in statics procedures p f in
       activation_means u.name statics (FlowIs 0 p.value) (GivesBack p.value) level known ss (head_in u.name f.head) link places p.parameters
       (does_list greatest call u.name level f.head.number f.statements) (procedure_end f.function_end) w left below sound refl good typed.made
       (λ v l sound. list_means greatest level call u.name f.statements s known (inner link) ss f.head.number typed.statements
@@ -93,17 +93,17 @@ module _ (greatest : ℕ) (u : TypedUnit) (procedures : ℕ → Option Signature
       (run_means level call f p known ss link places typed means stand below (stepped w) left s.0 (goods_later w (stepped w) p.parameters places s.1 good))
 
   -- the static link of a procedure that is reached
-  record Linked (known : Known) (ss : List Shape) (parent : Option ℕ) (around : List ScopeBlock) (w : World) : Type 0 where
+  record Linked (known : Known) (ss : List Shape) (parent : Option ℕ) (around : List BlockAround) (w : World) : Type 0 where
     link : ℕ
     found : static_link u.name parent w ≡ Some link
     stand : Stand known ss link around
 
-  nothing_around : (known : Known) (ss : List Shape) (h : ℕ) (around : List ScopeBlock) → around ≡ [] → Stand known ss h around
+  nothing_around : (known : Known) (ss : List Shape) (h : ℕ) (around : List BlockAround) → around ≡ [] → Stand known ss h around
   nothing_around known [] h [] e = tt
   nothing_around known (s ∷ ss) h [] e = tt
   nothing_around known ss h (b ∷ bs) e = absurd (cc)
 
-  linked : (known : Known) (ss : List Shape) (blocks around : List ScopeBlock) (parent : Option ℕ) (w : World) → IsSound u.name statics ss w
+  linked : (known : Known) (ss : List Shape) (blocks around : List BlockAround) (parent : Option ℕ) (w : World) → IsSound u.name statics ss w
       → Stand known ss (length ss) blocks → IsReached parent blocks around → Linked known ss parent around w
   linked known ss blocks around None w sound stand reached =
       record { link = 0; found = refl; stand = nothing_around known ss 0 around reached }
@@ -115,7 +115,7 @@ module _ (greatest : ℕ) (u : TypedUnit) (procedures : ℕ → Option Signature
       }
 
   -- a call of a procedure
-  activates_means : (level : ℕ) (call : Calls) (f : TypedProcedure) (p : Signature) (known : Known) (x : Shape) (ss : List Shape) (blocks : List ScopeBlock)
+  activates_means : (level : ℕ) (call : Calls) (f : TypedProcedure) (p : Signature) (known : Known) (x : Shape) (ss : List Shape) (blocks : List BlockAround)
       (places : List Place) → IsTypedProcedure greatest statics procedures p f → CallsMean u.name statics procedures level call
       → Stand known (x ∷ ss) (suc (length ss)) blocks → IsReached p.parent blocks p.around → IsBelow known (suc (length ss))
       → (w : World) (left : ℕ) → IsSound u.name statics (x ∷ ss) w → AreGood w p.parameters places

@@ -17,7 +17,7 @@ use Rattle.pli_type_tree.specs.TypedTree.{TypedExpression, TypedReference, Typed
 use Rattle.pli_type_tree.specs.TypedTree.{AssignAggregate, Put, If, Begin, Group, While, Call, Goto, Return, ReturnValue, Stop, OtherWise, NoElse, Else}
 use Rattle.pli_type_tree.specs.TypedTree.{TypedStatements, NoStatement, StatementThen}
 use Rattle.pli_type_tree.specs.ValueTypes.{StringKind, OfCharacters, OfBits, ValueType, Strings, IsOf}
-use Rattle.pli_type_tree.specs.WellTyped.{AreMade, ScopeBlock, Scope, blocks_from, IsTyped, IsPlaced, IsString, AreItems, labels_of, with_labels}
+use Rattle.pli_type_tree.specs.WellTyped.{AreMade, BlockAround, TypingContext, blocks_from, IsTyped, IsPlaced, IsString, AreItems, labels_of, with_labels}
 use Rattle.pli_type_tree.specs.WellTyped.{in_group, block_of, in_begin, knows_label, IsTypedStatement, IsTypedForm, IsTypedElse, AreTypedStatements}
 use Rattle.pli_meaning_tree.specs.Effects.{Effect, Gives, Jumps, Flow, Next, Returned, Doing, and_then, followed, answered, back_at, truth}
 use Rattle.pli_meaning_tree.specs.Effects.{leaving, block_end}
@@ -28,7 +28,7 @@ use Rattle.pli_meaning_typed.specs.SoundWorlds.{AreGood, Shape, IsSound, IsLater
 use Rattle.pli_meaning_typed.proofs.MeansLemmas.{IsBelow, also, Means, Anything, means_from, then_means, answer_kept, statement_means, chosen_means}
 use Rattle.pli_meaning_typed.proofs.MeansLemmas.{caught_means, leaving_means, full_means, followed_means, turns_means}
 use Rattle.pli_meaning_typed.proofs.ExpressionsMean.{IsReturned, Gives as GivesBack, OfType, AtPlace, CallsMean, narrow_held, one_scalar, value_means, place_means, called_means}
-use Rattle.pli_meaning_typed.proofs.ScopeLaws.{Known, Wider, AreKnown, Stand, near, stand_wider, stand_labels, height_there, shaped_length}
+use Rattle.pli_meaning_typed.proofs.ContextLaws.{Known, Wider, AreKnown, Stand, near, stand_wider, stand_labels, height_there, shaped_length}
 use Rattle.pli_meaning_typed.proofs.WorldLaws.{later_same, good_later, stored_answers, copied_answers, entered_answers, left_sound, left_later, statement_sound, printed_sound, line_sound}
 
 none_some : {A : Type 0} {x : A} → None ≡ Some x → ⊥
@@ -42,12 +42,12 @@ abbrev pub FlowIs : (begins : ℕ) → Option Description → Flow → World →
 FlowIs begins value Next w = Unit {0}
 FlowIs begins value (Returned outward v) w = (outward ≡ begins) × IsReturned value v
 
--- what a scope knows is there, in a block
-pub record Fits (known : Known) (x : Shape) (ss : List Shape) (s : Scope) (block : ℕ) : Type 0 where
+-- what a typing context knows is there, in a block
+pub record Fits (known : Known) (x : Shape) (ss : List Shape) (s : TypingContext) (block : ℕ) : Type 0 where
   pub stand : Stand known (x ∷ ss) (suc (length ss)) s.blocks
   pub below : IsBelow known (suc (length ss))
-  pub first : ScopeBlock
-  pub others : List ScopeBlock
+  pub first : BlockAround
+  pub others : List BlockAround
   pub blocks : s.blocks ≡ first ∷ others
   pub own : first.number ≡ block
 
@@ -87,7 +87,7 @@ abbrev Starts : TypedStatements → Option ℕ → Type 0
 Starts statements None = Unit {0}
 Starts statements (Some label) = labels_in statements label ≡ true
 
-in_own_group : (known : Known) (x : Shape) (ss : List Shape) (s : Scope) (block : ℕ) (statements : TypedStatements) → Fits known x ss s block
+in_own_group : (known : Known) (x : Shape) (ss : List Shape) (s : TypingContext) (block : ℕ) (statements : TypedStatements) → Fits known x ss s block
     → Fits (also (labels_in statements) (suc (length ss)) known) x ss (in_group statements s) block
 in_own_group known x ss s block statements f =
     let more = also (labels_in statements) (suc (length ss)) known in record {
@@ -108,7 +108,7 @@ variables_described (t ∷ ts) = ap (λ ds. t.description ∷ ds) (variables_des
 
 -- a block's own statements
 pub in_own_block : (known : Known) (head : BlockHead) (parameters : List Description) (statements : TypedStatements) (link : ℕ) (ss : List Shape)
-    (s : Scope) (around : List ScopeBlock) → s.blocks ≡ block_of head parameters statements ∷ around → Stand known ss link around → IsBelow known (length ss)
+    (s : TypingContext) (around : List BlockAround) → s.blocks ≡ block_of head parameters statements ∷ around → Stand known ss link around → IsBelow known (length ss)
     → Fits (also (labels_in statements) (suc (length ss)) known)
     (record { block = head.number; link = link; slots = parameters ++ map (λ v. v.description) (map variable_of head.variables) }) ss s head.number
 in_own_block known head parameters statements link ss s around e stand below =
@@ -154,17 +154,17 @@ activation_means unit statics P Q n known ss head link places parameters run end
     by Wrong h = h
 
 module _ (greatest level : ℕ) (call : Calls) (unit : Name) where
-  abbrev Here : {A : Type 0} → Scope → Known → Shape → List Shape → (left : ℕ) → World → (A → World → Type 0) → Effect A → Type 0
+  abbrev Here : {A : Type 0} → TypingContext → Known → Shape → List Shape → (left : ℕ) → World → (A → World → Type 0) → Effect A → Type 0
   Here s known x ss left u Is o = Means unit s.statics level left known (x ∷ ss) u Is o
 
-  abbrev Flows : Scope → Flow → World → Type 0
+  abbrev Flows : TypingContext → Flow → World → Type 0
   Flows s = FlowIs s.begins s.value
 
-  abbrev CallsIn : Scope → Type 0
+  abbrev CallsIn : TypingContext → Type 0
   CallsIn s = CallsMean unit s.statics s.procedures level call
 
-  -- straight statements, in a scope
-  module _ (s : Scope) (known : Known) (x : Shape) (ss : List Shape) (block : ℕ) (fits : Fits known x ss s block) (calls : CallsIn s) where
+  -- straight statements, in a context
+  module _ (s : TypingContext) (known : Known) (x : Shape) (ss : List Shape) (block : ℕ) (fits : Fits known x ss s block) (calls : CallsIn s) where
     abbrev Sound : World → Type 0
     Sound w = IsSound unit s.statics (x ∷ ss) w
 
@@ -264,7 +264,7 @@ module _ (greatest level : ℕ) (call : Calls) (unit : Name) where
         → Means unit s.statics level (suc left) known (x ∷ ss) w (Flows s) (jumps_to outward label w left)
     jump_means outward label typed w left sound = by (slice_get s.blocks outward) refl typed
       where
-        by : (o : Option ScopeBlock) → slice_get s.blocks outward ≡ o → knows_label o label
+        by : (o : Option BlockAround) → slice_get s.blocks outward ≡ o → knows_label o label
             → Means unit s.statics level (suc left) known (x ∷ ss) w (Flows s) (jumps_to outward label w left)
         by None e k = absurd k
         by (Some b) e k =
@@ -290,18 +290,18 @@ module _ (greatest level : ℕ) (call : Calls) (unit : Name) where
         ))
 
   -- what a list does from a label
-  picked : (s : Scope) (known : Known) (x : Shape) (ss : List Shape) (w : World) (left : ℕ) (b c : Bool) (o other : Effect Flow) → b || c ≡ true
+  picked : (s : TypingContext) (known : Known) (x : Shape) (ss : List Shape) (w : World) (left : ℕ) (b c : Bool) (o other : Effect Flow) → b || c ≡ true
       → Here s known x ss left w (Flows s) o → (c ≡ true → Here s known x ss left w (Flows s) other)
       → Here s known x ss left w (Flows s) (if b then o else other)
   picked s known x ss w left true c o other h f g = f
   picked s known x ss w left false c o other h f g = g h
 
-  grown : (s : Scope) (known : Known) (x : Shape) (ss : List Shape) (w : World) (left : ℕ) (o : Effect Flow) → Here s known x ss left w (Flows s) o
+  grown : (s : TypingContext) (known : Known) (x : Shape) (ss : List Shape) (w : World) (left : ℕ) (o : Effect Flow) → Here s known x ss left w (Flows s) o
       → Means unit s.statics level (suc left) known (x ∷ ss) w (Flows s) o
   grown s known x ss w left o h = means_from unit s.statics (Flows s) level left (suc left) known (x ∷ ss) w w o (omega arith) (later_same w) h
 
   -- a list, which catches the jumps to its labels
-  list_run : (s : Scope) (known : Known) (x : Shape) (ss : List Shape) (block : ℕ) (statements : TypedStatements)
+  list_run : (s : TypingContext) (known : Known) (x : Shape) (ss : List Shape) (block : ℕ) (statements : TypedStatements)
       → ((from : Option ℕ) → Starts statements from → (w : World) (left : ℕ) → IsSound unit s.statics (x ∷ ss) w
       → Here s (also (labels_in statements) (suc (length ss)) known) x ss left w (Flows s) (does_from greatest call unit level block statements from w left))
       → (w : World) (left : ℕ) → IsSound unit s.statics (x ∷ ss) w
@@ -311,7 +311,7 @@ module _ (greatest level : ℕ) (call : Calls) (unit : Name) where
       (Starts statements) (λ k e. e) f level (omega arith) None tt w left sound
 
   -- a BEGIN block
-  begun : (s : Scope) (known : Known) (x : Shape) (ss : List Shape) (block : ℕ) (head : BlockHead) (statements : TypedStatements) → Fits known x ss s block
+  begun : (s : TypingContext) (known : Known) (x : Shape) (ss : List Shape) (block : ℕ) (head : BlockHead) (statements : TypedStatements) → Fits known x ss s block
       → AreMade (map variable_of head.variables)
       → ((y : Shape) → Fits (also (labels_in statements) (suc (length (x ∷ ss))) known) y (x ∷ ss) (in_begin head statements s) head.number
       → (w : World) (left : ℕ) → IsSound unit s.statics (y ∷ x ∷ ss) w
@@ -335,7 +335,7 @@ module _ (greatest level : ℕ) (call : Calls) (unit : Name) where
       inner : ℕ → Shape
       inner link = record { block = head.number; link = link; slots = [] ++ map (λ v. v.description) (map variable_of head.variables) }
 
-      first_block : (blocks : List ScopeBlock) (b : ScopeBlock) (bs : List ScopeBlock) → blocks ≡ b ∷ bs → b.number ≡ block
+      first_block : (blocks : List BlockAround) (b : BlockAround) (bs : List BlockAround) → blocks ≡ b ∷ bs → b.number ≡ block
           → blocks_from block blocks ≡ Some blocks
       first_block blocks b bs e same =
           subst (λ blocks. blocks_from block blocks ≡ Some blocks) (sym e)
@@ -353,7 +353,7 @@ module _ (greatest level : ℕ) (call : Calls) (unit : Name) where
       )
 
   -- a condition, with the statement as it was
-  test_means : (s : Scope) (known : Known) (x : Shape) (ss : List Shape) (block number : ℕ) (e : TypedExpression) → IsString greatest s OfBits e
+  test_means : (s : TypingContext) (known : Known) (x : Shape) (ss : List Shape) (block number : ℕ) (e : TypedExpression) → IsString greatest s OfBits e
       → Fits known x ss s block → CallsIn s → (w : World) (left : ℕ) → IsSound unit s.statics (x ∷ ss) w
       → Here s known x ss left w Anything (back_at number (condition greatest call e) w left)
   test_means s known x ss block number e typed fits calls w left sound =
@@ -362,14 +362,14 @@ module _ (greatest level : ℕ) (call : Calls) (unit : Name) where
       (condition_means s known x ss block fits calls e typed (at_statement number w) left t.0)
 
   mutual
-    pub does_means : (st : TypedStatement) (s : Scope) (known : Known) (x : Shape) (ss : List Shape) (block : ℕ) → IsTypedStatement greatest s st
+    pub does_means : (st : TypedStatement) (s : TypingContext) (known : Known) (x : Shape) (ss : List Shape) (block : ℕ) → IsTypedStatement greatest s st
         → Fits known x ss s block → CallsIn s → (w : World) (left : ℕ) → IsSound unit s.statics (x ∷ ss) w
         → Here s known x ss left w (Flows s) (does greatest call unit level block st w left)
     does_means (Statement number form) s known x ss block typed fits calls w left sound =
         statement_means unit s.statics (Flows s) level known (x ∷ ss) number (does_form greatest call unit level block number form) w left sound
         (λ v l e sound. form_means form s known x ss block number typed fits calls v l sound)
 
-    form_means : (form : Form) (s : Scope) (known : Known) (x : Shape) (ss : List Shape) (block number : ℕ) → IsTypedForm greatest s form
+    form_means : (form : Form) (s : TypingContext) (known : Known) (x : Shape) (ss : List Shape) (block number : ℕ) → IsTypedForm greatest s form
         → Fits known x ss s block → CallsIn s → (w : World) (left : ℕ) → IsSound unit s.statics (x ∷ ss) w
         → Means unit s.statics level (suc left) known (x ∷ ss) w (Flows s) (does_form greatest call unit level block number form w left)
     form_means Null s known x ss block number typed fits calls w left sound = (omega arith, tt, sound, later_same w)
@@ -422,13 +422,13 @@ module _ (greatest level : ℕ) (call : Calls) (unit : Name) where
         (value_returned s known x ss block fits calls outward e typed w left sound)
     form_means Stop s known x ss block number typed fits calls w left sound = ended_other
 
-    else_means : (alternative : OtherWise) (s : Scope) (known : Known) (x : Shape) (ss : List Shape) (block : ℕ) → IsTypedElse greatest s alternative
+    else_means : (alternative : OtherWise) (s : TypingContext) (known : Known) (x : Shape) (ss : List Shape) (block : ℕ) → IsTypedElse greatest s alternative
         → Fits known x ss s block → CallsIn s → (w : World) (left : ℕ) → IsSound unit s.statics (x ∷ ss) w
         → Here s known x ss left w (Flows s) (does_else greatest call unit level block alternative w left)
     else_means NoElse s known x ss block typed fits calls w left sound = (omega arith, tt, sound, later_same w)
     else_means (Else st) s known x ss block typed fits calls w left sound = does_means st s known x ss block typed fits calls w left sound
 
-    from_means : (statements : TypedStatements) (from : Option ℕ) (s : Scope) (known : Known) (x : Shape) (ss : List Shape) (block : ℕ)
+    from_means : (statements : TypedStatements) (from : Option ℕ) (s : TypingContext) (known : Known) (x : Shape) (ss : List Shape) (block : ℕ)
         → AreTypedStatements greatest s statements → Fits known x ss s block → CallsIn s → Starts statements from
         → (w : World) (left : ℕ) → IsSound unit s.statics (x ∷ ss) w
         → Here s known x ss left w (Flows s) (does_from greatest call unit level block statements from w left)
@@ -447,7 +447,7 @@ module _ (greatest level : ℕ) (call : Calls) (unit : Name) where
         (λ v l le sound. from_means more None s known x ss block typed.1 fits calls tt v l sound))
         (λ there. from_means more (Some label) s known x ss block typed.1 fits calls there w left sound)
 
-  pub list_means : (statements : TypedStatements) (s : Scope) (known : Known) (x : Shape) (ss : List Shape) (block : ℕ)
+  pub list_means : (statements : TypedStatements) (s : TypingContext) (known : Known) (x : Shape) (ss : List Shape) (block : ℕ)
       → AreTypedStatements greatest s statements → Fits (also (labels_in statements) (suc (length ss)) known) x ss s block → CallsIn s
       → (w : World) (left : ℕ) → IsSound unit s.statics (x ∷ ss) w
       → Here s known x ss left w (Flows s) (does_list greatest call unit level block statements w left)

@@ -16,7 +16,7 @@ use Rattle.pli_type_tree.specs.WellTyped.{scalars_of, AreHeld, AreMade}
 use Rattle.pli_meaning_tree.specs.TreeMeaning.{all_made}
 use Rattle.pli_meaning_typed.specs.SoundWorlds.{IsGood, HoldsValues, AreStatics, IsLater}
 use Rattle.pli_meaning_typed.specs.TypedPrograms.{descriptions, NoneIsNamed, AreNamedApart, bytes_of, static_bytes, static_count, AreTypedUnits}
-use Rattle.pli_meaning_typed.proofs.ScopeLaws.{same_self}
+use Rattle.pli_meaning_typed.proofs.ContextLaws.{same_self}
 use Rattle.pli_meaning_typed.proofs.WorldLaws.{later_same, later_then, good_later, new_generation, with_new, new_later, new_values, new_good, room_gives}
 
 none_some : {A : Type 0} {x : A} → None ≡ Some x → ⊥

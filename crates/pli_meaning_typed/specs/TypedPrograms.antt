@@ -10,16 +10,16 @@ use Rattle.pli_machine_step.specs.Runs.{Outcome}
 use Rattle.pli_store.specs.Storage.{byte_limit, generation_limit}
 use Rattle.pli_type_tree.specs.Templates.{Template, variable_of}
 use Rattle.pli_type_tree.specs.TypedTree.{TypedProcedure, TypedUnit}
-use Rattle.pli_type_tree.specs.WellTyped.{AreMade, Signature, Scope, block_of, AreTypedStatements}
+use Rattle.pli_type_tree.specs.WellTyped.{AreMade, Signature, TypingContext, block_of, AreTypedStatements}
 use Rattle.pli_meaning_tree.specs.TreeMeaning.{TypedProgram, procedure_in, whole_run}
 
 abbrev pub descriptions : List Template → List Description
 descriptions ts = map (λ t. t.description) ts
 
 -- what a procedure's own statements know
-abbrev pub scope_in : (statics : List Description) → (procedures : ℕ → Option Signature) → Signature
-    → TypedProcedure → Scope
-scope_in statics procedures p f = record {
+abbrev pub context_in : (statics : List Description) → (procedures : ℕ → Option Signature) → Signature
+    → TypedProcedure → TypingContext
+context_in statics procedures p f = record {
   statics = statics;
   procedures = procedures;
   blocks = block_of f.head p.parameters f.statements ∷ p.around;
@@ -40,7 +40,7 @@ pub record IsTypedProcedure (greatest : ℕ) (statics : List Description) (proce
   pub parameters : f.parameters ≡ length p.parameters
   pub end : HasEnd f.function_end p.value
   pub made : AreMade (map variable_of f.head.variables)
-  pub statements : AreTypedStatements greatest (scope_in statics procedures p f) f.statements
+  pub statements : AreTypedStatements greatest (context_in statics procedures p f) f.statements
 
 -- a unit: each procedure that has a signature is there
 pub record IsTypedUnit (greatest : ℕ) (u : TypedUnit) : Type 0 where

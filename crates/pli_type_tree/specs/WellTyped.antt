@@ -1,5 +1,5 @@
--- Well-typed trees: what a type checker promises, so that a run never asks for what is not there. A scope
--- says what is known at a place of the text: the blocks around it, the innermost first, each with the
+-- Well-typed trees: what a type checker promises, so that a run never asks for what is not there. A typing
+-- context says what is known at a place of the text: the blocks around it, the innermost first, each with the
 -- descriptions of its slots and the labels that a GOTO may lead to.
 use Rattle.std.specs.Prelude.{◌≡◌, ℕ, suc, ◌+◌, ◌*◌, nat_eq, ℤ, ◌-ℤ◌, int_le, unsigned_abs, IsTrue}
 use Rattle.std.specs.Prelude.{Option, Some, None}
@@ -51,7 +51,7 @@ AreMade [] = Unit {0}
 AreMade (v ∷ vs) = AreHeld (scalars_of v.description) v.initial × AreMade vs
 
 -- a block around: its number, its slots, and the labels of its lists
-pub record ScopeBlock : Type 0 where
+pub record BlockAround : Type 0 where
   pub number : ℕ
   pub slots : List Description
   pub labels : List ℕ
@@ -60,26 +60,26 @@ pub record ScopeBlock : Type 0 where
 -- its value if it is a function
 pub record Signature : Type 0 where
   pub parent : Option ℕ
-  pub around : List ScopeBlock
+  pub around : List BlockAround
   pub parameters : List Description
   pub value : Option Description
 
 -- what is known: the variables that are made before the program begins and the procedures of the unit, the
 -- blocks around, of which so many are BEGIN blocks of the procedure, and its value if it is a function
-pub record Scope : Type 0 where
+pub record TypingContext : Type 0 where
   pub statics : List Description
   pub procedures : (number : ℕ) → Option Signature
-  pub blocks : List ScopeBlock
+  pub blocks : List BlockAround
   pub begins : ℕ
   pub value : Option Description
 
 -- references
 
-abbrev pub slot_of : Option ScopeBlock → (slot : ℕ) → Option Description
+abbrev pub slot_of : Option BlockAround → (slot : ℕ) → Option Description
 slot_of None slot = None
 slot_of (Some b) slot = slice_get b.slots slot
 
-abbrev pub root_of : Scope → Root → Option Description
+abbrev pub root_of : TypingContext → Root → Option Description
 root_of s (InSlot outward slot) = slot_of (slice_get s.blocks outward) slot
 root_of s (OfProgram number) = slice_get s.statics number
 
@@ -93,7 +93,7 @@ LeadTo whole offset (SubscriptThen stride e more) part =
 -- calls
 
 -- the same blocks, where at least these labels are known
-abbrev pub AreAround : (here around : List ScopeBlock) → Type 0
+abbrev pub AreAround : (here around : List BlockAround) → Type 0
 AreAround [] [] = Unit {0}
 AreAround (b ∷ bs) (c ∷ cs) =
     (b.number ≡ c.number) × (b.slots ≡ c.slots)
@@ -102,20 +102,20 @@ AreAround (b ∷ bs) (c ∷ cs) =
 AreAround bs cs = ⊥
 
 -- the blocks around from the nearest of a number on
-abbrev pub blocks_from : (number : ℕ) → List ScopeBlock → Option (List ScopeBlock)
+abbrev pub blocks_from : (number : ℕ) → List BlockAround → Option (List BlockAround)
 blocks_from number [] = None
 blocks_from number (b ∷ bs) = if nat_eq b.number number then Some (b ∷ bs) else blocks_from number bs
 
 -- a procedure whose block around has this number, or which has none, is reached
-abbrev pub IsReached : Option ℕ → (here around : List ScopeBlock) → Type 0
+abbrev pub IsReached : Option ℕ → (here around : List BlockAround) → Type 0
 IsReached None here around = around ≡ []
 IsReached (Some parent) here around =
-    (found : List ScopeBlock) × (blocks_from parent here ≡ Some found) × AreAround found around
+    (found : List BlockAround) × (blocks_from parent here ≡ Some found) × AreAround found around
 
 -- expressions
 abbrev mutual
   -- an expression gives values of a type
-  pub IsTyped : (greatest : ℕ) → Scope → TypedExpression → ValueType → Type 0
+  pub IsTyped : (greatest : ℕ) → TypingContext → TypedExpression → ValueType → Type 0
   IsTyped n s (Literal v) t = IsOf t v
   IsTyped n s (Held r) t = (d : Description) × IsPlaced n s r d × (type_held d ≡ Some t)
   IsTyped n s (Calculated operation operands) t =
@@ -126,25 +126,25 @@ abbrev mutual
       × ((d : Description) × (p.value ≡ Some d) × (type_held d ≡ Some t))
 
   -- a reference leads to a variable or a part of this description
-  pub IsPlaced : (greatest : ℕ) → Scope → TypedReference → Description → Type 0
+  pub IsPlaced : (greatest : ℕ) → TypingContext → TypedReference → Description → Type 0
   IsPlaced n s (Whole root) d = root_of s root ≡ Some d
   IsPlaced n s (Part root offset part subscripts) d =
       (part ≡ d) × ((whole : Description) × (root_of s root ≡ Some whole) × LeadTo whole offset subscripts d)
       × AreSubscripts n s subscripts
 
-  pub AreTyped : (greatest : ℕ) → Scope → Operands → List ValueType → Type 0
+  pub AreTyped : (greatest : ℕ) → TypingContext → Operands → List ValueType → Type 0
   AreTyped n s NoOperand ts = ts ≡ []
   AreTyped n s (OperandThen e more) ts =
       (t : ValueType) × (others : List ValueType) × (ts ≡ t ∷ others) × IsTyped n s e t
       × AreTyped n s more others
 
-  pub AreSubscripts : (greatest : ℕ) → Scope → Subscripts → Type 0
+  pub AreSubscripts : (greatest : ℕ) → TypingContext → Subscripts → Type 0
   AreSubscripts n s NoSubscript = Unit {0}
   AreSubscripts n s (SubscriptThen stride e more) =
       ((p : ℕ) × IsTyped n s e (Numbers p)) × AreSubscripts n s more
 
   -- arguments fit parameters: a place of the parameter's description, or a value that a dummy of it holds
-  pub ArePassed : (greatest : ℕ) → Scope → TypedArguments → List Description → Type 0
+  pub ArePassed : (greatest : ℕ) → TypingContext → TypedArguments → List Description → Type 0
   ArePassed n s NoArgument parameters = parameters ≡ []
   ArePassed n s (ByPlace r more) parameters =
       (d : Description) × (others : List Description) × (parameters ≡ d ∷ others) × IsPlaced n s r d
@@ -154,14 +154,14 @@ abbrev mutual
       × ((t : ValueType) × IsTyped n s e t × IsHeldBy d t) × ArePassed n s more others
 
 -- an expression gives values that a variable of the description holds
-abbrev pub IsValueFor : (greatest : ℕ) → Scope → Description → TypedExpression → Type 0
+abbrev pub IsValueFor : (greatest : ℕ) → TypingContext → Description → TypedExpression → Type 0
 IsValueFor n s d e = (t : ValueType) × IsTyped n s e t × IsHeldBy d t
 
 -- an expression gives strings of a kind
-abbrev pub IsString : (greatest : ℕ) → Scope → StringKind → TypedExpression → Type 0
+abbrev pub IsString : (greatest : ℕ) → TypingContext → StringKind → TypedExpression → Type 0
 IsString n s kind e = (least : ℕ) × (most : ℕ) × IsTyped n s e (Strings kind least most)
 
-abbrev pub AreItems : (greatest : ℕ) → Scope → List TypedExpression → Type 0
+abbrev pub AreItems : (greatest : ℕ) → TypingContext → List TypedExpression → Type 0
 AreItems n s [] = Unit {0}
 AreItems n s (e ∷ es) = ((kind : StringKind) × IsString n s kind e) × AreItems n s es
 
@@ -173,15 +173,15 @@ labels_of NoStatement = []
 labels_of (StatementThen (Statement number form) more) = number ∷ labels_of more
 
 -- in a group, its labels are known too
-abbrev pub with_labels : List ℕ → List ScopeBlock → List ScopeBlock
+abbrev pub with_labels : List ℕ → List BlockAround → List BlockAround
 with_labels labels [] = []
 with_labels labels (b ∷ bs) = record b { labels = labels ++ b.labels } ∷ bs
 
-abbrev pub in_group : TypedStatements → Scope → Scope
+abbrev pub in_group : TypedStatements → TypingContext → TypingContext
 in_group statements s = record s { blocks = with_labels (labels_of statements) s.blocks }
 
 -- a block as its own statements know it
-abbrev pub block_of : BlockHead → (parameters : List Description) → TypedStatements → ScopeBlock
+abbrev pub block_of : BlockHead → (parameters : List Description) → TypedStatements → BlockAround
 block_of head parameters statements = record {
   number = head.number;
   slots = parameters ++ map (λ v. v.description) head.variables;
@@ -189,19 +189,19 @@ block_of head parameters statements = record {
 }
 
 -- in a BEGIN block
-abbrev pub in_begin : BlockHead → TypedStatements → Scope → Scope
+abbrev pub in_begin : BlockHead → TypedStatements → TypingContext → TypingContext
 in_begin head statements s =
     record s { blocks = block_of head [] statements ∷ s.blocks; begins = suc s.begins }
 
-abbrev pub knows_label : Option ScopeBlock → (label : ℕ) → Type 0
+abbrev pub knows_label : Option BlockAround → (label : ℕ) → Type 0
 knows_label None label = ⊥
 knows_label (Some b) label = IsTrue (list_any (nat_eq label) b.labels)
 
 abbrev mutual
-  pub IsTypedStatement : (greatest : ℕ) → Scope → TypedStatement → Type 0
+  pub IsTypedStatement : (greatest : ℕ) → TypingContext → TypedStatement → Type 0
   IsTypedStatement n s (Statement number form) = IsTypedForm n s form
 
-  pub IsTypedForm : (greatest : ℕ) → Scope → Form → Type 0
+  pub IsTypedForm : (greatest : ℕ) → TypingContext → Form → Type 0
   IsTypedForm n s Null = Unit {0}
   IsTypedForm n s (Assign target e) = (d : Description) × IsPlaced n s target d × IsValueFor n s d e
   IsTypedForm n s (AssignAggregate target source) =
@@ -223,10 +223,10 @@ abbrev mutual
       (outward ≡ s.begins) × ((d : Description) × (s.value ≡ Some d) × IsValueFor n s d e)
   IsTypedForm n s Stop = Unit {0}
 
-  pub IsTypedElse : (greatest : ℕ) → Scope → OtherWise → Type 0
+  pub IsTypedElse : (greatest : ℕ) → TypingContext → OtherWise → Type 0
   IsTypedElse n s NoElse = Unit {0}
   IsTypedElse n s (Else statement) = IsTypedStatement n s statement
 
-  pub AreTypedStatements : (greatest : ℕ) → Scope → TypedStatements → Type 0
+  pub AreTypedStatements : (greatest : ℕ) → TypingContext → TypedStatements → Type 0
   AreTypedStatements n s NoStatement = Unit {0}
   AreTypedStatements n s (StatementThen first more) = IsTypedStatement n s first × AreTypedStatements n s more

@@ -1,4 +1,4 @@
--- What a scope knows is there: the blocks of the text stand among the activations, along static links.
+-- What a typing context knows is there: the blocks of the text stand among the activations, along static links.
 use Rattle.std.specs.Prelude.{◌≡◌, ℕ, zero, suc, ◌≤◌, ◌<◌, nat_eq, Bool, true, false, ◌&&◌, ◌||◌, IsTrue, Option, Some, None}
 use Rattle.std.specs.Prelude.{List, [], ◌∷◌, ◌++◌, ◌⊎◌, length, slice_get, if◌then◌else◌, refl}
 use Rattle.std.specs.List.{list_any}
@@ -10,7 +10,7 @@ use Rattle.pli_map.specs.Description.{Description}
 use Rattle.pli_store.specs.Activations.{Activation, activation_at, outward_from, nearest_of, is_of}
 use Rattle.pli_store.specs.Storage.{Place}
 use Rattle.pli_store.specs.World.{World, Yields, known as there_is, further, height, height_of, slot_in, slot_place, static_place, newest_unit, static_in}
-use Rattle.pli_type_tree.specs.WellTyped.{ScopeBlock, AreAround, blocks_from, with_labels}
+use Rattle.pli_type_tree.specs.WellTyped.{BlockAround, AreAround, blocks_from, with_labels}
 use Rattle.pli_meaning_typed.specs.SoundWorlds.{IsGood, AreGood, Shape, AreShaped, IsSound}
 
 -- which labels of which activations, by their height, a jump may lead to
@@ -20,8 +20,8 @@ Known = (activation label : ℕ) → Bool
 abbrev pub AreKnown : Known → (activation : ℕ) → List ℕ → Type 0
 AreKnown known h labels = (label : ℕ) → IsTrue (list_any (nat_eq label) labels) → IsTrue (known h label)
 
--- from the activation of a height on, along static links, stand the blocks of a scope
-abbrev pub Stand : Known → List Shape → (height : ℕ) → List ScopeBlock → Type 0
+-- from the activation of a height on, along static links, stand the blocks of a context
+abbrev pub Stand : Known → List Shape → (height : ℕ) → List BlockAround → Type 0
 Stand known [] h [] = Unit {0}
 Stand known [] h (b ∷ bs) = ⊥
 Stand known (s ∷ older) h [] = Unit {0}
@@ -55,7 +55,7 @@ shaped_length unit w (s ∷ ss) [] h = absurd h
 shaped_length unit w (s ∷ ss) (a ∷ older) h = ap (λ n. suc n) (shaped_length unit w ss older h.4)
 
 -- the activation of a block outward
-pub record Found (known : Known) (w : World) (stack : List Activation) (from outward : ℕ) (b : ScopeBlock) : Type 0 where
+pub record Found (known : Known) (w : World) (stack : List Activation) (from outward : ℕ) (b : BlockAround) : Type 0 where
   pub height : ℕ
   pub activation : Activation
   pub walked : outward_from stack from outward ≡ Some height
@@ -65,7 +65,7 @@ pub record Found (known : Known) (w : World) (stack : List Activation) (from out
   pub below : height ≤ length stack
 
 -- behind an activation more
-found_older : (known : Known) (w : World) (a : Activation) (older : List Activation) (from outward : ℕ) (b : ScopeBlock)
+found_older : (known : Known) (w : World) (a : Activation) (older : List Activation) (from outward : ℕ) (b : BlockAround)
     → from ≤ length older → Found known w older from outward b → Found known w (a ∷ older) from outward b
 found_older known w a older from zero b le f = record {
   height = f.height;
@@ -87,7 +87,7 @@ found_older known w a older from (suc outward) b le f = record {
 }
 
 -- along a link
-found_along : (known : Known) (w : World) (a : Activation) (older : List Activation) (from outward : ℕ) (b : ScopeBlock)
+found_along : (known : Known) (w : World) (a : Activation) (older : List Activation) (from outward : ℕ) (b : BlockAround)
     → from ≡ suc (length older) → Found known w older a.link outward b → Found known w (a ∷ older) from (suc outward) b
 found_along known w a older from outward b e f = record {
   height = f.height;
@@ -100,7 +100,7 @@ found_along known w a older from outward b e f = record {
 }
 
 module _ (unit : Name) (known : Known) (w : World) where
-  pub find : (ss : List Shape) (stack : List Activation) (h : ℕ) (blocks : List ScopeBlock) (outward : ℕ) (b : ScopeBlock)
+  pub find : (ss : List Shape) (stack : List Activation) (h : ℕ) (blocks : List BlockAround) (outward : ℕ) (b : BlockAround)
       → AreShaped unit w ss stack → Stand known ss h blocks → slice_get blocks outward ≡ Some b → Found known w stack h outward b
   find [] stack h [] outward b shaped stand e = absurd (none_some e)
   find [] stack h (c ∷ cs) outward b shaped stand e = absurd stand
@@ -129,20 +129,20 @@ module _ (unit : Name) (known : Known) (w : World) where
       (subst (λ l. Found known w older l n b) (sym shaped.2) (find ss older s.link cs n b shaped.4 stand.4 e))
 
 -- with an activation more
-raised : (known : Known) (s : Shape) (ss : List Shape) (h : ℕ) (blocks : List ScopeBlock) → h ≤ length ss → Stand known ss h blocks
+raised : (known : Known) (s : Shape) (ss : List Shape) (h : ℕ) (blocks : List BlockAround) → h ≤ length ss → Stand known ss h blocks
     → Stand known (s ∷ ss) h blocks
 raised known s ss h [] le stand = tt
 raised known s ss h (b ∷ bs) le stand = inl (le, stand)
 
 -- the nearest activation of a block
-pub record Near (unit : Name) (known : Known) (ss : List Shape) (stack : List Activation) (from parent : ℕ) (blocks : List ScopeBlock) : Type 0 where
+pub record Near (unit : Name) (known : Known) (ss : List Shape) (stack : List Activation) (from parent : ℕ) (blocks : List BlockAround) : Type 0 where
   pub link : ℕ
   pub walked : nearest_of unit parent stack from ≡ Some link
   pub stand : Stand known ss link blocks
   pub below : link ≤ length ss
 
 near_older : (unit : Name) (known : Known) (s : Shape) (ss : List Shape) (a : Activation) (older : List Activation)
-    (from parent : ℕ) (blocks : List ScopeBlock) → from < suc (length older)
+    (from parent : ℕ) (blocks : List BlockAround) → from < suc (length older)
     → Near unit known ss older from parent blocks → Near unit known (s ∷ ss) (a ∷ older) from parent blocks
 near_older unit known s ss a older from parent blocks lt n = record {
   link = n.link;
@@ -158,7 +158,7 @@ module _ (unit : Name) (known : Known) (w : World) where
   is_this a parent b e f =
       ap (λ c. c && nat_eq a.block parent) (ap (λ n. same_name n unit) e ∙ same_self unit) ∙ f
 
-  pub near : (ss : List Shape) (stack : List Activation) (h parent : ℕ) (blocks found : List ScopeBlock)
+  pub near : (ss : List Shape) (stack : List Activation) (h parent : ℕ) (blocks found : List BlockAround)
       → AreShaped unit w ss stack → Stand known ss h blocks → blocks_from parent blocks ≡ Some found
       → Near unit known ss stack h parent found
   near [] stack h parent [] found shaped stand e = absurd (none_some e)
@@ -202,7 +202,7 @@ module _ (unit : Name) (known : Known) (w : World) where
           }
 
 -- the blocks around a procedure
-pub stand_around : (known : Known) (ss : List Shape) (h : ℕ) (blocks around : List ScopeBlock) → AreAround blocks around
+pub stand_around : (known : Known) (ss : List Shape) (h : ℕ) (blocks around : List BlockAround) → AreAround blocks around
     → Stand known ss h blocks → Stand known ss h around
 stand_around known [] h [] [] same stand = tt
 stand_around known [] h [] (c ∷ cs) same stand = absurd same
@@ -230,7 +230,7 @@ in_either label (l ∷ ls) more h = by (nat_eq label l) h (in_either label ls mo
     by true h rest = inl refl
     by false h rest = rest h
 
-pub stand_wider : (known more : Known) (ss : List Shape) (h : ℕ) (blocks : List ScopeBlock) → Wider known more
+pub stand_wider : (known more : Known) (ss : List Shape) (h : ℕ) (blocks : List BlockAround) → Wider known more
     → Stand known ss h blocks → Stand more ss h blocks
 stand_wider known more [] h [] wide stand = tt
 stand_wider known more [] h (b ∷ bs) wide stand = absurd stand
@@ -239,7 +239,7 @@ stand_wider known more (s ∷ ss) h (b ∷ bs) wide (inl stand) = inl (stand.0, 
 stand_wider known more (s ∷ ss) h (b ∷ bs) wide (inr stand) =
     inr (stand.0, stand.1, stand.2, λ l k. wide h l (stand.3 l k), stand_wider known more ss s.link bs wide stand.4)
 
-pub stand_labels : (known more : Known) (labels : List ℕ) (ss : List Shape) (h : ℕ) (blocks : List ScopeBlock) → Wider known more
+pub stand_labels : (known more : Known) (labels : List ℕ) (ss : List Shape) (h : ℕ) (blocks : List BlockAround) → Wider known more
     → AreKnown more h labels → Stand known ss h blocks → Stand more ss h (with_labels labels blocks)
 stand_labels known more labels [] h [] wide new stand = tt
 stand_labels known more labels [] h (b ∷ bs) wide new stand = absurd stand
@@ -261,20 +261,20 @@ good_at w (c ∷ ds) [] n d good e = absurd good
 good_at w (c ∷ ds) (p ∷ ps) zero d good e = (p, refl, subst (λ c. IsGood w c p) (some_same e) good.0)
 good_at w (c ∷ ds) (p ∷ ps) (suc n) d good e = good_at w ds ps n d good.1 e
 
-module _ (unit : Name) (statics : List Description) (known : Known) (ss : List Shape) (blocks : List ScopeBlock) where
-  walked_to : (w : World) (outward : ℕ) (b : ScopeBlock) → IsSound unit statics ss w → Stand known ss (length ss) blocks
+module _ (unit : Name) (statics : List Description) (known : Known) (ss : List Shape) (blocks : List BlockAround) where
+  walked_to : (w : World) (outward : ℕ) (b : BlockAround) → IsSound unit statics ss w → Stand known ss (length ss) blocks
       → slice_get blocks outward ≡ Some b → Found known w w.activations (height w) outward b
   walked_to w outward b sound stand e =
       subst (λ h. Found known w w.activations h outward b) (sym (shaped_length unit w ss w.activations sound.stack))
       (find unit known w ss w.activations (length ss) blocks outward b sound.stack stand e)
 
-  pub height_there : (w : World) (outward : ℕ) (b : ScopeBlock) → IsSound unit statics ss w → Stand known ss (length ss) blocks
+  pub height_there : (w : World) (outward : ℕ) (b : BlockAround) → IsSound unit statics ss w → Stand known ss (length ss) blocks
       → slice_get blocks outward ≡ Some b → (h : ℕ) × (height_of outward w ≡ Yields h w) × AreKnown known h b.labels
   unfolding height_of
   height_there w outward b sound stand e =
       let f = walked_to w outward b sound stand e in (f.height, ap (λ o. there_is o w) f.walked, f.labels)
 
-  pub slot_there : (w : World) (outward slot : ℕ) (b : ScopeBlock) (d : Description) → IsSound unit statics ss w
+  pub slot_there : (w : World) (outward slot : ℕ) (b : BlockAround) (d : Description) → IsSound unit statics ss w
       → Stand known ss (length ss) blocks → slice_get blocks outward ≡ Some b → slice_get b.slots slot ≡ Some d
       → (p : Place) × (slot_place outward slot w ≡ Yields p w) × IsGood w d p
   unfolding slot_place height_of
