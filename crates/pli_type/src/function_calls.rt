@@ -1,12 +1,17 @@
 //! The types of what built-in functions give.
-ghost use Rattle.std.specs.Prelude.{◌≡◌, option_map};
+ghost use Rattle.std.specs.Prelude.{◌≡◌, IfOk, length, map, option_map};
 ghost use Rattle.pli_operation.specs.views.OperationView.{operation_view};
 ghost use Rattle.pli_type.specs.ExpressionTypes as ext;
 ghost use Rattle.pli_type.specs.FunctionCalls as spec;
+ghost use Rattle.pli_type.specs.views.ValueView.{value_view};
+ghost use Rattle.pli_type_tree.specs.views.TypedView.{expression_view};
 
 use crate::expression_type::{ExpressionType, precisions};
+use crate::typed_value::{TypedValue, with_two};
 use pli_operation::Operation;
 use pli_resolve::BuiltInFunction;
+use pli_type_tree::TypedExpression;
+use std::alloc::{AllocError, Global};
 
 /// The precision of LENGTH, INDEX, SIGN, LBOUND and HBOUND (own).
 const COUNT_PRECISION: u8 = 15;
@@ -107,4 +112,57 @@ pub fn operation_of(function: BuiltInFunction, given: usize) -> Option<Operation
         BuiltInFunction::Substring => Some(Operation::Substring),
         _ => None,
     }
+}
+
+/// A call of a built-in function of values, by their types and the values themselves, or none where it does not take
+/// them (X3.74).
+#[tactic(auto, using(crate::proofs::TypedTrees::calculated_all))]
+pub fn call(
+    greatest: u8,
+    function: BuiltInFunction,
+    kinds: &[ExpressionType],
+    operands: Vec<TypedExpression>,
+) -> Option<TypedValue>
+    ensures { option_map value_view result
+        ≡ spec.calculation (spec.operation_of function (length kinds.now)) (spec.call_type greatest function kinds.now)
+        (map expression_view operands.items) }
+{
+    match (
+        operation_of(function, kinds.len()),
+        call_type(greatest, function, kinds),
+    ) {
+        (Some(operation), Some(kind)) => {
+            let expression = TypedExpression::Calculated {
+                operation,
+                operands,
+            };
+            Some(TypedValue { expression, kind })
+        }
+        _ => None,
+    }
+}
+
+/// A call of DIVIDE of two values to a precision that is written as a decimal constant, or none where it does not take
+/// them (X3.74).
+pub fn quotient(
+    alloc: Global,
+    greatest: u8,
+    left: TypedValue,
+    right: TypedValue,
+    written: Option<u32>,
+) -> Result<Option<TypedValue>, AllocError>
+    ensures { IfOk result (λ given. option_map value_view given
+        ≡ spec.the_quotient greatest (value_view left) (value_view right) written) }
+{
+    let Some(written) = written else {
+        return Ok(None);
+    };
+    let Some(kind) = quotient_type(greatest, left.kind, right.kind, written) else {
+        return Ok(None);
+    };
+    let operation = Operation::Divide {
+        precision: written as u8,
+    };
+    let expression = with_two(alloc, operation, left.expression, right.expression)?;
+    Ok(Some(TypedValue { expression, kind }))
 }

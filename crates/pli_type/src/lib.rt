@@ -11,7 +11,7 @@ mod unbuilt;
 
 pub use conversions::{converted, printed};
 pub use expression_type::{ExpressionType, product_precision, sum_precision};
-pub use function_calls::{call_type, operation_of, quotient_type};
+pub use function_calls::{call, call_type, operation_of, quotient, quotient_type};
 pub use laws::{
     fault_examples, faults_are_of_types, name_examples, type_examples, typed_examples,
     unit_examples,
