@@ -40,8 +40,8 @@ pub(crate) fn close(
     owner.is_none()
 }
 
-/// Whether items still stand in order with one more: they did so far, it stands behind what its owner has so far, and where it counts
-/// its owner does.
+/// Whether items still stand in order with one more: they did so far, it stands behind what its owner has so far, and where it
+/// counts its owner does.
 pub(crate) fn is_in_order(
     items: &[Declared],
     item: &Declared,

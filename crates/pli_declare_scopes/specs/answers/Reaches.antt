@@ -1,5 +1,7 @@
--- What the table of a block keeps of how far items reach, by which items are found that a reference can't mean.
-use Rattle.std.specs.Prelude.{◌≡◌, ℕ, zero, suc, ◌-◌, ◌<◌, ◌≤◌, ◌⊎◌, Bool, true, List, length, get_or, take, reverse}
+-- What the table of a block keeps of how far items reach, by which a search leaps over items that a reference
+-- can't mean.
+use Rattle.std.specs.Prelude.{◌≡◌, ℕ, zero, suc, ◌-◌, ◌<◌, ◌≤◌, ◌⊎◌, Bool, true, List, length, get_or, take}
+use Rattle.std.specs.Prelude.{reverse}
 use Rattle.std.specs.Prelude.{Option, None, Some, IfSome, [], if◌then◌else◌}
 use Rattle.std.specs.Option.{is_none}
 use Rattle.pli_base.specs.Name.{Name}
@@ -35,7 +37,8 @@ pub record IsStillOpen (lasts : List (Option ℕ)) (tops : List ℕ) (above n : 
 -- each later item of that name is within
 pub record AreReaching (items : Block) (lasts : List (Option ℕ)) (tops : List ℕ) (is_ordered : Bool) :
     Type 0 where
-  pub reach : is_ordered ≡ true → (above below n : ℕ) → below < length items → (item_at items below).counts ≡ true
+  pub reach : is_ordered ≡ true → (above below n : ℕ) → below < length items
+      → (item_at items below).counts ≡ true
       → IsWithin items above below → is_named items (item_at items above).name n ≡ true → above ≤ n
       → n < length items → IfSome (last_of lasts (get_or tops n 0)) (λ last. below ≤ last)
   pub still : is_ordered ≡ true → (last above n : ℕ) → suc last ≡ length items → IsWithin items above last
@@ -54,7 +57,8 @@ pub record AreClosed (items : Block) (before : List (Option ℕ)) (owner : Optio
   pub kept : IfSome owner (λ o. (n : ℕ) → n ≤ o → last_of after n ≡ last_of before n)
   pub closed : (n : ℕ) → (last_of after n ≡ last_of before n)
       ⊎ ((last : ℕ) × (suc last ≡ length items) × (last_of after n ≡ Some last))
-  pub within : is_ordered ≡ true → IfSome owner (λ o. (last : ℕ) → suc last ≡ length items → IsWithin items o last)
+  pub within : is_ordered ≡ true
+      → IfSome owner (λ o. (last : ℕ) → suc last ≡ length items → IsWithin items o last)
 
 -- no item up to a number, but behind the bound, has the names before the last of a reference above it
 abbrev pub IsReach : Block → List Name → ℕ → Option ℕ → Type 0
