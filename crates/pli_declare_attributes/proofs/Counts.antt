@@ -16,7 +16,7 @@ cut_above limit a m h =
     rw e (omega arith)
 
 -- a factor that was cut at the limit changes nothing up to it
-cut_factor : (limit a m : ℕ) → min (min a limit * m) limit ≡ min (a * m) limit
+pub cut_factor : (limit a m : ℕ) → min (min a limit * m) limit ≡ min (a * m) limit
 cut_factor limit a zero = omega arith
 cut_factor limit a (suc m) = elim (cases_lt limit a) [ inl h ↦ cut_above limit a m (omega arith) | inr h ↦ cut_below limit a (suc m) (omega arith) ]
 

@@ -1,5 +1,6 @@
 pub mod Bits
 pub mod Counts
+pub mod Cuts
 pub mod LeastFaults
 pub mod Limits
 pub mod LimitsOfItems

@@ -1,5 +1,5 @@
 -- The values in INITIAL.
-use Rattle.std.specs.Prelude.{ℕ, Bool, true, false, not, ◌+◌, ◌*◌, ◌^◌, ◌-◌, min, ◌&&◌, ◌||◌, nat_lt, Option}
+use Rattle.std.specs.Prelude.{ℕ, Bool, true, false, not, ◌+◌, ◌*◌, ◌^◌, ◌&&◌, ◌||◌, nat_lt, Option}
 use Rattle.std.specs.Prelude.{Some, None, option_map, List, [], ◌∷◌, if◌then◌else◌}
 use Rattle.std.specs.List.{list_all}
 use Rattle.pli_base.specs.Declarations as tree
@@ -56,12 +56,11 @@ is_more_than (Some elements) given = nat_lt elements given
 abbrev pub elements_of : Place → List Bounds → Option ℕ
 elements_of p dimensions = option_map (λ above. above * count_of (all_bounds dimensions)) p.elements_above
 
--- how many elements levels above and these dimensions make together, where none of them has bad bounds; no
--- text gives as many values as the limit
+-- how many elements levels above and these dimensions make together, where none of them has bad bounds
 abbrev pub elements_inside : Option ℕ → List Bounds → Option ℕ
 elements_inside above dimensions =
     if are_bad_bounds dimensions then None
-    else option_map (λ count. min (count * count_of (all_bounds dimensions)) (2 ^ 64 - 1)) above
+    else option_map (λ count. count * count_of (all_bounds dimensions)) above
 
 -- INITIAL with members or with AREA, with a value that does not fit, or with too many
 unfoldable pub is_bad_initial : Place → List Bounds → ℕ → Option ℕ → List InitialValue → Bool

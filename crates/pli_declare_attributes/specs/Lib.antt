@@ -5,6 +5,7 @@ pub mod Faults
 pub mod Initials
 pub mod Sets
 pub mod Types
+pub mod answers
 pub mod examples
 pub mod laws
 pub mod views

@@ -5,6 +5,8 @@ ghost use Rattle.pli_declare_attributes.specs.Types.{is_bad_precision, is_bad_le
 ghost use Rattle.pli_declare_attributes.specs.Extents.{are_bad_bounds};
 ghost use Rattle.pli_declare_attributes.specs.Initials.{is_bad_initial, values_in};
 ghost use Rattle.pli_declare_attributes.specs.Faults as spec;
+ghost use Rattle.pli_declare_attributes.specs.answers.Cuts.{cut_place};
+ghost use Rattle.pli_declare_attributes.specs.declared.place.Place.{Place as SpecPlace};
 
 use crate::agreement::{agree, missing};
 use crate::extents::bad_bounds;
@@ -180,9 +182,10 @@ fn attributes_fault(place: Place, facts: &ItemFacts) -> Option<Code>
 }
 
 /// The least of A3 to A7, A9 and A13 to A15 that holds of an item at a place, apart from faults of the names and the level that
-/// stand in it (own).
+/// stand in it (own). That the number of elements above is cut at a limit changes nothing.
 pub fn item_fault(place: Place, facts: &ItemFacts) -> Option<Code>
-    ensures { result ≡ spec.item_fault place (item_view facts.now.item.now) }
+    ensures here { result ≡ spec.item_fault place (item_view facts.now.item.now) }
+    ensures whole { (p : SpecPlace) → place ≡ cut_place p → result ≡ spec.item_fault p (item_view facts.now.item.now) }
 {
     match attributes_fault(place, facts) {
         Some(code) => Some(code),

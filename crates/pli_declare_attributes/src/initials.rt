@@ -5,6 +5,7 @@ ghost use Rattle.pli_base.specs.views.DeclarationView.{attribute_view};
 ghost use Rattle.pli_map.specs.Sizes.{count_of};
 ghost use Rattle.pli_map.specs.views.DescriptionView.{description_view};
 ghost use Rattle.pli_declare_attributes.specs.Extents.{are_good, all_bounds};
+ghost use Rattle.pli_declare_attributes.specs.answers.Cuts.{cut};
 ghost use Rattle.pli_declare_attributes.specs.Initials.{values_in, fits, elements_given, all_given, is_more_than, elements_of, elements_inside};
 
 use crate::extents::{bad_bounds, described};
@@ -90,11 +91,11 @@ pub(crate) fn given(values: &[InitialValue]) -> u128
 }
 
 /// How many elements there are; a number over the limit stands for every greater one.
-pub(crate) fn elements(above: u64, dimensions: &[Bounds]) -> u128
+pub(crate) fn elements(above: u128, dimensions: &[Bounds]) -> u128
     requires { list_all are_good dimensions.now ≡ true }
     ensures { result ≡ min (above * count_of (all_bounds dimensions.now)) 79228162514264337593543950336 }
 {
-    let mut count = u128::from(above);
+    let mut count = above.min(ELEMENT_LIMIT);
     for bounds in dimensions {
         count = (count * u128::from(described(*bounds).extent())).min(ELEMENT_LIMIT);
     }
@@ -113,17 +114,17 @@ pub(crate) fn too_many(place: Place, dimensions: &[Bounds], given: u128) -> bool
     }
 }
 
-/// How many elements the levels above and these dimensions make together, up to `u64::MAX`; `None` where one of them has bad
-/// bounds.
+/// How many elements the levels above and these dimensions make together, up to 2 to the 96th; `None` where one of them has bad
+/// bounds. What the levels above make may be cut there too, which changes nothing.
 #[tactic(auto, using(crate::proofs::Shapes::bounds_good))]
-pub fn elements_within(above: Option<u64>, dimensions: &[Bounds]) -> Option<u64>
-    ensures { result ≡ elements_inside above dimensions.now }
+pub fn elements_within(above: Option<u128>, dimensions: &[Bounds]) -> Option<u128>
+    ensures { result ≡ cut (elements_inside above dimensions.now) }
 {
     if bad_bounds(dimensions) {
         return None;
     }
     match above {
-        Some(above) => Some(elements(above, dimensions).min(u128::from(u64::MAX)) as u64),
+        Some(above) => Some(elements(above, dimensions)),
         None => None,
     }
 }

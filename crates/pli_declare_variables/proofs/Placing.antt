@@ -8,8 +8,8 @@ use Rattle.pli_declare_tables.specs.views.TableView.{entry_view, entries_view}
 use Rattle.pli_declare_tables.specs.Tables as plain
 use Rattle.pli_declare_tables.specs.Tables.{no_entry, numbers_from}
 use Rattle.pli_declare_tables.specs.declared.entry.Entry.{Entry}
-use Rattle.pli_declare_variables.specs.Places.{is_bad_level, stands_alone, position_of, is_built_in, place_in}
-use Rattle.pli_declare_variables.specs.answers.Walks.{has_members_at, above_at, placed}
+use Rattle.pli_declare_variables.specs.Places.{is_bad_level, stands_alone, position_of, is_built_in}
+use Rattle.pli_declare_variables.specs.answers.Walks.{has_members_at, above_at, placed, cut_place_in}
 use Rattle.pli_declare_variables.specs.declared.places.Surroundings.{Surroundings}
 use Rattle.pli_declare_variables.proofs.Levelled.{view_at}
 use Rattle.pli_declare_variables.proofs.Numbers.{mapped_at}
@@ -28,7 +28,7 @@ known entry is_named has_members above =
 pub placed_at : (entries : List Entry) (n : ℕ) (e : Entry) → n < length entries → e ≡ get_or entries n e
     → (names keys : List Name) → ((q : Name) → list_any (same_name q) keys ≡ list_any (same_name q) names)
     → (mark : Bool) → mark ≡ has_members_at (entries_view entries) n → (above : Surroundings) → above ≡ above_at (entries_view entries) n
-    → placed (entry_view e) keys mark above ≡ place_in (entries_view entries) names n
+    → placed (entry_view e) keys mark above ≡ cut_place_in (entries_view entries) names n
 placed_at entries n e lt is names keys found mark marked above is_above =
     let x = entry_view e in
     ap (λ (b : Bool). known x b mark above) (found x.identifier.name)

@@ -1,5 +1,5 @@
 -- The items of a block as variables: where each stands, and its least fault apart from names.
-use Rattle.std.specs.Prelude.{ℕ, zero, suc, ◌+◌, ◌*◌, ◌^◌, ◌-◌, min, Bool, false, not, ◌&&◌, ◌||◌, ◌==◌}
+use Rattle.std.specs.Prelude.{ℕ, zero, suc, ◌+◌, ◌*◌, Bool, false, not, ◌&&◌, ◌||◌, ◌==◌}
 use Rattle.std.specs.Prelude.{Option, Some, None, is_none, option_map, List, [], ◌∷◌, map, length, get_or}
 use Rattle.std.specs.Prelude.{if◌then◌else◌, codes}
 use Rattle.std.specs.List.{list_any, list_all, filter}
@@ -78,18 +78,13 @@ abbrev pub position_of : (stands_alone is_named is_bad : Bool) → Position
 position_of alone is_named is_bad =
     if alone && is_named then Parameter else if alone && not is_bad then AtLevelOne else Member
 
--- elements are counted up to here; no text gives as many values
-abbrev pub most_elements : ℕ
-most_elements = 2 ^ 64 - 1
-
 -- how many elements the levels above make, where none of them has bad bounds
 abbrev pub elements_through : List Entry → List ℕ → Option ℕ
 elements_through entries [] = Some 1
 elements_through entries (n ∷ ns) =
     let dimensions = (item_of entries n).dimensions in
     if are_bad_bounds dimensions then None
-    else option_map (λ count. min (count * count_of (all_bounds dimensions)) most_elements)
-    (elements_through entries ns)
+    else option_map (λ count. count * count_of (all_bounds dimensions)) (elements_through entries ns)
 
 -- where an item stands; the parameters are those of the procedure that is the block
 abbrev pub place_in : List Entry → (parameters : List Name) → ℕ → Place

@@ -2,6 +2,8 @@
 ghost use Rattle.std.specs.Prelude.{◌≡◌, map, length, IfOk};
 ghost use Rattle.pli_base.specs.views.DeclarationView.{item_view};
 ghost use Rattle.pli_declare_attributes.specs.Faults as fault;
+ghost use Rattle.pli_declare_attributes.specs.answers.Cuts.{cut_place};
+ghost use Rattle.pli_declare_attributes.specs.declared.place.Place.{Place as SpecPlace};
 ghost use Rattle.pli_declare_tables.specs.Tables.{numbers_from};
 ghost use Rattle.pli_declare_tables.specs.views.TableView.{entry_view, entries_view};
 ghost use Rattle.pli_declare_tables.specs.answers.Answers.{AreBehindOwners};
@@ -15,10 +17,11 @@ use pli_declare_attributes::{ItemFacts, Place, item_fault};
 use pli_declare_tables::{Entity, Entry};
 use std::alloc::{AllocError, Global};
 
-/// The fault of an entry at its place, where a label and a procedure are as an item without anything.
+/// The fault of an entry at its place, whose number of elements above may be cut at the limit, where a label and a procedure are as
+/// an item without anything.
 fn own_code(place: Place, entry: &Entry, nothing: &ItemFacts) -> Option<Code>
     requires { item_view nothing.now.item.now ≡ no_item }
-    ensures { result ≡ fault.item_fault place (item_in (entry_view entry.now).entity) }
+    ensures { (p : SpecPlace) → place ≡ cut_place p → result ≡ fault.item_fault p (item_in (entry_view entry.now).entity) }
 {
     match &entry.entity {
         Entity::Item {

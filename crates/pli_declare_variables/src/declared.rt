@@ -12,7 +12,7 @@ ghost use Rattle.pli_declare_variables.specs.Places.{members_of};
 ghost use Rattle.pli_declare_variables.specs.Descriptions.{ShapesAreSound};
 ghost use Rattle.pli_declare_variables.specs.Declarations.{AreGood, declared_in};
 ghost use Rattle.pli_declare_variables.specs.views.DeclarationView.{kind_view, declaration_view};
-ghost use Rattle.pli_declare_variables.specs.answers.Declaring.{kind_with, whole_at, IsFaultless};
+ghost use Rattle.pli_declare_variables.specs.answers.Declaring.{kind_with, whole_at, IsFaultlessCut};
 
 use crate::codes::own_codes;
 use crate::declaration::{Declaration, Kind};
@@ -61,14 +61,15 @@ fn whole_description(
     }
 }
 
-/// What a name without a fault is declared as, at its place, where its description is known.
+/// What a name without a fault is declared as, at its place, where its description is known; that the number of elements above is
+/// cut at a limit makes no fault.
 fn kind(
     alloc: Global,
     place: Place,
     entry: &Entry,
     description: Option<Description>,
 ) -> Result<Kind, AllocError>
-    requires { IsFaultless place (entry_view entry.now).entity }
+    requires { IsFaultlessCut place (entry_view entry.now).entity }
     ensures { IfOk result (λ kind. kind_view kind ≡ kind_with place (option_map description_view description) (entry_view entry.now).entity) }
 {
     match entry.entity {

@@ -5,11 +5,12 @@ ghost use Rattle.pli_base.specs.Name.{Name};
 ghost use Rattle.pli_base.specs.Words.{same_name};
 ghost use Rattle.pli_declare_attributes.specs.Extents.{is_array};
 ghost use Rattle.pli_declare_attributes.specs.Initials.{elements_inside};
+ghost use Rattle.pli_declare_attributes.specs.answers.Cuts.{cut};
 ghost use Rattle.pli_declare_tables.specs.Tables.{no_entry, numbers_from};
 ghost use Rattle.pli_declare_tables.specs.views.TableView.{entry_view, entries_view};
 ghost use Rattle.pli_declare_tables.specs.answers.Answers.{AreBehindOwners};
-ghost use Rattle.pli_declare_variables.specs.Places.{item_in, is_bad_level, stands_alone, is_built_in, position_of, place_in};
-ghost use Rattle.pli_declare_variables.specs.answers.Walks.{has_members_at, above_at, above_owner, placed};
+ghost use Rattle.pli_declare_variables.specs.Places.{item_in, is_bad_level, stands_alone, is_built_in, position_of};
+ghost use Rattle.pli_declare_variables.specs.answers.Walks.{has_members_at, above_at, above_owner, placed, cut_place_in};
 
 use crate::items::{self, dimensions};
 use crate::words::is_built_in;
@@ -25,15 +26,15 @@ use std::alloc::{AllocError, AllocFailed, Global};
 pub(crate) struct Surroundings {
     /// Whether one of them has dimensions.
     in_array: bool,
-    /// How many elements they make, where none of them has bad bounds.
-    elements: Option<u64>,
+    /// How many elements they make, up to a limit, where none of them has bad bounds.
+    elements: Option<u128>,
 }
 
 impl Surroundings {
     /// With a level more, which is the next one below.
     fn and(self, dimensions: &[Bounds]) -> Surroundings
         ensures in_array { result.in_array ≡ (is_array dimensions.now || self.in_array) }
-        ensures elements { result.elements ≡ elements_inside self.elements dimensions.now }
+        ensures elements { result.elements ≡ cut (elements_inside self.elements dimensions.now) }
     {
         Surroundings {
             in_array: !dimensions.is_empty() || self.in_array,
@@ -128,14 +129,15 @@ fn place(
     }
 }
 
-/// Where each item stands, where the parameters are those of the procedure that is the block.
+/// Where each item stands, with its elements above up to a limit, where the parameters are those of the procedure that is the
+/// block.
 pub(crate) fn places(
     alloc: Global,
     entries: &[Entry],
     parameters: &[Name],
 ) -> Result<Vec<Place>, AllocError>
     requires { AreBehindOwners (entries_view entries.now) }
-    ensures { IfOk result (λ places. places.items ≡ map (place_in (entries_view entries.now) parameters.now) (numbers_from 0 (length entries.now))) }
+    ensures { IfOk result (λ places. places.items ≡ map (cut_place_in (entries_view entries.now) parameters.now) (numbers_from 0 (length entries.now))) }
 {
     let parameters = set_of(alloc, parameters)?;
     let aboves = aboves(alloc, entries)?;

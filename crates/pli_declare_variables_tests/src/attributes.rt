@@ -581,15 +581,15 @@ fn laws_are_called() {
 }
 
 /// How many elements the levels above a declaration make, and how many its first item has with them.
-static ELEMENTS: [(Option<u64>, &str, Option<u64>); 5] = [
+static ELEMENTS: [(Option<u128>, &str, Option<u128>); 5] = [
     (Some(2), "X ( 3 , 0 : 4 ) BIT ;", Some(30)),
-    (Some(u64::MAX), "X ( 3 , 0 : 4 ) BIT ;", Some(u64::MAX)),
+    (Some(1 << 95), "X ( 3 , 0 : 4 ) BIT ;", Some(1 << 96)),
     (None, "X ( 3 , 0 : 4 ) BIT ;", None),
     (Some(2), "Y ( 4 : 3 ) BIT ;", None),
     (Some(2), "Z BIT ;", Some(2)),
 ];
 
-fn elements(alloc: Global, above: Option<u64>, text: &str) -> Result<Option<u64>, Fail> {
+fn elements(alloc: Global, above: Option<u128>, text: &str) -> Result<Option<u128>, Fail> {
     let item = first_item(alloc, text)?;
     Ok(elements_within(above, &item.dimensions))
 }

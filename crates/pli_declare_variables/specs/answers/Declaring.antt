@@ -4,6 +4,7 @@ use Rattle.pli_base.specs.declared.code.Code.{Code}
 use Rattle.pli_map.specs.Description.{Description}
 use Rattle.pli_declare_attributes.specs.Completed.{completed_of}
 use Rattle.pli_declare_attributes.specs.Faults.{item_fault}
+use Rattle.pli_declare_attributes.specs.answers.Cuts.{cut_place}
 use Rattle.pli_declare_attributes.specs.declared.place.Place.{Place}
 use Rattle.pli_declare_tables.specs.Tables.{Entity, AsItem, AsLabel, AsProcedure, Entry, no_entry}
 use Rattle.pli_declare_variables.specs.Places.{is_variable}
@@ -23,6 +24,10 @@ abbrev pub IsFaultless : Place → Entity → Type 0
 IsFaultless place (AsItem item is_bad) = (is_bad ≡ false) × (item_fault place item ≡ None)
 IsFaultless place (AsLabel region) = Unit {0}
 IsFaultless place (AsProcedure heading region) = AreSound (returned_by heading.options)
+
+-- no fault of its own at a place whose count of elements was cut at the limit
+abbrev pub IsFaultlessCut : Place → Entity → Type 0
+IsFaultlessCut place entity = (whole : Place) × (place ≡ cut_place whole) × IsFaultless whole entity
 
 -- the description of a variable of its own, by the fault of each item; the bound is that of described
 abbrev pub whole_at : (bound : ℕ) → List Entry → (codes : List (Option Code)) → ℕ → Option Description

@@ -6,13 +6,14 @@ use Rattle.pli_base.specs.Name.{Name}
 use Rattle.pli_base.specs.Words.{same_name}
 use Rattle.pli_declare_attributes.specs.Extents.{is_array}
 use Rattle.pli_declare_attributes.specs.Initials.{elements_inside}
+use Rattle.pli_declare_attributes.specs.answers.Cuts.{cut, cut_place}
 use Rattle.pli_declare_attributes.specs.Sets.{none_of, based, set_of, outermost}
 use Rattle.pli_declare_attributes.specs.declared.place.Place.{Place}
 use Rattle.pli_base.specs.Declarations.{Item}
 use Rattle.pli_declare_tables.specs.Tables.{Entry}
 use Rattle.pli_declare_variables.specs.Places.{owners_of, members_of, item_of, is_bad_level, stands_alone}
 use Rattle.pli_declare_variables.specs.Places.{position_of, elements_through, is_built_in, set_in, is_locator}
-use Rattle.pli_declare_variables.specs.Places.{is_area}
+use Rattle.pli_declare_variables.specs.Places.{is_area, place_in}
 use Rattle.pli_declare_variables.specs.declared.places.Surroundings.{Surroundings}
 use Rattle.pli_declare_variables.specs.declared.locators.Chain.{Chain}
 use Rattle.pli_declare_variables.specs.declared.locators.Nameable.{Nameable}
@@ -20,12 +21,12 @@ use Rattle.pli_declare_variables.specs.declared.locators.Nameable.{Nameable}
 abbrev pub has_members_at : List Entry → ℕ → Bool
 has_members_at entries n = not (length (members_of entries n) == 0)
 
--- what levels make, the nearest first
+-- what levels make, the nearest first; elements are counted up to a limit
 abbrev pub made_by : List Entry → List ℕ → Surroundings
 made_by entries ns =
     record {
       in_array = list_any (λ k. is_array (item_of entries k).dimensions) ns;
-      elements = elements_through entries ns;
+      elements = cut (elements_through entries ns);
     }
 
 abbrev pub above_at : List Entry → ℕ → Surroundings
@@ -43,7 +44,7 @@ above_owner aboves entries (Some o) =
     record {
       in_array = is_array dimensions
           || above.in_array;
-      elements = elements_inside above.elements dimensions;
+      elements = cut (elements_inside above.elements dimensions);
     }
 
 -- where an item stands
@@ -58,6 +59,10 @@ placed entry parameters has_members above =
       elements_above = above.elements;
       built_in_name = is_built_in entry.identifier.name;
     }
+
+-- where an item stands, with its count of elements up to the limit
+abbrev pub cut_place_in : List Entry → (parameters : List Name) → ℕ → Place
+cut_place_in entries parameters n = cut_place (place_in entries parameters n)
 
 -- what all of these items are
 abbrev pub chain_of : List Entry → List ℕ → Chain

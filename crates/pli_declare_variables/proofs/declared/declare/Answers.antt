@@ -4,7 +4,7 @@ use Rattle.pli_map.specs.views.DescriptionView.{description_view}
 use Rattle.pli_declare_attributes.specs.declared.place.Place.{Place}
 use Rattle.pli_declare_tables.specs.Tables as plain
 use Rattle.pli_declare_tables.specs.views.TableView.{entry_view, entries_view}
-use Rattle.pli_declare_variables.specs.Places.{place_in}
+use Rattle.pli_declare_variables.specs.answers.Walks.{cut_place_in}
 use Rattle.pli_declare_variables.specs.Descriptions.{own_codes, ShapesAreSound}
 use Rattle.pli_declare_variables.specs.Declarations.{declaration_at}
 use Rattle.pli_declare_variables.specs.views.DeclarationView.{kind_view, declaration_view}
@@ -25,7 +25,7 @@ whole_description-requires-clause-sound c =
 
 pub index-requires : goal.index-requires
 index-requires c =
-    let long = ap (λ (xs : List Place). length xs) c.in_ok-places.ensures ∙ mapped_length (place_in (entries_view c.args.entries.now) c.args.parameters.now) (length c.args.entries.now) in
+    let long = ap (λ (xs : List Place). length xs) c.in_ok-places.ensures ∙ mapped_length (cut_place_in (entries_view c.args.entries.now) c.args.parameters.now) (length c.args.entries.now) in
     omega (arith, long, c.loop-number-test.true)
 
 pub kind-requires : goal.kind-requires
@@ -35,7 +35,7 @@ kind-requires c =
     let names = c.args.parameters.now in
     let n = c.loop-number.number in
     let lt = c.loop-number-test.true in
-    let place = element_at (place_in entries names) c.in_ok-places.places.items (length program) n c.index.result.now c.in_ok-places.ensures lt c.index.ensures in
+    let place = element_at (cut_place_in entries names) c.in_ok-places.places.items (length program) n c.index.result.now c.in_ok-places.ensures lt c.index.ensures in
     let view = view_at program n c.index-entries-number.result lt c.index-entries-number.is in
     faultless entries names n (entry_view c.index-entries-number.result) c.index.result.now view place (c.requires.good n (omega (arith, lt, length-map program entry_view)))
 
@@ -48,7 +48,7 @@ loop-number-preserved c =
     let n = c.loop-number.number in
     let lt = c.loop-number-test.true in
     let e = c.index-entries-number.result in
-    let place = element_at (place_in entries names) c.in_ok-places.places.items count n c.index.result.now c.in_ok-places.ensures lt c.index.ensures in
+    let place = element_at (cut_place_in entries names) c.in_ok-places.places.items count n c.index.result.now c.in_ok-places.ensures lt c.index.ensures in
     let view : _ ≡ entry_view e = view_at program n e lt c.index-entries-number.is in
     let same : c.deref-in-loop-number.result.now ≡ own_codes entries names = c.deref-in-loop-number.ensures.value ∙ all_codes program names c.in_ok-codes.codes.items c.in_ok-codes.ensures in
     let described = c.in_ok-description.ensures ∙ whole entries names count c.deref-in-loop-number.result.now n (sym (length-map program entry_view)) same in

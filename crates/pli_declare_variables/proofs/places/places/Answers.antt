@@ -1,6 +1,6 @@
 use Rattle.std.proofs.Common.{List, Bool, length, ap, ◌∙◌, arith}
 use Rattle.pli_declare_tables.specs.views.TableView.{entries_view}
-use Rattle.pli_declare_variables.specs.Places.{place_in}
+use Rattle.pli_declare_variables.specs.answers.Walks.{cut_place_in}
 use Rattle.pli_declare_variables.specs.answers.Walks.{has_members_at, above_at}
 use Rattle.pli_declare_variables.specs.declared.places.Surroundings.{Surroundings}
 use Rattle.pli_declare_variables.proofs.Numbers.{mapped_more, mapped_length}
@@ -29,4 +29,4 @@ loop-number-preserved c =
     let known = element_at (above_at entries) c.in_ok-aboves.aboves.items count n c.index-in-loop-number.result.now c.in_ok-aboves.ensures lt c.index-in-loop-number.ensures in
     let here = c.place-place.ensures ∙ placed_at c.args.entries.now n c.index-entries-number.result lt c.index-entries-number.is c.args.parameters.now
     c.in_ok-parameters.parameters.keys c.in_ok-parameters.ensures c.index.result.now marked c.index-in-loop-number.result.now known in
-    c.in_ok-push.ensures.items ∙ mapped_more (place_in entries c.args.parameters.now) c.loop-number.places.items n c.place-place.result c.loop-number.invariant here
+    c.in_ok-push.ensures.items ∙ mapped_more (cut_place_in entries c.args.parameters.now) c.loop-number.places.items n c.place-place.result c.loop-number.invariant here
