@@ -1,5 +1,5 @@
 //! What items take by their attributes and dimensions alone, without a tree.
-ghost use Rattle.std.specs.Prelude.{◌≡◌, ◌*◌, false, map, if◌then◌else◌, nat_le};
+ghost use Rattle.std.specs.Prelude.{◌≡◌, ◌*◌, false, map};
 ghost use Rattle.std.specs.Int.{next_multiple_of};
 ghost use Rattle.pli_base.specs.views.DeclarationView.{attribute_view};
 ghost use Rattle.pli_map.specs.Layouts.{IsLayout};
@@ -13,14 +13,7 @@ use crate::initials::elements;
 use crate::set::AttributeSet;
 use crate::summary::Summary;
 use pli_base::declaration::{Attribute, Bounds};
-use pli_map::Layout;
-
-/// Bytes and alignment of FIXED BINARY: a halfword up to 15 digits.
-fn fixed_binary_size(precision: u32) -> u32
-    ensures { result ≡ (if nat_le precision 15 then 2 else 4) }
-{
-    if precision <= 15 { 2 } else { 4 }
-}
+use pli_map::{Layout, fixed_binary_size};
 
 /// A number in parentheses, or else the default.
 fn number_or_default(number: Option<u32>, default: u32) -> u64

@@ -1,1 +1,2 @@
 pub mod TranslationStands
+pub mod ProgramsRun

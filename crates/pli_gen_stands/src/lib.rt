@@ -1,9 +1,15 @@
-//! The code that the generator gives stands as the simulation asks.
+//! The code that the generator gives stands as the simulation asks, and so does what the program means.
 #![tactic(auto)]
 
-ghost use Rattle.pli_gen_stands.specs.Laws.{CodeStands};
+ghost use Rattle.pli_gen_stands.specs.Laws.{CodeStands, ProgramsRunAsMeant};
 
 /// The code of each unit that is numbered well stands, form by form, as the simulation asks.
 pub fn code_stands()
     ensures { CodeStands }
+{}
+
+/// For a well-typed program whose units are numbered well, and every number of steps: the program has a meaning, and the
+/// run of its code gives that, and nothing else.
+pub fn programs_run_as_meant()
+    ensures { ProgramsRunAsMeant }
 {}

@@ -18,5 +18,5 @@ pub use laws::{
 };
 pub use layout::{Layout, SIZE_LIMIT};
 pub use parts::{PathStep, PlacedPart, place};
-pub use sizes::{alignment, measure, size};
+pub use sizes::{alignment, fixed_binary_size, measure, size};
 pub use stored::{load_value, store_value};

@@ -24,7 +24,7 @@ pub fn alignment(description: &Description) -> u32
     ensures small { result ≤ 8 }
 {
     match description {
-        Description::FixedBinary(precision) => fixed_binary_size(*precision),
+        Description::FixedBinary(precision) => fixed_binary_size(u32::from(*precision)),
         Description::Character(_) | Description::Bit(_) => 1,
         Description::Varying(_) => 2,
         Description::Pointer | Description::Offset => 4,
@@ -47,7 +47,8 @@ fn members_alignment(members: &[Description]) -> u32
     greatest
 }
 
-fn fixed_binary_size(precision: u8) -> u32
+/// The bytes of FIXED BINARY of so many digits, which are its alignment too: 2 up to 15, 4 up to 31, and else 8 (own).
+pub fn fixed_binary_size(precision: u32) -> u32
     ensures { result ≡ number_bytes precision }
 {
     match precision {
@@ -64,7 +65,7 @@ pub fn measure(description: &Description) -> Option<Layout>
 {
     match description {
         Description::FixedBinary(precision) => {
-            let bytes = fixed_binary_size(*precision);
+            let bytes = fixed_binary_size(u32::from(*precision));
             Layout::of(u64::from(bytes), bytes)
         }
         Description::Character(length) => Layout::of(u64::from(*length), 1),

@@ -3,7 +3,7 @@ use Word::{Ar, Bi, Ch, Di, Fb, Of, Pt, St, Va};
 use pli_map::{
     Bounds, Description, Layout, PathStep, PlacedPart, alignment, areas_are_rounded,
     elements_are_in_row_major_order, elements_are_within_bounds, filled_parts_take_bytes,
-    four_alignments, measure, offsets_are_sums, parts_do_not_meet, parts_have_their_scalars,
+    fixed_binary_size, four_alignments, measure, offsets_are_sums, parts_do_not_meet, parts_have_their_scalars,
     parts_lie_within, parts_of_parts, parts_stand_aligned, place, same_is_equal,
     scalars_lie_within, size, stored_is_loaded, worked_examples,
 };
@@ -178,6 +178,17 @@ static SCALARS: [Row; 23] = [
 #[test]
 fn scalars(rt: HostRuntime) -> Result<(), Fail> {
     check(&rt, rt.alloc(), &SCALARS)?;
+    Ok(())
+}
+
+/// Digits of numbers on both sides of 15 and 31, with the bytes that they take.
+static DIGITS: [(u32, u32); 6] = [(1, 2), (15, 2), (16, 4), (31, 4), (32, 8), (63, 8)];
+
+#[test]
+fn numbers(_rt: HostRuntime) -> Result<(), Fail> {
+    for (digits, bytes) in &DIGITS {
+        assert_eq(*bytes, fixed_binary_size(*digits))?;
+    }
     Ok(())
 }
 
