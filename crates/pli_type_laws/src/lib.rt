@@ -1,0 +1,6 @@
+//! Laws of types: what the type checker's definition gives is well typed and numbered well.
+#![tactic(auto)]
+
+mod laws;
+
+pub use laws::typed_units_are_numbered;
