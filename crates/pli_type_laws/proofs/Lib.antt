@@ -1,1 +1,2 @@
+pub mod HeldValues
 pub mod PlainTrees

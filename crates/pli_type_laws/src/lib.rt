@@ -3,4 +3,4 @@
 
 mod laws;
 
-pub use laws::typed_units_are_numbered;
+pub use laws::{converted_is_held, typed_units_are_numbered};

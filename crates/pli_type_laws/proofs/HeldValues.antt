@@ -1,0 +1,102 @@
+-- Conversions: what they are fitted to, and characters of numbers.
+use Rattle.std.specs.Prelude.{◌≡◌, ℕ, Option, Some, None, option_map, [], ◌∷◌, refl}
+use Rattle.std.proofs.Common.{arith, subst}
+use Rattle.pli_map.specs.Description as described
+use Rattle.pli_map.specs.Description.{Description}
+use Rattle.pli_operation.specs.Operations.{Fit, ToCharacters}
+use Rattle.pli_type.specs.ExpressionTypes.{with_one, suited, as_characters, columns, decimal_digits}
+use Rattle.pli_type.specs.declared.expression_type.ExpressionType.{ExpressionType}
+use Rattle.pli_type.specs.declared.expression_type.ExpressionType.TheVariants as types
+use Rattle.pli_type_laws.specs.Conversions.{HasType, ConvertedIsHeld}
+use Rattle.pli_type_tree.specs.TypedTree.{TypedExpression}
+use Rattle.pli_type_tree.specs.ValueTypes.{ValueType, Numbers, Strings, OfCharacters, OfBits, type_held, IsFitted, IsWithin, HaveColumns}
+use Rattle.pli_type_tree.specs.WellTyped.{Scope, IsTyped, IsValueFor}
+
+abbrev OnSome : {A : Type 0} → (A → Type 0) → Option A → Type 0
+OnSome P (Some x) = P x
+OnSome P None = Unit {0}
+
+within_self : (t : ValueType) → IsWithin t t
+within_self (Numbers p) = omega arith
+within_self (Strings OfCharacters a b) = (omega arith, omega arith)
+within_self (Strings OfBits a b) = (omega arith, omega arith)
+
+some_same : {A : Type 0} {x y : A} → Some x ≡ Some y → x ≡ y
+some_same e = cc
+
+none_some : {A : Type 0} {x : A} → None ≡ Some x → ⊥
+none_some e = absurd (cc)
+
+module _ (n : ℕ) (s : Scope) where
+  -- what can be fitted to a description
+  abbrev Fits : Description → TypedExpression → Type 0
+  Fits d e = (u : ValueType) × (t : ValueType) × IsTyped n s e u × IsFitted d u × (type_held d ≡ Some t)
+
+  fitted : (d : Description) (e : TypedExpression) → Fits d e → IsValueFor n s d (with_one (Fit d) e)
+  fitted d e (u, t, typed, fits, held) =
+      (t, (u ∷ [], (u, [], refl, typed, refl), (u, refl, fits, held)), (t, held, within_self t))
+
+  numbers_fit : (precision : ℕ) (e : TypedExpression) (kind : ExpressionType) → HasType n s e kind
+      → OnSome (Fits (described.FixedBinary precision)) (suited n (described.FixedBinary precision) e kind)
+  numbers_fit precision e (types.FixedDecimal digits) h = (Numbers h.0, Numbers precision, h.1, tt, refl)
+  numbers_fit precision e (types.FixedBinary q) h = (Numbers h.0, Numbers precision, h.1, tt, refl)
+  numbers_fit precision e types.Characters h = tt
+  numbers_fit precision e types.Bits h = tt
+  numbers_fit precision e types.Pointer h = tt
+  numbers_fit precision e types.Offset h = tt
+  numbers_fit precision e types.Area h = tt
+
+  bits_fit : (k : ℕ) (e : TypedExpression) (kind : ExpressionType) → HasType n s e kind
+      → OnSome (Fits (described.Bit k)) (suited n (described.Bit k) e kind)
+  bits_fit k e (types.FixedDecimal digits) h = tt
+  bits_fit k e (types.FixedBinary q) h = tt
+  bits_fit k e types.Characters h = tt
+  bits_fit k e types.Bits h = (Strings OfBits h.0 h.1, Strings OfBits k k, h.2, tt, refl)
+  bits_fit k e types.Pointer h = tt
+  bits_fit k e types.Offset h = tt
+  bits_fit k e types.Area h = tt
+
+  made_string : (e : TypedExpression) (width p : ℕ) → IsTyped n s e (Numbers p) → HaveColumns width p
+      → IsTyped n s (with_one (ToCharacters width) e) (Strings OfCharacters width width)
+  made_string e width p typed room =
+      (Numbers p ∷ [], (Numbers p, [], refl, typed, refl), (p, refl, (room, refl)))
+
+  characters_fit : (d : Description) (t : ValueType) → type_held d ≡ Some t
+      → ((a b : ℕ) → IsFitted d (Strings OfCharacters a b)) → (e : TypedExpression) (kind : ExpressionType)
+      → HasType n s e kind → OnSome (Fits d) (as_characters e kind)
+  characters_fit d t held fits e (types.FixedDecimal digits) h =
+      (_, t, made_string e (columns digits) h.0 h.1 h.2, fits _ _, held)
+  characters_fit d t held fits e (types.FixedBinary q) h =
+      (_, t, made_string e (columns (decimal_digits q)) h.0 h.1 h.2, fits _ _, held)
+  characters_fit d t held fits e types.Characters h = (_, t, h.2, fits h.0 h.1, held)
+  characters_fit d t held fits e types.Bits h = (
+    Strings OfCharacters h.0 h.1,
+    t,
+    (Strings OfBits h.0 h.1 ∷ [], (Strings OfBits h.0 h.1, [], refl, h.2, refl), (OfBits, h.0, h.1, refl, (refl, refl))),
+    fits h.0 h.1,
+    held,
+  )
+  characters_fit d t held fits e types.Pointer h = absurd h
+  characters_fit d t held fits e types.Offset h = absurd h
+  characters_fit d t held fits e types.Area h = absurd h
+
+  all_fit : (d : Description) (e : TypedExpression) (kind : ExpressionType) → HasType n s e kind
+      → OnSome (Fits d) (suited n d e kind)
+  all_fit (described.FixedBinary p) e kind h = numbers_fit p e kind h
+  all_fit (described.Character k) e kind h = characters_fit (described.Character k) _ refl (λ a b. tt) e kind h
+  all_fit (described.Varying k) e kind h = characters_fit (described.Varying k) _ refl (λ a b. tt) e kind h
+  all_fit (described.Bit k) e kind h = bits_fit k e kind h
+  all_fit described.Pointer e kind h = tt
+  all_fit described.Offset e kind h = tt
+  all_fit (described.Area k) e kind h = tt
+  all_fit (described.Array bounds element) e kind h = tt
+  all_fit (described.Structure _) e kind h = tt
+
+  given_fit : (d : Description) (o : Option TypedExpression) (e : TypedExpression) → OnSome (Fits d) o
+      → option_map (with_one (Fit d)) o ≡ Some e → IsValueFor n s d e
+  given_fit d (Some x) e h same = subst (IsValueFor n s d) (some_same same) (fitted d x h)
+  given_fit d None e h same = absurd (none_some same)
+
+pub converted_is_held : ConvertedIsHeld
+converted_is_held n s d v e h same =
+    given_fit n s d (suited n d v.expression v.kind) e (all_fit n s d v.expression v.kind h) same
