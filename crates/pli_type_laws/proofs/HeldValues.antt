@@ -4,13 +4,13 @@ use Rattle.std.proofs.Common.{arith, subst}
 use Rattle.pli_map.specs.Description as described
 use Rattle.pli_map.specs.Description.{Description}
 use Rattle.pli_operation.specs.Operations.{Fit, ToCharacters}
-use Rattle.pli_type.specs.ExpressionTypes.{with_one, suited, as_characters, columns, decimal_digits}
+use Rattle.pli_type.specs.ExpressionTypes.{with_one, suited, printed_from, as_characters, columns, decimal_digits}
 use Rattle.pli_type.specs.declared.expression_type.ExpressionType.{ExpressionType}
 use Rattle.pli_type.specs.declared.expression_type.ExpressionType.TheVariants as types
-use Rattle.pli_type_laws.specs.Conversions.{HasType, ConvertedIsHeld}
+use Rattle.pli_type_laws.specs.Conversions.{HasType, ConvertedIsHeld, PrintedIsString}
 use Rattle.pli_type_tree.specs.TypedTree.{TypedExpression}
 use Rattle.pli_type_tree.specs.ValueTypes.{ValueType, Numbers, Strings, OfCharacters, OfBits, type_held, IsFitted, IsWithin, HaveColumns}
-use Rattle.pli_type_tree.specs.WellTyped.{Scope, IsTyped, IsValueFor}
+use Rattle.pli_type_tree.specs.WellTyped.{Scope, IsTyped, IsValueFor, AreItems}
 
 abbrev OnSome : {A : Type 0} → (A → Type 0) → Option A → Type 0
 OnSome P (Some x) = P x
@@ -100,3 +100,25 @@ module _ (n : ℕ) (s : Scope) where
 pub converted_is_held : ConvertedIsHeld
 converted_is_held n s d v e h same =
     given_fit n s d (suited n d v.expression v.kind) e (all_fit n s d v.expression v.kind h) same
+
+module _ (n : ℕ) (s : Scope) where
+  item_of : (e : TypedExpression) (kind : ExpressionType) → HasType n s e kind
+      → OnSome (λ x. AreItems n s (x ∷ [])) (printed_from e kind)
+  item_of e (types.FixedDecimal digits) h =
+      ((OfCharacters, (columns digits, columns digits, made_string n s e (columns digits) h.0 h.1 h.2)), tt)
+  item_of e (types.FixedBinary q) h =
+      let width : ℕ = columns (decimal_digits q) in
+      ((OfCharacters, (width, width, made_string n s e width h.0 h.1 h.2)), tt)
+  item_of e types.Characters h = ((OfCharacters, h), tt)
+  item_of e types.Bits h = ((OfBits, h), tt)
+  item_of e types.Pointer h = absurd h
+  item_of e types.Offset h = absurd h
+  item_of e types.Area h = absurd h
+
+  given_item : (o : Option TypedExpression) (e : TypedExpression) → OnSome (λ x. AreItems n s (x ∷ [])) o
+      → o ≡ Some e → AreItems n s (e ∷ [])
+  given_item (Some x) e h same = subst (λ y. AreItems n s (y ∷ [])) (some_same same) h
+  given_item None e h same = absurd (none_some same)
+
+pub printed_is_string : PrintedIsString
+printed_is_string n s v e h same = given_item n s (printed_from v.expression v.kind) e (item_of n s v.expression v.kind h) same
