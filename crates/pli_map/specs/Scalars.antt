@@ -1,6 +1,7 @@
 -- The scalars of a description: the types that are no arrays and no structures, in the order in which they
 -- stand, those of an array in row-major order. What an aggregate holds is the list of what they hold.
-use Rattle.std.specs.Prelude.{ℕ, ◌+◌, ◌-◌, ◌*◌, ◌/◌, ◌%◌, nat_eq, nat_lt, ◌&&◌, Option, Some, None, option_map}
+use Rattle.std.specs.Prelude.{ℕ, ◌+◌, ◌-◌, ◌*◌, ◌/◌, ◌%◌, nat_eq, nat_lt, ◌&&◌, Option, Some, None}
+use Rattle.std.specs.Prelude.{option_map}
 use Rattle.std.specs.Prelude.{Bool, true, false, if◌then◌else◌}
 use Rattle.std.specs.Int.{next_multiple_of}
 use Rattle.pli_map.specs.Description.{Description, Array, Structure, Members, NoMembers, MemberThen}

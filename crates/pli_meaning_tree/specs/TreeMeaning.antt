@@ -24,7 +24,8 @@ use Rattle.pli_value.specs.Conversions.{bit_constant}
 use Rattle.pli_value.specs.Value.{Value, Number, Characters, Bits}
 use Rattle.pli_meaning_tree.specs.Effects.{Effect, Gives, Jumps, Fails, Spent, Lost, Short, Flow, Next}
 use Rattle.pli_meaning_tree.specs.Effects.{Returned, Doing, and_then, nothing_done, followed, answered}
-use Rattle.pli_meaning_tree.specs.Effects.{as_step, as_statement, back_at, truth, chosen, turns, caught, unless_full}
+use Rattle.pli_meaning_tree.specs.Effects.{as_step, as_statement, back_at, truth, chosen, turns, caught}
+use Rattle.pli_meaning_tree.specs.Effects.{unless_full}
 use Rattle.pli_meaning_tree.specs.Effects.{leaving, block_end, procedure_end}
 
 -- a program: its units, and which of them is the main one; no number has more binary digits than the greatest

@@ -174,10 +174,12 @@ block_of u b =
     }
 
 -- what a target means: a symbol, or a built-in function, declared or not
-abbrev pub target_meaning : ExternalProcedure → (function : Option BuiltInFunction) → Target → Option NameMeaning
+abbrev pub target_meaning : ExternalProcedure → (function : Option BuiltInFunction) → Target
+    → Option NameMeaning
 target_meaning u function AFunction = option_map meanings.BuiltIn function
 target_meaning u function (AName region number) =
-    declared_meaning (record { block = block_under (numbers_of u) (outermost_number u) region; number = number })
+    declared_meaning
+    (record { block = block_under (numbers_of u) (outermost_number u) region; number = number })
     (slice_get (declared_by (resolved_of u) region) number)
 
 -- what the name at a token means

@@ -98,7 +98,8 @@ number_declared (d ∷ ds) name =
 -- symbols
 
 -- what symbols say beside what is declared: the block of each region, the outermost block's number, the names
--- in OFFSET and BASED, by the tokens of the declared names, and the statements of labels, by the labels' tokens
+-- in OFFSET and BASED, by the tokens of the declared names, and the statements of labels, by the labels'
+-- tokens
 pub record SymbolFacts : Type 0 where
   pub numbers : List ℕ
   pub outermost : ℕ
@@ -134,13 +135,16 @@ class_of (Some storage.Controlled) slot locator = classes.Controlled
 class_of (Some storage.Based) slot locator = classes.Based locator
 
 -- what a name is declared as, by the item that it is a member of; a variable of its own has a description
-abbrev pub symbol_kind : SymbolFacts → (parameters : List Name) → Way → Identifier → (owner : Option ℕ) → Kind → SymbolKind
+abbrev pub symbol_kind : SymbolFacts → (parameters : List Name) → Way → Identifier → (owner : Option ℕ) → Kind
+    → SymbolKind
 symbol_kind f parameters w i None (OfItem (OfVariable v) description) =
     Variable (unwrap_or description described.Pointer)
-    (class_of v.storage (place_among parameters i.name) (locator_of f i.at)) v.scope v.initial (area_of f i.at)
+    (class_of v.storage (place_among parameters i.name) (locator_of f i.at)) v.scope v.initial
+    (area_of f i.at)
 symbol_kind f parameters w i (Some owner) (OfItem (OfVariable v) description) =
     Member w.root w.path v.initial (area_of f i.at)
-symbol_kind f parameters w i owner (OfItem (OfEntry described returned) description) = Entry described returned
+symbol_kind f parameters w i owner (OfItem (OfEntry described returned) description) =
+    Entry described returned
 symbol_kind f parameters w i owner (OfItem OfBuiltIn description) = BuiltIn
 symbol_kind f parameters w i owner (OfLabel region) = Label (unwrap_or (found_in f.labels i.at) 0)
 symbol_kind f parameters w i owner (OfProcedure returned region) =

@@ -10,7 +10,8 @@ use Rattle.pli_type_tree.specs.WellTyped.{Scope, IsTyped, IsString, IsValueFor, 
 
 -- an expression gives values of its type: numbers have room in the columns of the type
 abbrev pub HasType : (greatest : ℕ) → Scope → TypedExpression → ExpressionType → Type 0
-HasType n s e (types.FixedDecimal digits) = (p : ℕ) × IsTyped n s e (Numbers p) × HaveColumns (columns digits) p
+HasType n s e (types.FixedDecimal digits) =
+    (p : ℕ) × IsTyped n s e (Numbers p) × HaveColumns (columns digits) p
 HasType n s e (types.FixedBinary precision) =
     (p : ℕ) × IsTyped n s e (Numbers p) × HaveColumns (columns (decimal_digits precision)) p
 HasType n s e types.Characters = IsString n s OfCharacters e

@@ -54,7 +54,8 @@ pub record AreTablesOf (t : UnitTables) (u : ExternalProcedure) : Type 0
         ≡ found_in (functions_in (inner_marks (outline_of u).marks)) at
     pub statements_are : (n : ℕ) → get nat_eq t.statements n
         ≡ found_in (map (λ p. (p.number, p.region)) (unit_places u)) n
-    pub labels_are : (at : ℕ) → get nat_eq t.labels at ≡ found_in (flat_map label_statement (unit_places u)) at
+    pub labels_are : (at : ℕ) → get nat_eq t.labels at
+        ≡ found_in (flat_map label_statement (unit_places u)) at
     pub procedures_are : (n : ℕ) → get nat_eq t.procedures n ≡ found_in (procedures_in u) n
 
 -- what a resolved unit keeps
