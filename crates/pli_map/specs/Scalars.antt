@@ -10,8 +10,8 @@ use Rattle.pli_map.specs.Sizes.{count_of, alignment_of, size_of, stride_of}
 
 -- no array and no structure
 abbrev pub is_scalar : Description → Bool
-is_scalar (Array bounds element) = false
-is_scalar (Structure members) = false
+is_scalar (Array _ _) = false
+is_scalar (Structure _) = false
 is_scalar scalar = true
 
 -- how many scalars a description has
