@@ -185,9 +185,9 @@ fn scalars(rt: HostRuntime) -> Result<(), Fail> {
 static DIGITS: [(u32, u32); 6] = [(1, 2), (15, 2), (16, 4), (31, 4), (32, 8), (63, 8)];
 
 #[test]
-fn numbers(_rt: HostRuntime) -> Result<(), Fail> {
+fn numbers(rt: HostRuntime) -> Result<(), Fail> {
     for (digits, bytes) in &DIGITS {
-        assert_eq(*bytes, fixed_binary_size(*digits))?;
+        assert_eq!(rt; fixed_binary_size(*digits), *bytes);
     }
     Ok(())
 }
