@@ -1,2 +1,0 @@
-pub mod HeldValues
-pub mod PlainTrees

@@ -1,3 +1,0 @@
-pub mod Conversions
-pub mod Numbering
-pub mod TypedUnits
