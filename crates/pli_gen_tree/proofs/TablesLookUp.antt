@@ -18,20 +18,22 @@ use Rattle.pli_gen_tree.specs.TreeTranslation.{BlockTree, blocks_of, blocks_at, 
 use Rattle.pli_gen_tree.specs.Encoding.{Tables, tables_for, descriptions_named, templates_named, values_named, dummy, fitted_by, same_value, same_template}
 use Rattle.pli_gen_tree.specs.Encoding.{description_number, template_number, relation_code, operation_code, instruction_code, template_code, coded_blocks, coded_unit, variables_of, code_of}
 use Rattle.pli_gen_tree.specs.laws.ListLaws.{all_front, all_back}
-use Rattle.pli_gen_tree.proofs.TableNumbers.{Has, number_stands, has_all, value_decides, template_decides, description_decides}
+use Rattle.pli_map.specs.laws.SameLaws.{same_decides}
+use Rattle.pli_gen_tree.specs.laws.KeyLaws.{value_decides, template_decides}
+use Rattle.pli_gen_tree.proofs.TableNumbers.{Has, number_stands, has_all}
 
 module _ (tables : Tables) (statics : List Template) (bs : List BlockTree) (code : List op.Instruction) where
   abbrev c : Code
   c = coded_unit tables statics bs code
 
   abbrev HasDescription : Description → Type 0
-  HasDescription d = Has same description_decides tables.descriptions d
+  HasDescription d = Has same same_decides tables.descriptions d
 
   abbrev HasTemplate : Template → Type 0
   HasTemplate t = Has same_template template_decides tables.templates t
 
   description_there : (d : Description) → HasDescription d → slice_get c.descriptions (description_number tables d) ≡ Some d
-  description_there d h = number_stands same description_decides tables.descriptions d h
+  description_there d h = number_stands same same_decides tables.descriptions d h
 
   template_there : (t : Template) → HasTemplate t → HasDescription t.description → template_at c (template_number tables t) ≡ Some t
   template_there t h d =
@@ -148,7 +150,7 @@ looked_up_is_unit_code u =
     let code = instructions_of bs in
     let variables = variables_of u.statics bs in
     let t = tables_for variables code in
-    let described_all = has_all same description_decides (map (λ t. t.description) variables ++ flat_map descriptions_named code) [] in
+    let described_all = has_all same same_decides (map (λ t. t.description) variables ++ flat_map descriptions_named code) [] in
     let templates_all = has_all same_template template_decides (variables ++ flat_map templates_named code) [] in
     let values_all = has_all same_value value_decides (flat_map values_named code) [] in
     let variables_in = both t u.statics bs code variables

@@ -1,1 +1,4 @@
+pub mod BlockView
+pub mod KeyView
 pub mod NamingView
+pub mod TableView

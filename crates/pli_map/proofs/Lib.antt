@@ -2,6 +2,9 @@ pub mod Alignments
 pub mod Counts
 pub mod Elements
 pub mod Equality
+pub mod FarSizes
+pub mod FirstValues
+pub mod FoundScalars
 pub mod Members
 pub mod Multiples
 pub mod Paths

@@ -3,13 +3,17 @@
 #![tactic(auto)]
 
 mod description;
+mod extents;
 mod laws;
 mod layout;
 mod parts;
+mod scalars;
 mod sizes;
 mod stored;
+mod values;
 
 pub use description::{Bounds, Description};
+pub use extents::{FAR, far_size};
 pub use laws::{
     areas_are_rounded, elements_are_in_row_major_order, elements_are_within_bounds,
     filled_parts_take_bytes, four_alignments, offsets_are_sums, parts_do_not_meet,
@@ -18,5 +22,7 @@ pub use laws::{
 };
 pub use layout::{Layout, SIZE_LIMIT};
 pub use parts::{PathStep, PlacedPart, place};
+pub use scalars::{first_scalar, is_scalar, scalars_in};
 pub use sizes::{alignment, fixed_binary_size, measure, size};
 pub use stored::{load_value, store_value};
+pub use values::{first_values, holds};

@@ -3,11 +3,13 @@
 use Rattle.std.specs.Prelude.{ℕ, zero, suc, ◌+◌, Option, Some, None, List, [], ◌∷◌, ◌++◌, replicate, pos, ℤ}
 use Rattle.std.specs.Prelude.{◌-ℤ◌, if◌then◌else◌}
 use Rattle.std.specs.List.{flat_map}
+use Rattle.std.specs.Option.{unwrap_or}
 use Rattle.pli_base.specs.declared.declaration.InitialValue.{InitialValue}
 use Rattle.pli_base.specs.declared.declaration.InitialValue.TheVariants as initial
 use Rattle.pli_base.specs.declared.declaration.Integer.{Integer}
 use Rattle.pli_map.specs.Description.{Description, Array, Structure, Members, NoMembers, MemberThen}
 use Rattle.pli_map.specs.Scalars.{scalars_in}
+use Rattle.pli_map.specs.Values.{first_value}
 use Rattle.pli_map.specs.Sizes.{count_of}
 use Rattle.pli_operation.specs.Operations.{Calculation, Calculates, fitted_to}
 use Rattle.pli_type_tree.specs.Templates.{InitialScalar, Template}
@@ -56,13 +58,14 @@ values_written (initial.Characters text ∷ more) = Characters text ∷ values_w
 values_written (initial.Bits bits ∷ more) = Bits bits ∷ values_written more
 values_written (initial.Null ∷ more) = values_written more
 
--- as the scalar holds it: a string cut or extended on the right
+-- as the scalar holds it: a string cut or extended on the right. A value that does not suit its scalar, which
+-- is a fault of its declaration, leaves the one with which the scalar begins
 abbrev pub as_held : Description → Value → Value
 as_held d v = calculated_value (fitted_to d v)
   where
     calculated_value : Calculation → Value
     calculated_value (Calculates w) = w
-    calculated_value other = v
+    calculated_value other = unwrap_or (first_value d) v
 
 -- each value with its scalar, as long as there are both
 abbrev pub each_with : List NumberedScalar → List Value → List InitialScalar

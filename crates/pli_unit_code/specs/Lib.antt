@@ -1,1 +1,3 @@
 pub mod CodeTables
+pub mod Modules
+pub mod views

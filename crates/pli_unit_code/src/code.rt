@@ -1,5 +1,6 @@
 //! The code of a unit.
 use crate::instruction::Instruction;
+use pli_base::Name;
 use pli_map::Description;
 use pli_type_tree::InitialScalar;
 use pli_value::Value;
@@ -25,11 +26,11 @@ pub enum BlockKind {
 pub struct Block {
     pub kind: BlockKind,
     /// The block around it; none for an external procedure.
-    pub parent: Option<u16>,
-    pub parameters: u8,
+    pub parent: Option<u32>,
+    pub parameters: u32,
     /// The templates of its AUTOMATIC variables in the order of the text.
     pub variables: Vec<u16>,
-    pub temporaries: u16,
+    pub temporaries: u32,
     /// Its first instruction.
     pub entry: u16,
     /// Its PROCEDURE, BEGIN or ON.
@@ -47,4 +48,11 @@ pub struct Code {
     /// Numbered from 0 in the order of the text.
     pub blocks: Vec<Block>,
     pub instructions: Vec<Instruction>,
+}
+
+/// A module: the main unit's name and its code.
+#[derive(Drop)]
+pub struct Module {
+    pub unit: Name,
+    pub code: Code,
 }

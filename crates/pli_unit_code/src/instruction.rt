@@ -24,25 +24,25 @@ pub enum Instruction {
     },
     /// Ends the activations inside the one so many static links outward, clears its operands and jumps there.
     Goto {
-        outward: u8,
+        outward: u32,
         target: u16,
     },
     /// Takes so many places and activates a procedure.
     Call {
-        block: u16,
-        arguments: u8,
+        block: u32,
+        arguments: u16,
     },
     /// Activates a BEGIN block.
     Begin {
-        block: u16,
+        block: u32,
     },
     /// Ends this activation and so many more.
     Return {
-        outward: u8,
+        outward: u32,
     },
     /// The same, and gives a value to the activation that goes on.
     ReturnValue {
-        outward: u8,
+        outward: u32,
     },
     /// Ends the run by an error.
     Raise(RunError),
@@ -50,12 +50,12 @@ pub enum Instruction {
     Stop,
     /// The place in a slot of the activation so many static links outward.
     Local {
-        outward: u8,
-        slot: u16,
+        outward: u32,
+        slot: u32,
     },
     /// The place of a variable that was made before the program began.
     Global {
-        number: u16,
+        number: u32,
     },
     /// Leads a place so many bytes on, to a part of this description.
     Field {

@@ -4,5 +4,5 @@
 mod code;
 mod instruction;
 
-pub use code::{Block, BlockKind, Code, CodedTemplate};
+pub use code::{Block, BlockKind, Code, CodedTemplate, Module};
 pub use instruction::Instruction;

@@ -74,7 +74,7 @@ resolved = record {
 }
 
 abbrev pub meant_at : (at : ℕ) → NamedAs
-meant_at at = named_as resolved (used at)
+meant_at at = named_as 31 resolved (used at)
 
 abbrev pub NamesOfUnit : Type 0
 NamesOfUnit =

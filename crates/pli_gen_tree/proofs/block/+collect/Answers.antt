@@ -1,0 +1,34 @@
+use Rattle.std.proofs.Common.{◌≡◌, ◌++◌, ◌∷◌, [], List, append_assoc, ap, ◌∙◌, sym}
+use Rattle.std.proofs.lemmas.List.{map-append}
+use Rattle.pli_type_tree.specs.views.TypedView.{form_view, head_view, statements_view}
+use Rattle.pli_type_tree.specs.laws.TypedTreeLaws.{begin_made, group_made, while_made}
+use Rattle.pli_type_tree.specs.declared.statement.TypedStatement.{TypedStatement}
+use Rattle.pli_gen_tree.specs.TreeTranslation.{BlockTree, blocks_of_form, blocks_among, begin_block}
+use Rattle.pli_gen_tree.specs.views.BlockView.{block_tree, block_trees}
+use Rattle.pli_gen_tree.proofs.block.+collect.Goals as goal
+
+pub collect_of_form-returns-in_ok-collect_among-in-Begin : goal.collect_of_form-returns-in_ok-collect_among-in-Begin
+collect_of_form-returns-in_ok-collect_among-in-Begin t c =
+    let b = c.in-Begin in
+    let old = block_trees c.args.blocks.now.items in
+    let inside : List TypedStatement → List BlockTree = λ ss. blocks_among b.head.number (statements_view ss) in
+    let here : List TypedStatement → BlockTree = λ ss. begin_block c.args.parent (head_view b.head) (statements_view ss) in
+    let same = c.as_slice-statements.ensures.value in
+    c.in_ok-collect_among-in-Begin.ensures
+    ∙ ap (λ xs. block_trees xs ++ inside c.as_slice-statements.result.now) c.in_ok-push-in-Begin.ensures.items
+    ∙ ap (λ xs. xs ++ inside c.as_slice-statements.result.now) (map-append block_tree c.args.blocks.now.items _)
+    ∙ ap (λ ss. old ++ here ss ∷ [] ++ inside ss) same
+    ∙ append_assoc old (here b.statements.items ∷ []) (inside b.statements.items)
+    ∙ sym (ap (λ f. old ++ blocks_of_form c.args.parent f) (ap form_view b.is ∙ begin_made b.head b.statements))
+
+pub collect_of_form-returns-in_ok-collect_among-in-Group : goal.collect_of_form-returns-in_ok-collect_among-in-Group
+collect_of_form-returns-in_ok-collect_among-in-Group t c =
+    let old = block_trees c.args.blocks.now.items in
+    c.in_ok-collect_among-in-Group.ensures ∙ ap (λ ss. old ++ blocks_among c.args.parent (statements_view ss)) c.as_slice.ensures.value
+    ∙ sym (ap (λ f. old ++ blocks_of_form c.args.parent f) (ap form_view c.in-Group.is ∙ group_made c.in-Group.statements))
+
+pub collect_of_form-returns-in_ok-collect_among-in-While : goal.collect_of_form-returns-in_ok-collect_among-in-While
+collect_of_form-returns-in_ok-collect_among-in-While t c =
+    let old = block_trees c.args.blocks.now.items in
+    c.in_ok-collect_among-in-While.ensures ∙ ap (λ ss. old ++ blocks_among c.args.parent (statements_view ss)) c.as_slice-in-While.ensures.value
+    ∙ sym (ap (λ f. old ++ blocks_of_form c.args.parent f) (ap form_view c.in-While.is ∙ while_made c.in-While.condition c.in-While.statements))

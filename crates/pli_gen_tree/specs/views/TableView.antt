@@ -1,0 +1,12 @@
+-- What the tables of a unit's code are, apart from where they lie in memory.
+use Rattle.std.specs.Prelude.{map}
+use Rattle.pli_gen_tree.specs.Encoding as plain
+use Rattle.pli_gen_tree.specs.declared.table.Tables.{Tables}
+use Rattle.pli_gen_tree.specs.views.KeyView.{described, templated, valued}
+
+abbrev pub tables_view : Tables → plain.Tables
+tables_view t = record {
+  descriptions = map described t.descriptions.keys;
+  templates = map templated t.templates.keys;
+  values = map valued t.values.keys;
+}

@@ -1,0 +1,55 @@
+use Rattle.std.proofs.Common.{◌≡◌, ℕ, ◌+◌, ◌*◌, ◌/◌, ◌%◌, ◌<◌, min, Some, None, option_map, ap, ◌∙◌, arith}
+use Rattle.std.specs.Int.{next_multiple_of}
+use Rattle.pli_map.specs.Description.{Description}
+use Rattle.pli_map.specs.Scalars.{scalars_in, first_scalar}
+use Rattle.pli_map.specs.Sizes.{count_of, stride_of}
+use Rattle.pli_map.specs.views.DescriptionView.{description_view}
+use Rattle.pli_map.proofs.FoundScalars.{behind_member, quotient_cut, none_in_element, some_in_element}
+use Rattle.pli_map.proofs.Members.{next_member}
+use Rattle.pli_map.proofs.scalars.+first_scalar.Goals as goal
+
+pub scalar_of_member-loop-member-preserved : goal.scalar_of_member-loop-member-preserved
+scalar_of_member-loop-member-preserved t c =
+    let l = c.loop-member in
+    let left = next_member c.args.members.now l.member-index c.member-item.result c.loop-member-test.true c.member-item.is in
+    let start = c.next_multiple_of-start.ensures.value ∙ ap (λ n. next_multiple_of l.at n) (c.from.ensures ∙ c.alignment.ensures.value) in
+    let before : c.saturating_add-before.result ≡ min (l.before + c.scalars_in.result) 18446744073709551615 = c.saturating_add-before.ensures in
+    record {
+      whole = behind_member 18446744073709551615 _ l.at l.before c.args.offset _ _ (description_view c.member-item.result) (description_view c.args.part.now)
+          c.next_multiple_of-start.result left start l.invariant.whole c.far_size.result c.saturating_add-before.result c.far_size.ensures (omega arith)
+          (omega arith) (before ∙ ap (λ n. min (l.before + n) 18446744073709551615) c.scalars_in.ensures);
+      near = omega arith;
+    }
+
+abbrev quotient_is : (offset : ℕ) (d : Description) (stride : ℕ) → offset < 4294967296 → stride ≡ min (stride_of d) 4294967296
+    → (offset / stride ≡ offset / stride_of d) × (offset % stride ≡ offset % stride_of d)
+quotient_is offset d stride below is =
+    let cut = quotient_cut offset (stride_of d) 4294967296 below in
+    (ap (λ n. offset / n) is ∙ cut.0, ap (λ n. offset % n) is ∙ cut.1)
+
+pub scalar_of_element-returns-in_err-first_scalar : goal.scalar_of_element-returns-in_err-first_scalar
+scalar_of_element-returns-in_err-first_scalar t c =
+    let d = description_view c.args.element.now in
+    let part = description_view c.args.part.now in
+    let cut = quotient_is c.args.offset d c.far_stride.result (omega arith) c.far_stride.ensures in
+    let inner : None ≡ option_map (λ k. min k 18446744073709551615) (first_scalar d (c.args.offset % stride_of d) part) =
+    c.in_err-first_scalar.ensures ∙ ap (λ n. option_map (λ k. min k 18446744073709551615) (first_scalar d n part)) (c.divided-index.ensures.left ∙ cut.1) in
+    rw c.from_residual.ensures
+    (none_in_element 18446744073709551615 c.divided-index.result.0 (c.args.offset / stride_of d) c.every_element.result (count_of c.args.bounds.now) _
+    (first_scalar d (c.args.offset % stride_of d) part) (c.divided-index.ensures.passed ∙ cut.0) c.every_element.ensures c.if-index-every_element.false inner)
+
+pub scalar_of_element-returns : goal.scalar_of_element-returns
+scalar_of_element-returns t c =
+    let d = description_view c.args.element.now in
+    let part = description_view c.args.part.now in
+    let index = c.divided-index.result.0 in
+    let cut = quotient_is c.args.offset d c.far_stride.result (omega arith) c.far_stride.ensures in
+    let index_is : index ≡ c.args.offset / stride_of d = c.divided-index.ensures.passed ∙ cut.0 in
+    let inner : Some c.in_ok-first_scalar.field-0 ≡ option_map (λ k. min k 18446744073709551615) (first_scalar d (c.args.offset % stride_of d) part) =
+    c.in_ok-first_scalar.ensures ∙ ap (λ n. option_map (λ k. min k 18446744073709551615) (first_scalar d n part)) (c.divided-index.ensures.left ∙ cut.1) in
+    let before = c.saturating_mul-before.ensures
+    ∙ ap (λ n. min (index * n) 18446744073709551615) c.scalars_in.ensures
+    ∙ ap (λ n. min (n * min (scalars_in d) 18446744073709551615) 18446744073709551615) index_is in
+    some_in_element 18446744073709551615 index (c.args.offset / stride_of d) c.every_element.result (count_of c.args.bounds.now) c.saturating_mul-before.result
+    (scalars_in d) c.in_ok-first_scalar.field-0 c.saturating_add.result (first_scalar d (c.args.offset % stride_of d) part) index_is c.every_element.ensures
+    c.if-index-every_element.false before c.saturating_add.ensures inner

@@ -1,0 +1,135 @@
+//! The scalars of a description, and which of them are those of a part.
+ghost use Rattle.std.specs.Prelude.{◌≡◌, ◌+◌, ◌*◌, ◌/◌, ◌%◌, ◌≤◌, min, nat_lt, if◌then◌else◌, None, option_map};
+ghost use Rattle.pli_map.specs.Scalars.{is_scalar, scalars_in, scalars_among, stands_here, first_scalar, scalar_behind};
+ghost use Rattle.pli_map.specs.Sizes.{count_of, stride_of};
+ghost use Rattle.pli_map.specs.views.DescriptionView.{description_view, members_view};
+
+use crate::description::{Bounds, Description};
+use crate::extents::{every_element, far_size, far_stride};
+use crate::sizes::alignment;
+
+/// Whether a description is no array and no structure.
+#[inline]
+pub fn is_scalar(description: &Description) -> bool
+    ensures { result ≡ is_scalar (description_view description.now) }
+{
+    match description {
+        Description::Array { .. } | Description::Structure(_) => false,
+        _ => true,
+    }
+}
+
+/// How many scalars a description has; 2^64 - 1 stands for every greater number.
+#[cycle(scalars_in)]
+pub fn scalars_in(description: &Description) -> usize
+    ensures { result ≡ min (scalars_in (description_view description.now)) 18446744073709551615 }
+{
+    match description {
+        Description::Array { bounds, element } => scalars_of_array(bounds, element),
+        Description::Structure(members) => scalars_among(members),
+        _ => 1,
+    }
+}
+
+#[cycle(scalars_in)]
+fn scalars_of_array(bounds: &[Bounds], element: &Description) -> usize
+    ensures { result ≡ min (count_of bounds.now * scalars_in (description_view element.now)) 18446744073709551615 }
+{
+    (every_element(bounds) as usize).saturating_mul(scalars_in(element))
+}
+
+#[cycle(scalars_in)]
+fn scalars_among(members: &[Description]) -> usize
+    ensures { result ≡ min (scalars_among (members_view members.now)) 18446744073709551615 }
+{
+    let mut count: usize = 0;
+    for member in members {
+        count = count.saturating_add(scalars_in(member));
+    }
+    count
+}
+
+/// Which scalar of a description is the first of the part that stands so many bytes behind its beginning and has this
+/// description; `None` where no such part stands there. 2^64 - 1 stands for every greater number. Takes no memory, and
+/// time for the members that stand before the part.
+#[cycle(first_scalar)]
+pub fn first_scalar(whole: &Description, offset: u32, part: &Description) -> Option<usize>
+    ensures { result ≡ option_map (λ k. min k 18446744073709551615)
+        (first_scalar (description_view whole.now) offset (description_view part.now)) }
+{
+    if stands_here(whole, offset, part) {
+        return Some(0);
+    }
+    match whole {
+        Description::Array { bounds, element } => scalar_of_element(bounds, element, offset, part),
+        Description::Structure(members) => scalar_of_member(members, offset, part),
+        _ => None,
+    }
+}
+
+/// Whether a description stands here itself: at no distance, and the same.
+#[inline]
+fn stands_here(whole: &Description, offset: u32, part: &Description) -> bool
+    ensures { result ≡ stands_here (description_view whole.now) offset (description_view part.now) }
+{
+    offset == 0 && whole == part
+}
+
+#[cycle(first_scalar)]
+fn scalar_of_element(
+    bounds: &[Bounds],
+    element: &Description,
+    offset: u32,
+    part: &Description,
+) -> Option<usize>
+    ensures { let e = description_view element.now in
+        result ≡ option_map (λ k. min k 18446744073709551615)
+        (if nat_lt (offset / stride_of e) (count_of bounds.now)
+        then option_map (λ k. offset / stride_of e * scalars_in e + k)
+        (first_scalar e (offset % stride_of e) (description_view part.now))
+        else None) }
+{
+    let (index, inner) = divided(offset, far_stride(element));
+    if index >= every_element(bounds) {
+        return None;
+    }
+    let before = (index as usize).saturating_mul(scalars_in(element));
+    Some(before.saturating_add(first_scalar(element, inner, part)?))
+}
+
+/// How many strides an offset passes, and how far it goes on; a stride of no bytes is passed by no offset.
+fn divided(offset: u32, stride: u64) -> (u64, u32)
+    ensures passed { result.0 ≡ offset / stride }
+    ensures left { result.1 ≡ offset % stride }
+    ensures bound { result.0 ≤ offset }
+{
+    if stride == 0 {
+        (0, offset)
+    } else {
+        let offset = u64::from(offset);
+        (offset / stride, (offset % stride) as u32)
+    }
+}
+
+#[cycle(first_scalar)]
+fn scalar_of_member(members: &[Description], offset: u32, part: &Description) -> Option<usize>
+    ensures { result ≡ option_map (λ k. min k 18446744073709551615)
+        (scalar_behind 0 (members_view members.now) offset (description_view part.now)) }
+{
+    let mut at: u64 = 0;
+    let mut before: usize = 0;
+    for member in members {
+        let start = at.next_multiple_of(u64::from(alignment(member)));
+        if u64::from(offset) < start {
+            return None;
+        }
+        let end = start + far_size(member);
+        if u64::from(offset) < end {
+            let inner = first_scalar(member, (u64::from(offset) - start) as u32, part)?;
+            return Some(before.saturating_add(inner));
+        }
+        at = end;
+        before = before.saturating_add(scalars_in(member));
+    }
+    None
+}

@@ -1,0 +1,3 @@
+pub mod Subscripts
+pub mod answers
+pub mod views

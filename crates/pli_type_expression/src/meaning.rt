@@ -1,0 +1,81 @@
+//! What references and expressions are.
+ghost use Rattle.std.specs.Prelude.{◌≡◌};
+ghost use Rattle.pli_base.specs.views.SyntaxView.{expression_view};
+ghost use Rattle.pli_type.specs.Typing.{first_token, meant_as, meant_by, one_value};
+ghost use Rattle.pli_type.specs.views.ValueView.{value_view};
+ghost use Rattle.pli_type_expression.specs.answers.TypingAnswers.{Gives};
+ghost use Rattle.pli_type_expression.specs.views.TypingView.{denoted_view, meant_view, referent_view};
+
+use crate::answer::{TypeError, fault};
+use crate::token::first_token;
+use pli_base::Code;
+use pli_base::syntax::Expression;
+use pli_map::Description;
+use pli_type::{ExpressionType, TypedValue};
+use pli_type_tree::{TypedExpression, TypedReference};
+
+/// A variable or a part of one, a scalar or an aggregate, with its description.
+#[derive(Drop)]
+pub struct Referent<'a> {
+    pub reference: TypedReference,
+    pub description: &'a Description,
+}
+
+/// What an expression is.
+#[derive(Drop)]
+pub enum Meant<'a> {
+    /// One value.
+    Value(TypedValue),
+    /// A whole aggregate.
+    Aggregate(Referent<'a>),
+}
+
+/// What a reference denotes.
+#[derive(Drop)]
+pub enum Denoted<'a> {
+    /// A variable or a part of one.
+    Variable(Referent<'a>),
+    /// What a built-in function gives.
+    Result(TypedValue),
+}
+
+impl<'a> Referent<'a> {
+    /// What a variable or a part of one is as an expression: a scalar has a value.
+    fn as_expression(self) -> Meant<'a>
+        ensures { meant_view result ≡ meant_by (referent_view self.entry) }
+    {
+        match ExpressionType::of(self.description) {
+            None => Meant::Aggregate(self),
+            Some(kind) => Meant::Value(TypedValue {
+                expression: TypedExpression::Held(self.reference),
+                kind,
+            }),
+        }
+    }
+}
+
+impl<'a> Denoted<'a> {
+    /// What a reference is as an expression.
+    pub fn as_expression(self) -> Meant<'a>
+        ensures { meant_view result ≡ meant_as (denoted_view self.entry) }
+    {
+        match self {
+            Denoted::Variable(referent) => referent.as_expression(),
+            Denoted::Result(value) => Meant::Value(value),
+        }
+    }
+}
+
+impl<'a> Meant<'a> {
+    /// The one value that an expression is: an aggregate in its place is T2 at the expression's first token.
+    pub fn one_value(self, expression: &Expression) -> Result<TypedValue, TypeError>
+        ensures { Gives value_view result (one_value (first_token (expression_view expression.now)) (meant_view self.entry)) }
+    {
+        match self {
+            Meant::Value(value) => Ok(value),
+            Meant::Aggregate(_) => {
+                Err(fault(Code::AggregateNotAllowedHere, first_token(expression)))
+            }
+        }
+    }
+}

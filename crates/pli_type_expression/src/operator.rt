@@ -1,0 +1,47 @@
+//! Operators on typed values.
+ghost use Rattle.std.specs.Prelude.{◌≡◌};
+ghost use Rattle.pli_base.specs.declared.code.Code.TheVariants.{WrongOperandType};
+ghost use Rattle.pli_type.specs.ExpressionTypes as spec;
+ghost use Rattle.pli_type.specs.Typing.{or_fault};
+ghost use Rattle.pli_type.specs.views.ValueView.{value_view};
+ghost use Rattle.pli_type_expression.specs.answers.TypingAnswers.{Gives};
+
+use crate::answer::{TypeError, fault};
+use pli_base::Code;
+use pli_base::syntax::{InfixOperator, PrefixOperator};
+use pli_type::{TypedValue, infix_value, prefix_value};
+use std::alloc::Global;
+
+/// What a prefix operator at a token gives: T4 there where it does not take the operand (X3.74).
+pub fn prefix(
+    alloc: Global,
+    greatest: u8,
+    operator: PrefixOperator,
+    at: u32,
+    operand: TypedValue,
+) -> Result<TypedValue, TypeError>
+    ensures { Gives value_view result (or_fault WrongOperandType at (spec.prefix_value greatest operator (value_view operand))) }
+{
+    match prefix_value(alloc, greatest, operator, operand)? {
+        Some(value) => Ok(value),
+        None => Err(fault(Code::WrongOperandType, at)),
+    }
+}
+
+/// What an infix operator at a token gives: T4 there where it does not take the operands (X3.74).
+pub fn infix(
+    alloc: Global,
+    greatest: u8,
+    operator: InfixOperator,
+    at: u32,
+    left: TypedValue,
+    right: TypedValue,
+) -> Result<TypedValue, TypeError>
+    ensures { Gives value_view result
+        (or_fault WrongOperandType at (spec.infix_value greatest operator (value_view left) (value_view right))) }
+{
+    match infix_value(alloc, greatest, operator, left, right)? {
+        Some(value) => Ok(value),
+        None => Err(fault(Code::WrongOperandType, at)),
+    }
+}

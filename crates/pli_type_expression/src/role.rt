@@ -1,0 +1,26 @@
+//! For what references and expressions stand.
+ghost use Rattle.std.specs.Prelude.{◌≡◌};
+ghost use Rattle.pli_type.specs.References.{wants_scalar};
+ghost use Rattle.pli_type_expression.specs.views.TypingView.{role_view};
+
+/// For what a reference or an expression stands.
+#[derive(Clone, Copy, Debug, PartialEq, Eq)]
+pub enum Role {
+    /// For one value.
+    Value,
+    /// For an argument, or for what is assigned to an aggregate, which may be an aggregate itself.
+    Argument,
+    /// For the target of an assignment, which may be an aggregate.
+    Target,
+    /// For a locator in front of `->`, which is one value of a variable.
+    Locator,
+}
+
+impl Role {
+    /// Whether no aggregate may stand here.
+    pub(crate) fn wants_scalar(self) -> bool
+        ensures { result ≡ wants_scalar (role_view self) }
+    {
+        matches!(self, Role::Value | Role::Locator)
+    }
+}

@@ -1,0 +1,292 @@
+-- Built-in functions give values of their types.
+use Rattle.std.specs.Prelude.{◌≡◌, ℕ, zero, suc, ◌-◌, ◌≤◌, max, nat_le, ℤ, unsigned_abs, Bool, true, false, ◌&&◌, IsTrue}
+use Rattle.std.specs.Prelude.{Option, Some, None, option_map, option_and_then, List, [], ◌∷◌, slice_get, Result, Ok, Err, refl, if◌then◌else◌}
+use Rattle.std.proofs.Common.{arith}
+use Rattle.std.proofs.lemmas.Bool.{and_parts, leb-true, false≢true}
+use Rattle.pli_base.specs.declared.token.Fault.{Fault}
+use Rattle.pli_map.specs.Description.{Description, Array}
+use Rattle.pli_map.specs.declared.description.Bounds.{Bounds}
+use Rattle.pli_operation.specs.Operations.{Operation, Absolute, Sign, LengthOf, Greatest, Least, Modulo, Divide, Index, Rest, Substring}
+use Rattle.pli_resolve.specs.declared.built_in.BuiltInFunction.{BuiltInFunction}
+use Rattle.pli_resolve.specs.declared.built_in.BuiltInFunction.TheVariants as functions
+use Rattle.pli_type.specs.ExpressionTypes.{TypedValue, precision_of, precisions, all_operands}
+use Rattle.pli_type.specs.FunctionCalls.{Meant, OneValue, WholeAggregate, Argument, calculation, of_values, string_kind, with_number, of_one_kind}
+use Rattle.pli_type.specs.FunctionCalls.{a_count, number_type, bound_value, bound_in, the_bound, value_in, values_in}
+use Rattle.pli_type.specs.FunctionCalls.{divided, of_arguments, or_bad_argument, function_called}
+use Rattle.pli_type.specs.NamedUnits.{is_plain, are_bounds}
+use Rattle.pli_type.specs.References.{Role, Referent}
+use Rattle.pli_type.specs.declared.expression_type.ExpressionType.{ExpressionType}
+use Rattle.pli_type.specs.declared.expression_type.ExpressionType.TheVariants as types
+use Rattle.pli_type_laws.proofs.Conversions.{OnGiven}
+use Rattle.pli_type_laws.proofs.Operators.{HasValue, has_precision, have_precisions, of_one, of_two, AreNumbers}
+use Rattle.pli_type_laws.specs.ExpressionTyping.{HasType, IsNumber}
+use Rattle.pli_type_tree.specs.TypedTree.{TypedExpression, Calculated}
+use Rattle.pli_type_tree.specs.ValueTypes.{ValueType, Numbers, OfCharacters, OfBits, Operates}
+use Rattle.pli_type_tree.specs.WellTyped.{TypingContext, IsTyped, IsPlaced}
+
+-- what was read, if there is no fault
+abbrev pub OnRead : {A : Type 0} → (A → Type 0) → Result A Fault → Type 0
+OnRead P (Ok x) = P x
+OnRead P (Err f) = Unit {0}
+
+-- a part is placed, and plain
+abbrev pub IsReferent : TypingContext → Referent → Type 0
+IsReferent s r = IsPlaced 31 s r.reference r.description × IsTrue (is_plain 31 r.description)
+
+abbrev pub IsMeant : TypingContext → Meant → Type 0
+IsMeant s (OneValue v) = HasValue s v
+IsMeant s (WholeAggregate r) = IsReferent s r
+
+abbrev pub AreArguments : TypingContext → List Argument → Type 0
+AreArguments s [] = Unit {0}
+AreArguments s (g ∷ gs) = IsMeant s g.meant × AreArguments s gs
+
+abbrev pub AreValues : TypingContext → List TypedValue → Type 0
+AreValues s [] = Unit {0}
+AreValues s (v ∷ vs) = HasValue s v × AreValues s vs
+
+module _ (s : TypingContext) where
+  -- one number becomes another
+  of_number : (operation : Operation) (v : TypedValue) (o : Option ℕ) (kind : ℕ → ExpressionType)
+      → ((P : ℕ) → IsNumber s v.expression P → HasType s (Calculated operation (all_operands (v.expression ∷ []))) (kind P))
+      → OnGiven (IsNumber s v.expression) o
+      → OnGiven (HasValue s) (calculation (Some operation) (option_map kind o) (v.expression ∷ []))
+  of_number operation v (Some P) kind made h = made P h
+  of_number operation v None kind made h = tt
+
+  of_sign : (v : TypedValue) (o : Option ℕ) → OnGiven (IsNumber s v.expression) o
+      → OnGiven (HasValue s) (calculation (Some Sign) (with_number (Some a_count) o) (v.expression ∷ []))
+  of_sign v (Some P) h = (1, of_one s Sign v.expression _ _ h.1 (h.0, refl, refl), (omega arith, omega arith, omega arith))
+  of_sign v None h = tt
+
+  of_length : (e : TypedExpression) (kind : ExpressionType) → HasType s e kind
+      → OnGiven (HasValue s) (calculation (Some LengthOf) (option_map (λ k. a_count) (string_kind kind)) (e ∷ []))
+  of_length e types.Characters h =
+      (15, of_one s LengthOf e _ _ h.2 (OfCharacters, h.0, h.1, refl, (h.3, refl)), (omega arith, omega arith, omega arith))
+  of_length e types.Bits h =
+      (15, of_one s LengthOf e _ _ h.2 (OfBits, h.0, h.1, refl, (h.3, refl)), (omega arith, omega arith, omega arith))
+  of_length e other h = tt
+
+  -- two numbers
+  of_numbers : (operation : Operation) (v w : TypedValue) (o : Option (ℕ × ℕ)) (kind : ℕ × ℕ → ExpressionType)
+      → ((ps : ℕ × ℕ) → AreNumbers s v.expression w.expression ps
+      → HasType s (Calculated operation (all_operands (v.expression ∷ w.expression ∷ []))) (kind ps))
+      → OnGiven (AreNumbers s v.expression w.expression) o
+      → OnGiven (HasValue s) (calculation (Some operation) (option_map kind o) (v.expression ∷ w.expression ∷ []))
+  of_numbers operation v w (Some ps) kind made h = made ps h
+  of_numbers operation v w None kind made h = tt
+
+  greater_number : (operation : Operation)
+      → ((p q : ℕ) → Operates 31 operation (Numbers p ∷ Numbers q ∷ []) (Numbers (max p q))) → (v w : TypedValue)
+      → HasValue s v → HasValue s w
+      → OnGiven (HasValue s)
+      (calculation (Some operation) (option_map (λ ps. number_type (max ps.0 ps.1)) (precisions 31 v.kind w.kind))
+      (v.expression ∷ w.expression ∷ []))
+  greater_number operation operates v w a b =
+      of_numbers operation v w (precisions 31 v.kind w.kind) (λ ps. number_type (max ps.0 ps.1))
+      (λ ps h. (
+        max h.0.0 h.1.0,
+        of_two s operation v.expression w.expression _ _ _ h.0.1 h.1.1 (operates h.0.0 h.1.0),
+        (omega (arith, h.0.2.0, h.1.2.0), omega (arith, h.0.2.1, h.1.2.1), omega (arith, h.0.2.2, h.1.2.2)),
+      )) (have_precisions s v w a b)
+
+  of_modulo : (v w : TypedValue) → HasValue s v → HasValue s w
+      → OnGiven (HasValue s)
+      (calculation (Some Modulo) (option_map (λ ps. number_type ps.1) (precisions 31 v.kind w.kind))
+      (v.expression ∷ w.expression ∷ []))
+  of_modulo v w a b =
+      of_numbers Modulo v w (precisions 31 v.kind w.kind) (λ ps. number_type ps.1)
+      (λ ps h. (
+        h.1.0,
+        of_two s Modulo v.expression w.expression _ _ _ h.0.1 h.1.1 (h.0.0, h.1.0, refl, refl),
+        h.1.2,
+      )) (have_precisions s v w a b)
+
+  -- strings
+  of_index : (e : TypedExpression) (one : ExpressionType) (f : TypedExpression) (other : ExpressionType)
+      → HasType s e one → HasType s f other
+      → OnGiven (HasValue s) (calculation (Some Index) (option_map (λ k. a_count) (of_one_kind one other)) (e ∷ f ∷ []))
+  of_index e types.Characters f types.Characters a b = (
+    15,
+    of_two s Index e f _ _ _ a.2 b.2 (OfCharacters, a.0, a.1, b.0, b.1, refl, (a.3, refl)),
+    (omega arith, omega arith, omega arith),
+  )
+  of_index e types.Bits f types.Bits a b = (
+    15,
+    of_two s Index e f _ _ _ a.2 b.2 (OfBits, a.0, a.1, b.0, b.1, refl, (a.3, refl)),
+    (omega arith, omega arith, omega arith),
+  )
+  of_index e one f other a b = tt
+
+  rest_of : (e : TypedExpression) (one : ExpressionType) (f : TypedExpression) (o : Option ℕ)
+      → HasType s e one → OnGiven (IsNumber s f) o
+      → OnGiven (HasValue s) (calculation (Some Rest) (with_number (string_kind one) o) (e ∷ f ∷ []))
+  rest_of e types.Characters f (Some P) a b =
+      (0, a.1, of_two s Rest e f _ _ _ a.2 b.1 (OfCharacters, a.0, a.1, b.0, refl, refl), a.3)
+  rest_of e types.Bits f (Some P) a b =
+      (0, a.1, of_two s Rest e f _ _ _ a.2 b.1 (OfBits, a.0, a.1, b.0, refl, refl), a.3)
+  rest_of e other f (Some P) a b = tt
+  rest_of e one f None a b = tt
+
+  of_three : (operation : Operation) (e f g : TypedExpression) (t u v r : ValueType) → IsTyped 31 s e t
+      → IsTyped 31 s f u → IsTyped 31 s g v → Operates 31 operation (t ∷ u ∷ v ∷ []) r
+      → IsTyped 31 s (Calculated operation (all_operands (e ∷ f ∷ g ∷ []))) r
+  of_three operation e f g t u v r one two three operates =
+      (t ∷ u ∷ v ∷ [], (t, u ∷ v ∷ [], refl, one, (u, v ∷ [], refl, two, (v, [], refl, three, refl))), operates)
+
+  part_of_string : (e : TypedExpression) (one : ExpressionType) (f : TypedExpression) (o : Option ℕ)
+      (g : TypedExpression) (q : Option ℕ) → HasType s e one → OnGiven (IsNumber s f) o → OnGiven (IsNumber s g) q
+      → OnGiven (HasValue s)
+      (calculation (Some Substring) (with_number (with_number (string_kind one) o) q) (e ∷ f ∷ g ∷ []))
+  part_of_string e types.Characters f (Some P) g (Some Q) a b c =
+      (0, a.1, of_three Substring e f g _ _ _ _ a.2 b.1 c.1 (OfCharacters, a.0, a.1, b.0, c.0, refl, refl), a.3)
+  part_of_string e types.Bits f (Some P) g (Some Q) a b c =
+      (0, a.1, of_three Substring e f g _ _ _ _ a.2 b.1 c.1 (OfBits, a.0, a.1, b.0, c.0, refl, refl), a.3)
+  part_of_string e other f (Some P) g (Some Q) a b c = tt
+  part_of_string e one f None g (Some Q) a b c = tt
+  part_of_string e one f o g None a b c = tt
+
+  -- functions of values
+  values_have_type : (function : BuiltInFunction) (vs : List TypedValue) → AreValues s vs
+      → OnGiven (HasValue s) (of_values 31 function vs)
+  values_have_type functions.Abs (v ∷ []) h =
+      of_number Absolute v (precision_of 31 v.kind) number_type
+      (λ P n. (n.0, of_one s Absolute v.expression _ _ n.1 (n.0, refl, refl), n.2))
+      (has_precision s v.expression v.kind h.0)
+  values_have_type functions.Sign (v ∷ []) h =
+      of_sign v (precision_of 31 v.kind) (has_precision s v.expression v.kind h.0)
+  values_have_type functions.Length (v ∷ []) h = of_length v.expression v.kind h.0
+  values_have_type functions.Max (v ∷ w ∷ []) h =
+      greater_number Greatest (λ p q. (p, q, refl, refl)) v w h.0 h.1.0
+  values_have_type functions.Min (v ∷ w ∷ []) h = greater_number Least (λ p q. (p, q, refl, refl)) v w h.0 h.1.0
+  values_have_type functions.Mod (v ∷ w ∷ []) h = of_modulo v w h.0 h.1.0
+  values_have_type functions.Index (v ∷ w ∷ []) h = of_index v.expression v.kind w.expression w.kind h.0 h.1.0
+  values_have_type functions.Substring (v ∷ w ∷ []) h =
+      rest_of v.expression v.kind w.expression (precision_of 31 w.kind) h.0 (has_precision s w.expression w.kind h.1.0)
+  values_have_type functions.Substring (v ∷ w ∷ x ∷ []) h =
+      part_of_string v.expression v.kind w.expression (precision_of 31 w.kind) x.expression (precision_of 31 x.kind)
+      h.0 (has_precision s w.expression w.kind h.1.0) (has_precision s x.expression x.kind h.1.1.0)
+  values_have_type function vs h = tt
+
+  -- DIVIDE
+  quotient_of : (v w : TypedValue) (precision : ℕ) (b : Bool) → (b ≡ true → precision ≤ 31)
+      → HasValue s v → HasValue s w
+      → OnGiven (HasValue s)
+      (calculation (Some (Divide precision))
+      (if b then option_map (λ ps. number_type precision) (precisions 31 v.kind w.kind) else None)
+      (v.expression ∷ w.expression ∷ []))
+  quotient_of v w precision true few a b =
+      of_numbers (Divide precision) v w (precisions 31 v.kind w.kind) (λ ps. number_type precision)
+      (λ ps h. (
+        precision,
+        of_two s (Divide precision) v.expression w.expression _ _ _ h.0.1 h.1.1 (h.0.0, h.1.0, refl, refl),
+        (omega arith, few refl, few refl),
+      )) (have_precisions s v w a b)
+  quotient_of v w precision false few a b = tt
+
+  division : (x y : Meant) (written : Option ℕ) → IsMeant s x → IsMeant s y
+      → OnGiven (HasValue s) (divided 31 x y written)
+  division (OneValue v) (OneValue w) None a b = tt
+  division (OneValue v) (OneValue w) (Some precision) a b =
+      quotient_of v w precision (nat_le 1 precision && nat_le precision 31)
+      (λ e. leb-true precision 31 ((and_parts _ _ e).1)) a b
+  division (OneValue v) (WholeAggregate r) written a b = tt
+  division (WholeAggregate r) y written a b = tt
+
+  -- bounds
+  abbrev IsSmall : ℤ → Type 0
+  IsSmall x = unsigned_abs x ≤ 32768
+
+  bound_typed : (x : ℤ) → IsSmall x → HasValue s (bound_value x)
+  bound_typed x small =
+      (16, (x, refl, omega (arith, small)), (omega arith, omega arith, omega arith))
+
+  abbrev BoundsAreSmall : (Bounds → ℤ) → List Bounds → Type 0
+  BoundsAreSmall which [] = Unit {0}
+  BoundsAreSmall which (b ∷ bs) = IsSmall (which b) × BoundsAreSmall which bs
+
+  bound_at : (which : Bounds → ℤ) (bs : List Bounds) (k : ℕ) → BoundsAreSmall which bs
+      → OnGiven (HasValue s) (option_map (λ b. bound_value (which b)) (slice_get bs k))
+  bound_at which [] k h = tt
+  bound_at which (b ∷ bs) zero h = bound_typed (which b) h.0
+  bound_at which (b ∷ bs) (suc k) h = bound_at which bs k h.1
+
+  given_if : {A : Type 0} (P : A → Type 0) (b : Bool) (o : Option A) → OnGiven P o → OnGiven P (if b then o else None)
+  given_if P true o h = h
+  given_if P false o h = tt
+
+  lows_small : (bs : List Bounds) → are_bounds bs ≡ true → BoundsAreSmall (λ b. b.low) bs
+  lows_small [] e = tt
+  lows_small (b ∷ bs) e =
+      let both : ((nat_le (unsigned_abs b.low) 32768 && nat_le (unsigned_abs b.high) 32768) ≡ true)
+      × (are_bounds bs ≡ true) = and_parts _ _ e in
+      (leb-true _ _ ((and_parts _ _ both.0).0), lows_small bs both.1)
+
+  highs_small : (bs : List Bounds) → are_bounds bs ≡ true → BoundsAreSmall (λ b. b.high) bs
+  highs_small [] e = tt
+  highs_small (b ∷ bs) e =
+      let both : ((nat_le (unsigned_abs b.low) 32768 && nat_le (unsigned_abs b.high) 32768) ≡ true)
+      × (are_bounds bs ≡ true) = and_parts _ _ e in
+      (leb-true _ _ ((and_parts _ _ both.0).1), highs_small bs both.1)
+
+  -- a way to bounds, and that those of plain descriptions are small that way
+  abbrev GivesSmall : (Bounds → ℤ) → Type 0
+  GivesSmall which = (bs : List Bounds) → are_bounds bs ≡ true → BoundsAreSmall which bs
+
+  bound_within : (which : Bounds → ℤ) → GivesSmall which → (number : ℕ) (d : Description) → IsTrue (is_plain 31 d)
+      → OnGiven (HasValue s) (bound_in which number d)
+  bound_within which small number (Array [] element) plain = absurd (false≢true plain)
+  bound_within which small number (Array (b ∷ bs) element) plain =
+      given_if (HasValue s) (nat_le 1 number) _
+      (bound_at which (b ∷ bs) (number - 1)
+      (small (b ∷ bs) ((and_parts _ _ ((and_parts _ _ plain).0)).1)))
+  bound_within which small number other plain = tt
+
+  bound_of : (which : Bounds → ℤ) → GivesSmall which → (m : Meant) (written : Option ℕ) → IsMeant s m
+      → OnGiven (HasValue s) (the_bound which m written)
+  bound_of which small (OneValue v) written h = tt
+  bound_of which small (WholeAggregate r) None h = tt
+  bound_of which small (WholeAggregate r) (Some number) h = bound_within which small number (r.description) h.1
+
+  -- arguments that are values
+  one_value_in : (m : Meant) → IsMeant s m → OnGiven (HasValue s) (value_in m)
+  one_value_in (OneValue v) h = h
+  one_value_in (WholeAggregate r) h = tt
+
+  first_and_others : (o : Option TypedValue) (os : Option (List TypedValue)) → OnGiven (HasValue s) o
+      → OnGiven (AreValues s) os
+      → OnGiven (AreValues s) (option_and_then (λ v. option_map (λ vs. v ∷ vs) os) o)
+  first_and_others (Some v) (Some vs) a b = (a, b)
+  first_and_others (Some v) None a b = tt
+  first_and_others None os a b = tt
+
+  all_values_in : (gs : List Argument) → AreArguments s gs → OnGiven (AreValues s) (values_in gs)
+  all_values_in [] h = tt
+  all_values_in (g ∷ gs) h =
+      first_and_others (value_in g.meant) (values_in gs) (one_value_in g.meant h.0) (all_values_in gs h.1)
+
+  given_values : (function : BuiltInFunction) (o : Option (List TypedValue)) → OnGiven (AreValues s) o
+      → OnGiven (HasValue s) (option_and_then (of_values 31 function) o)
+  given_values function (Some vs) h = values_have_type function vs h
+  given_values function None h = tt
+
+  by_values : (function : BuiltInFunction) (gs : List Argument) → AreArguments s gs
+      → OnGiven (HasValue s) (option_and_then (of_values 31 function) (values_in gs))
+  by_values function gs h = given_values function (values_in gs) (all_values_in gs h)
+
+  arguments_give : (function : BuiltInFunction) (gs : List Argument) → AreArguments s gs
+      → OnGiven (HasValue s) (of_arguments 31 function gs)
+  arguments_give functions.Divide (x ∷ y ∷ p ∷ []) h = division x.meant y.meant p.written h.0 h.1.0
+  arguments_give functions.LowBound (a ∷ n ∷ []) h = bound_of (λ b. b.low) lows_small a.meant n.written h.0
+  arguments_give functions.HighBound (a ∷ n ∷ []) h = bound_of (λ b. b.high) highs_small a.meant n.written h.0
+  arguments_give function gs h = by_values function gs h
+
+  or_bad : (at : ℕ) (o : Option TypedValue) → OnGiven (HasValue s) o → OnRead (HasValue s) (or_bad_argument at o)
+  or_bad at (Some v) h = h
+  or_bad at None h = tt
+
+  pub calls_have_type : (function : BuiltInFunction) (at : ℕ) (roles : Option (List Role)) (gs : List Argument)
+      → AreArguments s gs → OnRead (HasValue s) (function_called 31 function at roles gs)
+  calls_have_type function at None gs h = tt
+  calls_have_type function at (Some roles) gs h =
+      or_bad at (of_arguments 31 function gs) (arguments_give function gs h)

@@ -1,0 +1,11 @@
+pub mod PlainTrees
+pub mod Widths
+pub mod Conversions
+pub mod Operators
+pub mod Functions
+pub mod References
+pub mod Constants
+pub mod Expressions
+pub mod Statements
+pub mod Units
+pub mod CheckedUnits

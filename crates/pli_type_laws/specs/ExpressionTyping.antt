@@ -1,0 +1,45 @@
+-- What expressions that the type checker gives hold: values of their types.
+use Rattle.std.specs.Prelude.{◌≡◌, ℕ, ◌≤◌, ◌*◌, Some}
+use Rattle.pli_map.specs.Description.{Description}
+use Rattle.pli_type.specs.ExpressionTypes.{TypedValue, columns, binary_digits, converted, printed}
+use Rattle.pli_type.specs.declared.expression_type.ExpressionType.{ExpressionType}
+use Rattle.pli_type.specs.declared.expression_type.ExpressionType.TheVariants as types
+use Rattle.pli_type_tree.specs.TypedTree.{TypedExpression}
+use Rattle.pli_type_tree.specs.ValueTypes.{StringKind, Numbers, Strings, OfCharacters, OfBits}
+use Rattle.pli_type_tree.specs.ValueTypes.{HaveColumns, longest}
+use Rattle.pli_type_tree.specs.WellTyped.{TypingContext, IsTyped, IsValueFor}
+
+-- Numbers of so many binary digits stand for those of a precision: no more than it says, or one more from 15
+-- on, since a bound may be -32,768; and none has more than 31 digits.
+abbrev pub AreNear : (digits precision : ℕ) → Type 0
+AreNear p q = (15 * p ≤ 16 * q) × (p ≤ 31) × (q ≤ 31)
+
+-- an expression gives numbers of a precision
+abbrev pub IsNumber : TypingContext → TypedExpression → (precision : ℕ) → Type 0
+IsNumber s e precision = (p : ℕ) × IsTyped 31 s e (Numbers p) × AreNear p precision
+
+-- an expression gives strings of a kind, none longer than one that can be declared
+abbrev pub IsShort : TypingContext → StringKind → TypedExpression → Type 0
+IsShort s kind e = (least : ℕ) × (most : ℕ) × IsTyped 31 s e (Strings kind least most) × (most ≤ longest)
+
+-- an expression gives values of its type; a constant has room in the columns of its digits
+abbrev pub HasType : TypingContext → TypedExpression → ExpressionType → Type 0
+HasType s e (types.FixedDecimal digits) =
+    (p : ℕ) × IsTyped 31 s e (Numbers p) × AreNear p (binary_digits 31 digits)
+    × HaveColumns (columns digits) p
+HasType s e (types.FixedBinary precision) = IsNumber s e precision
+HasType s e types.Characters = IsShort s OfCharacters e
+HasType s e types.Bits = IsShort s OfBits e
+HasType s e locator_or_area = ⊥
+
+-- A value of its type that is converted to the type of a variable can be assigned to it.
+abbrev pub ConvertedIsHeld : Type 0
+ConvertedIsHeld =
+    (s : TypingContext) (d : Description) (v : TypedValue) (e : TypedExpression)
+    → HasType s v.expression v.kind → converted 31 d v ≡ Some e → IsValueFor 31 s d e
+
+-- A value of its type that is printed becomes a string.
+abbrev pub PrintedIsString : Type 0
+PrintedIsString =
+    (s : TypingContext) (v : TypedValue) (e : TypedExpression) → HasType s v.expression v.kind
+    → printed v ≡ Some e → (kind : StringKind) × IsShort s kind e

@@ -1,0 +1,2 @@
+pub mod ExpressionTyping
+pub mod TypedUnits

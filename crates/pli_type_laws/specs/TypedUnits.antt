@@ -1,0 +1,58 @@
+-- What the type checker gives is well typed and numbered well.
+use Rattle.std.specs.Prelude.{◌≡◌, ℕ, Some, None, List, [], Ok}
+use Rattle.pli_base.specs.Statements.{ExternalProcedure}
+use Rattle.pli_base.specs.Words.{Tokens}
+use Rattle.pli_gen_tree.specs.WellNumbered.{IsWellNumbered}
+use Rattle.pli_meaning_typed.specs.TypedPrograms.{IsTypedUnit}
+use Rattle.pli_parse_statement.specs.StatementReading.{unit_of}
+use Rattle.pli_resolve.specs.ResolvedUnits.{resolved_unit_of}
+use Rattle.pli_type.specs.Checked.{NamedUnit, checked}
+use Rattle.pli_type.specs.NamedUnits.{checked_unit}
+use Rattle.pli_type.specs.Names.{NamedAs}
+use Rattle.pli_type_name_laws.specs.NameFacts.{NameFacts}
+use Rattle.pli_type_name_laws.specs.Numbering.{AreNumbered}
+use Rattle.pli_type_tree.specs.Templates.{Template}
+use Rattle.pli_type_tree.specs.TypedTree.{TypedUnit}
+use Rattle.pli_type_tree.specs.WellTyped.{Signature}
+
+-- a unit is well typed, and its block 0 is a procedure without parameters, in no block, and no function
+pub record IsTypedMain (greatest : ℕ) (u : TypedUnit) : Type 0 where
+  pub typed : IsTypedUnit greatest u
+  pub signature : Signature
+  pub is_first : typed.procedures 0 ≡ Some signature
+  pub parent : signature.parent ≡ None
+  pub around : signature.around ≡ []
+  pub parameters : signature.parameters ≡ []
+  pub value : signature.value ≡ None
+
+-- A unit whose statements are numbered in the order of the text, from any number on, gives a typed unit that
+-- is numbered well.
+abbrev pub TypedUnitsAreNumbered : Type 0
+TypedUnitsAreNumbered =
+    (u : NamedUnit) (t : TypedUnit) (from : ℕ) → AreNumbered from u.tree.statements → checked u ≡ Ok t
+    → IsWellNumbered t
+
+-- a unit by its parts, where numbers have at most 31 binary digits
+abbrev pub unit_with : ExternalProcedure → (meaning : ℕ → NamedAs) → (automatic statics : List Template)
+    → NamedUnit
+unit_with tree meaning automatic statics = record {
+  tree = tree;
+  naming = record { greatest = 31; meaning = meaning };
+  automatic = automatic;
+  statics = statics;
+}
+
+-- A unit whose names mean variables that are there, and whose variables begin with values that they hold,
+-- gives a typed unit that is well typed.
+abbrev pub TypedUnitsAreTyped : Type 0
+TypedUnitsAreTyped =
+    (tree : ExternalProcedure) (meaning : ℕ → NamedAs) (automatic statics : List Template)
+    → NameFacts (unit_with tree meaning automatic statics) → (t : TypedUnit)
+    → checked (unit_with tree meaning automatic statics) ≡ Ok t → IsTypedMain 31 t
+
+-- What the type checker gives for a unit that was read is well typed, with a block 0 that a program may begin
+-- with, and numbered well.
+abbrev pub CheckedIsTyped : Type 0
+CheckedIsTyped =
+    (texts : Tokens) (u : ExternalProcedure) → unit_of texts ≡ Ok u → (t : TypedUnit)
+    → checked_unit (resolved_unit_of u) ≡ Ok t → IsTypedMain 31 t × IsWellNumbered t

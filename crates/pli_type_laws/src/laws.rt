@@ -1,0 +1,30 @@
+//! Laws of what the type checker gives.
+ghost use Rattle.pli_type_laws.specs.ExpressionTyping.{ConvertedIsHeld, PrintedIsString};
+ghost use Rattle.pli_type_laws.specs.TypedUnits.{CheckedIsTyped, TypedUnitsAreNumbered, TypedUnitsAreTyped};
+
+/// A law: what the type checker gives for a unit whose statements are numbered in the order of the text is numbered
+/// well: each statement has a number of its own, there is one block, and no loop nests too deep.
+pub fn typed_units_are_numbered()
+    ensures { TypedUnitsAreNumbered }
+{}
+
+/// A law: a value of its type that is converted to the type of a variable can be assigned to it.
+pub fn converted_is_held()
+    ensures { ConvertedIsHeld }
+{}
+
+/// A law: a value of its type that is printed becomes a string.
+pub fn printed_is_string()
+    ensures { PrintedIsString }
+{}
+
+/// A law: what the type checker gives for a unit is well typed, where its names mean variables that are there and its
+/// variables begin with values that they hold.
+pub fn typed_units_are_typed()
+    ensures { TypedUnitsAreTyped }
+{}
+
+/// A law: what the type checker gives for a unit that was read is well typed and numbered well.
+pub fn checked_is_typed()
+    ensures { CheckedIsTyped }
+{}

@@ -1,0 +1,73 @@
+-- What plain descriptions have: each takes bytes, and its members and elements are plain.
+use Rattle.std.specs.Prelude.{◌≡◌, ℕ, zero, suc, ◌+◌, ◌<◌, nat_lt, nat_le, Bool, true, false, ◌&&◌, Some, List, [], ◌∷◌, refl}
+use Rattle.std.proofs.Common.{sym, ◌∙◌, ap, arith}
+use Rattle.std.specs.Int.{next_multiple_of}
+use Rattle.std.proofs.lemmas.Bool.{and_parts}
+use Rattle.std.proofs.lemmas.Option.{same_Some, none-some}
+use Rattle.pli_map.specs.Description.{Description, FixedBinary, Character, Varying, Bit, Pointer, Offset, Area, Array, Structure, Members, NoMembers, MemberThen}
+use Rattle.pli_map.specs.Parts.{PlacedPart, member_behind}
+use Rattle.pli_map.specs.ScalarPaths.{is_filled, are_filled}
+use Rattle.pli_map.specs.Sizes.{count_of, alignment_of, size_of}
+use Rattle.pli_map.specs.declared.description.Bounds.{Bounds}
+use Rattle.pli_map.proofs.ScalarLawsHold.{takes_bytes}
+use Rattle.pli_type.specs.NamedUnits.{is_plain, all_plain}
+
+not_true : false ≡ true → ⊥
+not_true e = absurd (cc)
+
+both : (a b : Bool) → a ≡ true → b ≡ true → (a && b) ≡ true
+both a b p q = rw (p, q) refl
+
+-- an array has elements, and its element is plain, whatever else is asked of it
+plain_count : (n : ℕ) (b : Bounds) (bs : List Bounds) (e : Description) → is_plain n (Array (b ∷ bs) e) ≡ true → nat_lt 0 (count_of (b ∷ bs)) ≡ true
+plain_count n b bs e h = grind (arith, h)
+
+plain_inner : (n : ℕ) (b : Bounds) (bs : List Bounds) (e : Description) → is_plain n (Array (b ∷ bs) e) ≡ true → is_plain n e ≡ true
+plain_inner n b bs e h = grind (arith, h)
+
+mutual
+  pub plain_filled : (n : ℕ) (d : Description) → is_plain n d ≡ true → is_filled d ≡ true
+  plain_filled n (FixedBinary p) h = refl
+  plain_filled n (Character k) h = (and_parts (nat_lt 0 k) (nat_le k 32767) h).0
+  plain_filled n (Varying k) h = (and_parts (nat_lt 0 k) (nat_le k 32767) h).0
+  plain_filled n (Bit k) h = (and_parts (nat_lt 0 k) (nat_le k 32767) h).0
+  plain_filled n Pointer h = absurd (not_true h)
+  plain_filled n Offset h = absurd (not_true h)
+  plain_filled n (Area k) h = absurd (not_true h)
+  plain_filled n (Array [] e) h = absurd (not_true h)
+  plain_filled n (Array (b ∷ bs) e) h = both _ _ (plain_count n b bs e h) (plain_filled n e (plain_inner n b bs e h))
+  plain_filled n (Structure NoMembers) h = absurd (not_true h)
+  plain_filled n (Structure (MemberThen d ds)) h =
+      let p = and_parts (is_plain n d) (all_plain n ds) h in
+      both _ _ (plain_filled n d p.0) (all_filled n ds p.1)
+
+  all_filled : (n : ℕ) (ds : Members) → all_plain n ds ≡ true → are_filled ds ≡ true
+  all_filled n NoMembers h = refl
+  all_filled n (MemberThen d ds) h =
+      let p = and_parts (is_plain n d) (all_plain n ds) h in
+      both _ _ (plain_filled n d p.0) (all_filled n ds p.1)
+
+pub plain_takes : (n : ℕ) (d : Description) → is_plain n d ≡ true → 0 < size_of d
+plain_takes n d h = (takes_bytes d (plain_filled n d h)).0
+
+-- an array has a dimension, and its element is plain
+pub plain_element : (n : ℕ) (bs : List Bounds) (e : Description) → is_plain n (Array bs e) ≡ true → is_plain n e ≡ true
+plain_element n [] e h = absurd (not_true h)
+plain_element n (b ∷ bs) e h = plain_inner n b bs e h
+
+pub plain_dimension : (n : ℕ) (e : Description) → is_plain n (Array [] e) ≡ true → ⊥
+plain_dimension n e h = not_true h
+
+pub plain_members : (n : ℕ) (ds : Members) → is_plain n (Structure ds) ≡ true → all_plain n ds ≡ true
+plain_members n NoMembers h = refl
+plain_members n (MemberThen d ds) h = h
+
+-- each member is plain
+pub plain_member : (n at : ℕ) (ds : Members) (i : ℕ) (m : PlacedPart) → all_plain n ds ≡ true → member_behind at ds i ≡ Some m
+    → is_plain n m.description ≡ true
+plain_member n at NoMembers i m h e = absurd (none-some m e)
+plain_member n at (MemberThen d ds) zero m h e =
+    let is = same_Some _ m e in
+    sym (ap (λ (p : PlacedPart). is_plain n p.description) is) ∙ (and_parts (is_plain n d) (all_plain n ds) h).0
+plain_member n at (MemberThen d ds) (suc i) m h e =
+    plain_member n (next_multiple_of at (alignment_of d) + size_of d) ds i m (and_parts (is_plain n d) (all_plain n ds) h).1 e

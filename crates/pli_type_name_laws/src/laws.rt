@@ -1,0 +1,22 @@
+//! Laws of what names mean where types are asked for, and of the numbers of statements.
+ghost use Rattle.std.specs.Prelude.{◌≡◌, ℕ, Ok};
+ghost use Rattle.pli_base.specs.Statements.{ExternalProcedure};
+ghost use Rattle.pli_base.specs.Words.{Tokens};
+ghost use Rattle.pli_parse_statement.specs.StatementReading.{unit_of};
+ghost use Rattle.pli_resolve.specs.ResolvedUnits.{ResolvedUnit};
+ghost use Rattle.pli_type.specs.NamedUnits.{named_unit};
+ghost use Rattle.pli_type_name_laws.specs.NameFacts.{NameFacts};
+ghost use Rattle.pli_type_name_laws.specs.Numbering.{AreNumbered};
+
+/// A law: a name that means a variable means one of the unit, which begins where its root says and has the type that
+/// is said; each of its parts is where its offset and its subscripts say, wherever these are within their bounds;
+/// and each variable begins with values that its scalars hold.
+pub fn names_mean_variables()
+    ensures { (r : ResolvedUnit) → NameFacts (named_unit 31 r) }
+{}
+
+/// A law: the statements of a unit that is read are numbered in the order of the text.
+#[tactic(auto, using(crate::proofs::NumberingHolds::units_are_numbered))]
+pub fn statements_are_numbered()
+    ensures { (texts : Tokens) (u : ExternalProcedure) → unit_of texts ≡ Ok u → (from : ℕ) × AreNumbered from u.statements }
+{}

@@ -1,0 +1,7 @@
+//! Laws of names in typed units: where variables begin, which parts references lead to, with which values variables
+//! are made, and how statements are numbered.
+#![tactic(auto)]
+
+mod laws;
+
+pub use laws::{names_mean_variables, statements_are_numbered};

@@ -1,0 +1,89 @@
+//! Which descriptions variables have that are compiled.
+ghost use Rattle.std.specs.Prelude.{◌≡◌, nat_lt};
+ghost use Rattle.pli_map.specs.Sizes.{count_of};
+ghost use Rattle.pli_map.specs.views.DescriptionView.{description_view, members_view};
+ghost use Rattle.pli_type.specs.NamedUnits as spec;
+
+use pli_map::{Bounds, Description, size};
+
+/// How many binary digits numbers have at most (own).
+pub const GREATEST: u8 = 31;
+
+/// How many elements a string has at most (own).
+const STRING_LIMIT: u16 = 32_767;
+
+/// How far a bound is from zero at most.
+const BOUND_LIMIT: u16 = 32_768;
+
+/// Whether strings may have this length.
+fn is_length(length: u16) -> bool
+    ensures { result ≡ spec.is_length length }
+{
+    0 < length && length <= STRING_LIMIT
+}
+
+/// Whether an array of these bounds has elements.
+#[tactic(auto, using(crate::proofs::Plain::with_subscripts, crate::proofs::Plain::without_subscripts))]
+fn has_elements(bounds: &[Bounds]) -> bool
+    ensures { result ≡ nat_lt 0 (count_of bounds.now) }
+{
+    for dimension in bounds {
+        if dimension.extent() == 0 {
+            return false;
+        }
+    }
+    true
+}
+
+/// Whether bounds have at most 16 binary digits, as those of every array have.
+fn are_bounds(bounds: &[Bounds]) -> bool
+    ensures { result ≡ spec.are_bounds bounds.now }
+{
+    for dimension in bounds {
+        if dimension.low.unsigned_abs() > BOUND_LIMIT
+            || dimension.high.unsigned_abs() > BOUND_LIMIT
+        {
+            return false;
+        }
+    }
+    true
+}
+
+/// Whether a description is of numbers and strings alone, within the limits: numbers of 31 binary digits at most, strings
+/// of 1 to 32,767 elements, arrays with elements, and structures with members (own).
+#[cycle(is_plain)]
+#[tactic(auto, using(crate::proofs::Plain::structure_plain, crate::proofs::Plain::structure_empty, crate::proofs::Plain::array_plain, crate::proofs::Plain::array_empty))]
+pub fn is_plain(description: &Description) -> bool
+    ensures { result ≡ spec.is_plain 31 (description_view description.now) }
+{
+    match description {
+        Description::FixedBinary(precision) => *precision <= GREATEST,
+        Description::Character(length) => is_length(*length),
+        Description::Varying(length) => is_length(*length),
+        Description::Bit(length) => is_length(*length),
+        Description::Pointer | Description::Offset | Description::Area(_) => false,
+        Description::Array { bounds, element } => {
+            !bounds.is_empty() && has_elements(bounds) && are_bounds(bounds) && is_plain(element)
+        }
+        Description::Structure(members) => !members.is_empty() && are_plain(members),
+    }
+}
+
+#[cycle(is_plain)]
+fn are_plain(members: &[Description]) -> bool
+    ensures { result ≡ spec.all_plain 31 (members_view members.now) }
+{
+    for member in members {
+        if !is_plain(member) {
+            return false;
+        }
+    }
+    true
+}
+
+/// Whether a variable of this description is compiled: one of numbers and strings alone, of 1,000,000 bytes at most (own).
+pub fn is_stored(description: &Description) -> bool
+    ensures { result ≡ spec.is_stored 31 (description_view description.now) }
+{
+    is_plain(description) && size(description).is_some()
+}

@@ -1,0 +1,412 @@
+//! Operations on values: operators, built-in functions and conversions.
+ghost use Rattle.std.specs.Prelude.{◌≡◌, ℤ, pos, Result, IfOk, MatchOption, None, Some};
+ghost use Rattle.pli_map.specs.views.DescriptionView.{description_view};
+ghost use Rattle.pli_operation.specs.Operations as calculate;
+ghost use Rattle.pli_operation.specs.Operations.{calculated_from, calculated_with, calculated_by, as_number, stands, fitted_to};
+ghost use Rattle.pli_operation.specs.views.OperationView.{relation_view};
+ghost use Rattle.std.specs.Option.{option_copied};
+ghost use Rattle.pli_value.specs.Numbers.{within, quotient};
+ghost use Rattle.pli_value.specs.Value as plain;
+ghost use Rattle.pli_value.specs.Value.{value_view};
+ghost use Rattle.pli_unit_machine.specs.views.CalculationView.{calculation_view, prefix_view, infix_view};
+
+use pli_map::Description;
+use pli_operation::Relation;
+use pli_value::bit::{self, Bits};
+use pli_value::number::{self, Raised};
+use pli_value::{Value, character};
+use std::alloc::{AllocError, Global};
+use std::cmp::Ordering;
+
+/// The greatest precision of a number (own).
+pub const GREATEST_PRECISION: u8 = 31;
+
+/// How many binary digits each number of 64 bits has at most, but for the least one, which has one more.
+const WIDEST_PRECISION: u8 = 63;
+
+/// The most bits of a string (own).
+const BIT_LIMIT: u16 = 32_767;
+
+/// What an operation comes to: a value, or a bit; a condition; a string over the limit, or a part that a string has not; or
+/// nothing, where operands are not of its kinds.
+#[derive(Drop)]
+pub enum Calculation {
+    Gives(Value),
+    GivesBit(bool),
+    RaisesCondition(Raised),
+    OutOfString,
+    Misfits,
+}
+
+/// An operation on one value, but for those that need a description.
+#[derive(Clone, Copy)]
+pub enum Prefix {
+    Negate,
+    Absolute,
+    Sign,
+    Not,
+    LengthOf,
+    FromBits,
+    ToCharacters { width: u8 },
+}
+
+/// An operation on two values.
+#[derive(Clone, Copy)]
+pub enum Infix {
+    Add,
+    Subtract,
+    Multiply,
+    Modulo,
+    Greatest,
+    Least,
+    Divide { precision: u8 },
+    Compare(Relation),
+    Concatenate,
+    And,
+    Or,
+    Index,
+    Rest,
+}
+
+/// A number, or the condition that is raised.
+#[inline]
+fn as_number(number: Result<i64, Raised>) -> Calculation
+    ensures { calculation_view result ≡ as_number number }
+{
+    match number {
+        Ok(number) => Calculation::Gives(Value::Number(number)),
+        Err(raised) => Calculation::RaisesCondition(raised),
+    }
+}
+
+/// Characters, where there are any.
+fn as_characters(alloc: Global, text: Option<&[u8]>) -> Result<Calculation, AllocError>
+    ensures { IfOk result (λ c. calculation_view c ≡ calculate.as_characters (option_copied text.entry)) }
+{
+    match text {
+        Some(text) => Ok(Calculation::Gives(Value::Characters(Vec::from_slice(alloc, text)?))),
+        None => Ok(Calculation::OutOfString),
+    }
+}
+
+/// Whether an order is the one that is asked for.
+#[inline]
+fn stands(relation: Relation, order: Ordering) -> bool
+    ensures { result ≡ stands (relation_view relation) order }
+{
+    match (relation, order) {
+        (Relation::Equal, Ordering::Less) => false,
+        (Relation::Equal, Ordering::Equal) => true,
+        (Relation::Equal, Ordering::Greater) => false,
+        (Relation::Unequal, Ordering::Less) => true,
+        (Relation::Unequal, Ordering::Equal) => false,
+        (Relation::Unequal, Ordering::Greater) => true,
+        (Relation::Less, Ordering::Less) => true,
+        (Relation::Less, Ordering::Equal) => false,
+        (Relation::Less, Ordering::Greater) => false,
+        (Relation::AtMost, Ordering::Less) => true,
+        (Relation::AtMost, Ordering::Equal) => true,
+        (Relation::AtMost, Ordering::Greater) => false,
+        (Relation::Greater, Ordering::Less) => false,
+        (Relation::Greater, Ordering::Equal) => false,
+        (Relation::Greater, Ordering::Greater) => true,
+        (Relation::AtLeast, Ordering::Less) => false,
+        (Relation::AtLeast, Ordering::Equal) => true,
+        (Relation::AtLeast, Ordering::Greater) => true,
+    }
+}
+
+/// A number held against a precision, also against one that no number passes.
+#[inline]
+fn fitted(precision: u8, number: i64) -> Result<i64, Raised>
+    ensures { result ≡ within precision number }
+{
+    if precision > WIDEST_PRECISION {
+        Ok(number)
+    } else {
+        number::fit(number, precision)
+    }
+}
+
+/// A place in a string, or how many elements it has.
+#[inline]
+fn as_place(place: usize) -> Result<Calculation, AllocError>
+    ensures { IfOk result (λ c. calculation_view c ≡ calculate.Calculates (plain.Number (pos place))) }
+{
+    match i64::try_from(place) {
+        Ok(number) => Ok(Calculation::Gives(Value::Number(number))),
+        Err(_) => Err(AllocError),
+    }
+}
+
+/// A quotient of at most so many binary digits. Want of memory is answered where it has more than 64 bits.
+fn divide(left: i64, right: i64, precision: u8) -> Result<Calculation, AllocError>
+    ensures { IfOk result (λ c. calculation_view c ≡ as_number (quotient precision left right)) }
+{
+    if precision <= WIDEST_PRECISION {
+        return Ok(as_number(number::divide(left, right, precision)));
+    }
+    match number::divide(left, right, WIDEST_PRECISION) {
+        Ok(number) => Ok(Calculation::Gives(Value::Number(number))),
+        Err(Raised::ZeroDivide) => Ok(Calculation::RaisesCondition(Raised::ZeroDivide)),
+        Err(Raised::Overflow) => Err(AllocError),
+    }
+}
+
+/// A number at the right of so many columns, where they hold it.
+fn in_columns(alloc: Global, width: u8, number: i64) -> Result<Calculation, AllocError>
+    ensures { IfOk result (λ c. calculation_view c ≡ calculate.in_columns width number) }
+{
+    let width = width as usize;
+    if character::is_held(number, width) {
+        Ok(Calculation::Gives(Value::Characters(character::to_char(alloc, number, width)?)))
+    } else {
+        Ok(Calculation::Misfits)
+    }
+}
+
+/// An operation on a number. Want of memory is answered where the result has more than 64 bits, as it may only where the
+/// number has more than 31 digits.
+fn of_number(alloc: Global, operation: Prefix, number: i64) -> Result<Calculation, AllocError>
+    ensures { IfOk result (λ c. calculation_view c ≡ calculated_from (prefix_view operation) (plain.Number number)) }
+{
+    match operation {
+        Prefix::Negate if number == i64::MIN => Err(AllocError),
+        Prefix::Negate => Ok(Calculation::Gives(Value::Number(number::negate(number)))),
+        Prefix::Absolute if number == i64::MIN => Err(AllocError),
+        Prefix::Absolute => Ok(Calculation::Gives(Value::Number(number::absolute(number)))),
+        Prefix::Sign => Ok(Calculation::Gives(Value::Number(number::sign(number)))),
+        Prefix::ToCharacters { width } => in_columns(alloc, width, number),
+        Prefix::Not => Ok(Calculation::Misfits),
+        Prefix::LengthOf => Ok(Calculation::Misfits),
+        Prefix::FromBits => Ok(Calculation::Misfits),
+    }
+}
+
+/// An operation on bits.
+fn of_bits(alloc: Global, operation: Prefix, bits: &Bits) -> Result<Calculation, AllocError>
+    ensures { IfOk result (λ c. calculation_view c ≡ calculated_from (prefix_view operation) (plain.Bits bits.now)) }
+{
+    match operation {
+        Prefix::Not => Ok(Calculation::Gives(Value::Bits(bit::not(alloc, bits)?))),
+        Prefix::LengthOf => Ok(Calculation::Gives(Value::Number(bits.length() as i64))),
+        Prefix::FromBits => Ok(Calculation::Gives(Value::Characters(bit::bits_to_char(
+            alloc, bits,
+        )?))),
+        Prefix::Negate => Ok(Calculation::Misfits),
+        Prefix::Absolute => Ok(Calculation::Misfits),
+        Prefix::Sign => Ok(Calculation::Misfits),
+        Prefix::ToCharacters { .. } => Ok(Calculation::Misfits),
+    }
+}
+
+/// An operation on characters.
+fn of_characters(operation: Prefix, text: &Vec<u8>) -> Calculation
+    ensures { calculation_view result ≡ calculated_from (prefix_view operation) (plain.Characters text.now.items) }
+{
+    match operation {
+        Prefix::LengthOf => Calculation::Gives(Value::Number(text.len() as i64)),
+        Prefix::Not => Calculation::Misfits,
+        Prefix::FromBits => Calculation::Misfits,
+        Prefix::Negate => Calculation::Misfits,
+        Prefix::Absolute => Calculation::Misfits,
+        Prefix::Sign => Calculation::Misfits,
+        Prefix::ToCharacters { .. } => Calculation::Misfits,
+    }
+}
+
+/// An operation on one value. Want of memory is answered also where a number has more than 64 bits.
+pub fn calculate_from(
+    alloc: Global,
+    operation: Prefix,
+    value: &Value,
+) -> Result<Calculation, AllocError>
+    ensures { IfOk result (λ c. calculation_view c ≡ calculated_from (prefix_view operation) (value_view value.now)) }
+{
+    match value {
+        Value::Number(number) => of_number(alloc, operation, *number),
+        Value::Characters(text) => Ok(of_characters(operation, text)),
+        Value::Bits(bits) => of_bits(alloc, operation, bits),
+    }
+}
+
+/// A value fitted to a description. Want of memory is answered also where it has more than 32,767 bits.
+pub fn fit(
+    alloc: Global,
+    description: &Description,
+    value: &Value,
+) -> Result<Calculation, AllocError>
+    ensures { IfOk result (λ c. calculation_view c ≡ fitted_to (description_view description.now) (value_view value.now)) }
+{
+    match (description, value) {
+        (Description::FixedBinary(precision), Value::Number(number)) => Ok(as_number(fitted(
+            *precision, *number,
+        ))),
+        (Description::Character(size), Value::Characters(text)) => Ok(Calculation::Gives(
+            Value::Characters(character::fit(alloc, text, *size as usize)?),
+        )),
+        (Description::Varying(size), Value::Characters(text)) => Ok(Calculation::Gives(
+            Value::Characters(Vec::from_slice(
+                alloc,
+                character::fit_varying(text, *size as usize),
+            )?),
+        )),
+        (Description::Bit(size), Value::Bits(_)) if *size > BIT_LIMIT => Err(AllocError),
+        (Description::Bit(size), Value::Bits(bits)) => {
+            Ok(Calculation::Gives(Value::Bits(bit::fit(alloc, bits, *size as usize)?)))
+        }
+        _ => Ok(Calculation::Misfits),
+    }
+}
+
+/// An operation on two numbers. Want of memory is answered also where the result has more than 64 bits.
+fn of_numbers(operation: Infix, left: i64, right: i64) -> Result<Calculation, AllocError>
+    ensures { IfOk result (λ c. calculation_view c
+        ≡ calculated_with 31 (infix_view operation) (plain.Number left) (plain.Number right)) }
+{
+    match operation {
+        Infix::Add => Ok(as_number(number::add(left, right, GREATEST_PRECISION))),
+        Infix::Subtract => Ok(as_number(number::subtract(left, right, GREATEST_PRECISION))),
+        Infix::Multiply => Ok(as_number(number::multiply(left, right, GREATEST_PRECISION))),
+        Infix::Modulo => Ok(as_number(number::modulo(left, right))),
+        Infix::Greatest => Ok(Calculation::Gives(Value::Number(number::greatest(left, right)))),
+        Infix::Least => Ok(Calculation::Gives(Value::Number(number::least(left, right)))),
+        Infix::Divide { precision } => divide(left, right, precision),
+        Infix::Compare(relation) => Ok(Calculation::GivesBit(stands(
+            relation,
+            number::compare(left, right),
+        ))),
+        Infix::Concatenate => Ok(Calculation::Misfits),
+        Infix::And => Ok(Calculation::Misfits),
+        Infix::Or => Ok(Calculation::Misfits),
+        Infix::Index => Ok(Calculation::Misfits),
+        Infix::Rest => Ok(Calculation::Misfits),
+    }
+}
+
+/// An operation on two strings of characters.
+fn of_texts(
+    alloc: Global,
+    operation: Infix,
+    left: &Vec<u8>,
+    right: &Vec<u8>,
+) -> Result<Calculation, AllocError>
+    ensures { IfOk result (λ c. calculation_view c
+        ≡ calculated_with 31 (infix_view operation) (plain.Characters left.now.items) (plain.Characters right.now.items)) }
+{
+    match operation {
+        Infix::Compare(relation) => {
+            Ok(Calculation::GivesBit(stands(relation, character::compare(left, right))))
+        }
+        Infix::Concatenate => match character::concat(alloc, left, right)? {
+            Some(both) => Ok(Calculation::Gives(Value::Characters(both))),
+            None => Ok(Calculation::OutOfString),
+        },
+        Infix::Index => as_place(character::index(left, right)),
+        Infix::Add => Ok(Calculation::Misfits),
+        Infix::Subtract => Ok(Calculation::Misfits),
+        Infix::Multiply => Ok(Calculation::Misfits),
+        Infix::Modulo => Ok(Calculation::Misfits),
+        Infix::Greatest => Ok(Calculation::Misfits),
+        Infix::Least => Ok(Calculation::Misfits),
+        Infix::Divide { .. } => Ok(Calculation::Misfits),
+        Infix::And => Ok(Calculation::Misfits),
+        Infix::Or => Ok(Calculation::Misfits),
+        Infix::Rest => Ok(Calculation::Misfits),
+    }
+}
+
+/// An operation on two strings of bits.
+fn of_bit_strings(
+    alloc: Global,
+    operation: Infix,
+    left: &Bits,
+    right: &Bits,
+) -> Result<Calculation, AllocError>
+    ensures { IfOk result (λ c. calculation_view c
+        ≡ calculated_with 31 (infix_view operation) (plain.Bits left.now) (plain.Bits right.now)) }
+{
+    match operation {
+        Infix::Compare(relation) => Ok(Calculation::GivesBit(stands(
+            relation,
+            bit::compare(left, right),
+        ))),
+        Infix::Concatenate => match bit::concat(alloc, left, right)? {
+            Some(both) => Ok(Calculation::Gives(Value::Bits(both))),
+            None => Ok(Calculation::OutOfString),
+        },
+        Infix::And => Ok(Calculation::Gives(Value::Bits(bit::and(alloc, left, right)?))),
+        Infix::Or => Ok(Calculation::Gives(Value::Bits(bit::or(alloc, left, right)?))),
+        Infix::Index => as_place(bit::index(left, right)),
+        Infix::Add => Ok(Calculation::Misfits),
+        Infix::Subtract => Ok(Calculation::Misfits),
+        Infix::Multiply => Ok(Calculation::Misfits),
+        Infix::Modulo => Ok(Calculation::Misfits),
+        Infix::Greatest => Ok(Calculation::Misfits),
+        Infix::Least => Ok(Calculation::Misfits),
+        Infix::Divide { .. } => Ok(Calculation::Misfits),
+        Infix::Rest => Ok(Calculation::Misfits),
+    }
+}
+
+/// A part of a string from a place on.
+fn rest(alloc: Global, string: &Value, first: i64) -> Result<Calculation, AllocError>
+    ensures { IfOk result (λ c. calculation_view c
+        ≡ calculated_with 31 calculate.Rest (value_view string.now) (plain.Number first)) }
+{
+    match string {
+        Value::Number(_) => Ok(Calculation::Misfits),
+        Value::Characters(text) => as_characters(alloc, character::rest(text, first)),
+        Value::Bits(bits) => match bit::rest(alloc, bits, first)? {
+            Some(part) => Ok(Calculation::Gives(Value::Bits(part))),
+            None => Ok(Calculation::OutOfString),
+        },
+    }
+}
+
+/// An operation on two values. Want of memory is answered also where a number has more than 64 bits.
+pub fn calculate_with(
+    alloc: Global,
+    operation: Infix,
+    left: &Value,
+    right: &Value,
+) -> Result<Calculation, AllocError>
+    ensures { IfOk result (λ c. calculation_view c
+        ≡ calculated_with 31 (infix_view operation) (value_view left.now) (value_view right.now)) }
+{
+    match (left, right) {
+        (Value::Number(left), Value::Number(right)) => of_numbers(operation, *left, *right),
+        (Value::Characters(left), Value::Characters(right)) => of_texts(
+            alloc, operation, left, right,
+        ),
+        (Value::Bits(left), Value::Bits(right)) => of_bit_strings(alloc, operation, left, right),
+        (_, Value::Number(first)) => match operation {
+            Infix::Rest => rest(alloc, left, *first),
+            _ => Ok(Calculation::Misfits),
+        },
+        _ => Ok(Calculation::Misfits),
+    }
+}
+
+/// SUBSTR with a length.
+pub fn substring(
+    alloc: Global,
+    string: &Value,
+    first: &Value,
+    count: &Value,
+) -> Result<Calculation, AllocError>
+    ensures { IfOk result (λ c. calculation_view c
+        ≡ calculated_by calculate.Substring (value_view string.now) (value_view first.now) (value_view count.now)) }
+{
+    let (Value::Number(first), Value::Number(count)) = (first, count) else {
+        return Ok(Calculation::Misfits);
+    };
+    match string {
+        Value::Number(_) => Ok(Calculation::Misfits),
+        Value::Characters(text) => as_characters(alloc, character::substr(text, *first, *count)),
+        Value::Bits(bits) => match bit::substr(alloc, bits, *first, *count)? {
+            Some(part) => Ok(Calculation::Gives(Value::Bits(part))),
+            None => Ok(Calculation::OutOfString),
+        },
+    }
+}
