@@ -1,1 +1,3 @@
+pub mod RisingNumbers
 pub mod StorageExamplesHold
+pub mod ValueLists

@@ -1,6 +1,17 @@
-//! Storage, activations and output: what the meaning of a program and the machine share.
+//! Storage, activations and output: what the meaning of a program and the machine share. Storage itself, as the machine
+//! keeps it.
 #![tactic(auto)]
 
+mod fault;
+mod generation;
 mod laws;
+mod part;
+mod place;
+mod storage;
+mod values;
 
+pub use fault::StoreFault;
+pub use generation::Made;
 pub use laws::{operations_keep, worked_examples};
+pub use place::Place;
+pub use storage::Storage;

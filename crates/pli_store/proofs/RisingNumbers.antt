@@ -1,0 +1,167 @@
+-- Generations whose numbers rise: a number is found where it stands, and changes and ends keep the order.
+use Rattle.std.proofs.Common.{◌≡◌, ℕ, zero, suc, ◌+◌, ◌<◌, ◌≤◌, ◌≢◌, Bool, true, false, nat_eq, nat_le, ◌&&◌, ◌||◌, not, cond, List, [], ◌∷◌, ◌++◌, length, take, drop, set, Option, Some, None, slice_get, refl, sym, ap, ◌∙◌, subst, arith, eq-eqb, ne_eqb}
+use Rattle.std.specs.List.{filter, list_any, remove}
+use Rattle.std.proofs.lemmas.Bool.{and_parts, leb-true, le-leb}
+use Rattle.std.proofs.lemmas.List.Folds.{list_any-append}
+use Rattle.std.proofs.lemmas.List.Sorted.{list_any-IsPermutation}
+use Rattle.std.proofs.lemmas.Option.{same_Some, none-some}
+use Rattle.pli_map.specs.Sizes.{size_of}
+use Rattle.pli_value.specs.Value.{Value}
+use Rattle.pli_store.specs.Storage.{Generation, generation_in, with_values, without, live_bytes}
+use Rattle.pli_store.specs.answers.Kept.{rise}
+
+-- ---- what rising numbers are
+
+record Rises (from : ℕ) (g : Generation) (gs : List Generation) (to : ℕ) : Type 0 where
+  low : from ≤ g.number
+  rest : rise (suc g.number) gs to ≡ true
+
+rises : (from : ℕ) (g : Generation) (gs : List Generation) (to : ℕ) → rise from (g ∷ gs) to ≡ true → Rises from g gs to
+rises from g gs to h =
+    let p = and_parts (nat_le from g.number) (rise (suc g.number) gs to) h in
+    record { low = leb-true from g.number p.0; rest = p.1 }
+
+rising : (from : ℕ) (g : Generation) (gs : List Generation) (to : ℕ) → Rises from g gs to → rise from (g ∷ gs) to ≡ true
+rising from g gs to r = rw (le-leb from g.number r.low) r.rest
+
+pub rise_lower : (low from : ℕ) (gs : List Generation) (to : ℕ) → low ≤ from → rise from gs to ≡ true → rise low gs to ≡ true
+rise_lower low from [] to h r = le-leb low to (let e = leb-true from to r in omega (arith, e, h))
+rise_lower low from (g ∷ gs) to h r =
+    let p = rises from g gs to r in
+    rising low g gs to (record { low = omega (arith, p.low, h); rest = p.rest })
+
+pub record Within (from : ℕ) (g : Generation) (to : ℕ) : Type 0 where
+  pub low : from ≤ g.number
+  pub high : g.number < to
+
+pub rise_bounds : (from : ℕ) (gs : List Generation) (to : ℕ) → rise from gs to ≡ true → from ≤ to
+rise_bounds from [] to r = leb-true from to r
+rise_bounds from (g ∷ gs) to r =
+    let p = rises from g gs to r in
+    let e = rise_bounds (suc g.number) gs to p.rest in
+    let low = p.low in
+    omega (arith, e, low)
+
+pub number_within : (from : ℕ) (gs : List Generation) (to at : ℕ) (g : Generation) → rise from gs to ≡ true → slice_get gs at ≡ Some g → Within from g to
+number_within from [] to at g r h = absurd (none-some g h)
+number_within from (x ∷ gs) to zero g r h =
+    let p = rises from x gs to r in
+    let e = rise_bounds (suc x.number) gs to p.rest in
+    subst (λ y. Within from y to) (same_Some x g h) (record { low = p.low; high = omega (arith, e) })
+number_within from (x ∷ gs) to (suc at) g r h =
+    let p = rises from x gs to r in
+    let inner = number_within (suc x.number) gs to at g p.rest h in
+    let low = p.low in
+    let above = inner.low in
+    record { low = omega (arith, low, above); high = inner.high }
+
+-- the number of one that stands behind another is greater
+later : (x : Generation) (gs : List Generation) (to at : ℕ) (g : Generation) → rise (suc x.number) gs to ≡ true → slice_get gs at ≡ Some g → x.number ≢ g.number
+later x gs to at g r h e =
+    let low = (number_within (suc x.number) gs to at g r h).low in
+    omega (arith, low, e)
+
+-- ---- look-ups
+
+pub found_at : (from : ℕ) (gs : List Generation) (to at : ℕ) (g : Generation) → rise from gs to ≡ true → slice_get gs at ≡ Some g → generation_in gs g.number ≡ Some g
+found_at from [] to at g r h = absurd (none-some g h)
+found_at from (x ∷ gs) to zero g r h =
+    subst (λ y. generation_in (x ∷ gs) y.number ≡ Some y) (same_Some x g h) (rw (eq-eqb x.number x.number refl) refl)
+found_at from (x ∷ gs) to (suc at) g r h =
+    let p = rises from x gs to r in
+    rw (ne_eqb x.number g.number (later x gs to at g p.rest h)) (found_at (suc x.number) gs to at g p.rest h)
+
+pub not_found : (gs : List Generation) (number : ℕ) → ((at : ℕ) (g : Generation) → slice_get gs at ≡ Some g → g.number ≢ number) → generation_in gs number ≡ None
+not_found [] number others = refl
+not_found (x ∷ gs) number others =
+    rw (ne_eqb x.number number (others 0 x refl)) (not_found gs number (λ at g h. others (suc at) g h))
+
+-- ---- changes
+
+pub changed_at : (from : ℕ) (gs : List Generation) (to at : ℕ) (g : Generation) (vs : List Value) → rise from gs to ≡ true → slice_get gs at ≡ Some g → with_values gs g.number vs ≡ set gs at (record g { values = vs })
+changed_at from [] to at g vs r h = absurd (none-some g h)
+changed_at from (x ∷ gs) to zero g vs r h =
+    subst (λ y. with_values (x ∷ gs) y.number vs ≡ record y { values = vs } ∷ gs) (same_Some x g h) (rw (eq-eqb x.number x.number refl) refl)
+changed_at from (x ∷ gs) to (suc at) g vs r h =
+    let p = rises from x gs to r in
+    rw (ne_eqb x.number g.number (later x gs to at g p.rest h)) (ap (λ l. x ∷ l) (changed_at (suc x.number) gs to at g vs p.rest h))
+
+pub rise_changed : (from : ℕ) (gs : List Generation) (to at : ℕ) (g : Generation) (vs : List Value) → slice_get gs at ≡ Some g → rise from gs to ≡ true → rise from (set gs at (record g { values = vs })) to ≡ true
+rise_changed from [] to at g vs h r = r
+rise_changed from (x ∷ gs) to zero g vs h r = subst (λ y. rise from (record y { values = vs } ∷ gs) to ≡ true) (same_Some x g h) r
+rise_changed from (x ∷ gs) to (suc at) g vs h r =
+    let p = rises from x gs to r in
+    rising from x (set gs at (record g { values = vs })) to (record { low = p.low; rest = rise_changed (suc x.number) gs to at g vs h p.rest })
+
+pub live_changed : (gs : List Generation) (at : ℕ) (g : Generation) (vs : List Value) → slice_get gs at ≡ Some g → live_bytes (set gs at (record g { values = vs })) ≡ live_bytes gs
+live_changed [] at g vs h = refl
+live_changed (x ∷ gs) zero g vs h = subst (λ y. size_of y.description + live_bytes gs ≡ size_of x.description + live_bytes gs) (same_Some x g h) refl
+live_changed (x ∷ gs) (suc at) g vs h = ap (λ n. size_of x.description + n) (live_changed gs at g vs h)
+
+-- ---- a new one
+
+pub rise_added : (from : ℕ) (gs : List Generation) (to : ℕ) (g : Generation) → rise from gs to ≡ true → to ≤ g.number → rise from (gs ++ g ∷ []) (suc g.number) ≡ true
+rise_added from [] to g r h =
+    let low = leb-true from to r in
+    rising from g [] (suc g.number) (record { low = omega (arith, low, h); rest = le-leb (suc g.number) (suc g.number) (omega arith) })
+rise_added from (x ∷ gs) to g r h =
+    let p = rises from x gs to r in
+    rising from x (gs ++ g ∷ []) (suc g.number) (record { low = p.low; rest = rise_added (suc x.number) gs to g p.rest h })
+
+pub live_added : (gs : List Generation) (g : Generation) → live_bytes (gs ++ g ∷ []) ≡ live_bytes gs + size_of g.description
+live_added [] g = omega arith
+live_added (x ∷ gs) g = let rest = live_added gs g in omega (arith, rest)
+
+-- ---- ends
+
+pub size_at : (gs : List Generation) (at : ℕ) (g : Generation) → slice_get gs at ≡ Some g → size_of g.description ≤ live_bytes gs
+size_at [] at g h = absurd (none-some g h)
+size_at (x ∷ gs) zero g h = subst (λ y. size_of y.description ≤ size_of x.description + live_bytes gs) (same_Some x g h) (omega arith)
+size_at (x ∷ gs) (suc at) g h = let rest = size_at gs at g h in omega (arith, rest)
+
+pub live_ended : (gs : List Generation) (at : ℕ) (g : Generation) → slice_get gs at ≡ Some g → live_bytes (remove gs at) + size_of g.description ≡ live_bytes gs
+live_ended [] at g h = absurd (none-some g h)
+live_ended (x ∷ gs) zero g h = subst (λ y. live_bytes gs + size_of y.description ≡ size_of x.description + live_bytes gs) (same_Some x g h) (omega arith)
+live_ended (x ∷ gs) (suc at) g h = let rest = live_ended gs at g h in omega (arith, rest)
+
+pub rise_ended : (from : ℕ) (gs : List Generation) (to at : ℕ) (g : Generation) → slice_get gs at ≡ Some g → rise from gs to ≡ true → rise from (remove gs at) to ≡ true
+rise_ended from [] to at g h r = absurd (none-some g h)
+rise_ended from (x ∷ gs) to zero g h r =
+    let p = rises from x gs to r in
+    let low = p.low in
+    rise_lower from (suc x.number) gs to (omega (arith, low)) p.rest
+rise_ended from (x ∷ gs) to (suc at) g h r =
+    let p = rises from x gs to r in
+    rising from x (remove gs at) to (record { low = p.low; rest = rise_ended (suc x.number) gs to at g h p.rest })
+
+-- where no other number ends
+pub all_kept : (gs : List Generation) (number : ℕ) → ((at : ℕ) (g : Generation) → slice_get gs at ≡ Some g → g.number ≢ number) → without (number ∷ []) gs ≡ gs
+all_kept [] number others = refl
+all_kept (x ∷ gs) number others =
+    rw (ne_eqb x.number number (others 0 x refl)) (ap (λ l. x ∷ l) (all_kept gs number (λ at g h. others (suc at) g h)))
+
+pub ended_at : (from : ℕ) (gs : List Generation) (to at : ℕ) (g : Generation) → rise from gs to ≡ true → slice_get gs at ≡ Some g → without (g.number ∷ []) gs ≡ remove gs at
+ended_at from [] to at g r h = absurd (none-some g h)
+ended_at from (x ∷ gs) to zero g r h =
+    let p = rises from x gs to r in
+    subst (λ y. without (y.number ∷ []) (x ∷ gs) ≡ gs) (same_Some x g h)
+    (rw (eq-eqb x.number x.number refl) (all_kept gs x.number (λ k y e same. later x gs to k y p.rest e (sym same))))
+ended_at from (x ∷ gs) to (suc at) g r h =
+    let p = rises from x gs to r in
+    rw (ne_eqb x.number g.number (later x gs to at g p.rest h)) (ap (λ l. x ∷ l) (ended_at (suc x.number) gs to at g p.rest h))
+
+-- ---- some numbers end, and then others
+
+none_end : (gs : List Generation) → without [] gs ≡ gs
+none_end [] = refl
+none_end (x ∷ gs) = ap (λ l. x ∷ l) (none_end gs)
+
+pub without_append : (xs ys : List ℕ) (gs : List Generation) → without (xs ++ ys) gs ≡ without ys (without xs gs)
+without_append xs ys [] = refl
+without_append xs ys (g ∷ gs) =
+    rw (list_any-append (nat_eq g.number) xs ys) (by (list_any (nat_eq g.number) xs) (list_any (nat_eq g.number) ys) refl refl (without_append xs ys gs))
+  where
+    by : (a b : Bool) → list_any (nat_eq g.number) xs ≡ a → list_any (nat_eq g.number) ys ≡ b → without (xs ++ ys) gs ≡ without ys (without xs gs) → cond (not (a || b)) (g ∷ without (xs ++ ys) gs) (without (xs ++ ys) gs) ≡ without ys (cond (not a) (g ∷ without xs gs) (without xs gs))
+    by true b p q rest = rest
+    by false true p q rest = rw q rest
+    by false false p q rest = rw q (ap (λ l. g ∷ l) rest)

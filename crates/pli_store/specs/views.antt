@@ -1,0 +1,2 @@
+pub mod GenerationView
+pub mod StorageView

@@ -1,0 +1,24 @@
+-- What generations of the program say.
+use Rattle.std.specs.Prelude.{map}
+use Rattle.pli_map.specs.views.DescriptionView.{description_view}
+use Rattle.pli_value.specs.Value.{value_view}
+use Rattle.pli_store.specs.Storage as plain
+use Rattle.pli_store.specs.declared.generation.Generation.{Generation}
+use Rattle.pli_store.specs.declared.generation.Made.{Made}
+use Rattle.pli_store.specs.declared.generation.Made.TheVariants as made
+
+abbrev pub made_view : Made → plain.Made
+made_view made.Automatic = plain.Automatic
+made_view made.Static = plain.Static
+made_view made.Controlled = plain.Controlled
+made_view made.Based = plain.Based
+made_view made.Dummy = plain.Dummy
+
+abbrev pub generation_view : Generation → plain.Generation
+generation_view g =
+    record {
+      number = g.number;
+      description = description_view g.description.now;
+      made = made_view g.made;
+      values = map value_view g.values.items;
+    }

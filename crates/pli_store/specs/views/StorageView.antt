@@ -1,0 +1,35 @@
+-- What storage of the program says.
+use Rattle.std.specs.Prelude.{◌≡◌, ℕ, List, map}
+use Rattle.pli_map.specs.views.DescriptionView.{description_view}
+use Rattle.pli_store.specs.World.{World}
+use Rattle.pli_store.specs.Storage as plain
+use Rattle.pli_store.specs.views.GenerationView.{generation_view}
+use Rattle.pli_store.specs.declared.place.Place.{Place}
+use Rattle.pli_store.specs.declared.storage.Storage.{Storage}
+
+-- a place outside areas
+abbrev pub place_view : Place → plain.Place
+place_view p =
+    record {
+      generation = p.generation;
+      position = 0;
+      offset = p.offset;
+      description = description_view p.description.now;
+    }
+
+-- the generations that live, in the order in which they were made
+abbrev pub storage_view : Storage → List plain.Generation
+storage_view s = map generation_view s.generations.items
+
+-- the number that the next generation gets
+abbrev pub made_count : Storage → ℕ
+made_count s = s.made
+
+-- the world with this storage
+abbrev pub with_storage : Storage → World → World
+with_storage s w = record w { storage = storage_view s; made = made_count s }
+
+-- nothing has changed
+pub record SameStorage (old new : Storage) : Type 0 where
+  pub storage : storage_view new ≡ storage_view old
+  pub made : made_count new ≡ made_count old

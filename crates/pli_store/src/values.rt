@@ -1,0 +1,87 @@
+//! Values of scalars, one behind the other.
+ghost use Rattle.std.specs.Prelude.{◌≡◌, ◌+◌, ◌-◌, ◌≤◌, ◌<◌, ◌++◌, ◌∷◌, [], map, length, take, drop, IfOk, OnOk, OnErr};
+ghost use Rattle.pli_value.specs.Value.{value_view};
+
+use pli_value::Value;
+use std::alloc::{AllocError, Global};
+
+/// So many of the values, from one on; fewer where there are fewer.
+pub fn values_from(values: &[Value], first: usize, count: usize) -> &[Value]
+    ensures { result.now ≡ take count (drop first values.now) }
+{
+    if first >= values.len() {
+        return &values[values.len()..];
+    }
+    let behind = &values[first..];
+    if count >= behind.len() {
+        return behind;
+    }
+    &behind[..count]
+}
+
+/// Equal values.
+pub fn copy_values(alloc: Global, values: &[Value]) -> Result<Vec<Value>, AllocError>
+    ensures { IfOk result (λ copies. map value_view copies.items ≡ map value_view values.now) }
+{
+    let mut copies = Vec::with_capacity(alloc, values.len())?;
+    for value in values {
+        copies.push(value.copy(alloc)?)?;
+    }
+    Ok(copies)
+}
+
+/// Puts a value in the place of the one of this number, or behind the last where there are not so many. Takes memory
+/// only there.
+pub fn put_value(values: &mut Vec<Value>, first: usize, value: Value) -> Result<(), AllocError>
+    ensures ok { OnOk result (values.new.items ≡ take first values.old.items ++ value ∷ [] ++ drop (first + 1) values.old.items) }
+    ensures err { OnErr result (values.new.items ≡ values.old.items) }
+{
+    if first < values.len() {
+        values[first] = value;
+    } else {
+        values.push(value)?;
+    }
+    Ok(())
+}
+
+/// Puts values in the place of those from this number on, or behind the last where there are not so many. Takes memory
+/// only there.
+pub fn put_values(values: &mut Vec<Value>, first: usize, new: Vec<Value>) -> Result<(), AllocError>
+    ensures ok { OnOk result (values.new.items ≡ take first values.old.items ++ new.items
+        ++ drop (first + length new.items) values.old.items) }
+    ensures err { OnErr result (values.new.items ≡ values.old.items) }
+{
+    let first = first.min(values.len());
+    if new.len() <= values.len() - first {
+        replace_values(values, first, new);
+        Ok(())
+    } else {
+        replace_behind(values, first, new)
+    }
+}
+
+/// Puts values in the place of as many from this number on.
+fn replace_values(values: &mut Vec<Value>, first: usize, mut new: Vec<Value>)
+    requires { first + length new.items ≤ length values.old.items }
+    ensures { values.new.items ≡ take first values.old.items ++ new.items
+        ++ drop (first + length new.items) values.old.items }
+{
+    while let Some(value) = new.pop() {
+        values[first + new.len()] = value;
+    }
+}
+
+/// Puts values in the place of all from this number on.
+fn replace_behind(
+    values: &mut Vec<Value>,
+    first: usize,
+    mut new: Vec<Value>,
+) -> Result<(), AllocError>
+    requires { first ≤ length values.old.items }
+    ensures ok { OnOk result (values.new.items ≡ take first values.old.items ++ new.items) }
+    ensures err { OnErr result (values.new.items ≡ values.old.items) }
+{
+    values.reserve(new.len())?;
+    values.truncate(first);
+    values.append(&mut new)
+}
