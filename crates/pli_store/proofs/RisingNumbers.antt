@@ -21,6 +21,9 @@ rises from g gs to h =
     let p = and_parts (nat_le from g.number) (rise (suc g.number) gs to) h in
     record { low = leb-true from g.number p.0; rest = p.1 }
 
+pub tail : (from : ℕ) (g : Generation) (gs : List Generation) (to : ℕ) → rise from (g ∷ gs) to ≡ true → rise (suc g.number) gs to ≡ true
+tail from g gs to h = (rises from g gs to h).rest
+
 rising : (from : ℕ) (g : Generation) (gs : List Generation) (to : ℕ) → Rises from g gs to → rise from (g ∷ gs) to ≡ true
 rising from g gs to r = rw (le-leb from g.number r.low) r.rest
 

@@ -7,6 +7,7 @@ mod generation;
 mod laws;
 mod part;
 mod place;
+mod putting;
 mod storage;
 mod values;
 

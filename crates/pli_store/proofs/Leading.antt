@@ -1,0 +1,77 @@
+-- Where places lead.
+use Rattle.std.proofs.Common.{◌≡◌, ℕ, ◌+◌, ◌<◌, ◌≤◌, List, length, map, min, Option, Some, None, slice_get, refl, sym, ap, ◌∙◌, arith}
+use Rattle.std.specs.Option.{option_map}
+use Rattle.std.proofs.lemmas.Option.{slice_get_within, same_Some, none-some}
+use Rattle.std.proofs.lemmas.List.{length-map}
+use Rattle.pli_map.specs.Description.{Description}
+use Rattle.pli_map.specs.Scalars.{first_scalar}
+use Rattle.pli_map.specs.Sizes.{size_of}
+use Rattle.pli_map.proofs.ScalarLawsHold.{scalars_lie_within}
+use Rattle.pli_store.specs.Storage as plain
+use Rattle.pli_store.specs.Storage.{Place, generation_in, scalar_at, live_bytes}
+use Rattle.pli_store.specs.answers.Found.{StandsAt, LeadsTo, LeadsNowhere}
+use Rattle.pli_store.specs.declared.generation.Generation.{Generation}
+use Rattle.pli_store.specs.views.GenerationView.{generation_view}
+use Rattle.pli_store.proofs.RisingNumbers.{size_at}
+use Rattle.pli_store.proofs.Searches.{stands_in_view}
+
+-- no part stands behind the whole
+pub too_far : (whole : Description) (offset : ℕ) (part : Description) → size_of whole < offset → first_scalar whole offset part ≡ None
+too_far whole offset part far = by (first_scalar whole offset part) refl
+  where
+    by : (o : Option ℕ) → first_scalar whole offset part ≡ o → o ≡ None
+    by None e = refl
+    by (Some k) e = let inside = (scalars_lie_within whole offset part k e).1 in absurd (omega (arith, inside, far))
+
+pub within_store : (items : List Generation) (number at : ℕ) → StandsAt (map generation_view items) number at → at < length items
+within_store items number at s =
+    let inside = slice_get_within (map generation_view items) at s.generation s.stands in
+    let same = length-map items generation_view in
+    omega (arith, inside, same)
+
+-- the generation that stands in the store
+pub stored_one : (items : List Generation) (number at : ℕ) (g : Generation) → StandsAt (map generation_view items) number at → slice_get items at ≡ Some g → generation_in (map generation_view items) number ≡ Some (generation_view g)
+stored_one items number at g s h = s.found ∙ sym s.stands ∙ stands_in_view items at g h
+
+-- an offset that has no 32 bits leads nowhere
+pub leads_too_far : (items : List Generation) (p : Place) (at : ℕ) → StandsAt (map generation_view items) p.generation at → live_bytes (map generation_view items) ≤ 16777216 → p.position ≡ 0 → 4294967296 ≤ p.offset → LeadsNowhere (map generation_view items) p
+leads_too_far items p at s small whole far =
+    let inside = size_at (map generation_view items) at s.generation s.stands in
+    record {
+      generation = s.generation;
+      found = s.found;
+      nowhere = rw whole (too_far s.generation.description p.offset p.description (omega (arith, inside, small, far)));
+    }
+
+nothing_found : (o : Option ℕ) → None ≡ option_map (λ k. min k 18446744073709551615) o → o ≡ None
+nothing_found None e = refl
+nothing_found (Some k) e = absurd (none-some (min k 18446744073709551615) e)
+
+record Counted (o : Option ℕ) (first : ℕ) : Type 0 where
+  scalar : ℕ
+  is : o ≡ Some scalar
+  counted : first ≡ min scalar 18446744073709551615
+
+something_found : (o : Option ℕ) (first : ℕ) → Some first ≡ option_map (λ k. min k 18446744073709551615) o → Counted o first
+something_found None first e = absurd (none-some first (sym e))
+something_found (Some k) first e = record { scalar = k; is = refl; counted = same_Some first (min k 18446744073709551615) e }
+
+module _ (items : List Generation) (p : Place) (at : ℕ) (s : StandsAt (map generation_view items) p.generation at) (whole : p.position ≡ 0) (g : Generation) (here : slice_get items at ≡ Some g) where
+  pub leads_to : (first : ℕ) → Some first ≡ option_map (λ k. min k 18446744073709551615) (first_scalar (generation_view g).description p.offset p.description) → LeadsTo (map generation_view items) p (record { at = at; first = first })
+  leads_to first e =
+      let c = something_found (first_scalar (generation_view g).description p.offset p.description) first e in
+      record {
+        generation = generation_view g;
+        scalar = c.scalar;
+        stands = stands_in_view items at g here;
+        found = stored_one items p.generation at g s here;
+        first = rw whole c.is;
+        counted = c.counted;
+      }
+
+  pub leads_nowhere : None ≡ option_map (λ k. min k 18446744073709551615) (first_scalar (generation_view g).description p.offset p.description) → LeadsNowhere (map generation_view items) p
+  leads_nowhere e = record {
+    generation = generation_view g;
+    found = stored_one items p.generation at g s here;
+    nowhere = rw whole (nothing_found (first_scalar (generation_view g).description p.offset p.description) e);
+  }

@@ -1,0 +1,40 @@
+-- Values put into a generation of the store are put into what the store says.
+use Rattle.std.proofs.Common.{◌≡◌, ℕ, ◌+◌, List, [], ◌∷◌, ◌++◌, length, map, take, drop, set, get_or, Some, slice_get, refl, sym, ap, ◌∙◌}
+use Rattle.std.proofs.lemmas.List.{map-set, map-append, take-map, drop-map, length-map, set-get_or}
+use Rattle.std.proofs.lemmas.Option.{get_or_from_slice_get}
+use Rattle.pli_value.specs.Value.{Value, value_view}
+use Rattle.pli_value.specs.declared.value.Value as code
+use Rattle.pli_store.specs.Storage as plain
+use Rattle.pli_store.specs.Storage.{with_values_at}
+use Rattle.pli_store.specs.answers.Puts.{ValuesPut}
+use Rattle.pli_store.specs.declared.generation.Generation.{Generation}
+use Rattle.pli_store.specs.declared.part.Part.{Part}
+use Rattle.pli_store.specs.views.GenerationView.{generation_view}
+use Rattle.pli_store.proofs.Searches.{stands_in_view}
+
+-- what is put says what its values say
+pub put_says : (old new : List code.Value) (first : ℕ) (now : List code.Value) → now ≡ take first old ++ new ++ drop (first + length new) old → map value_view now ≡ with_values_at first (map value_view new) (map value_view old)
+put_says old new first now e =
+    let size = length-map new value_view in
+    ap (map value_view) e
+    ∙ map-append value_view (take first old ++ new) (drop (first + length new) old)
+    ∙ ap (λ l. l ++ map value_view (drop (first + length new) old)) (map-append value_view (take first old) new)
+    ∙ ap (λ l. l ++ map value_view new ++ map value_view (drop (first + length new) old)) (sym (take-map value_view first old))
+    ∙ ap (λ l. take first (map value_view old) ++ map value_view new ++ l) (sym (drop-map value_view (first + length new) old))
+    ∙ ap (λ n. take first (map value_view old) ++ map value_view new ++ drop (first + n) (map value_view old)) (sym size)
+
+set_same : {X : Type 0} (xs : List X) (i : ℕ) (x : X) → slice_get xs i ≡ Some x → set xs i x ≡ xs
+set_same xs i x h = ap (set xs i) (sym (get_or_from_slice_get xs i x x h)) ∙ set-get_or xs i x
+
+module _ (items : List Generation) (part : Part) (g changed : Generation) (here : slice_get items part.at ≡ Some g) where
+  pub values_put : (vs : List Value) → generation_view changed ≡ record (generation_view g) { values = with_values_at part.first vs (generation_view g).values } → ValuesPut (map generation_view items) (map generation_view (set items part.at changed)) part vs
+  values_put vs e = record {
+    generation = generation_view g;
+    stands = stands_in_view items part.at g here;
+    changed = map-set generation_view items part.at changed ∙ ap (set (map generation_view items) part.at) e;
+  }
+
+  pub nothing_put : generation_view changed ≡ generation_view g → map generation_view (set items part.at changed) ≡ map generation_view items
+  nothing_put e =
+      map-set generation_view items part.at changed ∙ ap (set (map generation_view items) part.at) e
+      ∙ set_same (map generation_view items) part.at (generation_view g) (stands_in_view items part.at g here)

@@ -1,0 +1,33 @@
+use Rattle.std.proofs.Common.{◌≡◌, ◌≤◌, ◌^◌, length, map, Some, slice_get, refl, sym, ap, ◌∙◌, arith}
+use Rattle.std.proofs.lemmas.Option.{slice_get_read}
+use Rattle.pli_store.specs.views.GenerationView.{generation_view}
+use Rattle.pli_store.specs.views.StorageView.{place_view}
+use Rattle.pli_store.proofs.Leading.{within_store, leads_too_far, leads_to, leads_nowhere}
+use Rattle.pli_store.proofs.storage.Storage.part.Goals as goal
+
+pub returns-in_default-try_from : goal.returns-in_default-try_from
+returns-in_default-try_from c =
+    let items = c.args.self.now.generations.items in
+    let counted = c.args.self.now.counted in
+    let limited = c.args.self.now.limited in
+    let far : 4294967296 ≤ c.args.place.offset = omega (arith, c.in_default-try_from.ensures) in
+    leads_too_far items (place_view c.args.place) c.in-Some.at c.in-Some.ensures (omega (arith, counted, limited)) refl far
+
+pub index-requires : goal.index-requires
+index-requires c =
+    let inside = within_store c.args.self.now.generations.items c.args.place.generation c.in-Some.at c.in-Some.ensures in
+    omega (arith, inside)
+
+pub returns-in-Some-first_scalar : goal.returns-in-Some-first_scalar
+returns-in-Some-first_scalar c =
+    let items = c.args.self.now.generations.items in
+    let inside = within_store items c.args.place.generation c.in-Some.at c.in-Some.ensures in
+    let here : slice_get items c.in-Some.at ≡ Some c.index.result.now = slice_get_read items (length items) c.in-Some.at c.index.result.now refl inside c.index.ensures in
+    leads_to items (place_view c.args.place) c.in-Some.at c.in-Some.ensures refl c.index.result.now here c.in-Some-first_scalar.first (rw (← c.in-Ok.ensures.1) c.in-Some-first_scalar.ensures)
+
+pub returns-in-None : goal.returns-in-None
+returns-in-None c =
+    let items = c.args.self.now.generations.items in
+    let inside = within_store items c.args.place.generation c.in-Some.at c.in-Some.ensures in
+    let here : slice_get items c.in-Some.at ≡ Some c.index.result.now = slice_get_read items (length items) c.in-Some.at c.index.result.now refl inside c.index.ensures in
+    leads_nowhere items (place_view c.args.place) c.in-Some.at c.in-Some.ensures refl c.index.result.now here (rw (← c.in-Ok.ensures.1) c.in-None.ensures)

@@ -1,0 +1,34 @@
+use Rattle.std.proofs.Common.{◌≡◌, ◌<◌, [], ◌∷◌, length, map, true, Some, slice_get, slice_index_or, get_or, refl, sym, ap, ◌∙◌, arith, rules}
+use Rattle.std.proofs.lemmas.Option.{slice_get-get_or}
+use Rattle.std.proofs.lemmas.Result.{err_from_is_err_and}
+use Rattle.pli_value.specs.Value.{value_view}
+use Rattle.pli_store.specs.World.{Yields}
+use Rattle.pli_store.specs.answers.Kept.{rise}
+use Rattle.pli_store.specs.views.GenerationView.{generation_view}
+use Rattle.pli_store.specs.views.StorageView.{place_view, storage_view, with_storage}
+use Rattle.pli_store.proofs.PartAnswers.{stored_failed, stored_misfit, stored_done, kept_after}
+use Rattle.pli_store.proofs.Searches.{slice_get_within_view}
+use Rattle.pli_store.proofs.storage.Storage.stored.Goals as goal
+
+pub returns-in_err-part-clause-answer : goal.returns-in_err-part-clause-answer
+returns-in_err-part-clause-answer c = λ w.
+    let p = err_from_is_err_and c.from_residual.result c.from_residual.ensures.1 in
+    rw (p.1, p.2) (stored_failed {T = Unit {0}} (λ x. tt) (place_view c.args.place) (value_view c.args.value) (with_storage c.args.self.now w) (with_storage c.args.self.now w) c.in_err-part.field-0.0 c.in_err-part.ensures)
+
+pub returns-then-not-holds-clause-answer : goal.returns-then-not-holds-clause-answer
+returns-then-not-holds-clause-answer c = λ w.
+    stored_misfit (place_view c.args.place) (with_storage c.args.self.now w) c.in_ok-part.part c.in_ok-part.ensures (value_view c.args.value) (sym c.if-not-holds.ensures)
+
+pub put_one-requires : goal.put_one-requires
+put_one-requires c = slice_get_within_view c.args.self.now.generations.items c.in_ok-part.part.at c.in_ok-part.ensures.generation c.in_ok-part.ensures.stands
+
+pub invariant_of-self : goal.invariant_of-self
+invariant_of-self c =
+    let old = storage_view c.args.self.now in
+    let new = map generation_view c.put_one.new.generations.items in
+    let kept = kept_after c.put_one.result old new c.in_ok-part.part (value_view c.args.value ∷ []) c.args.self.now.made c.args.self.now.rising c.put_one.ensures.ok c.put_one.ensures.err in
+    record { counted = c.args.self.now.counted ∙ sym kept.counted; limited = c.args.self.now.limited; rising = kept.rising }
+
+pub returns-clause-answer : goal.returns-clause-answer
+returns-clause-answer c = λ w.
+    stored_done c.args.self.now.generations.items (place_view c.args.place) (with_storage c.args.self.now w) refl c.in_ok-part.part c.in_ok-part.ensures (map generation_view c.put_one.new.generations.items) c.args.self.now.made c.args.self.now.rising (value_view c.args.value) (sym c.if-not-holds.ensures) c.in_ok-put_one.ensures.ok

@@ -1,0 +1,35 @@
+-- What look-ups of the program answer.
+use Rattle.std.specs.Prelude.{◌≡◌, ℕ, min, Option, Some, None, Result, Ok, Err, List, slice_get}
+use Rattle.pli_code.specs.declared.ending.RunError.{RunError}
+use Rattle.pli_code.specs.declared.ending.RunError.TheVariants.{DeadLocator}
+use Rattle.pli_store.specs.Storage.{Generation, Place, generation_in, scalar_at}
+use Rattle.pli_store.specs.declared.fault.StoreFault.{StoreFault}
+use Rattle.pli_store.specs.declared.fault.StoreFault.TheVariants.{Raised, NoRule, OutOfMemory}
+use Rattle.pli_store.specs.declared.part.Part.{Part}
+
+-- the generation of a number stands at this place in the list
+pub record StandsAt (gs : List Generation) (number at : ℕ) : Type 0 where
+  pub generation : Generation
+  pub stands : slice_get gs at ≡ Some generation
+  pub found : generation_in gs number ≡ Some generation
+
+-- a place leads to this generation, there to this scalar; 2^64 - 1 stands for every greater number
+pub record LeadsTo (gs : List Generation) (p : Place) (part : Part) : Type 0 where
+  pub generation : Generation
+  pub scalar : ℕ
+  pub stands : slice_get gs part.at ≡ Some generation
+  pub found : generation_in gs p.generation ≡ Some generation
+  pub first : scalar_at generation p ≡ Some scalar
+  pub counted : part.first ≡ min scalar 18446744073709551615
+
+-- a place leads to no part of its generation
+pub record LeadsNowhere (gs : List Generation) (p : Place) : Type 0 where
+  pub generation : Generation
+  pub found : generation_in gs p.generation ≡ Some generation
+  pub nowhere : scalar_at generation p ≡ None
+
+abbrev pub Leads : List Generation → Place → Result Part StoreFault → Type 0
+Leads gs p (Ok part) = LeadsTo gs p part
+Leads gs p (Err (Raised e)) = (e ≡ DeadLocator) × (generation_in gs p.generation ≡ None)
+Leads gs p (Err NoRule) = LeadsNowhere gs p
+Leads gs p (Err OutOfMemory) = ⊥
