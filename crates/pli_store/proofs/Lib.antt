@@ -1,4 +1,7 @@
+pub mod Copies
+pub mod Endings
 pub mod Leading
+pub mod Makings
 pub mod PartAnswers
 pub mod PutsSaid
 pub mod RisingNumbers

@@ -115,11 +115,11 @@ stored_nowhere p v w l = rw l.found (wrong_both (holds p.description v) _ (rw l.
 -- ---- a place that leads to a scalar
 
 module _ (p : Place) (w : World) (part : Part) (l : LeadsTo w.storage p part) where
-  parts_held_there : parts_held p w ≡ Yields (values_from l.scalar (scalars_in p.description) l.generation.values) w
+  pub parts_held_there : parts_held p w ≡ Yields (values_from l.scalar (scalars_in p.description) l.generation.values) w
   unfolding parts_held
   parts_held_there = rw l.found (rw l.first refl)
 
-  parts_stored_there : (vs : List Value) → parts_stored p vs w ≡ Yields tt (record w { storage = with_values w.storage p.generation (with_values_at l.scalar vs l.generation.values) })
+  pub parts_stored_there : (vs : List Value) → parts_stored p vs w ≡ Yields tt (record w { storage = with_values w.storage p.generation (with_values_at l.scalar vs l.generation.values) })
   unfolding parts_stored
   parts_stored_there vs = rw l.found (rw l.first refl)
 
@@ -161,7 +161,7 @@ stored_failed view p v w after OutOfMemory l = tt
 
 -- ---- what the store holds there
 
-few : (g : code_generation.Generation) → length (map value_view g.values.items) ≤ 18446744073709551615
+pub few : (g : code_generation.Generation) → length (map value_view g.values.items) ≤ 18446744073709551615
 few g =
     let whole = g.values.ok in
     let small = g.values.small in
@@ -173,7 +173,7 @@ module _ (items : List code_generation.Generation) (p : Place) (w : World) (e : 
     generation_is : l.generation ≡ generation_view g
     generation_is = same_Some l.generation (generation_view g) (sym l.stands ∙ ap (λ s. slice_get s part.at) e ∙ stands_in_view items part.at g here)
 
-    values_are : l.generation.values ≡ map value_view g.values.items
+    pub values_are : l.generation.values ≡ map value_view g.values.items
     values_are = ap (λ (x : Generation). x.values) generation_is
 
     pub few_values : length l.generation.values ≤ 18446744073709551615
@@ -190,7 +190,7 @@ module _ (items : List code_generation.Generation) (p : Place) (w : World) (e : 
 
 -- ---- what is put there
 
-number_found : (gs : List Generation) (number : ℕ) (g : Generation) → generation_in gs number ≡ Some g → g.number ≡ number
+pub number_found : (gs : List Generation) (number : ℕ) (g : Generation) → generation_in gs number ≡ Some g → g.number ≡ number
 number_found [] number g h = absurd (none-some g h)
 number_found (x ∷ gs) number g h = by (nat_eq x.number number) refl h (number_found gs number g)
   where
@@ -227,7 +227,7 @@ kept_after (Ok x) old new part vs to r put same_lists = record { rising = rise_p
 kept_after (Err x) old new part vs to r put same_lists = record { rising = subst (λ l. rise 0 l to ≡ true) (sym same_lists) r; counted = ap live_bytes same_lists }
 
 module _ (items : List code_generation.Generation) (p : Place) (w : World) (e : w.storage ≡ map generation_view items) (part : Part) (l : LeadsTo w.storage p part) where
-  few_there : length l.generation.values ≤ 18446744073709551615
+  pub few_there : length l.generation.values ≤ 18446744073709551615
   few_there =
       let found = stands_in_store items part.at l.generation (ap (λ s. slice_get s part.at) (sym e) ∙ l.stands) in
       few_values items p w e part l found.0 found.1

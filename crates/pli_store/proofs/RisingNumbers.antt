@@ -155,7 +155,7 @@ ended_at from (x ∷ gs) to (suc at) g r h =
 
 -- ---- some numbers end, and then others
 
-none_end : (gs : List Generation) → without [] gs ≡ gs
+pub none_end : (gs : List Generation) → without [] gs ≡ gs
 none_end [] = refl
 none_end (x ∷ gs) = ap (λ l. x ∷ l) (none_end gs)
 
@@ -168,3 +168,14 @@ without_append xs ys (g ∷ gs) =
     by true b p q rest = rest
     by false true p q rest = rw q rest
     by false false p q rest = rw q (ap (λ l. g ∷ l) rest)
+
+-- the first number ends after the others
+pub without_first : (n : ℕ) (ns : List ℕ) (gs : List Generation) → without (n ∷ ns) gs ≡ without (n ∷ []) (without ns gs)
+without_first n ns [] = refl
+without_first n ns (g ∷ gs) = by (nat_eq g.number n) (list_any (nat_eq g.number) ns) refl refl (without_first n ns gs)
+  where
+    by : (a b : Bool) → nat_eq g.number n ≡ a → list_any (nat_eq g.number) ns ≡ b → without (n ∷ ns) gs ≡ without (n ∷ []) (without ns gs) → cond (not (a || b)) (g ∷ without (n ∷ ns) gs) (without (n ∷ ns) gs) ≡ without (n ∷ []) (cond (not b) (g ∷ without ns gs) (without ns gs))
+    by true true p q rest = rest
+    by true false p q rest = rw p rest
+    by false true p q rest = rest
+    by false false p q rest = rw p (ap (λ l. g ∷ l) rest)

@@ -1,22 +1,30 @@
 //! Storage: the generations that live.
-ghost use Rattle.std.specs.Prelude.{◌≡◌, ◌≤◌, [], map, true, None, MatchOption, OnErr};
-ghost use Rattle.pli_store.specs.Storage.{generation_in, live_bytes};
-ghost use Rattle.pli_store.specs.World.{World, held, stored};
+ghost use Rattle.std.specs.Prelude.{◌≡◌, ◌≤◌, ◌++◌, ◌∷◌, [], map, true, None, MatchOption, MatchResult, OnErr};
+ghost use Rattle.pli_map.specs.views.DescriptionView.{description_view};
+ghost use Rattle.pli_store.specs.Storage.{generation_in, live_bytes, without};
+ghost use Rattle.pli_store.specs.World.{World, Yields, held, stored, copied, made_of, dummy_of, in_newest};
 ghost use Rattle.pli_store.specs.answers.Answered.{Answered};
 ghost use Rattle.pli_store.specs.answers.Found.{StandsAt, Leads};
 ghost use Rattle.pli_store.specs.answers.Kept.{rise};
-ghost use Rattle.pli_store.specs.views.GenerationView.{generation_view};
+ghost use Rattle.pli_store.specs.views.GenerationView.{generation_view, made_view};
 ghost use Rattle.pli_value.specs.Value.{value_view};
 
 use crate::fault::StoreFault;
-use crate::generation::Generation;
+use crate::generation::{Generation, Made};
 use crate::part::Part;
 use crate::place::Place;
-use crate::putting::put_one;
+use crate::putting::{put_many, put_one};
+use crate::values::{copy_values, one_value, values_from};
 use pli_code::RunError;
-use pli_map::{first_scalar, holds, is_scalar};
+use pli_map::{Description, far_size, first_scalar, holds, is_scalar, scalars_in};
 use pli_value::Value;
 use std::alloc::Global;
+
+/// How many bytes may live at once (own).
+const BYTE_LIMIT: u32 = 16_777_216;
+
+/// How many generations may ever be made (own).
+const GENERATION_LIMIT: u32 = 4_294_967_294;
 
 /// The generations that live, in the order in which they were made.
 #[derive(Drop)]
@@ -102,5 +110,127 @@ impl<'m> Storage<'m> {
         }
         put_one(&mut self.generations, part, value)?;
         Ok(())
+    }
+
+    /// What one place holds put at another of an equal description.
+    pub fn copied(
+        &mut self,
+        alloc: Global,
+        source: Place<'_>,
+        target: Place<'_>,
+    ) -> Result<(), StoreFault>
+        ensures answer { (w : World) → Answered (λ _. tt) result (with_storage self.old w) (with_storage self.new w)
+            (copied (place_view source.entry) (place_view target.entry) (with_storage self.old w)) }
+        ensures err { OnErr result (SameStorage self.old self.new) }
+    {
+        if !source.description.equals(target.description) {
+            return Err(StoreFault::NoRule);
+        }
+        let from = self.part(source)?;
+        let to = self.part(target)?;
+        let count = scalars_in(source.description);
+        let held = values_from(&self.generations[from.at].values, from.first, count);
+        let values = copy_values(alloc, held)?;
+        put_many(&mut self.generations, to, values)?;
+        Ok(())
+    }
+
+    /// A new generation, which begins with copies of these values. `StorageLimit` where too many were made, or too much
+    /// would live (own).
+    pub fn make(
+        &mut self,
+        alloc: Global,
+        description: &'m Description,
+        made: Made,
+        initial: &[Value],
+    ) -> Result<Place<'m>, StoreFault>
+        ensures answer { (w : World) → Answered place_view result (with_storage self.old w) (with_storage self.new w)
+            (made_of (description_view description.now) (made_view made) (map value_view initial.now)
+            (with_storage self.old w)) }
+        ensures err { OnErr result (SameStorage self.old self.new) }
+    {
+        let values = copy_values(alloc, initial)?;
+        self.make_of(description, made, values)
+    }
+
+    /// A new generation for a dummy argument, which the newest activation has to note among those that it prepares.
+    pub fn make_dummy(
+        &mut self,
+        alloc: Global,
+        description: &'m Description,
+        value: Value,
+    ) -> Result<Place<'m>, StoreFault>
+        ensures made { (w : World) → MatchResult result
+            (λ place. dummy_of (description_view description.now) (value_view value) (with_storage self.old w)
+            ≡ Yields (place_view place) (in_newest (λ a. record a { pending = a.pending ++ place.generation ∷ [] })
+            (with_storage self.new w)))
+            (λ _. Answered place_view result (with_storage self.old w) (with_storage self.new w)
+            (dummy_of (description_view description.now) (value_view value) (with_storage self.old w))) }
+        ensures err { OnErr result (SameStorage self.old self.new) }
+    {
+        if !holds(description, &value) {
+            return Err(StoreFault::NoRule);
+        }
+        let values = one_value(alloc, value)?;
+        self.make_of(description, Made::Dummy, values)
+    }
+
+    /// A new generation with these values.
+    fn make_of(
+        &mut self,
+        description: &'m Description,
+        made: Made,
+        values: Vec<Value>,
+    ) -> Result<Place<'m>, StoreFault>
+        ensures answer { (w : World) → Answered place_view result (with_storage self.old w) (with_storage self.new w)
+            (made_of (description_view description.now) (made_view made) (map value_view values.items)
+            (with_storage self.old w)) }
+        ensures err { OnErr result (SameStorage self.old self.new) }
+    {
+        let size = far_size(description);
+        let room = u64::from(BYTE_LIMIT - self.live);
+        if self.made >= GENERATION_LIMIT || size > room {
+            return Err(StoreFault::Raised(RunError::StorageLimit));
+        }
+        let place = Place {
+            generation: self.made,
+            offset: 0,
+            description,
+            hint: self.generations.len(),
+        };
+        let generation = Generation {
+            number: self.made,
+            description,
+            made,
+            values,
+        };
+        if self.generations.push(generation).is_err() {
+            return Err(StoreFault::OutOfMemory);
+        }
+        self.made += 1;
+        self.live += size as u32;
+        Ok(place)
+    }
+
+    /// The generations of these numbers end. Fast where the newest stand last among the numbers.
+    pub fn end(&mut self, numbers: &[u32])
+        ensures storage { storage_view self.new ≡ without numbers.now (storage_view self.old) }
+        ensures made { made_count self.new ≡ made_count self.old }
+    {
+        for at in (0..numbers.len()).rev() {
+            self.end_one(numbers[at]);
+        }
+    }
+
+    /// The generation of this number ends, if it lives.
+    fn end_one(&mut self, number: u32)
+        ensures storage { storage_view self.new ≡ without (number ∷ []) (storage_view self.old) }
+        ensures made { made_count self.new ≡ made_count self.old }
+    {
+        let last = self.generations.len().saturating_sub(1);
+        if let Some(at) = self.find(number, last) {
+            let ended = self.generations.remove(at);
+            self.live -= far_size(ended.description) as u32;
+        }
     }
 }

@@ -30,6 +30,15 @@ pub fn copy_values(alloc: Global, values: &[Value]) -> Result<Vec<Value>, AllocE
     Ok(copies)
 }
 
+/// A value alone.
+pub fn one_value(alloc: Global, value: Value) -> Result<Vec<Value>, AllocError>
+    ensures { IfOk result (λ values. values.items ≡ value ∷ []) }
+{
+    let mut values = Vec::new(alloc);
+    values.push(value)?;
+    Ok(values)
+}
+
 /// Puts a value in the place of the one of this number, or behind the last where there are not so many. Takes memory
 /// only there.
 pub fn put_value(values: &mut Vec<Value>, first: usize, value: Value) -> Result<(), AllocError>
