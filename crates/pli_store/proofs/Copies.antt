@@ -1,14 +1,13 @@
 -- What copying from place to place answers.
-use Rattle.std.proofs.Common.{◌≡◌, ℕ, ◌+◌, ◌-◌, ◌≤◌, true, false, List, [], ◌∷◌, ◌++◌, length, map, take, drop, min, Some, None, Ok, Err, slice_get, if◌then◌else◌, refl, sym, ap, ◌∙◌, subst, arith}
-use Rattle.std.proofs.lemmas.List.{take-map, drop-map, length-map, length-drop}
+use Rattle.std.proofs.Common.{◌≡◌, ℕ, ◌≤◌, true, false, List, length, map, take, drop, min, Some, Err, slice_get, refl, sym, ap, ◌∙◌, arith}
+use Rattle.std.proofs.lemmas.List.{take-map, drop-map, length-drop}
 use Rattle.pli_map.specs.Same.{same}
 use Rattle.pli_map.specs.Scalars.{scalars_in}
 use Rattle.pli_value.specs.Value.{Value, value_view}
-use Rattle.pli_value.specs.declared.value.Value as code
-use Rattle.pli_store.specs.Storage.{Generation, Place, generation_in, values_from}
-use Rattle.pli_store.specs.World.{World, Answer, Yields, Raises, Wrong, further, known, living, copied, parts_held, parts_stored}
+use Rattle.pli_store.specs.Storage.{Generation, Place, values_from}
+use Rattle.pli_store.specs.World.{World, Yields, Wrong, copied, parts_held, parts_stored}
 use Rattle.pli_store.specs.answers.Answered.{Answered}
-use Rattle.pli_store.specs.answers.Found.{LeadsTo, LeadsNowhere, Leads}
+use Rattle.pli_store.specs.answers.Found.{LeadsTo, Leads}
 use Rattle.pli_store.specs.answers.Kept.{rise}
 use Rattle.pli_store.specs.answers.Puts.{ValuesPut}
 use Rattle.pli_store.specs.declared.fault.StoreFault.{StoreFault}

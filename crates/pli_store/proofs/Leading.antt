@@ -1,5 +1,5 @@
 -- Where places lead.
-use Rattle.std.proofs.Common.{◌≡◌, ℕ, ◌+◌, ◌<◌, ◌≤◌, List, length, map, min, Option, Some, None, slice_get, refl, sym, ap, ◌∙◌, arith}
+use Rattle.std.proofs.Common.{◌≡◌, ℕ, ◌<◌, ◌≤◌, List, length, map, min, Option, Some, None, slice_get, refl, sym, ◌∙◌, arith}
 use Rattle.std.specs.Option.{option_map}
 use Rattle.std.proofs.lemmas.Option.{slice_get_within, same_Some, none-some}
 use Rattle.std.proofs.lemmas.List.{length-map}
@@ -7,8 +7,7 @@ use Rattle.pli_map.specs.Description.{Description}
 use Rattle.pli_map.specs.Scalars.{first_scalar}
 use Rattle.pli_map.specs.Sizes.{size_of}
 use Rattle.pli_map.proofs.ScalarLawsHold.{scalars_lie_within}
-use Rattle.pli_store.specs.Storage as plain
-use Rattle.pli_store.specs.Storage.{Place, generation_in, scalar_at, live_bytes}
+use Rattle.pli_store.specs.Storage.{Place, generation_in, live_bytes}
 use Rattle.pli_store.specs.answers.Found.{StandsAt, LeadsTo, LeadsNowhere}
 use Rattle.pli_store.specs.declared.generation.Generation.{Generation}
 use Rattle.pli_store.specs.views.GenerationView.{generation_view}

@@ -1,14 +1,13 @@
 -- What new generations answer, and what they leave.
-use Rattle.std.proofs.Common.{◌≡◌, ℕ, suc, ◌+◌, ◌<◌, ◌≤◌, ◌⊎◌, Bool, true, false, ◌&&◌, nat_lt, nat_le, List, [], ◌∷◌, ◌++◌, map, Result, Ok, Err, MatchResult, refl, sym, ap, ◌∙◌, subst, arith, inl, inr}
+use Rattle.std.proofs.Common.{◌≡◌, suc, ◌+◌, ◌<◌, ◌≤◌, Bool, true, false, ◌&&◌, nat_lt, nat_le, List, [], ◌∷◌, ◌++◌, Result, Ok, Err, MatchResult, refl, arith}
 use Rattle.std.proofs.lemmas.Bool.{le-leb, lt-leb}
 use Rattle.pli_code.specs.declared.ending.RunError.TheVariants.{StorageLimit}
 use Rattle.pli_map.specs.Description.{Description}
 use Rattle.pli_map.specs.Sizes.{size_of}
 use Rattle.pli_map.specs.Values.{holds}
 use Rattle.pli_value.specs.Value.{Value}
-use Rattle.pli_store.specs.Activations.{Activation}
-use Rattle.pli_store.specs.Storage.{Generation, Made, Dummy, Place, whole, live_bytes}
-use Rattle.pli_store.specs.World.{World, Answer, Yields, Raises, Wrong, further, made_of, dummy_of, in_newest}
+use Rattle.pli_store.specs.Storage.{Made, Dummy, Place, whole, live_bytes}
+use Rattle.pli_store.specs.World.{World, Yields, Raises, Wrong, made_of, dummy_of, in_newest}
 use Rattle.pli_store.specs.answers.Answered.{Answered}
 use Rattle.pli_store.specs.declared.fault.StoreFault.{StoreFault}
 use Rattle.pli_store.specs.declared.fault.StoreFault.TheVariants.{Raised, NoRule, OutOfMemory}

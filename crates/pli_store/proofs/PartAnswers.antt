@@ -1,18 +1,17 @@
 -- What operations on a place answer where it leads to a scalar, where it leads nowhere, and where it is dead.
-use Rattle.std.proofs.Common.{◌≡◌, ℕ, suc, ◌+◌, ◌<◌, ◌≤◌, Bool, true, false, nat_eq, List, [], ◌∷◌, ◌++◌, length, map, take, drop, set, get_or, min, leb, Option, Some, None, Result, Ok, Err, OnOk, OnErr, slice_get, if◌then◌else◌, refl, sym, ap, ◌∙◌, subst, arith, add-one}
+use Rattle.std.proofs.Common.{◌≡◌, ℕ, ◌+◌, ◌≤◌, Bool, true, false, nat_eq, List, [], ◌∷◌, length, map, take, drop, set, min, leb, Some, None, Result, Ok, Err, OnOk, OnErr, slice_get, if◌then◌else◌, refl, sym, ap, ◌∙◌, subst, arith}
 use Rattle.std.specs.Option.{option_map}
 use Rattle.std.proofs.lemmas.Bool.{leb-true, leb-false, eqb-true}
-use Rattle.std.proofs.lemmas.List.{take_all, drop_all, drop-map, length-map, drop_more}
+use Rattle.std.proofs.lemmas.List.{take_all, drop_all, length-map, drop_more}
 use Rattle.std.proofs.lemmas.Option.{same_Some, none-some, slice_get_within, slice_get-map, get_or_from_slice_get}
 use Rattle.pli_code.specs.declared.ending.RunError.TheVariants.{DeadLocator}
 use Rattle.pli_map.specs.Description.{Description, FixedBinary, Character, Varying, Bit, Pointer, Offset, Area, Array, Structure}
-use Rattle.pli_map.specs.Same.{same}
 use Rattle.pli_map.specs.Scalars.{is_scalar, scalars_in}
 use Rattle.pli_map.specs.Values.{holds}
 use Rattle.pli_value.specs.Value.{Value, value_view}
 use Rattle.pli_value.specs.declared.value.Value as code
-use Rattle.pli_store.specs.Storage.{Generation, Place, generation_in, scalar_at, values_from, with_values, with_values_at, live_bytes}
-use Rattle.pli_store.specs.World.{World, Answer, Yields, Raises, Wrong, further, known, living, unless_dead, single, held, stored, copied, parts_held, parts_stored}
+use Rattle.pli_store.specs.Storage.{Generation, Place, generation_in, values_from, with_values, with_values_at, live_bytes}
+use Rattle.pli_store.specs.World.{World, Answer, Yields, Raises, Wrong, held, stored, parts_held, parts_stored}
 use Rattle.pli_store.specs.answers.Answered.{Answered}
 use Rattle.pli_store.specs.answers.Found.{LeadsTo, LeadsNowhere, Leads}
 use Rattle.pli_store.specs.answers.Kept.{rise}

@@ -1,10 +1,9 @@
 -- Values put into a generation of the store are put into what the store says.
-use Rattle.std.proofs.Common.{◌≡◌, ℕ, ◌+◌, List, [], ◌∷◌, ◌++◌, length, map, take, drop, set, get_or, Some, slice_get, refl, sym, ap, ◌∙◌}
+use Rattle.std.proofs.Common.{◌≡◌, ℕ, ◌+◌, List, ◌++◌, length, map, take, drop, set, Some, slice_get, sym, ap, ◌∙◌}
 use Rattle.std.proofs.lemmas.List.{map-set, map-append, take-map, drop-map, length-map, set-get_or}
 use Rattle.std.proofs.lemmas.Option.{get_or_from_slice_get}
 use Rattle.pli_value.specs.Value.{Value, value_view}
 use Rattle.pli_value.specs.declared.value.Value as code
-use Rattle.pli_store.specs.Storage as plain
 use Rattle.pli_store.specs.Storage.{with_values_at}
 use Rattle.pli_store.specs.answers.Puts.{ValuesPut}
 use Rattle.pli_store.specs.declared.generation.Generation.{Generation}

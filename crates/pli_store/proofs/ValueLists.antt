@@ -1,7 +1,7 @@
 -- Values put into a list in the place of others.
-use Rattle.std.proofs.Common.{◌≡◌, ℕ, suc, Bool, true, false, leb, ◌+◌, ◌<◌, ◌≤◌, List, [], ◌∷◌, ◌++◌, length, take, drop, set, get_or, refl, sym, ap, ◌∙◌, arith, min, add-one}
+use Rattle.std.proofs.Common.{◌≡◌, ℕ, Bool, true, false, leb, ◌+◌, ◌<◌, ◌≤◌, List, [], ◌∷◌, ◌++◌, length, take, drop, set, get_or, refl, sym, ap, ◌∙◌, arith, min, add-one}
 use Rattle.std.proofs.lemmas.Bool.{leb-true, leb-false}
-use Rattle.std.proofs.lemmas.List.{append_assoc, append-nil, set_split, set_at, take_more, take_all, drop_all, length-take-le, length-append, append_cancel_left, take_min, take-append-drop}
+use Rattle.std.proofs.lemmas.List.{append_assoc, append-nil, set_split, set_at, take_more, take_all, drop_all, length-take-le, length-append, take_min, take-append-drop}
 
 -- one value
 pub put_is : {X : Type 0} (xs : List X) (i : ℕ) (v : X) → i < length xs → set xs i v ≡ take i xs ++ v ∷ [] ++ drop (i + 1) xs

@@ -1,4 +1,4 @@
-use Rattle.std.proofs.Common.{◌≡◌, List, [], ◌∷◌, length, map, Some, slice_get, refl, ap}
+use Rattle.std.proofs.Common.{◌≡◌, List, length, map, Some, slice_get, refl, ap}
 use Rattle.std.proofs.lemmas.Option.{slice_get_read}
 use Rattle.std.proofs.lemmas.Result.{on_ok_weaker, on_err_weaker}
 use Rattle.pli_store.specs.declared.generation.Generation.{Generation}

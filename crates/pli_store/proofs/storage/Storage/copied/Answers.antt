@@ -1,4 +1,4 @@
-use Rattle.std.proofs.Common.{◌≡◌, ◌<◌, [], ◌∷◌, length, map, true, false, Some, slice_get, refl, sym, ap, ◌∙◌, arith, take, drop}
+use Rattle.std.proofs.Common.{◌≡◌, length, map, Some, slice_get, refl, sym, ap, ◌∙◌, arith, take, drop}
 use Rattle.std.proofs.lemmas.Bool.Decides.{same_from_decides}
 use Rattle.std.proofs.lemmas.Option.{slice_get_read}
 use Rattle.std.proofs.lemmas.Result.{err_from_is_err_and}

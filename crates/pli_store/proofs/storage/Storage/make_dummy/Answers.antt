@@ -1,4 +1,4 @@
-use Rattle.std.proofs.Common.{◌≡◌, [], ◌∷◌, List, map, refl, sym, ap, ◌∙◌, subst}
+use Rattle.std.proofs.Common.{List, map, sym, subst}
 use Rattle.pli_map.specs.views.DescriptionView.{description_view}
 use Rattle.pli_value.specs.Value.{value_view}
 use Rattle.pli_value.specs.declared.value.Value as code

@@ -1,9 +1,6 @@
-use Rattle.std.proofs.Common.{◌≡◌, ◌<◌, [], ◌∷◌, length, map, true, Some, slice_get, slice_index_or, get_or, refl, sym, ap, ◌∙◌, arith, rules}
-use Rattle.std.proofs.lemmas.Option.{slice_get-get_or}
+use Rattle.std.proofs.Common.{[], ◌∷◌, map, refl, sym, ◌∙◌}
 use Rattle.std.proofs.lemmas.Result.{err_from_is_err_and}
 use Rattle.pli_value.specs.Value.{value_view}
-use Rattle.pli_store.specs.World.{Yields}
-use Rattle.pli_store.specs.answers.Kept.{rise}
 use Rattle.pli_store.specs.views.GenerationView.{generation_view}
 use Rattle.pli_store.specs.views.StorageView.{place_view, storage_view, with_storage}
 use Rattle.pli_store.proofs.PartAnswers.{stored_failed, stored_misfit, stored_done, kept_after}
