@@ -1,1 +1,6 @@
+pub mod Meant
+pub mod Numbered
+pub mod OwnVariables
+pub mod Seen
+pub mod UnitNaming
 pub mod views

@@ -1,1 +1,3 @@
+pub mod MeaningView
 pub mod NameView
+pub mod VariableView

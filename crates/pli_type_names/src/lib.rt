@@ -2,7 +2,14 @@
 #![tactic(auto)]
 
 mod descriptions;
+mod meanings;
+mod naming;
+mod own_variable;
+mod own_variables;
 mod part;
+mod unit_symbols;
 
 pub use descriptions::{GREATEST, is_plain, is_stored};
+pub use naming::{NamedAs, NamedVariable, Naming, name_unit};
 pub use part::StridedPart;
+pub use unit_symbols::symbols;

@@ -1,0 +1,58 @@
+-- Symbols with their numbers.
+use Rattle.std.proofs.Common.{◌≡◌, ℕ, zero, suc, ◌+◌, ◌<◌, Some, None, List, [], ◌∷◌, ◌++◌, take, drop, length, map, option_map, slice_get, get_or}
+use Rattle.std.proofs.Common.{refl, ap, sym, ◌∙◌, arith}
+use Rattle.std.specs.Option.{unwrap_or}
+use Rattle.std.proofs.lemmas.Option.{none-some, same_Some}
+use Rattle.std.proofs.lemmas.List.{at_drop_more, map-append}
+use Rattle.pli_resolve.specs.Symbols.{Symbol}
+use Rattle.pli_resolve.specs.declared.symbol.Symbol as program
+use Rattle.pli_resolve.specs.views.SymbolView.{symbol_view}
+use Rattle.pli_type_names.proofs.Strides.{one_more}
+use Rattle.pli_type_names.specs.Numbered.{each_from}
+
+-- what the symbol of a number gives
+pub each_get : {A : Type 0} (f : ℕ → Symbol → A) (ss : List Symbol) (from i number : ℕ) (d : A) → from + i ≡ number
+    → get_or (each_from f from ss) i d ≡ unwrap_or (option_map (f number) (slice_get ss i)) d
+each_get f [] from i number d e = refl
+each_get f (s ∷ ss) from zero number d e =
+    let same : from ≡ number = omega (arith, e) in
+    ap (λ n. f n s) same
+each_get f (s ∷ ss) from (suc i) number d e = each_get f ss (from + 1) i number d (omega (arith, e))
+
+-- a list of which nothing stands at a number is what stands before it
+pub take_whole : {A : Type 0} (xs : List A) (n : ℕ) → slice_get xs n ≡ None → take n xs ≡ xs
+take_whole [] zero e = refl
+take_whole [] (suc n) e = refl
+take_whole (x ∷ xs) zero e = absurd (cc)
+take_whole (x ∷ xs) (suc n) e = ap (λ ys. x ∷ ys) (take_whole xs n e)
+
+take_next : {A : Type 0} (xs : List A) (n : ℕ) (x : A) → slice_get xs n ≡ Some x → take (suc n) xs ≡ take n xs ++ x ∷ []
+take_next [] n x e = absurd (none-some x e)
+take_next (y ∷ xs) zero x e = ap (λ z. z ∷ []) (same_Some y x e)
+take_next (y ∷ xs) (suc n) x e = ap (λ ys. y ∷ ys) (take_next xs n x e)
+
+pub take_one_more : {A : Type 0} (xs : List A) (n : ℕ) (x : A) → slice_get xs n ≡ Some x → take (n + 1) xs ≡ take n xs ++ x ∷ []
+take_one_more xs n x e =
+    let next : n + 1 ≡ suc n = omega arith in
+    ap (λ k. take k xs) next ∙ take_next xs n x e
+
+-- one symbol more of the program
+pub symbols_more : (all : List Symbol) (n : ℕ) (made : List program.Symbol) (s : program.Symbol) → map symbol_view made ≡ take n all
+    → Some (symbol_view s) ≡ slice_get all n → map symbol_view (made ++ s ∷ []) ≡ take (n + 1) all
+symbols_more all n made s e found =
+    map-append symbol_view made (s ∷ []) ∙ ap (λ xs. xs ++ symbol_view s ∷ []) e
+    ∙ sym (take_one_more all n (symbol_view s) (sym found))
+
+-- what one symbol more gives stands behind what those before it give
+pub numbered_more : {A B : Type 0} (view : B → A) (f : ℕ → Symbol → A) (ss : List program.Symbol) (n : ℕ) (d : program.Symbol) (made : List B)
+    (x : B) (all : List A) → n < length ss → view x ≡ f n (symbol_view (get_or ss n d))
+    → map view made ++ each_from f n (map symbol_view (drop n ss)) ≡ all
+    → map view (made ++ x ∷ []) ++ each_from f (n + 1) (map symbol_view (drop (n + 1) ss)) ≡ all
+numbered_more view f ss n d made x all h is e =
+    let rest = each_from f (n + 1) (map symbol_view (drop (n + 1) ss)) in
+    let step : each_from f n (map symbol_view (drop n ss)) ≡ f n (symbol_view (get_or ss n d)) ∷ rest =
+    at_drop_more (λ xs. each_from f n (map symbol_view xs)) ss n d h in
+    one_more view made x rest
+    ∙ ap (λ y. map view made ++ (y ∷ rest)) is
+    ∙ ap (λ ys. map view made ++ ys) (sym step)
+    ∙ e

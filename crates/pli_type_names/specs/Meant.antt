@@ -1,0 +1,29 @@
+-- What the answers about names say.
+use Rattle.std.specs.Prelude.{◌≡◌, ℕ, Bool, true, false, List, [], ◌∷◌, option_map}
+use Rattle.pli_type.specs.Names as plain
+use Rattle.pli_type.specs.References.{part_of}
+use Rattle.pli_type_tree.specs.views.TypedView.{root_view}
+use Rattle.pli_type_names.specs.declared.naming.NamedAs.{NamedAs}
+use Rattle.pli_type_names.specs.declared.naming.NamedAs.TheVariants as answers
+use Rattle.pli_type_names.specs.declared.naming.NamedVariable.{NamedVariable}
+use Rattle.pli_type_names.specs.views.NameView.{part_view}
+
+-- members stand on the way to a name
+abbrev pub is_way : (path : List ℕ) → Bool
+is_way [] = false
+is_way (i ∷ path) = true
+
+-- a variable: where it begins, whether it is a member, and which part it is
+abbrev pub IsVariable : NamedVariable → plain.NamedVariable → Type 0
+IsVariable v w =
+    (root_view v.root ≡ w.root)
+    × (v.is_member ≡ is_way w.path)
+    × (option_map part_view v.part ≡ part_of w)
+
+-- a name means this
+abbrev pub IsMeantAs : NamedAs → plain.NamedAs → Type 0
+IsMeantAs (answers.Variable v) (plain.AVariable w) = IsVariable v.now w
+IsMeantAs (answers.Function f) (plain.AFunction g) = f ≡ g
+IsMeantAs answers.Procedure plain.AProcedure = Unit {0}
+IsMeantAs answers.Label plain.ALabel = Unit {0}
+IsMeantAs answer meant = ⊥
