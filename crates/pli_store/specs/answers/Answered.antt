@@ -6,8 +6,8 @@ use Rattle.pli_store.specs.declared.fault.StoreFault.TheVariants.{Raised, NoRule
 
 -- what the definition gives in a world: a result, seen so, in the world behind, or an error or nothing in the
 -- world before; memory may be refused at any time
-abbrev pub Answered : {T A : Type 0} → (view : T → A) → Result T StoreFault → (before after : World) → Answer A
-    → Type 0
+abbrev pub Answered : {T A : Type 0} → (view : T → A) → Result T StoreFault → (before after : World)
+    → Answer A → Type 0
 Answered view (Ok x) before after answer = answer ≡ Yields (view x) after
 Answered view (Err (Raised e)) before after answer = answer ≡ Raises e before
 Answered view (Err NoRule) before after answer = answer ≡ Wrong
