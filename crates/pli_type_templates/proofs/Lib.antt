@@ -1,0 +1,7 @@
+pub mod GroupsMade
+pub mod MembersFound
+pub mod NumbersMade
+pub mod PlansMade
+pub mod ScalarsPlanned
+pub mod SymbolsTaken
+pub mod ValuesWritten

@@ -1,0 +1,7 @@
+use Rattle.std.proofs.Common.{◌≡◌, false, get_or}
+use Rattle.pli_value.proofs.Loops.{tabulated}
+use Rattle.pli_type_templates.proofs.values.fit_bits.Given as goal
+
+-- so far there are the bits at so many places
+abbrev pub invariant-loop-place : goal.invariant-loop-place
+invariant-loop-place l = l.new ≡ tabulated (λ k. get_or l.bits k false) l.place

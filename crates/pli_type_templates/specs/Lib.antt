@@ -1,0 +1,4 @@
+pub mod Groups
+pub mod Items
+pub mod Plans
+pub mod views

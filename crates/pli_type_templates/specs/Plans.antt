@@ -1,0 +1,81 @@
+-- Plans: where the scalars of a description stand, so that those of a member are found without a look at the
+-- members before it.
+use Rattle.std.specs.Prelude.{ℕ, zero, suc, ◌+◌, Option, Some, None, List, [], ◌∷◌, map}
+use Rattle.std.specs.List.{flat_map}
+use Rattle.pli_map.specs.Description.{Description, Array, Structure, Members, NoMembers, MemberThen}
+use Rattle.pli_map.specs.Scalars.{scalars_in}
+use Rattle.pli_map.specs.Sizes.{count_of}
+use Rattle.pli_type.specs.InitialScalars.{NumberedScalar, counted_from}
+use Rattle.pli_type_templates.specs.declared.plan.Level.{Level}
+
+-- a scalar, and its number where all subscripts above it are the lowest
+pub record Leaf : Type 0 where
+  pub first : ℕ
+  pub description : Description
+
+-- a scalar; an array, by how many elements it has and how many scalars each of them; a structure
+mutual
+  pub data Plan : Type 0 where
+    OfScalar : (leaf : Leaf) → Plan
+    OfArray : (level : Level) (element : Plan) → Plan
+    OfStructure : (members : Plans) → Plan
+
+  pub data Plans : Type 0 where
+    NoPlans : Plans
+    PlanThen : (first : Plan) (others : Plans) → Plans
+
+-- the plan of a description whose first scalar has this number
+abbrev mutual
+  pub plan_from : (first : ℕ) → Description → Plan
+  plan_from first (Array bounds element) =
+      OfArray (record { count = count_of bounds; distance = scalars_in element }) (plan_from first element)
+  plan_from first (Structure ds) = OfStructure (plans_from first ds)
+  plan_from first scalar = OfScalar (record { first = first; description = scalar })
+
+  pub plans_from : (first : ℕ) → Members → Plans
+  plans_from first NoMembers = NoPlans
+  plans_from first (MemberThen d ds) = PlanThen (plan_from first d) (plans_from (first + scalars_in d) ds)
+
+-- what the members on a way lead to, if to a scalar or to an array of scalars
+abbrev mutual
+  pub leaf_in : Plan → (path : List ℕ) → Option Leaf
+  leaf_in (OfScalar leaf) path = Some leaf
+  leaf_in (OfArray level element) path = leaf_in element path
+  leaf_in (OfStructure ps) [] = None
+  leaf_in (OfStructure ps) (i ∷ path) = leaf_in_member ps i path
+
+  pub leaf_in_member : Plans → (number : ℕ) → (path : List ℕ) → Option Leaf
+  leaf_in_member NoPlans i path = None
+  leaf_in_member (PlanThen p ps) zero path = leaf_in p path
+  leaf_in_member (PlanThen p ps) (suc i) path = leaf_in_member ps i path
+
+-- the arrays on this way, the outermost first
+abbrev mutual
+  pub levels_in : Plan → (path : List ℕ) → List Level
+  levels_in (OfScalar leaf) path = []
+  levels_in (OfArray level element) path = level ∷ levels_in element path
+  levels_in (OfStructure ps) [] = []
+  levels_in (OfStructure ps) (i ∷ path) = levels_in_member ps i path
+
+  pub levels_in_member : Plans → (number : ℕ) → (path : List ℕ) → List Level
+  levels_in_member NoPlans i path = []
+  levels_in_member (PlanThen p ps) zero path = levels_in p path
+  levels_in_member (PlanThen p ps) (suc i) path = levels_in_member ps i path
+
+-- the number of a scalar for each element of the arrays above it, in row-major order
+abbrev pub spread : List Level → (first : ℕ) → List ℕ
+spread [] first = first ∷ []
+spread (l ∷ ls) first = flat_map (spread ls) (counted_from first l.distance l.count)
+
+-- scalars of these numbers, each of this description
+abbrev pub numbered_as : Description → List ℕ → List NumberedScalar
+numbered_as d ns = map (λ n. record { scalar = n; description = d }) ns
+
+-- the scalars of a leaf under these arrays, the numbers of all being so much greater
+abbrev pub numbered : Option Leaf → List Level → (base : ℕ) → List NumberedScalar
+numbered None levels base = []
+numbered (Some leaf) levels base = numbered_as leaf.description (spread levels (base + leaf.first))
+
+-- the scalars of an item on this way
+abbrev pub scalars_planned : Plan → (path : List ℕ) → List NumberedScalar
+scalars_planned p path = numbered (leaf_in p path) (levels_in p path) 0

@@ -1,0 +1,2 @@
+pub mod ItemView
+pub mod PlanView

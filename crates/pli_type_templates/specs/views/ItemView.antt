@@ -1,0 +1,25 @@
+-- What items with INITIAL say, apart from where they lie in memory.
+use Rattle.std.specs.Global.{Global}
+use Rattle.std.specs.Prelude.{List, Vec, map}
+use Rattle.pli_map.specs.views.DescriptionView.{description_view}
+use Rattle.pli_type.specs.InitialScalars.{InitialItem}
+use Rattle.pli_type_templates.specs.Groups as plain
+use Rattle.pli_type_templates.specs.declared.groups.Made.{Made}
+use Rattle.pli_type_templates.specs.declared.items.Item.{Item}
+use Rattle.pli_type_templates.specs.declared.members.Owned.{Owned}
+
+abbrev pub item_view : Item → InitialItem
+item_view i = record { path = i.path.now; values = i.values.now }
+
+abbrev pub items_view : List Item → List InitialItem
+items_view is = map item_view is
+
+-- the items of each of many
+abbrev pub rows_view : List (Vec Item Global) → List (List InitialItem)
+rows_view rows = map (λ v. items_view v.items) rows
+
+abbrev pub owned_view : Owned → plain.Owned
+owned_view o = record { root = o.root; item = item_view o.item }
+
+abbrev pub made_view : Made → plain.Made
+made_view m = record { description = description_view m.description.now; values = m.values.now }

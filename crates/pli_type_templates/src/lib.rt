@@ -1,0 +1,13 @@
+//! What the variables of a resolved unit are made from: their descriptions, and their initial values.
+#![tactic(auto)]
+
+mod groups;
+mod items;
+mod members;
+mod numbers;
+mod plan;
+mod unit_symbols;
+mod unit_templates;
+mod values;
+
+pub use unit_templates::{UnitTemplates, templates};

@@ -1,0 +1,184 @@
+//! Values in INITIAL, as scalars hold them.
+ghost use Rattle.std.specs.Prelude.{◌≡◌, ◌++◌, IfOk, get_or, length, option_map, false};
+ghost use Rattle.std.specs.Option.{unwrap_or};
+ghost use Rattle.pli_map.specs.Values.{first_value};
+ghost use Rattle.pli_map.specs.views.DescriptionView.{description_view};
+ghost use Rattle.pli_type.specs.InitialScalars.{as_held, signed, values_written};
+ghost use Rattle.pli_type_templates.specs.Items.{elements_of, value_of};
+ghost use Rattle.pli_value.specs.Strings.{fitted};
+ghost use Rattle.pli_value.specs.Value as plain;
+ghost use Rattle.pli_value.specs.Value.{value_view};
+
+use pli_base::declaration::{InitialValue, Integer};
+use pli_map::{Description, holds};
+use pli_value::bit::Bits;
+use pli_value::{Value, character};
+use std::alloc::{AllocError, Global};
+
+/// How many bits a string has at most.
+const BIT_LIMIT: usize = 32_767;
+
+/// For how many elements a value in INITIAL stands; null stands for none.
+pub(crate) fn elements(written: &InitialValue) -> u32
+    ensures { result ≡ elements_of written.now }
+{
+    match written {
+        InitialValue::Integer { factor, .. } => factor.unwrap_or(1),
+        InitialValue::Characters(_) | InitialValue::Bits(_) => 1,
+        InitialValue::Null => 0,
+    }
+}
+
+/// For how many elements the values in INITIAL stand. Want of memory where they are more than `usize::MAX`.
+pub(crate) fn elements_written(values: &[InitialValue]) -> Result<usize, AllocError>
+    ensures { IfOk result (λ count. count ≡ length (values_written values.now)) }
+{
+    let mut count: usize = 0;
+    for written in values {
+        count = count
+            .checked_add(elements(written) as usize)
+            .ok_or(AllocError)?;
+    }
+    Ok(count)
+}
+
+/// The number that an integer spells.
+fn signed(integer: Integer) -> i64
+    ensures { result ≡ signed integer }
+{
+    if integer.negative {
+        -i64::from(integer.value)
+    } else {
+        i64::from(integer.value)
+    }
+}
+
+/// The bit at a place, counted from 0; 0 behind the end.
+fn bit_at(bits: &[bool], place: usize) -> bool
+    ensures { result ≡ get_or bits.now place false }
+{
+    bits.get(place).copied().unwrap_or(false)
+}
+
+/// A string of bits assigned to BIT of so many: cut on the right, or extended there with zeros (X3.74). Want of memory
+/// where they are more than the language has.
+fn fit_bits(alloc: Global, bits: &[bool], size: usize) -> Result<Bits, AllocError>
+    ensures { IfOk result (λ new. new ≡ fitted false size bits.now) }
+{
+    if size > BIT_LIMIT {
+        return Err(AllocError);
+    }
+    let mut new = Bits::new(alloc);
+    for place in 0..size {
+        new.push(bit_at(bits, place))?;
+    }
+    Ok(new)
+}
+
+/// A string of bits as it is written. Want of memory for more bits than the language has.
+#[tactic(auto, using(crate::proofs::ValuesWritten::fitted_whole))]
+fn whole_bits(alloc: Global, bits: &[bool]) -> Result<Value, AllocError>
+    ensures { IfOk result (λ value. value_view value ≡ plain.Bits bits.now) }
+{
+    let copied = fit_bits(alloc, bits, bits.len())?;
+    Ok(Value::Bits(copied))
+}
+
+/// The value with which a scalar begins that has no initial value: zero, blanks, the empty string, or zero bits (own).
+fn first_value(alloc: Global, description: &Description) -> Result<Option<Value>, AllocError>
+    ensures { IfOk result (λ value. option_map value_view value ≡ first_value (description_view description.now)) }
+{
+    match description {
+        Description::FixedBinary(_) => Ok(Some(Value::Number(0))),
+        Description::Character(length) => {
+            let blanks = vec![in alloc; b' '; usize::from(*length)]?;
+            Ok(Some(Value::Characters(blanks)))
+        }
+        Description::Varying(_) => Ok(Some(Value::Characters(Vec::new(alloc)))),
+        Description::Bit(length) => {
+            let zeros = fit_bits(alloc, &[], usize::from(*length))?;
+            Ok(Some(Value::Bits(zeros)))
+        }
+        _ => Ok(None),
+    }
+}
+
+/// What stands in a scalar that a value does not suit: the value with which it begins.
+fn unsuited(alloc: Global, description: &Description, value: Value) -> Result<Value, AllocError>
+    ensures { IfOk result (λ held. value_view held ≡ unwrap_or (first_value (description_view description.now)) (value_view value)) }
+{
+    match first_value(alloc, description)? {
+        Some(first) => Ok(first),
+        None => Ok(value),
+    }
+}
+
+/// A number as a scalar holds it: itself, where it is within the precision (X3.74).
+fn held_number(alloc: Global, description: &Description, number: i64) -> Result<Value, AllocError>
+    ensures { IfOk result (λ held. value_view held ≡ as_held (description_view description.now) (plain.Number number)) }
+{
+    let value = Value::Number(number);
+    if holds(description, &value) {
+        Ok(value)
+    } else {
+        unsuited(alloc, description, value)
+    }
+}
+
+/// Characters as a scalar holds them: cut on the right, or extended there with blanks (X3.74).
+fn held_characters(
+    alloc: Global,
+    description: &Description,
+    text: &[u8],
+) -> Result<Value, AllocError>
+    ensures { IfOk result (λ held. value_view held ≡ as_held (description_view description.now) (plain.Characters text.now)) }
+{
+    match description {
+        Description::Character(length) => {
+            let fitted = character::fit(alloc, text, usize::from(*length))?;
+            Ok(Value::Characters(fitted))
+        }
+        Description::Varying(length) => {
+            let fitted = character::fit_varying(text, usize::from(*length));
+            Ok(Value::Characters(Vec::from_slice(alloc, fitted)?))
+        }
+        _ => {
+            let value = Value::Characters(Vec::from_slice(alloc, text)?);
+            unsuited(alloc, description, value)
+        }
+    }
+}
+
+/// Bits as a scalar holds them: cut on the right, or extended there with zeros (X3.74). Want of memory for more bits
+/// than the language has.
+fn held_bits(alloc: Global, description: &Description, bits: &[bool]) -> Result<Value, AllocError>
+    ensures { IfOk result (λ held. value_view held ≡ as_held (description_view description.now) (plain.Bits bits.now)) }
+{
+    match description {
+        Description::Bit(length) => {
+            let fitted = fit_bits(alloc, bits, usize::from(*length))?;
+            Ok(Value::Bits(fitted))
+        }
+        _ => {
+            let value = whole_bits(alloc, bits)?;
+            unsuited(alloc, description, value)
+        }
+    }
+}
+
+/// A value in INITIAL as a scalar of this description holds it. A value that does not suit the scalar leaves the one
+/// with which it begins.
+pub(crate) fn held(
+    alloc: Global,
+    description: &Description,
+    written: &InitialValue,
+) -> Result<Value, AllocError>
+    ensures { IfOk result (λ held. value_view held ≡ as_held (description_view description.now) (value_of written.now)) }
+{
+    match written {
+        InitialValue::Integer { value, .. } => held_number(alloc, description, signed(*value)),
+        InitialValue::Characters(text) => held_characters(alloc, description, text.bytes()),
+        InitialValue::Bits(bits) => held_bits(alloc, description, bits.bits()),
+        InitialValue::Null => held_number(alloc, description, 0),
+    }
+}
