@@ -49,8 +49,8 @@ fn are_bounds(bounds: &[Bounds]) -> bool
     true
 }
 
-/// Whether a description is of numbers and strings alone, within the limits: numbers of 31 binary digits at most, strings
-/// of 1 to 32,767 elements, arrays with elements, and structures with members (own).
+/// Whether a description is of numbers and strings alone, within the limits: numbers of 31 binary digits at most,
+/// strings of 1 to 32,767 elements, arrays with elements, and structures with members (own).
 #[cycle(is_plain)]
 #[tactic(auto, using(crate::proofs::Plain::structure_plain, crate::proofs::Plain::structure_empty, crate::proofs::Plain::array_plain, crate::proofs::Plain::array_empty))]
 pub fn is_plain(description: &Description) -> bool
@@ -81,7 +81,8 @@ fn are_plain(members: &[Description]) -> bool
     true
 }
 
-/// Whether a variable of this description is compiled: one of numbers and strings alone, of 1,000,000 bytes at most (own).
+/// Whether a variable of this description is compiled: one of numbers and strings alone, of 1,000,000 bytes at most
+/// (own).
 pub fn is_stored(description: &Description) -> bool
     ensures { result ≡ spec.is_stored 31 (description_view description.now) }
 {

@@ -93,8 +93,8 @@ impl<'a> Naming<'a> {
         answer_at(&self.meanings, number)
     }
 
-    /// What the name at a token means where it is used: the first name of each reference between arrows. Tokens are counted
-    /// from 0; what names nothing that has a type is a label.
+    /// What the name at a token means where it is used: the first name of each reference between arrows. Tokens are
+    /// counted from 0; what names nothing that has a type is a label.
     pub fn meaning(&self, at: u32) -> NamedAs<'_, 'a>
         ensures { IsMeantAs result ((naming_in self.now).meaning at) }
     {

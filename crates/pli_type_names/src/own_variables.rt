@@ -41,8 +41,8 @@ impl Counts {
     }
 }
 
-/// Where a variable of this class begins that has so many before it, if it is of a class that is compiled: AUTOMATIC ones
-/// in slots, STATIC ones before the program begins.
+/// Where a variable of this class begins that has so many before it, if it is of a class that is compiled: AUTOMATIC
+/// ones in slots, STATIC ones before the program begins.
 fn root_of_class(class: StorageClass, before: Counts) -> Option<Root>
     ensures { option_map root_view result ≡ spec.root_of_class before.slots before.statics class }
 {

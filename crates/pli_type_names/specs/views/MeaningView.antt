@@ -1,7 +1,8 @@
 -- What meanings of names say, apart from where they lie in memory.
 use Rattle.std.specs.Prelude.{◌≡◌, List, map, option_map}
 use Rattle.pli_base.specs.declared.statement.Procedure.{Procedure}
-use Rattle.pli_type_names.specs.Seen.{Seen, SeenVariable, SeenFunction, SeenProcedure, SeenLabel, seen_symbols}
+use Rattle.pli_type_names.specs.Seen.{Seen, SeenVariable, SeenFunction, SeenProcedure, SeenLabel}
+use Rattle.pli_type_names.specs.Seen.{seen_symbols}
 use Rattle.pli_type_names.specs.UnitNaming.{symbols_in}
 use Rattle.pli_type_names.specs.declared.meanings.Meant.{Meant}
 use Rattle.pli_type_names.specs.declared.meanings.Meant.TheVariants as meanings
