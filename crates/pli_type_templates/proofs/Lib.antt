@@ -3,5 +3,4 @@ pub mod MembersFound
 pub mod NumbersMade
 pub mod PlansMade
 pub mod ScalarsPlanned
-pub mod SymbolsTaken
 pub mod ValuesWritten

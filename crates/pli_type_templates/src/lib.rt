@@ -6,7 +6,6 @@ mod items;
 mod members;
 mod numbers;
 mod plan;
-mod unit_symbols;
 mod unit_templates;
 mod values;
 

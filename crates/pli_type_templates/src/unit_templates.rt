@@ -7,8 +7,8 @@ ghost use Rattle.pli_type_tree.specs.views.TemplateView.{groups_view};
 
 use crate::groups::groups;
 use crate::members::members_by_root;
-use crate::unit_symbols::symbols;
 use pli_resolve::{ResolvedUnit, StorageClass};
+use pli_type_names::symbols;
 use pli_type_tree::VariableGroup;
 use std::alloc::{AllocError, Global};
 
@@ -22,6 +22,7 @@ pub struct UnitTemplates {
 /// What the AUTOMATIC and the STATIC variables of a unit are made from (X3.74; the limits own): those of numbers and
 /// strings alone, of at most 1,000,000 bytes each. Initial values stand in the order of the text, fitted to their
 /// scalars. Takes time for the text and for the values that are kept.
+#[tactic(auto, unfolding(pli_type_names::specs::UnitNaming::symbols_in))]
 pub fn templates(alloc: Global, resolved: &ResolvedUnit<'_>) -> Result<UnitTemplates, AllocError>
     ensures automatic { IfOk result (λ made. groups_view made.automatic.items
         ≡ (named_unit 31 (resolved_unit_of (unit_view resolved.now))).automatic) }
