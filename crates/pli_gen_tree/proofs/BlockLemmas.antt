@@ -1,11 +1,11 @@
 -- Blocks in lists by their numbers.
-use Rattle.std.proofs.Common.{◌≡◌, ℕ, zero, suc, ◌+◌, ◌<◌, Bool, true, false, cond, nat_eq, List, [], ◌∷◌, ◌++◌, map, filter, length, get_or, set, take, replicate, refl, sym, ap, ◌∙◌, zero-add, Vec, Global, arith}
+use Rattle.std.proofs.Common.{◌≡◌, ℕ, zero, suc, ◌+◌, ◌<◌, false, cond, nat_eq, List, [], ◌∷◌, ◌++◌, map, filter, length, get_or, set, take, replicate, refl, sym, ap, ◌∙◌, zero-add, Vec, Global, arith}
 use Rattle.std.specs.List.{flat_map, range_with_len}
 use Rattle.std.proofs.lemmas.Bool.{eq-eqb}
 use Rattle.std.proofs.lemmas.Bool.Decides.{nat_tests}
 use Rattle.std.proofs.lemmas.List.{take_more, map-append, map-set, get_or-map, append-nil, length-map}
 use Rattle.std.proofs.lemmas.List.Elements.{filter-append}
-use Rattle.pli_gen_tree.specs.TreeTranslation.{BlockTree, has_number, by_number}
+use Rattle.pli_gen_tree.specs.TreeTranslation.{BlockTree, has_number}
 use Rattle.pli_gen_tree.specs.views.BlockView.{block_tree, block_trees}
 use Rattle.pli_gen_tree.specs.declared.block.BlockSource.{BlockSource}
 

@@ -1,5 +1,5 @@
 -- Code with jumps whose targets are put in when they are known.
-use Rattle.std.proofs.Common.{◌≡◌, ◌<◌, ◌+◌, ◌++◌, ◌∷◌, [], ℕ, zero, suc, List, length, map, slice_set, drop, get_or, refl, ap, ◌∙◌, sym, subst, arith}
+use Rattle.std.proofs.Common.{◌≡◌, ◌<◌, ◌+◌, ◌++◌, ◌∷◌, [], ℕ, zero, suc, List, length, map, slice_set, drop, get_or, refl, ap, ◌∙◌, sym, arith}
 use Rattle.std.proofs.lemmas.List.{append_assoc, at_drop_more, map-append, length-map, length-append}
 use Rattle.pli_machine_step.specs.Program as op
 use Rattle.pli_type_tree.specs.declared.statement.TypedStatement.{TypedStatement}

@@ -1,6 +1,12 @@
 pub mod BlockLemmas
+pub mod CodeFits
 pub mod EmitLemmas
 pub mod JumpLemmas
 pub mod KeyLemmas
+pub mod LimitLemmas
+pub mod NumberLemmas
+pub mod SimpleCode
+pub mod StepPlaces
 pub mod TableNumbers
 pub mod TablesLookUp
+pub mod UnitLemmas

@@ -1,10 +1,18 @@
 -- What the parts of the generator answer.
-use Rattle.std.specs.Prelude.{ℕ, suc, List, [], ◌∷◌, ◌++◌}
+use Rattle.std.specs.Prelude.{ℕ, suc, ◌≡◌, ◌+◌, ◌≤◌, nat_eq, nat_lt, Bool, true, List, [], ◌∷◌, ◌++◌, length}
+use Rattle.std.specs.Prelude.{if◌then◌else◌}
+use Rattle.std.specs.List.{list_any, AllByRecursion}
+use Rattle.pli_map.specs.Same.{same}
+use Rattle.pli_map.specs.Sizes.{size_of}
 use Rattle.pli_machine_step.specs.Program.{Instruction, Step, Store, Copy}
 use Rattle.pli_machine_step.specs.Program as op
 use Rattle.pli_type_tree.specs.TypedTree.{Form, Assign, AssignAggregate, Put, Begin, Call, Goto, Return}
 use Rattle.pli_type_tree.specs.TypedTree.{ReturnValue, Stop}
 use Rattle.pli_gen_tree.specs.TreeTranslation.{BlockTree, behind, block_code, place_code, value_code}
+use Rattle.pli_type_tree.specs.Templates.{Template}
+use Rattle.pli_unit_code.specs.CodeTables.{CodedBlock}
+use Rattle.pli_gen_tree.specs.Encoding.{Tables, coded_block}
+use Rattle.pli_gen_tree.specs.Limits.{entry_limit}
 use Rattle.pli_gen_tree.specs.TreeTranslation.{skip_code, items_code, call_code}
 
 -- the code of a form without jumps, which is the same wherever it stands; that of another form apart
@@ -25,11 +33,44 @@ abbrev pub entries_of : List BlockTree → (at : ℕ) → List ℕ
 entries_of [] p = []
 entries_of (b ∷ bs) p = p ∷ entries_of bs (behind (block_code b p) p)
 
--- where steps stand: the number of the statement of each, and its place
-abbrev pub steps_at : List Instruction → (at : ℕ) → List (ℕ × ℕ)
-steps_at [] p = []
-steps_at (i ∷ is) p = step_before i p (steps_at is (suc p))
+-- where the first step of a statement stands in code; another place if there is none
+abbrev pub step_place : List Instruction → (at number other : ℕ) → ℕ
+step_place [] p n other = other
+step_place (Step s ∷ is) p n other = if nat_eq s n then p else step_place is (suc p) n other
+step_place (i ∷ is) p n other = step_place is (suc p) n other
+
+-- an instruction whose GOTO leads to the place of its label
+abbrev pub retargeted : (place : ℕ → ℕ) → Instruction → Instruction
+retargeted place (op.Goto outward label) = op.Goto outward (place label)
+retargeted place i = i
+
+-- targets of jumps and counts of arguments are within a limit
+abbrev pub Fits : (limit : ℕ) → Instruction → Type 0
+Fits n (op.Jump target) = target ≤ n
+Fits n (op.JumpUnless target) = target ≤ n
+Fits n (op.Call block arguments) = arguments ≤ n
+Fits n i = Unit {0}
+
+-- blocks, each with its first instruction
+abbrev pub blocks_with_entries : Tables → List BlockTree → (entries : List ℕ) → List CodedBlock
+blocks_with_entries tables [] ps = []
+blocks_with_entries tables (b ∷ bs) [] = []
+blocks_with_entries tables (b ∷ bs) (p ∷ ps) =
+    coded_block tables b p ∷ blocks_with_entries tables bs ps
+
+-- the slots of a block
+abbrev pub takes_many_slots : BlockTree → Bool
+takes_many_slots b = nat_lt entry_limit (b.parameters + length b.head.variables)
+
+-- the bytes of a template that has initial values
+abbrev pub template_bytes : Template → ℕ
+template_bytes t = bytes_if t.initial
   where
-    step_before : Instruction → ℕ → List (ℕ × ℕ) → List (ℕ × ℕ)
-    step_before (Step s) p steps = (s, p) ∷ steps
-    step_before i p steps = steps
+    bytes_if : {X : Type 0} → List X → ℕ
+    bytes_if [] = 0
+    bytes_if (i ∷ is) = size_of t.description
+
+-- the description of each template is in its table
+abbrev pub HaveDescriptions : Tables → Type 0
+HaveDescriptions tables =
+    AllByRecursion (λ t. list_any (same t.description) tables.descriptions ≡ true) tables.templates

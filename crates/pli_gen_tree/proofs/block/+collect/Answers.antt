@@ -1,4 +1,4 @@
-use Rattle.std.proofs.Common.{◌≡◌, ◌++◌, ◌∷◌, [], List, append_assoc, ap, ◌∙◌, sym}
+use Rattle.std.proofs.Common.{◌++◌, ◌∷◌, [], List, append_assoc, ap, ◌∙◌, sym}
 use Rattle.std.proofs.lemmas.List.{map-append}
 use Rattle.pli_type_tree.specs.views.TypedView.{form_view, head_view, statements_view}
 use Rattle.pli_type_tree.specs.laws.TypedTreeLaws.{begin_made, group_made, while_made}

@@ -1,5 +1,5 @@
-use Rattle.std.proofs.Common.{◌≡◌, ◌++◌, map, take, drop, filter, length}
-use Rattle.std.specs.List.{flat_map, range_with_len}
+use Rattle.std.proofs.Common.{◌≡◌, map, take, filter, length}
+use Rattle.std.specs.List.{range_with_len}
 use Rattle.pli_gen_tree.specs.TreeTranslation.{has_number}
 use Rattle.pli_gen_tree.specs.views.BlockView.{block_trees}
 use Rattle.pli_gen_tree.proofs.block.in_order.Given as goal

@@ -1,0 +1,11 @@
+use Rattle.std.proofs.Common.{◌≡◌, ◌++◌, map, drop}
+use Rattle.pli_unit_code.specs.views.CodeView.{coded_template_view}
+use Rattle.pli_gen_tree.specs.Encoding.{template_code}
+use Rattle.pli_gen_tree.specs.views.KeyView.{templated}
+use Rattle.pli_gen_tree.specs.views.TableView.{tables_view}
+use Rattle.pli_gen_tree.proofs.entries.encode_templates.Given as goal
+
+abbrev pub invariant-loop-key : goal.invariant-loop-key
+invariant-loop-key l =
+    let tables = tables_view l.numbers.tables.now in
+    map coded_template_view l.coded.items ++ map (template_code tables) (map templated (drop l.key-index l.keys)) ≡ map (template_code tables) tables.templates
