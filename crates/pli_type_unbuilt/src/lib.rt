@@ -1,0 +1,8 @@
+//! The first form of a unit that is not compiled yet.
+#![tactic(auto)]
+
+mod constants;
+mod expressions;
+mod statements;
+
+pub use statements::{first_unbuilt, is_main};
