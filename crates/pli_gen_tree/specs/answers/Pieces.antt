@@ -6,14 +6,14 @@ use Rattle.pli_map.specs.Same.{same}
 use Rattle.pli_map.specs.Sizes.{size_of}
 use Rattle.pli_machine_step.specs.Program.{Instruction, Step, Store, Copy}
 use Rattle.pli_machine_step.specs.Program as op
+use Rattle.pli_type_tree.specs.Templates.{Template}
 use Rattle.pli_type_tree.specs.TypedTree.{Form, Assign, AssignAggregate, Put, Begin, Call, Goto, Return}
 use Rattle.pli_type_tree.specs.TypedTree.{ReturnValue, Stop}
-use Rattle.pli_gen_tree.specs.TreeTranslation.{BlockTree, behind, block_code, place_code, value_code}
-use Rattle.pli_type_tree.specs.Templates.{Template}
 use Rattle.pli_unit_code.specs.CodeTables.{CodedBlock}
+use Rattle.pli_gen_tree.specs.TreeTranslation.{BlockTree, behind, block_code, place_code, value_code}
+use Rattle.pli_gen_tree.specs.TreeTranslation.{skip_code, items_code, call_code}
 use Rattle.pli_gen_tree.specs.Encoding.{Tables, coded_block}
 use Rattle.pli_gen_tree.specs.Limits.{entry_limit}
-use Rattle.pli_gen_tree.specs.TreeTranslation.{skip_code, items_code, call_code}
 
 -- the code of a form without jumps, which is the same wherever it stands; that of another form apart
 abbrev pub simple_code : Form → List Instruction
@@ -55,8 +55,7 @@ Fits n i = Unit {0}
 abbrev pub blocks_with_entries : Tables → List BlockTree → (entries : List ℕ) → List CodedBlock
 blocks_with_entries tables [] ps = []
 blocks_with_entries tables (b ∷ bs) [] = []
-blocks_with_entries tables (b ∷ bs) (p ∷ ps) =
-    coded_block tables b p ∷ blocks_with_entries tables bs ps
+blocks_with_entries tables (b ∷ bs) (p ∷ ps) = coded_block tables b p ∷ blocks_with_entries tables bs ps
 
 -- the slots of a block
 abbrev pub takes_many_slots : BlockTree → Bool
