@@ -1,1 +1,4 @@
+pub mod Operating
 pub mod Quotients
+pub mod Stack
+pub mod StorageAnswers

@@ -1,1 +1,4 @@
+pub mod ActView
 pub mod CalculationView
+pub mod MachineView
+pub mod OperandView
