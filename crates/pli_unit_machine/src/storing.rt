@@ -15,7 +15,7 @@ pub fn stop_at(fault: StoreFault) -> Result<Stop, AllocError>
 {
     match fault {
         StoreFault::Raised(error) => Ok(Stop::Raised(error)),
-        StoreFault::Wrong => Ok(Stop::Fault),
+        StoreFault::NoRule => Ok(Stop::Fault),
         StoreFault::OutOfMemory => Err(AllocError),
     }
 }
