@@ -1,5 +1,16 @@
+pub mod Beginnings
+pub mod DummyArguments
+pub mod Ends
+pub mod EnteredBlocks
+pub mod GivenPlaces
+pub mod Links
+pub mod MadeVariables
 pub mod Operating
+pub mod Performed
 pub mod Quotients
+pub mod RunLemmas
+pub mod SlotPlaces
 pub mod Stack
 pub mod StorageAnswers
+pub mod Walks
 pub mod Worlds

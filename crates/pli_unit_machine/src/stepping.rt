@@ -1,5 +1,4 @@
 //! Steps, and the statement that is being executed.
-ghost use Rattle.std.specs.Prelude.{None};
 ghost use Rattle.pli_machine_step.specs.Program.{Step, Line};
 ghost use Rattle.pli_unit_machine.specs.views.MachineView.{Does};
 
@@ -23,8 +22,9 @@ pub fn step(machine: &mut Machine, statement: u32) -> Option<Stop>
 /// Changes the statement, with no step.
 #[tactic(auto, unfolding(pli_store::specs::World::at_statement))]
 #[inline]
-pub fn line(machine: &mut Machine, statement: u32)
-    ensures { Does (Line statement) machine.old machine.new None }
+pub fn line(machine: &mut Machine, statement: u32) -> Option<Stop>
+    ensures { Does (Line statement) machine.old machine.new result }
 {
     machine.here.statement = statement;
+    None
 }
