@@ -1,3 +1,6 @@
+pub mod Bounded
+pub mod Literals
+pub mod Segments
 pub mod Subscripts
 pub mod answers
 pub mod views

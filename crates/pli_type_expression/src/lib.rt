@@ -1,19 +1,23 @@
-//! Parts of typed expressions: what expressions and references are, where they begin, and what operators and subscripts
-//! give, or the fault of types there.
+//! Typed expressions and references: what each expression of a resolved unit is, or its first fault of types.
 #![tactic(auto)]
 
 mod answer;
+mod argument;
+mod constant;
+mod expression;
+mod function;
 mod meaning;
+mod names;
 mod operator;
 mod permission;
 mod role;
+mod segment;
 mod subscripts;
 mod token;
+mod variable;
 
 pub use answer::{TypeError, fault};
+pub use expression::{meant, referred, value_of};
 pub use meaning::{Denoted, Meant, Referent};
-pub use operator::{infix, prefix};
-pub use permission::permitted;
 pub use role::Role;
-pub use subscripts::subscript;
 pub use token::first_token;

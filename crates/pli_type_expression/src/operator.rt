@@ -13,7 +13,7 @@ use pli_type::{TypedValue, infix_value, prefix_value};
 use std::alloc::Global;
 
 /// What a prefix operator at a token gives: T4 there where it does not take the operand (X3.74).
-pub fn prefix(
+pub(crate) fn prefix(
     alloc: Global,
     greatest: u8,
     operator: PrefixOperator,
@@ -29,7 +29,7 @@ pub fn prefix(
 }
 
 /// What an infix operator at a token gives: T4 there where it does not take the operands (X3.74).
-pub fn infix(
+pub(crate) fn infix(
     alloc: Global,
     greatest: u8,
     operator: InfixOperator,

@@ -1,6 +1,6 @@
 //! For what references and expressions stand.
-ghost use Rattle.std.specs.Prelude.{◌≡◌};
-ghost use Rattle.pli_type.specs.References.{wants_scalar};
+ghost use Rattle.std.specs.Prelude.{◌≡◌, map, get_or};
+ghost use Rattle.pli_type.specs.References.{wants_scalar, AsArgument};
 ghost use Rattle.pli_type_expression.specs.views.TypingView.{role_view};
 
 /// For what a reference or an expression stands.
@@ -22,5 +22,15 @@ impl Role {
         ensures { result ≡ wants_scalar (role_view self) }
     {
         matches!(self, Role::Value | Role::Locator)
+    }
+}
+
+/// The role of the argument at a place, counted from 0: one without a role may be a whole aggregate.
+pub(crate) fn role_at(roles: &[Role], place: usize) -> Role
+    ensures { role_view result ≡ get_or (map role_view roles.now) place AsArgument }
+{
+    match roles.get(place) {
+        Some(role) => *role,
+        None => Role::Argument,
     }
 }

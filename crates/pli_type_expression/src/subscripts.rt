@@ -15,7 +15,7 @@ use pli_base::syntax::Expression;
 use pli_type_tree::TypedExpression;
 
 /// A subscript, which is a number: T2 at its first token where it is an aggregate, T4 where it is another value.
-pub fn subscript(
+pub(crate) fn subscript(
     greatest: u8,
     expression: &Expression,
     meant: Meant<'_>,

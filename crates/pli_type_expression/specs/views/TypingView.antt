@@ -1,11 +1,15 @@
 -- What references and expressions with their types say, apart from where they lie in memory.
+use Rattle.std.specs.Prelude.{ℕ, Bool, List, map}
 use Rattle.pli_map.specs.views.DescriptionView.{description_view}
 use Rattle.pli_type.specs.ExpressionTypes as types
 use Rattle.pli_type.specs.FunctionCalls as calls
+use Rattle.pli_type.specs.Names as names
 use Rattle.pli_type.specs.References as references
 use Rattle.pli_type.specs.Typing as typing
 use Rattle.pli_type.specs.views.ValueView.{value_view}
-use Rattle.pli_type_tree.specs.views.TypedView.{reference_view}
+use Rattle.pli_type_tree.specs.TypedTree as tree
+use Rattle.pli_type_tree.specs.views.TypedView.{expression_view, reference_view}
+use Rattle.pli_type_expression.specs.declared.argument.Argument.{Argument}
 use Rattle.pli_type_expression.specs.declared.meaning.Denoted.{Denoted}
 use Rattle.pli_type_expression.specs.declared.meaning.Denoted.TheVariants as denoted
 use Rattle.pli_type_expression.specs.declared.meaning.Meant.{Meant}
@@ -13,6 +17,8 @@ use Rattle.pli_type_expression.specs.declared.meaning.Meant.TheVariants as meant
 use Rattle.pli_type_expression.specs.declared.meaning.Referent.{Referent}
 use Rattle.pli_type_expression.specs.declared.role.Role.{Role}
 use Rattle.pli_type_expression.specs.declared.role.Role.TheVariants as roles
+use Rattle.pli_type_expression.specs.declared.segment.Segment.{Segment}
+use Rattle.pli_type_expression.specs.declared.segment.Segment.TheVariants as segments
 
 abbrev pub role_view : Role → references.Role
 role_view roles.Value = references.AsValue
@@ -31,3 +37,16 @@ meant_view (meant.Aggregate r) = calls.WholeAggregate (referent_view r)
 abbrev pub denoted_view : Denoted → typing.Denoted
 denoted_view (denoted.Variable r) = typing.DenotesVariable (referent_view r)
 denoted_view (denoted.Result v) = typing.DenotesResult (value_view v)
+
+abbrev pub argument_view : Argument → calls.Argument
+argument_view a = record { meant = meant_view a.meant; written = a.written }
+
+-- a segment whose first name stands at a token, by what that name means
+abbrev pub of_name : names.NamedAs → (located : Bool) (at : ℕ) → List tree.TypedExpression → typing.Segment
+of_name (names.AVariable v) located at xs = typing.OfVariable located at v xs
+of_name other located at xs = typing.OfNoVariable at
+
+abbrev pub segment_view : names.Naming → Segment → typing.Segment
+segment_view n (segments.Named located at subscripts) =
+    of_name (n.meaning at) located at (map expression_view subscripts.items)
+segment_view n (segments.Function value) = typing.OfFunction (value_view value)

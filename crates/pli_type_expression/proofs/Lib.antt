@@ -1,0 +1,9 @@
+pub mod Binds
+pub mod Built
+pub mod Called
+pub mod Calls
+pub mod Loops
+pub mod Meanings
+pub mod References
+pub mod Sizes
+pub mod Walks

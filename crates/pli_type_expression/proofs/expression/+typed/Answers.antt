@@ -1,0 +1,718 @@
+use Rattle.std.proofs.Common.{rules, ◌≡◌, ◌+◌, ◌<◌, map, drop, length, false, true, [], Some, None, Ok, Result, option_map, ap, ◌∙◌, sym, arith, Bool, Vec, Global}
+use Rattle.std.proofs.lemmas.Bool.{or_parts}
+use Rattle.std.proofs.lemmas.Result.{err_from_is_err_and}
+use Rattle.pli_base.specs.views.SyntaxView as syntax
+use Rattle.pli_base.specs.Reading.{◌>>=◌}
+use Rattle.pli_base.specs.Syntax.{Given, Arguments}
+use Rattle.pli_base.specs.laws.SyntaxLaws.{reference_out}
+use Rattle.pli_base.specs.declared.code.Code.TheVariants.{WrongOperandType, WrongNumberOfArguments}
+use Rattle.pli_base.specs.declared.syntax.Expression.{Expression}
+use Rattle.pli_base.specs.declared.syntax.Reference.{out-Reference}
+use Rattle.pli_type.specs.ExpressionTypes as types
+use Rattle.pli_type.specs.FunctionCalls as calls
+use Rattle.pli_type.specs.References.{AsLocator}
+use Rattle.pli_type.specs.Unbuilt.{later_expression, later_reference, later_arguments, later_joined, later_list}
+use Rattle.pli_type.specs.views.ValueView.{value_view}
+use Rattle.pli_type.specs.Typing as typing
+use Rattle.pli_type_names.specs.UnitNaming.{naming_in}
+use Rattle.pli_type_tree.specs.views.TypedView.{expression_view}
+use Rattle.pli_type_expression.specs.views.TypingView.{argument_view, denoted_view, meant_view, of_name, role_view, segment_view}
+use Rattle.pli_type_expression.proofs.Binds.{fails_as, fails_on, bind_ok}
+use Rattle.pli_type_expression.proofs.Called.{gives_as, call_unmeant, call_typed}
+use Rattle.pli_type_expression.proofs.Meanings.{begun_at_variable, begun_at_function, begun_at_procedure, begun_beside_function, begun_beside_procedure, begun_at_label, begun_alone, procedure_unmeant}
+use Rattle.pli_type_expression.proofs.Sizes.{item_size, part_size, expression_size, reference_size, arguments_size, list_size, parts_size}
+use Rattle.pli_type_expression.proofs.Walks.{referred_ends, reference_unbegun, reference_unended, prefix_typed, prefix_unmeant, prefix_of_aggregate, prefix_refused, infix_typed, left_unmeant, left_aggregate, right_unmeant, right_aggregate, infix_refused}
+use Rattle.pli_type_expression.specs.Segments.{next_segment, last_segment, function_typed}
+use Rattle.pli_type_expression.specs.Subscripts.{subscript_meant}
+use Rattle.pli_type_expression.specs.answers.TypingAnswers.{Fails}
+use Rattle.pli_type_expression.specs.declared.argument.Argument.{Argument}
+use Rattle.pli_type_expression.specs.declared.role.Role.TheVariants as roles
+use Rattle.pli_type_tree.specs.declared.expression.TypedExpression.{TypedExpression}
+use Rattle.pli_type_expression.proofs.Built.{item_built, part_built, reference_built, constant_built}
+use Rattle.pli_type_expression.proofs.Loops.{arguments_begin, argument_goes_on, argument_meant_not, arguments_end, subscripts_begin, subscript_goes_on, subscript_meant_not, subscript_no_number, subscripts_end, part_goes_on, part_fails, parts_end}
+use Rattle.pli_type_expression.proofs.expression.+typed.Goals as goal
+
+-- arguments
+
+pub all_arguments-loop-place-init : goal.all_arguments-loop-place-init
+all_arguments-loop-place-init t c =
+    record {
+      built = c.requires;
+      typed = arguments_begin (naming_in c.args.naming.now) (map role_view c.args.roles.now) c.args.list.now c.new-arguments.result.items c.new-arguments.ensures.items;
+    }
+
+pub all_arguments-offset_bounds-list-place : goal.all_arguments-offset_bounds-list-place
+all_arguments-offset_bounds-list-place t c = search rules
+
+pub all_arguments-bounds-list-place : goal.all_arguments-bounds-list-place
+all_arguments-bounds-list-place t c = search rules
+
+pub all_arguments-meant-requires : goal.all_arguments-meant-requires
+all_arguments-meant-requires t c =
+    (omega (arith, c.decreases, item_size c.args.list.now c.loop-place.place c.index-list-place.result (omega arith) c.index-list-place.is), (item_built (naming_in c.args.naming.now) c.args.list.now c.loop-place.place c.index-list-place.result (omega arith) c.index-list-place.is c.loop-place.invariant.built).0)
+
+pub all_arguments-returns-in_err-argument : goal.all_arguments-returns-in_err-argument
+all_arguments-returns-in_err-argument t c =
+    let p = err_from_is_err_and c.from_residual.result c.from_residual.ensures.1 in
+    rw (p.1, p.2)
+    (fails_as c.in_err-argument.field-0.0 _ _ c.loop-place.invariant.typed
+    (argument_meant_not (naming_in c.args.naming.now) c.args.list.now c.loop-place.place c.index-list-place.result (omega arith) c.index-list-place.is
+    (map role_view c.args.roles.now) c.loop-place.arguments.items (role_view c.role_at-role.result) c.in_err-argument.field-0.0 c.role_at-role.ensures c.in_err-argument.ensures))
+
+pub all_arguments-returns-in_err-push : goal.all_arguments-returns-in_err-push
+all_arguments-returns-in_err-push t c =
+    let p = err_from_is_err_and c.from_residual-in_err-push.result c.from_residual-in_err-push.ensures.1 in rw (p.1, p.2) tt
+
+pub all_arguments-loop-place-smaller : goal.all_arguments-loop-place-smaller
+all_arguments-loop-place-smaller t c = search rules
+
+pub all_arguments-loop-place-preserved : goal.all_arguments-loop-place-preserved
+all_arguments-loop-place-preserved t c =
+    let n = naming_in c.args.naming.now in
+    let e = c.index-list-place.result in
+    let m = meant_view c.in_ok-argument.argument in
+    let a : Argument = record { meant = c.in_ok-argument.argument; written = c.number_written.result } in
+    let same : argument_view a ≡ typing.argument (syntax.expression_view e) m = ap (λ w. record { meant = m; written = w }) c.number_written.ensures in
+    record {
+      built = (item_built n c.args.list.now c.loop-place.place e (omega arith) c.index-list-place.is c.loop-place.invariant.built).1;
+      typed = c.loop-place.invariant.typed
+          ∙ argument_goes_on n c.args.list.now c.loop-place.place e (omega arith) c.index-list-place.is (map role_view c.args.roles.now) c.loop-place.arguments.items c.push.new.self.items
+          (role_view c.role_at-role.result) m a c.role_at-role.ensures c.in_ok-argument.ensures same c.in_ok-push.ensures.items;
+    }
+
+pub all_arguments-returns : goal.all_arguments-returns
+all_arguments-returns t c =
+    c.loop-place.invariant.typed
+    ∙ arguments_end (naming_in c.args.naming.now) c.args.list.now c.loop-place.place (omega arith) (drop c.loop-place.place (map role_view c.args.roles.now)) c.loop-place.arguments.items
+
+-- subscripts
+
+pub all_subscripts-loop-expression-init : goal.all_subscripts-loop-expression-init
+all_subscripts-loop-expression-init t c =
+    record {
+      built = c.requires;
+      typed = subscripts_begin (naming_in c.args.naming.now) c.args.list.now c.new-subscripts.result.items c.new-subscripts.ensures.items;
+    }
+
+pub all_subscripts-offset_bounds-list-expression-index : goal.all_subscripts-offset_bounds-list-expression-index
+all_subscripts-offset_bounds-list-expression-index t c = search rules
+
+pub all_subscripts-meant-requires : goal.all_subscripts-meant-requires
+all_subscripts-meant-requires t c =
+    (omega (arith, c.decreases, item_size c.args.list.now c.loop-expression.expression-index c.expression-item.result (omega arith) c.expression-item.is), (item_built (naming_in c.args.naming.now) c.args.list.now c.loop-expression.expression-index c.expression-item.result (omega arith) c.expression-item.is c.loop-expression.invariant.built).0)
+
+pub all_subscripts-returns-in_err-one : goal.all_subscripts-returns-in_err-one
+all_subscripts-returns-in_err-one t c =
+    let p = err_from_is_err_and c.from_residual.result c.from_residual.ensures.1 in
+    rw (p.1, p.2)
+    (fails_as c.in_err-one.field-0.0 _ _ c.loop-expression.invariant.typed
+    (subscript_meant_not (naming_in c.args.naming.now) c.args.list.now c.loop-expression.expression-index c.expression-item.result (omega arith) c.expression-item.is
+    c.loop-expression.subscripts.items c.in_err-one.field-0.0 c.in_err-one.ensures))
+
+pub all_subscripts-returns-in_err-push : goal.all_subscripts-returns-in_err-push
+all_subscripts-returns-in_err-push t c =
+    let p = err_from_is_err_and c.from_residual-in_err-push.result c.from_residual-in_err-push.ensures.1 in rw (p.1, p.2) tt
+
+pub all_subscripts-loop-expression-smaller : goal.all_subscripts-loop-expression-smaller
+all_subscripts-loop-expression-smaller t c = search rules
+
+pub all_subscripts-returns : goal.all_subscripts-returns
+all_subscripts-returns t c =
+    c.loop-expression.invariant.typed
+    ∙ subscripts_end (naming_in c.args.naming.now) c.args.list.now c.loop-expression.expression-index (omega arith) c.loop-expression.subscripts.items
+
+-- parts that are joined
+
+pub continued-loop-part-init : goal.continued-loop-part-init
+continued-loop-part-init t c = search rules
+
+pub continued-offset_bounds-joined-part-index : goal.continued-offset_bounds-joined-part-index
+continued-offset_bounds-joined-part-index t c = search rules
+
+pub continued-loop-part-smaller : goal.continued-loop-part-smaller
+continued-loop-part-smaller t c = search rules
+
+pub continued-with_part-requires : goal.continued-with_part-requires
+continued-with_part-requires t c =
+    (omega (arith, c.decreases, part_size c.args.joined.now c.loop-part.part-index c.part-item.result (omega arith) c.part-item.is), (part_built (naming_in c.args.naming.now) c.args.joined.now c.loop-part.part-index c.part-item.result (omega arith) c.part-item.is c.loop-part.invariant.built).0)
+
+pub continued-returns-in_err-segment : goal.continued-returns-in_err-segment
+continued-returns-in_err-segment t c =
+    let n = naming_in c.args.naming.now in
+    let p = err_from_is_err_and c.from_residual.result c.from_residual.ensures.1 in
+    rw (p.1, p.2)
+    (fails_as c.in_err-segment.field-0.0 _ _ c.loop-part.invariant.last
+    (part_fails n (segment_view n c.loop-part.segment) c.args.joined.now c.loop-part.part-index c.part-item.result (omega arith) c.part-item.is c.in_err-segment.field-0.0 c.in_err-segment.ensures))
+
+pub continued-loop-part-preserved : goal.continued-loop-part-preserved
+continued-loop-part-preserved t c =
+    let n = naming_in c.args.naming.now in
+    record {
+      built = (part_built n c.args.joined.now c.loop-part.part-index c.part-item.result (omega arith) c.part-item.is c.loop-part.invariant.built).1;
+      last = c.loop-part.invariant.last
+          ∙ part_goes_on n (segment_view n c.loop-part.segment) c.args.joined.now c.loop-part.part-index c.part-item.result (omega arith) c.part-item.is
+          (segment_view n c.in_ok-segment.segment) c.in_ok-segment.ensures;
+    }
+
+pub continued-returns : goal.continued-returns
+continued-returns t c =
+    let n = naming_in c.args.naming.now in
+    c.loop-part.invariant.last
+    ∙ parts_end n (segment_view n c.loop-part.segment) c.args.joined.now c.loop-part.part-index (omega arith)
+
+pub all_subscripts-returns-in_err-value : goal.all_subscripts-returns-in_err-value
+all_subscripts-returns-in_err-value t c =
+    let n = naming_in c.args.naming.now in
+    let x = c.expression-item.result in
+    let e = c.in_err-value.field-0.0 in
+    let p = err_from_is_err_and c.from_residual-in_err-value.result c.from_residual-in_err-value.ensures.1 in
+    rw (p.1, p.2)
+    (fails_as e _ _ c.loop-expression.invariant.typed (subscript_no_number n c.args.list.now c.loop-expression.expression-index x (omega arith) c.expression-item.is c.loop-expression.subscripts.items (meant_view c.in_ok-one.one) e c.in_ok-one.ensures
+    (fails_as e _ _ (ap (λ g. subscript_meant g (typing.first_token (syntax.expression_view x)) (meant_view c.in_ok-one.one)) (sym c.greatest.ensures)) c.in_err-value.ensures)))
+
+pub all_subscripts-loop-expression-preserved : goal.all_subscripts-loop-expression-preserved
+all_subscripts-loop-expression-preserved t c =
+    let n = naming_in c.args.naming.now in
+    let x = c.expression-item.result in
+    record {
+      built = (item_built n c.args.list.now c.loop-expression.expression-index x (omega arith) c.expression-item.is c.loop-expression.invariant.built).1;
+      typed = c.loop-expression.invariant.typed
+          ∙ subscript_goes_on n c.args.list.now c.loop-expression.expression-index x (omega arith) c.expression-item.is c.loop-expression.subscripts.items c.push.new.self.items
+          (meant_view c.in_ok-one.one) c.in_ok-value.value c.in_ok-one.ensures
+          (ap (λ g. subscript_meant g (typing.first_token (syntax.expression_view x)) (meant_view c.in_ok-one.one)) (sym c.greatest.ensures) ∙ c.in_ok-value.ensures)
+          c.in_ok-push.ensures.items;
+    }
+
+pub begun-begun_with-requires : goal.begun-begun_with-requires
+begun-begun_with-requires t c =
+    let n = naming_in c.args.naming.now in
+    (omega (arith, c.decreases, ap (λ xs. list_size (syntax.expressions_view xs)) c.as_slice.ensures.value, ap (λ o. arguments_size (syntax.arguments_view o)) c.in-Some.is),
+    ap (λ xs. later_list n (syntax.expressions_view xs)) c.as_slice.ensures.value ∙ sym (ap (λ o. later_arguments n (syntax.arguments_view o)) c.in-Some.is) ∙ c.requires)
+
+pub begun-returns-in-None : goal.begun-returns-in-None
+begun-returns-in-None t c =
+    let n = naming_in c.args.naming.now in
+    ap (λ o. typing.begun n (n.meaning c.args.part.now.name.at) c.args.call c.args.located c.args.part.now.name.at (syntax.arguments_view o)) c.in-None.is
+    ∙ begun_alone n (n.meaning c.args.part.now.name.at) c.args.call c.args.located c.args.part.now.name.at ∙ ap (λ s. Ok s) (sym (c.named.ensures n))
+
+pub begun-returns-in-Some : goal.begun-returns-in-Some
+begun-returns-in-Some t c =
+    let n = naming_in c.args.naming.now in
+    gives_as (segment_view n) c.begun_with.result _ _
+    (ap (λ o. typing.begun n (n.meaning c.args.part.now.name.at) c.args.call c.args.located c.args.part.now.name.at (syntax.arguments_view o)) c.in-Some.is
+    ∙ sym (ap (λ xs. typing.begun n (n.meaning c.args.part.now.name.at) c.args.call c.args.located c.args.part.now.name.at (Given (syntax.expressions_view xs))) c.as_slice.ensures.value)) c.begun_with.ensures
+
+pub begun_with-all_subscripts-requires : goal.begun_with-all_subscripts-requires
+begun_with-all_subscripts-requires t c =
+    let n = naming_in c.args.naming.now in
+    (omega (arith, c.decreases), c.requires)
+
+pub begun_with-called-requires : goal.begun_with-called-requires
+begun_with-called-requires t c =
+    let n = naming_in c.args.naming.now in
+    (omega (arith, c.decreases), c.requires)
+
+pub begun_with-all_arguments-requires : goal.begun_with-all_arguments-requires
+begun_with-all_arguments-requires t c =
+    let n = naming_in c.args.naming.now in
+    (omega (arith, c.decreases), c.requires)
+
+pub begun_with-all_arguments-requires-in-Procedure : goal.begun_with-all_arguments-requires-in-Procedure
+begun_with-all_arguments-requires-in-Procedure t c =
+    let n = naming_in c.args.naming.now in
+    (omega (arith, c.decreases), c.requires)
+
+pub begun_with-all_arguments-requires-in-Label : goal.begun_with-all_arguments-requires-in-Label
+begun_with-all_arguments-requires-in-Label t c =
+    let n = naming_in c.args.naming.now in
+    (omega (arith, c.decreases), c.requires)
+
+pub called-all_arguments-requires : goal.called-all_arguments-requires
+called-all_arguments-requires t c =
+    let n = naming_in c.args.naming.now in
+    (omega (arith, c.decreases), c.requires)
+
+pub called-all_arguments-requires-2 : goal.called-all_arguments-requires-2
+called-all_arguments-requires-2 t c =
+    let n = naming_in c.args.naming.now in
+    (omega (arith, c.decreases), c.requires)
+
+pub begun_with-returns-in_err-subscripts-in-Variable : goal.begun_with-returns-in_err-subscripts-in-Variable
+begun_with-returns-in_err-subscripts-in-Variable t c =
+    let n = naming_in c.args.naming.now in
+    let w = n.meaning c.args.at in
+    let list = syntax.expressions_view c.args.list.now in
+    let e = c.in_err-subscripts-in-Variable.field-0.0 in
+    let p = err_from_is_err_and c.from_residual.result c.from_residual.ensures.1 in
+    rw (p.1, p.2)
+    (fails_as e _ _ (begun_at_variable n w c.in-Variable.field-0 c.in-Variable.ensures c.args.call c.args.located c.args.at list) (fails_on e (typing.all_subscripts n list) (λ xs. Ok (of_name w c.args.located c.args.at xs)) c.in_err-subscripts-in-Variable.ensures))
+
+pub begun_with-returns-in_ok-subscripts-in-Variable : goal.begun_with-returns-in_ok-subscripts-in-Variable
+begun_with-returns-in_ok-subscripts-in-Variable t c =
+    let n = naming_in c.args.naming.now in
+    let w = n.meaning c.args.at in
+    let list = syntax.expressions_view c.args.list.now in
+    begun_at_variable n w c.in-Variable.field-0 c.in-Variable.ensures c.args.call c.args.located c.args.at list
+    ∙ bind_ok (typing.all_subscripts n list) (map expression_view c.in_ok-subscripts-in-Variable.subscripts.items) (λ xs. Ok (of_name w c.args.located c.args.at xs)) c.in_ok-subscripts-in-Variable.ensures
+
+pub begun_with-returns-in_err-value-in-Function : goal.begun_with-returns-in_err-value-in-Function
+begun_with-returns-in_err-value-in-Function t c =
+    let n = naming_in c.args.naming.now in
+    let w = n.meaning c.args.at in
+    let list = syntax.expressions_view c.args.list.now in
+    let e = c.in_err-value-in-Function.field-0.0 in
+    let p = err_from_is_err_and c.from_residual-in_err-value-in-Function.result c.from_residual-in_err-value-in-Function.ensures.1 in
+    rw (p.1, p.2)
+    (fails_as e _ _ (ap (λ k. typing.begun n w k c.args.located c.args.at (Given list)) c.if-call.true
+    ∙ begun_at_function n w c.in-Function.function c.in-Function.ensures c.args.located c.args.at list) (fails_on e (function_typed n c.in-Function.function c.args.at list) (λ v. Ok (typing.OfFunction v)) c.in_err-value-in-Function.ensures))
+
+pub begun_with-returns-then-call : goal.begun_with-returns-then-call
+begun_with-returns-then-call t c =
+    let n = naming_in c.args.naming.now in
+    let w = n.meaning c.args.at in
+    let list = syntax.expressions_view c.args.list.now in
+    ap (λ k. typing.begun n w k c.args.located c.args.at (Given list)) c.if-call.true
+    ∙ begun_at_function n w c.in-Function.function c.in-Function.ensures c.args.located c.args.at list
+    ∙ bind_ok (function_typed n c.in-Function.function c.args.at list) (value_view c.in_ok-value-in-Function.value) (λ v. Ok (typing.OfFunction v)) c.in_ok-value-in-Function.ensures
+
+pub begun_with-returns-in_err-all_arguments-in-Function : goal.begun_with-returns-in_err-all_arguments-in-Function
+begun_with-returns-in_err-all_arguments-in-Function t c =
+    let n = naming_in c.args.naming.now in
+    let w = n.meaning c.args.at in
+    let list = syntax.expressions_view c.args.list.now in
+    let e = c.in_err-all_arguments-in-Function.field-0.0 in
+    let p = err_from_is_err_and c.from_residual-in_err-all_arguments-in-Function.result c.from_residual-in_err-all_arguments-in-Function.ensures.1 in
+    rw (p.1, p.2)
+    (fails_as e _ _ (ap (λ k. typing.begun n w k c.args.located c.args.at (Given list)) c.if-call.false
+    ∙ begun_beside_function n w c.in-Function.function c.in-Function.ensures c.args.located c.args.at list) (fails_on e (typing.all_arguments n [] list) (λ gs. Ok (of_name w c.args.located c.args.at [])) c.in_err-all_arguments-in-Function.ensures))
+
+pub begun_with-returns-in_ok-all_arguments-in-Function : goal.begun_with-returns-in_ok-all_arguments-in-Function
+begun_with-returns-in_ok-all_arguments-in-Function t c =
+    let n = naming_in c.args.naming.now in
+    let w = n.meaning c.args.at in
+    let list = syntax.expressions_view c.args.list.now in
+    ap (λ k. typing.begun n w k c.args.located c.args.at (Given list)) c.if-call.false
+    ∙ begun_beside_function n w c.in-Function.function c.in-Function.ensures c.args.located c.args.at list
+    ∙ bind_ok (typing.all_arguments n [] list) (map argument_view c.in_ok-all_arguments-in-Function.field-0.items) (λ gs. Ok (of_name w c.args.located c.args.at [])) c.in_ok-all_arguments-in-Function.ensures
+    ∙ ap (λ s. Ok s) (sym (c.named.ensures n))
+
+pub begun_with-returns-in_err-all_arguments-in-Label : goal.begun_with-returns-in_err-all_arguments-in-Label
+begun_with-returns-in_err-all_arguments-in-Label t c =
+    let n = naming_in c.args.naming.now in
+    let w = n.meaning c.args.at in
+    let list = syntax.expressions_view c.args.list.now in
+    let e = c.in_err-all_arguments-in-Label.field-0.0 in
+    let p = err_from_is_err_and c.from_residual-in_err-all_arguments-in-Label.result c.from_residual-in_err-all_arguments-in-Label.ensures.1 in
+    rw (p.1, p.2)
+    (fails_as e _ _ (begun_at_label n w c.in-Label.ensures c.args.call c.args.located c.args.at list) (fails_on e (typing.all_arguments n [] list) (λ gs. Ok (of_name w c.args.located c.args.at [])) c.in_err-all_arguments-in-Label.ensures))
+
+pub begun_with-returns-in_ok-all_arguments-in-Label : goal.begun_with-returns-in_ok-all_arguments-in-Label
+begun_with-returns-in_ok-all_arguments-in-Label t c =
+    let n = naming_in c.args.naming.now in
+    let w = n.meaning c.args.at in
+    let list = syntax.expressions_view c.args.list.now in
+    begun_at_label n w c.in-Label.ensures c.args.call c.args.located c.args.at list
+    ∙ bind_ok (typing.all_arguments n [] list) (map argument_view c.in_ok-all_arguments-in-Label.field-0.items) (λ gs. Ok (of_name w c.args.located c.args.at [])) c.in_ok-all_arguments-in-Label.ensures
+    ∙ ap (λ s. Ok s) (sym (c.named-in-Label.ensures n))
+
+pub begun_with-returns-else-call-2 : goal.begun_with-returns-else-call-2
+begun_with-returns-else-call-2 t c =
+    let n = naming_in c.args.naming.now in
+    let w = n.meaning c.args.at in
+    let list = syntax.expressions_view c.args.list.now in
+    ap (λ k. typing.begun n w k c.args.located c.args.at (Given list)) c.if-call-2.false
+    ∙ begun_beside_procedure n w c.in-Procedure.ensures c.args.located c.args.at list
+    ∙ bind_ok (typing.all_arguments n [] list) (map argument_view c.in_ok-all_arguments-in-Procedure.field-0.items) (λ gs. Ok (of_name w c.args.located c.args.at [])) c.in_ok-all_arguments-in-Procedure.ensures
+    ∙ ap (λ s. Ok s) (sym (c.named-in-Procedure.ensures n))
+
+pub begun_with-returns-in_err-all_arguments-in-Procedure : goal.begun_with-returns-in_err-all_arguments-in-Procedure
+begun_with-returns-in_err-all_arguments-in-Procedure t c =
+    let n = naming_in c.args.naming.now in
+    let w = n.meaning c.args.at in
+    let list = syntax.expressions_view c.args.list.now in
+    let e = c.in_err-all_arguments-in-Procedure.field-0.0 in
+    let p = err_from_is_err_and c.from_residual-in_err-all_arguments-in-Procedure.result c.from_residual-in_err-all_arguments-in-Procedure.ensures.1 in
+    rw (p.1, p.2)
+    (procedure_unmeant n w c.in-Procedure.ensures c.args.call c.args.located c.args.at list e c.in_err-all_arguments-in-Procedure.ensures)
+
+pub begun_with-returns-then-call-2 : goal.begun_with-returns-then-call-2
+begun_with-returns-then-call-2 t c =
+    let n = naming_in c.args.naming.now in
+    let w = n.meaning c.args.at in
+    let list = syntax.expressions_view c.args.list.now in
+    fails_as c.procedure_fault.result _ _ (ap (λ k. typing.begun n w k c.args.located c.args.at (Given list)) c.if-call-2.true
+    ∙ begun_at_procedure n w c.in-Procedure.ensures c.args.located c.args.at list
+    ∙ bind_ok (typing.all_arguments n [] list) (map argument_view c.in_ok-all_arguments-in-Procedure.field-0.items) (λ gs. typing.procedure_called c.args.at list) c.in_ok-all_arguments-in-Procedure.ensures) c.procedure_fault.ensures
+
+pub called-returns-in_err-all_arguments : goal.called-returns-in_err-all_arguments
+called-returns-in_err-all_arguments t c =
+    let n = naming_in c.args.naming.now in
+    let xs = c.args.list.now in
+    let no : calls.roles_of c.args.function (length xs) ≡ None = search rules in
+    let e = c.in_err-all_arguments.field-0.0 in
+    let p = err_from_is_err_and c.from_residual.result c.from_residual.ensures.1 in
+    rw (p.1, p.2)
+    (call_unmeant n c.args.function c.args.at xs None no e c.in_err-all_arguments.ensures)
+
+pub called-returns-in_default : goal.called-returns-in_default
+called-returns-in_default t c =
+    let n = naming_in c.args.naming.now in
+    let xs = c.args.list.now in
+    let no : calls.roles_of c.args.function (length xs) ≡ None = search rules in
+    rw c.fault.ensures (call_typed n c.args.function c.args.at xs None no (map argument_view c.in_ok-all_arguments.field-0.items) c.in_ok-all_arguments.ensures)
+
+pub called-returns-in_err-arguments : goal.called-returns-in_err-arguments
+called-returns-in_err-arguments t c =
+    let n = naming_in c.args.naming.now in
+    let xs = c.args.list.now in
+    let given : calls.roles_of c.args.function (length xs) ≡ Some (map role_view c.in-Some.roles.now) = search rules in
+    let e = c.in_err-arguments.field-0.0 in
+    let p = err_from_is_err_and c.from_residual-in_err-arguments.result c.from_residual-in_err-arguments.ensures.1 in
+    rw (p.1, p.2)
+    (call_unmeant n c.args.function c.args.at xs (Some (map role_view c.in-Some.roles.now)) given e c.in_err-arguments.ensures)
+
+pub called-returns : goal.called-returns
+called-returns t c =
+    let n = naming_in c.args.naming.now in
+    let xs = c.args.list.now in
+    let given : calls.roles_of c.args.function (length xs) ≡ Some (map role_view c.in-Some.roles.now) = search rules in
+    let gs = map argument_view c.in_ok-arguments.arguments.items in
+    gives_as value_view c.function_called.result _ _
+    (call_typed n c.args.function c.args.at xs (Some (map role_view c.in-Some.roles.now)) given gs c.in_ok-arguments.ensures
+    ∙ ap (λ g. calls.or_bad_argument c.args.at (calls.of_arguments g c.args.function gs)) (sym c.greatest.ensures)) c.function_called.ensures
+
+pub subscripts_in-all_subscripts-requires : goal.subscripts_in-all_subscripts-requires
+subscripts_in-all_subscripts-requires t c =
+    let n = naming_in c.args.naming.now in
+    (omega (arith, c.decreases, ap (λ xs. list_size (syntax.expressions_view xs)) c.as_slice.ensures.value, ap (λ o. arguments_size (syntax.arguments_view o)) c.in-Some.is),
+    ap (λ xs. later_list n (syntax.expressions_view xs)) c.as_slice.ensures.value ∙ sym (ap (λ o. later_arguments n (syntax.arguments_view o)) c.in-Some.is) ∙ c.requires)
+
+pub subscripts_in-returns-in-None : goal.subscripts_in-returns-in-None
+subscripts_in-returns-in-None t c =
+    let n = naming_in c.args.naming.now in
+    ap (λ o. typing.subscripts_in n (syntax.arguments_view o)) c.in-None.is ∙ ap (λ xs. Ok (map expression_view xs)) (sym c.new.ensures.items)
+
+pub subscripts_in-returns-in-Some : goal.subscripts_in-returns-in-Some
+subscripts_in-returns-in-Some t c =
+    let n = naming_in c.args.naming.now in
+    gives_as (λ (v : Vec TypedExpression Global). map expression_view v.items) c.all_subscripts.result _ _
+    (ap (λ o. typing.subscripts_in n (syntax.arguments_view o)) c.in-Some.is ∙ sym (ap (λ xs. typing.all_subscripts n (syntax.expressions_view xs)) c.as_slice.ensures.value)) c.all_subscripts.ensures
+
+pub with_part-subscripts_in-requires : goal.with_part-subscripts_in-requires
+with_part-subscripts_in-requires t c =
+    let n = naming_in c.args.naming.now in
+    (omega (arith, c.decreases), c.requires)
+
+pub with_part-begun-requires : goal.with_part-begun-requires
+with_part-begun-requires t c =
+    let n = naming_in c.args.naming.now in
+    (omega (arith, c.decreases), c.requires)
+
+pub with_part-returns-in_err-more-in-Member : goal.with_part-returns-in_err-more-in-Member
+with_part-returns-in_err-more-in-Member t c =
+    let n = naming_in c.args.naming.now in
+    let s = segment_view n c.args.segment in
+    let name = c.args.joined.now.part.name in
+    let given = syntax.arguments_view c.args.joined.now.part.arguments in
+    let e = c.in_err-more-in-Member.field-0.0 in
+    let p = err_from_is_err_and c.from_residual.result c.from_residual.ensures.1 in
+    rw (p.1, p.2)
+    (fails_as e _ _ (ap (λ j. next_segment n s j name given) c.in-Member.is) (fails_on e (typing.subscripts_in n given) (λ xs. Ok (typing.with_more s xs)) c.in_err-more-in-Member.ensures))
+
+pub with_part-returns-in_err-longer-in-Member : goal.with_part-returns-in_err-longer-in-Member
+with_part-returns-in_err-longer-in-Member t c =
+    let p = err_from_is_err_and c.from_residual-in_err-longer-in-Member.result c.from_residual-in_err-longer-in-Member.ensures.1 in rw (p.1, p.2) tt
+
+pub with_part-returns-in_ok-longer-in-Member : goal.with_part-returns-in_ok-longer-in-Member
+with_part-returns-in_ok-longer-in-Member t c =
+    let n = naming_in c.args.naming.now in
+    let s = segment_view n c.args.segment in
+    let name = c.args.joined.now.part.name in
+    let given = syntax.arguments_view c.args.joined.now.part.arguments in
+    let xs = map expression_view c.in_ok-more-in-Member.more.items in
+    ap (λ j. next_segment n s j name given) c.in-Member.is
+    ∙ bind_ok (typing.subscripts_in n given) xs (λ xs. Ok (typing.with_more s xs)) c.in_ok-more-in-Member.ensures ∙ ap (λ t. Ok t) (sym (c.in_ok-longer-in-Member.ensures n))
+
+pub with_part-returns-in_err-ended-in-Located : goal.with_part-returns-in_err-ended-in-Located
+with_part-returns-in_err-ended-in-Located t c =
+    let n = naming_in c.args.naming.now in
+    let s = segment_view n c.args.segment in
+    let name = c.args.joined.now.part.name in
+    let given = syntax.arguments_view c.args.joined.now.part.arguments in
+    let e = c.in_err-ended-in-Located.field-0.0 in
+    let p = err_from_is_err_and c.from_residual-in_err-ended-in-Located.result c.from_residual-in_err-ended-in-Located.ensures.1 in
+    rw (p.1, p.2)
+    (fails_as e _ _ (ap (λ j. next_segment n s j name given) c.in-Located.is) (fails_on e (typing.ended AsLocator s) (λ l. typing.begun n (n.meaning name.at) false true name.at given) c.in_err-ended-in-Located.ensures))
+
+pub with_part-returns-in_ok-ended-in-Located : goal.with_part-returns-in_ok-ended-in-Located
+with_part-returns-in_ok-ended-in-Located t c =
+    let n = naming_in c.args.naming.now in
+    let s = segment_view n c.args.segment in
+    let name = c.args.joined.now.part.name in
+    let given = syntax.arguments_view c.args.joined.now.part.arguments in
+    gives_as (segment_view n) c.begun.result _ _
+    (ap (λ j. next_segment n s j name given) c.in-Located.is ∙ bind_ok (typing.ended AsLocator s) (denoted_view c.in_ok-ended-in-Located.field-0) (λ l. typing.begun n (n.meaning name.at) false true name.at given) c.in_ok-ended-in-Located.ensures)
+    c.begun.ensures
+
+pub referred-begun-requires : goal.referred-begun-requires
+referred-begun-requires t c =
+    let n = naming_in c.args.naming.now in
+    let r = c.args.reference.now in
+    let x = out-Reference r in
+    let role = role_view c.args.role in
+    let more = syntax.joined_view x.joined.items in
+    let first = syntax.arguments_view x.first.arguments in
+    let name = x.first.name in
+    (omega (arith, c.decreases, ap reference_size (reference_out r)), (reference_built n r c.requires).0)
+
+pub referred-continued-requires : goal.referred-continued-requires
+referred-continued-requires t c =
+    let n = naming_in c.args.naming.now in
+    let r = c.args.reference.now in
+    let x = out-Reference r in
+    let role = role_view c.args.role in
+    let more = syntax.joined_view x.joined.items in
+    let first = syntax.arguments_view x.first.arguments in
+    let name = x.first.name in
+    (omega (arith, c.decreases, ap reference_size (reference_out r), ap (λ xs. parts_size (syntax.joined_view xs)) c.as_slice-joined.ensures.value),
+    ap (λ xs. later_joined n (syntax.joined_view xs)) c.as_slice-joined.ensures.value ∙ (reference_built n r c.requires).1)
+
+pub referred-returns-in_err-first : goal.referred-returns-in_err-first
+referred-returns-in_err-first t c =
+    let n = naming_in c.args.naming.now in
+    let r = c.args.reference.now in
+    let x = out-Reference r in
+    let role = role_view c.args.role in
+    let more = syntax.joined_view x.joined.items in
+    let first = syntax.arguments_view x.first.arguments in
+    let name = x.first.name in
+    let call : c.is_call-call.result ≡ typing.is_call role false more = c.is_call-call.ensures ∙ ap (λ xs. typing.is_call role false (syntax.joined_view xs)) c.as_slice-joined.ensures.value in
+    let begins = λ (k : Bool). typing.begun n (n.meaning name.at) k false name.at first in
+    let e = c.in_err-first.field-0.0 in
+    let p = err_from_is_err_and c.from_residual.result c.from_residual.ensures.1 in
+    rw (p.1, p.2)
+    (fails_as e _ _ (ap (typing.referred n role) (reference_out r)) (reference_unbegun n role name first more e (fails_as e _ _ (sym (ap begins call)) c.in_err-first.ensures)))
+
+pub referred-returns-in_err-last : goal.referred-returns-in_err-last
+referred-returns-in_err-last t c =
+    let n = naming_in c.args.naming.now in
+    let r = c.args.reference.now in
+    let x = out-Reference r in
+    let role = role_view c.args.role in
+    let more = syntax.joined_view x.joined.items in
+    let first = syntax.arguments_view x.first.arguments in
+    let name = x.first.name in
+    let call : c.is_call-call.result ≡ typing.is_call role false more = c.is_call-call.ensures ∙ ap (λ xs. typing.is_call role false (syntax.joined_view xs)) c.as_slice-joined.ensures.value in
+    let begins = λ (k : Bool). typing.begun n (n.meaning name.at) k false name.at first in
+    let s = segment_view n c.in_ok-first.first in
+    let e = c.in_err-last.field-0.0 in
+    let p = err_from_is_err_and c.from_residual-in_err-last.result c.from_residual-in_err-last.ensures.1 in
+    rw (p.1, p.2)
+    (fails_as e _ _ (ap (typing.referred n role) (reference_out r)) (reference_unended n role name first more s e (sym (ap begins call) ∙ c.in_ok-first.ensures)
+    (fails_as e _ _ (sym (ap (λ xs. last_segment n s (syntax.joined_view xs)) c.as_slice-joined.ensures.value)) c.in_err-last.ensures)))
+
+pub referred-returns : goal.referred-returns
+referred-returns t c =
+    let n = naming_in c.args.naming.now in
+    let r = c.args.reference.now in
+    let x = out-Reference r in
+    let role = role_view c.args.role in
+    let more = syntax.joined_view x.joined.items in
+    let first = syntax.arguments_view x.first.arguments in
+    let name = x.first.name in
+    let call : c.is_call-call.result ≡ typing.is_call role false more = c.is_call-call.ensures ∙ ap (λ xs. typing.is_call role false (syntax.joined_view xs)) c.as_slice-joined.ensures.value in
+    let begins = λ (k : Bool). typing.begun n (n.meaning name.at) k false name.at first in
+    let s = segment_view n c.in_ok-first.first in
+    gives_as denoted_view c.ended.result _ _
+    (ap (typing.referred n role) (reference_out r) ∙ referred_ends n role name first more s (segment_view n c.in_ok-last.last) (sym (ap begins call) ∙ c.in_ok-first.ensures)
+    (sym (ap (λ xs. last_segment n s (syntax.joined_view xs)) c.as_slice-joined.ensures.value) ∙ c.in_ok-last.ensures)) c.ended.ensures
+
+pub meant-referred-requires : goal.meant-referred-requires
+meant-referred-requires t c =
+    let n = naming_in c.args.naming.now in
+    (omega (arith, c.decreases, ap (λ e. expression_size (syntax.expression_view e)) c.in-Reference.is), sym (ap (λ e. later_expression n (syntax.expression_view e)) c.in-Reference.is) ∙ c.requires)
+
+pub meant-returns-in_err-denoted-in-Reference : goal.meant-returns-in_err-denoted-in-Reference
+meant-returns-in_err-denoted-in-Reference t c =
+    let n = naming_in c.args.naming.now in
+    let role = role_view c.args.role in
+    let e = c.in_err-denoted-in-Reference.field-0.0 in
+    let p = err_from_is_err_and c.from_residual.result c.from_residual.ensures.1 in
+    rw (p.1, p.2)
+    (fails_as e _ _ (ap (λ e. typing.meant n role (syntax.expression_view e)) c.in-Reference.is) (fails_on e (typing.referred n role (syntax.reference_view c.in-Reference.reference)) (λ d. Ok (typing.meant_as d)) c.in_err-denoted-in-Reference.ensures))
+
+pub meant-returns-in_ok-denoted-in-Reference : goal.meant-returns-in_ok-denoted-in-Reference
+meant-returns-in_ok-denoted-in-Reference t c =
+    let n = naming_in c.args.naming.now in
+    let role = role_view c.args.role in
+    ap (λ e. typing.meant n role (syntax.expression_view e)) c.in-Reference.is
+    ∙ bind_ok (typing.referred n role (syntax.reference_view c.in-Reference.reference)) (denoted_view c.in_ok-denoted-in-Reference.denoted) (λ d. Ok (typing.meant_as d)) c.in_ok-denoted-in-Reference.ensures
+    ∙ ap (λ m. Ok m) (sym c.as_expression.ensures)
+
+pub meant-constant-requires : goal.meant-constant-requires
+meant-constant-requires t c =
+    let n = naming_in c.args.naming.now in
+    constant_built c.args.naming.now c.in-Constant.value (sym (ap (λ e. later_expression n (syntax.expression_view e)) c.in-Constant.is) ∙ c.requires)
+
+pub meant-returns-in_err-literal-in-Constant : goal.meant-returns-in_err-literal-in-Constant
+meant-returns-in_err-literal-in-Constant t c =
+    let p = err_from_is_err_and c.from_residual-in_err-literal-in-Constant.result c.from_residual-in_err-literal-in-Constant.ensures.1 in rw (p.1, p.2) tt
+
+pub meant-returns-in_ok-literal-in-Constant : goal.meant-returns-in_ok-literal-in-Constant
+meant-returns-in_ok-literal-in-Constant t c =
+    let n = naming_in c.args.naming.now in
+    let role = role_view c.args.role in
+    ap (λ e. typing.meant n role (syntax.expression_view e)) c.in-Constant.is ∙ ap (λ v. Ok (calls.OneValue v)) (sym c.in_ok-literal-in-Constant.ensures)
+
+pub meant-meant-requires : goal.meant-meant-requires
+meant-meant-requires t c =
+    let n = naming_in c.args.naming.now in
+    (omega (arith, c.decreases, ap (λ e. expression_size (syntax.expression_view e)) c.in-Parenthesized.is, ap (λ e. expression_size (syntax.expression_view e)) c.deref.ensures), ap (λ e. later_expression n (syntax.expression_view e)) c.deref.ensures ∙ sym (ap (λ e. later_expression n (syntax.expression_view e)) c.in-Parenthesized.is) ∙ c.requires)
+
+pub meant-returns-in-Parenthesized : goal.meant-returns-in-Parenthesized
+meant-returns-in-Parenthesized t c =
+    let n = naming_in c.args.naming.now in
+    let role = role_view c.args.role in
+    gives_as meant_view c.meant.result _ _ (ap (λ e. typing.meant n role (syntax.expression_view e)) c.in-Parenthesized.is ∙ sym (ap (λ e. typing.meant n (role_view roles.Value) (syntax.expression_view e)) c.deref.ensures)) c.meant.ensures
+
+pub meant-meant-requires-in-Prefix : goal.meant-meant-requires-in-Prefix
+meant-meant-requires-in-Prefix t c =
+    let n = naming_in c.args.naming.now in
+    (omega (arith, c.decreases, ap (λ e. expression_size (syntax.expression_view e)) c.in-Prefix.is, ap (λ e. expression_size (syntax.expression_view e)) c.deref-in-Prefix.ensures), ap (λ e. later_expression n (syntax.expression_view e)) c.deref-in-Prefix.ensures ∙ sym (ap (λ e. later_expression n (syntax.expression_view e)) c.in-Prefix.is) ∙ c.requires)
+
+pub meant-returns-in_err-operand_meant-in-Prefix : goal.meant-returns-in_err-operand_meant-in-Prefix
+meant-returns-in_err-operand_meant-in-Prefix t c =
+    let n = naming_in c.args.naming.now in
+    let role = role_view c.args.role in
+    let b = c.in-Prefix in
+    let operand = syntax.expression_view b.operand.value in
+    let here = λ (e : Expression). typing.meant n (role_view roles.Value) (syntax.expression_view e) in
+    let e = c.in_err-operand_meant-in-Prefix.field-0.0 in
+    let p = err_from_is_err_and c.from_residual-in_err-operand_meant-in-Prefix.result c.from_residual-in_err-operand_meant-in-Prefix.ensures.1 in
+    rw (p.1, p.2)
+    (fails_as e _ _ (ap (λ e. typing.meant n role (syntax.expression_view e)) c.in-Prefix.is) (prefix_unmeant n role b.operator b.at operand e (fails_as e _ _ (sym (ap here c.deref-in-Prefix.ensures)) c.in_err-operand_meant-in-Prefix.ensures)))
+
+pub meant-returns-in_err-operand_value-in-Prefix : goal.meant-returns-in_err-operand_value-in-Prefix
+meant-returns-in_err-operand_value-in-Prefix t c =
+    let n = naming_in c.args.naming.now in
+    let role = role_view c.args.role in
+    let b = c.in-Prefix in
+    let operand = syntax.expression_view b.operand.value in
+    let here = λ (e : Expression). typing.meant n (role_view roles.Value) (syntax.expression_view e) in
+    let e = c.in_err-operand_value-in-Prefix.field-0.0 in
+    let p = err_from_is_err_and c.from_residual-in_err-operand_value-in-Prefix.result c.from_residual-in_err-operand_value-in-Prefix.ensures.1 in
+    rw (p.1, p.2)
+    (fails_as e _ _ (ap (λ e. typing.meant n role (syntax.expression_view e)) c.in-Prefix.is) (prefix_of_aggregate n role b.operator b.at operand (meant_view c.in_ok-operand_meant-in-Prefix.operand_meant) e (sym (ap here c.deref-in-Prefix.ensures) ∙ c.in_ok-operand_meant-in-Prefix.ensures) (fails_as e _ _ (sym (ap (λ (e : Expression). typing.one_value (typing.first_token (syntax.expression_view e)) (meant_view c.in_ok-operand_meant-in-Prefix.operand_meant)) c.deref-in-Prefix-2.ensures)) c.in_err-operand_value-in-Prefix.ensures)))
+
+pub meant-returns-in_err-given-in-Prefix : goal.meant-returns-in_err-given-in-Prefix
+meant-returns-in_err-given-in-Prefix t c =
+    let n = naming_in c.args.naming.now in
+    let role = role_view c.args.role in
+    let b = c.in-Prefix in
+    let operand = syntax.expression_view b.operand.value in
+    let here = λ (e : Expression). typing.meant n (role_view roles.Value) (syntax.expression_view e) in
+    let e = c.in_err-given-in-Prefix.field-0.0 in
+    let p = err_from_is_err_and c.from_residual-in_err-given-in-Prefix.result c.from_residual-in_err-given-in-Prefix.ensures.1 in
+    rw (p.1, p.2)
+    (fails_as e _ _ (ap (λ e. typing.meant n role (syntax.expression_view e)) c.in-Prefix.is) (prefix_refused n role b.operator b.at operand (meant_view c.in_ok-operand_meant-in-Prefix.operand_meant) (value_view c.in_ok-operand_value-in-Prefix.operand_value) e (sym (ap here c.deref-in-Prefix.ensures) ∙ c.in_ok-operand_meant-in-Prefix.ensures) (sym (ap (λ (e : Expression). typing.one_value (typing.first_token (syntax.expression_view e)) (meant_view c.in_ok-operand_meant-in-Prefix.operand_meant)) c.deref-in-Prefix-2.ensures) ∙ c.in_ok-operand_value-in-Prefix.ensures) (fails_as e _ _ (ap (λ g. typing.or_fault WrongOperandType b.at (types.prefix_value g b.operator (value_view c.in_ok-operand_value-in-Prefix.operand_value))) (sym c.greatest.ensures)) c.in_err-given-in-Prefix.ensures)))
+
+pub meant-returns-in_ok-given-in-Prefix : goal.meant-returns-in_ok-given-in-Prefix
+meant-returns-in_ok-given-in-Prefix t c =
+    let n = naming_in c.args.naming.now in
+    let role = role_view c.args.role in
+    let b = c.in-Prefix in
+    let operand = syntax.expression_view b.operand.value in
+    let here = λ (e : Expression). typing.meant n (role_view roles.Value) (syntax.expression_view e) in
+    ap (λ e. typing.meant n role (syntax.expression_view e)) c.in-Prefix.is
+    ∙ prefix_typed n role b.operator b.at operand (meant_view c.in_ok-operand_meant-in-Prefix.operand_meant) (value_view c.in_ok-operand_value-in-Prefix.operand_value) (value_view c.in_ok-given-in-Prefix.given) (sym (ap here c.deref-in-Prefix.ensures) ∙ c.in_ok-operand_meant-in-Prefix.ensures) (sym (ap (λ (e : Expression). typing.one_value (typing.first_token (syntax.expression_view e)) (meant_view c.in_ok-operand_meant-in-Prefix.operand_meant)) c.deref-in-Prefix-2.ensures) ∙ c.in_ok-operand_value-in-Prefix.ensures) (ap (λ g. typing.or_fault WrongOperandType b.at (types.prefix_value g b.operator (value_view c.in_ok-operand_value-in-Prefix.operand_value))) (sym c.greatest.ensures) ∙ c.in_ok-given-in-Prefix.ensures)
+
+pub meant-meant-requires-in-Infix : goal.meant-meant-requires-in-Infix
+meant-meant-requires-in-Infix t c =
+    let n = naming_in c.args.naming.now in
+    (omega (arith, c.decreases, ap (λ e. expression_size (syntax.expression_view e)) c.in-Infix.is, ap (λ e. expression_size (syntax.expression_view e)) c.deref-in-Infix.ensures), ap (λ e. later_expression n (syntax.expression_view e)) c.deref-in-Infix.ensures ∙ (or_parts (later_expression n (syntax.expression_view c.in-Infix.left.value)) (later_expression n (syntax.expression_view c.in-Infix.right.value)) (sym (ap (λ e. later_expression n (syntax.expression_view e)) c.in-Infix.is) ∙ c.requires)).0)
+
+pub meant-meant-requires-in-Infix-2 : goal.meant-meant-requires-in-Infix-2
+meant-meant-requires-in-Infix-2 t c =
+    let n = naming_in c.args.naming.now in
+    (omega (arith, c.decreases, ap (λ e. expression_size (syntax.expression_view e)) c.in-Infix.is, ap (λ e. expression_size (syntax.expression_view e)) c.deref-in-Infix-3.ensures), ap (λ e. later_expression n (syntax.expression_view e)) c.deref-in-Infix-3.ensures ∙ (or_parts (later_expression n (syntax.expression_view c.in-Infix.left.value)) (later_expression n (syntax.expression_view c.in-Infix.right.value)) (sym (ap (λ e. later_expression n (syntax.expression_view e)) c.in-Infix.is) ∙ c.requires)).1)
+
+pub meant-returns-in_err-left_meant-in-Infix : goal.meant-returns-in_err-left_meant-in-Infix
+meant-returns-in_err-left_meant-in-Infix t c =
+    let n = naming_in c.args.naming.now in
+    let role = role_view c.args.role in
+    let b = c.in-Infix in
+    let left = syntax.expression_view b.left.value in
+    let right = syntax.expression_view b.right.value in
+    let here = λ (e : Expression). typing.meant n (role_view roles.Value) (syntax.expression_view e) in
+    let e = c.in_err-left_meant-in-Infix.field-0.0 in
+    let p = err_from_is_err_and c.from_residual-in_err-left_meant-in-Infix.result c.from_residual-in_err-left_meant-in-Infix.ensures.1 in
+    rw (p.1, p.2)
+    (fails_as e _ _ (ap (λ e. typing.meant n role (syntax.expression_view e)) c.in-Infix.is)
+    (left_unmeant n role b.operator b.at left right e (fails_as e _ _ (sym (ap here c.deref-in-Infix.ensures)) c.in_err-left_meant-in-Infix.ensures)))
+
+pub meant-returns-in_err-left_value-in-Infix : goal.meant-returns-in_err-left_value-in-Infix
+meant-returns-in_err-left_value-in-Infix t c =
+    let n = naming_in c.args.naming.now in
+    let role = role_view c.args.role in
+    let b = c.in-Infix in
+    let left = syntax.expression_view b.left.value in
+    let right = syntax.expression_view b.right.value in
+    let here = λ (e : Expression). typing.meant n (role_view roles.Value) (syntax.expression_view e) in
+    let e = c.in_err-left_value-in-Infix.field-0.0 in
+    let p = err_from_is_err_and c.from_residual-in_err-left_value-in-Infix.result c.from_residual-in_err-left_value-in-Infix.ensures.1 in
+    rw (p.1, p.2)
+    (fails_as e _ _ (ap (λ e. typing.meant n role (syntax.expression_view e)) c.in-Infix.is)
+    (left_aggregate n role b.operator b.at left right (meant_view c.in_ok-left_meant-in-Infix.left_meant) e (sym (ap here c.deref-in-Infix.ensures) ∙ c.in_ok-left_meant-in-Infix.ensures) (fails_as e _ _ (sym (ap (λ (e : Expression). typing.one_value (typing.first_token (syntax.expression_view e)) (meant_view c.in_ok-left_meant-in-Infix.left_meant)) c.deref-in-Infix-2.ensures)) c.in_err-left_value-in-Infix.ensures)))
+
+pub meant-returns-in_err-right_meant-in-Infix : goal.meant-returns-in_err-right_meant-in-Infix
+meant-returns-in_err-right_meant-in-Infix t c =
+    let n = naming_in c.args.naming.now in
+    let role = role_view c.args.role in
+    let b = c.in-Infix in
+    let left = syntax.expression_view b.left.value in
+    let right = syntax.expression_view b.right.value in
+    let here = λ (e : Expression). typing.meant n (role_view roles.Value) (syntax.expression_view e) in
+    let e = c.in_err-right_meant-in-Infix.field-0.0 in
+    let p = err_from_is_err_and c.from_residual-in_err-right_meant-in-Infix.result c.from_residual-in_err-right_meant-in-Infix.ensures.1 in
+    rw (p.1, p.2)
+    (fails_as e _ _ (ap (λ e. typing.meant n role (syntax.expression_view e)) c.in-Infix.is)
+    (right_unmeant n role b.operator b.at left right (meant_view c.in_ok-left_meant-in-Infix.left_meant) (value_view c.in_ok-left_value-in-Infix.left_value) e (sym (ap here c.deref-in-Infix.ensures) ∙ c.in_ok-left_meant-in-Infix.ensures) (sym (ap (λ (e : Expression). typing.one_value (typing.first_token (syntax.expression_view e)) (meant_view c.in_ok-left_meant-in-Infix.left_meant)) c.deref-in-Infix-2.ensures) ∙ c.in_ok-left_value-in-Infix.ensures) (fails_as e _ _ (sym (ap here c.deref-in-Infix-3.ensures)) c.in_err-right_meant-in-Infix.ensures)))
+
+pub meant-returns-in_err-right_value-in-Infix : goal.meant-returns-in_err-right_value-in-Infix
+meant-returns-in_err-right_value-in-Infix t c =
+    let n = naming_in c.args.naming.now in
+    let role = role_view c.args.role in
+    let b = c.in-Infix in
+    let left = syntax.expression_view b.left.value in
+    let right = syntax.expression_view b.right.value in
+    let here = λ (e : Expression). typing.meant n (role_view roles.Value) (syntax.expression_view e) in
+    let e = c.in_err-right_value-in-Infix.field-0.0 in
+    let p = err_from_is_err_and c.from_residual-in_err-right_value-in-Infix.result c.from_residual-in_err-right_value-in-Infix.ensures.1 in
+    rw (p.1, p.2)
+    (fails_as e _ _ (ap (λ e. typing.meant n role (syntax.expression_view e)) c.in-Infix.is)
+    (right_aggregate n role b.operator b.at left right (meant_view c.in_ok-left_meant-in-Infix.left_meant) (meant_view c.in_ok-right_meant-in-Infix.right_meant) (value_view c.in_ok-left_value-in-Infix.left_value) e (sym (ap here c.deref-in-Infix.ensures) ∙ c.in_ok-left_meant-in-Infix.ensures) (sym (ap (λ (e : Expression). typing.one_value (typing.first_token (syntax.expression_view e)) (meant_view c.in_ok-left_meant-in-Infix.left_meant)) c.deref-in-Infix-2.ensures) ∙ c.in_ok-left_value-in-Infix.ensures) (sym (ap here c.deref-in-Infix-3.ensures) ∙ c.in_ok-right_meant-in-Infix.ensures) (fails_as e _ _ (sym (ap (λ (e : Expression). typing.one_value (typing.first_token (syntax.expression_view e)) (meant_view c.in_ok-right_meant-in-Infix.right_meant)) c.deref-in-Infix-4.ensures)) c.in_err-right_value-in-Infix.ensures)))
+
+pub meant-returns-in_err-combined-in-Infix : goal.meant-returns-in_err-combined-in-Infix
+meant-returns-in_err-combined-in-Infix t c =
+    let n = naming_in c.args.naming.now in
+    let role = role_view c.args.role in
+    let b = c.in-Infix in
+    let left = syntax.expression_view b.left.value in
+    let right = syntax.expression_view b.right.value in
+    let here = λ (e : Expression). typing.meant n (role_view roles.Value) (syntax.expression_view e) in
+    let e = c.in_err-combined-in-Infix.field-0.0 in
+    let p = err_from_is_err_and c.from_residual-in_err-combined-in-Infix.result c.from_residual-in_err-combined-in-Infix.ensures.1 in
+    rw (p.1, p.2)
+    (fails_as e _ _ (ap (λ e. typing.meant n role (syntax.expression_view e)) c.in-Infix.is)
+    (infix_refused n role b.operator b.at left right (meant_view c.in_ok-left_meant-in-Infix.left_meant) (meant_view c.in_ok-right_meant-in-Infix.right_meant) (value_view c.in_ok-left_value-in-Infix.left_value) (value_view c.in_ok-right_value-in-Infix.right_value) e (sym (ap here c.deref-in-Infix.ensures) ∙ c.in_ok-left_meant-in-Infix.ensures) (sym (ap (λ (e : Expression). typing.one_value (typing.first_token (syntax.expression_view e)) (meant_view c.in_ok-left_meant-in-Infix.left_meant)) c.deref-in-Infix-2.ensures) ∙ c.in_ok-left_value-in-Infix.ensures) (sym (ap here c.deref-in-Infix-3.ensures) ∙ c.in_ok-right_meant-in-Infix.ensures) (sym (ap (λ (e : Expression). typing.one_value (typing.first_token (syntax.expression_view e)) (meant_view c.in_ok-right_meant-in-Infix.right_meant)) c.deref-in-Infix-4.ensures) ∙ c.in_ok-right_value-in-Infix.ensures) (fails_as e _ _ (ap (λ g. typing.or_fault WrongOperandType b.at (types.infix_value g b.operator (value_view c.in_ok-left_value-in-Infix.left_value) (value_view c.in_ok-right_value-in-Infix.right_value))) (sym c.greatest-in-Infix.ensures)) c.in_err-combined-in-Infix.ensures)))
+
+pub meant-returns-in_ok-combined-in-Infix : goal.meant-returns-in_ok-combined-in-Infix
+meant-returns-in_ok-combined-in-Infix t c =
+    let n = naming_in c.args.naming.now in
+    let role = role_view c.args.role in
+    let b = c.in-Infix in
+    let left = syntax.expression_view b.left.value in
+    let right = syntax.expression_view b.right.value in
+    let here = λ (e : Expression). typing.meant n (role_view roles.Value) (syntax.expression_view e) in
+    ap (λ e. typing.meant n role (syntax.expression_view e)) c.in-Infix.is
+    ∙ infix_typed n role b.operator b.at left right (meant_view c.in_ok-left_meant-in-Infix.left_meant) (meant_view c.in_ok-right_meant-in-Infix.right_meant) (value_view c.in_ok-left_value-in-Infix.left_value) (value_view c.in_ok-right_value-in-Infix.right_value) (value_view c.in_ok-combined-in-Infix.combined) (sym (ap here c.deref-in-Infix.ensures) ∙ c.in_ok-left_meant-in-Infix.ensures) (sym (ap (λ (e : Expression). typing.one_value (typing.first_token (syntax.expression_view e)) (meant_view c.in_ok-left_meant-in-Infix.left_meant)) c.deref-in-Infix-2.ensures) ∙ c.in_ok-left_value-in-Infix.ensures) (sym (ap here c.deref-in-Infix-3.ensures) ∙ c.in_ok-right_meant-in-Infix.ensures) (sym (ap (λ (e : Expression). typing.one_value (typing.first_token (syntax.expression_view e)) (meant_view c.in_ok-right_meant-in-Infix.right_meant)) c.deref-in-Infix-4.ensures) ∙ c.in_ok-right_value-in-Infix.ensures) (ap (λ g. typing.or_fault WrongOperandType b.at (types.infix_value g b.operator (value_view c.in_ok-left_value-in-Infix.left_value) (value_view c.in_ok-right_value-in-Infix.right_value))) (sym c.greatest-in-Infix.ensures) ∙ c.in_ok-combined-in-Infix.ensures)

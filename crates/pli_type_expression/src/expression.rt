@@ -1,0 +1,321 @@
+//! The walk over expressions and references.
+ghost use Rattle.std.specs.Prelude.{◌≡◌, false, map};
+ghost use Rattle.pli_base.specs.Syntax.{Given};
+ghost use Rattle.pli_base.specs.views.SyntaxView as syntax;
+ghost use Rattle.pli_type.specs.Typing as typing;
+ghost use Rattle.pli_type.specs.Unbuilt.{later_expression, later_reference, later_joined, later_arguments, later_list};
+ghost use Rattle.pli_type.specs.views.ValueView.{value_view};
+ghost use Rattle.pli_type_expression.specs.Segments.{next_segment, last_segment, function_typed};
+ghost use Rattle.pli_type_names.specs.UnitNaming.{naming_in};
+ghost use Rattle.pli_type_expression.specs.answers.TypingAnswers.{Fails, Gives};
+ghost use Rattle.pli_type_expression.specs.views.TypingView.{argument_view, denoted_view, meant_view, role_view, segment_view};
+ghost use Rattle.pli_type_tree.specs.views.TypedView.{expression_view};
+
+use crate::answer::{TypeError, fault};
+use crate::argument::{Argument, number_written};
+use crate::constant::constant;
+use crate::function::{function_called, roles_of};
+use crate::meaning::{Denoted, Meant};
+use crate::names::greatest;
+use crate::operator::{infix, prefix};
+use crate::role::{Role, role_at};
+use crate::segment::{Segment, is_call};
+use crate::subscripts::subscript;
+use pli_base::Code;
+use pli_base::syntax::{Expression, JoinedPart, Joining, Part, Reference};
+use pli_resolve::BuiltInFunction;
+use pli_type::TypedValue;
+use pli_type_names::{NamedAs, Naming};
+use pli_type_tree::TypedExpression;
+use std::alloc::{AllocError, Global};
+
+/// One value of an expression: T2 at its first token where it is an aggregate. Its constants are within the language's
+/// limits, and none of its names means a function that is not compiled yet.
+pub fn value_of(
+    alloc: Global,
+    naming: &Naming<'_>,
+    expression: &Expression,
+) -> Result<TypedValue, TypeError>
+    requires { later_expression (naming_in naming.now) (syntax.expression_view expression.now) ≡ false }
+    ensures { Gives value_view result (typing.value_of (naming_in naming.now) (syntax.expression_view expression.now)) }
+{
+    let meant = meant(alloc, naming, Role::Value, expression)?;
+    meant.one_value(expression)
+}
+
+/// What an expression is in its role, or its first fault of types: operands from left to right, then their operator
+/// (own). It calls itself as deep as parentheses and operators nest.
+#[cycle(typed)]
+pub fn meant<'a>(
+    alloc: Global,
+    naming: &Naming<'a>,
+    role: Role,
+    expression: &Expression,
+) -> Result<Meant<'a>, TypeError>
+    requires { later_expression (naming_in naming.now) (syntax.expression_view expression.now) ≡ false }
+    ensures { Gives meant_view result (typing.meant (naming_in naming.now) (role_view role) (syntax.expression_view expression.now)) }
+{
+    match expression {
+        Expression::Reference(reference) => {
+            let denoted = referred(alloc, naming, role, reference)?;
+            Ok(denoted.as_expression())
+        }
+        Expression::Constant { value, .. } => {
+            let literal = constant(alloc, value)?;
+            Ok(Meant::Value(literal))
+        }
+        Expression::Parenthesized { inner, .. } => meant(alloc, naming, Role::Value, inner),
+        Expression::Prefix {
+            operator,
+            at,
+            operand,
+        } => {
+            let operand_meant = meant(alloc, naming, Role::Value, operand)?;
+            let operand_value = operand_meant.one_value(operand)?;
+            let given = prefix(alloc, greatest(naming), *operator, *at, operand_value)?;
+            Ok(Meant::Value(given))
+        }
+        Expression::Infix {
+            operator,
+            at,
+            left,
+            right,
+        } => {
+            let left_meant = meant(alloc, naming, Role::Value, left)?;
+            let left_value = left_meant.one_value(left)?;
+            let right_meant = meant(alloc, naming, Role::Value, right)?;
+            let right_value = right_meant.one_value(right)?;
+            let combined = infix(
+                alloc,
+                greatest(naming),
+                *operator,
+                *at,
+                left_value,
+                right_value,
+            )?;
+            Ok(Meant::Value(combined))
+        }
+    }
+}
+
+/// What a reference denotes in its role, which is that of its last part, all before an arrow being a locator; or its
+/// first fault of types: a locator's, then each subscript's, then the reference's own (own).
+#[cycle(typed)]
+pub fn referred<'a>(
+    alloc: Global,
+    naming: &Naming<'a>,
+    role: Role,
+    reference: &Reference,
+) -> Result<Denoted<'a>, TypeError>
+    requires { later_reference (naming_in naming.now) (syntax.reference_view reference.now) ≡ false }
+    ensures { Gives denoted_view result (typing.referred (naming_in naming.now) (role_view role) (syntax.reference_view reference.now)) }
+{
+    let joined = reference.joined.as_slice();
+    let call = is_call(role, joined);
+    let first = begun(alloc, naming, call, false, &reference.first)?;
+    let last = continued(alloc, naming, first, joined)?;
+    last.ended(alloc, naming, role)
+}
+
+/// The last segment of a reference.
+#[cycle(typed)]
+fn continued(
+    alloc: Global,
+    naming: &Naming<'_>,
+    first: Segment,
+    joined: &[JoinedPart],
+) -> Result<Segment, TypeError>
+    requires { later_joined (naming_in naming.now) (syntax.joined_view joined.now) ≡ false }
+    ensures { Gives (segment_view (naming_in naming.now)) result
+        (last_segment (naming_in naming.now) (segment_view (naming_in naming.now) first) (syntax.joined_view joined.now)) }
+{
+    let mut segment = first;
+    for part in joined {
+        segment = with_part(alloc, naming, segment, part)?;
+    }
+    Ok(segment)
+}
+
+/// A segment with a part that is joined to it.
+#[cycle(typed)]
+fn with_part(
+    alloc: Global,
+    naming: &Naming<'_>,
+    segment: Segment,
+    joined: &JoinedPart,
+) -> Result<Segment, TypeError>
+    requires { later_arguments (naming_in naming.now) (syntax.arguments_view joined.now.part.arguments) ≡ false }
+    ensures { Gives (segment_view (naming_in naming.now)) result
+        (next_segment (naming_in naming.now) (segment_view (naming_in naming.now) segment) joined.now.joining joined.now.part.name
+        (syntax.arguments_view joined.now.part.arguments)) }
+{
+    match joined.joining {
+        Joining::Member => {
+            let more = subscripts_in(alloc, naming, &joined.part)?;
+            let longer = segment.with_more(more)?;
+            Ok(longer)
+        }
+        Joining::Located => {
+            segment.ended(alloc, naming, Role::Locator)?;
+            begun(alloc, naming, false, true, &joined.part)
+        }
+    }
+}
+
+/// Why the unit's own procedure is not called here, which takes nothing and gives nothing: T6 with arguments, else T8.
+fn procedure_fault(at: u32, list: &[Expression]) -> TypeError
+    ensures { Fails result (typing.procedure_called at (syntax.expressions_view list.now)) }
+{
+    if list.is_empty() {
+        fault(Code::NotCallableHere, at)
+    } else {
+        fault(Code::WrongNumberOfArguments, at)
+    }
+}
+
+/// A segment by what its first name means, with the parentheses behind that: subscripts of a variable, else arguments.
+#[cycle(typed)]
+fn begun(
+    alloc: Global,
+    naming: &Naming<'_>,
+    call: bool,
+    located: bool,
+    part: &Part,
+) -> Result<Segment, TypeError>
+    requires { later_arguments (naming_in naming.now) (syntax.arguments_view part.now.arguments) ≡ false }
+    ensures { Gives (segment_view (naming_in naming.now)) result
+        (typing.begun (naming_in naming.now) ((naming_in naming.now).meaning part.now.name.at) call located part.now.name.at
+        (syntax.arguments_view part.now.arguments)) }
+{
+    let at = part.name.at;
+    match &part.arguments {
+        None => Ok(Segment::named(alloc, located, at)),
+        Some(list) => begun_with(alloc, naming, call, located, at, list.as_slice()),
+    }
+}
+
+/// A segment that begins with a name and a list in parentheses.
+#[cycle(typed)]
+fn begun_with(
+    alloc: Global,
+    naming: &Naming<'_>,
+    call: bool,
+    located: bool,
+    at: u32,
+    list: &[Expression],
+) -> Result<Segment, TypeError>
+    requires { later_list (naming_in naming.now) (syntax.expressions_view list.now) ≡ false }
+    ensures { Gives (segment_view (naming_in naming.now)) result
+        (typing.begun (naming_in naming.now) ((naming_in naming.now).meaning at) call located at (Given (syntax.expressions_view list.now))) }
+{
+    match naming.meaning(at) {
+        NamedAs::Variable(_) => {
+            let subscripts = all_subscripts(alloc, naming, list)?;
+            Ok(Segment::Named {
+                located,
+                at,
+                subscripts,
+            })
+        }
+        NamedAs::Function(function) => {
+            if call {
+                let value = called(alloc, naming, function, at, list)?;
+                return Ok(Segment::Function(value));
+            }
+            all_arguments(alloc, naming, &[], list)?;
+            Ok(Segment::named(alloc, located, at))
+        }
+        NamedAs::Procedure => {
+            all_arguments(alloc, naming, &[], list)?;
+            if call {
+                return Err(procedure_fault(at, list));
+            }
+            Ok(Segment::named(alloc, located, at))
+        }
+        NamedAs::Label => {
+            all_arguments(alloc, naming, &[], list)?;
+            Ok(Segment::named(alloc, located, at))
+        }
+    }
+}
+
+/// A call of a built-in function: T6 at its name where the number of arguments is wrong, behind all their faults.
+#[cycle(typed)]
+fn called(
+    alloc: Global,
+    naming: &Naming<'_>,
+    function: BuiltInFunction,
+    at: u32,
+    list: &[Expression],
+) -> Result<TypedValue, TypeError>
+    requires { later_list (naming_in naming.now) (syntax.expressions_view list.now) ≡ false }
+    ensures { Gives value_view result (function_typed (naming_in naming.now) function at (syntax.expressions_view list.now)) }
+{
+    let Some(roles) = roles_of(function, list.len()) else {
+        all_arguments(alloc, naming, &[], list)?;
+        return Err(fault(Code::WrongNumberOfArguments, at));
+    };
+    let arguments = all_arguments(alloc, naming, roles, list)?;
+    function_called(alloc, greatest(naming), function, at, arguments)
+}
+
+/// The subscripts in the parentheses behind a member, from left to right.
+#[cycle(typed)]
+fn subscripts_in(
+    alloc: Global,
+    naming: &Naming<'_>,
+    part: &Part,
+) -> Result<Vec<TypedExpression>, TypeError>
+    requires { later_arguments (naming_in naming.now) (syntax.arguments_view part.now.arguments) ≡ false }
+    ensures { Gives (λ v. map expression_view v.items) result
+        (typing.subscripts_in (naming_in naming.now) (syntax.arguments_view part.now.arguments)) }
+{
+    match &part.arguments {
+        None => Ok(Vec::new(alloc)),
+        Some(list) => all_subscripts(alloc, naming, list.as_slice()),
+    }
+}
+
+/// Subscripts from left to right.
+#[cycle(typed)]
+fn all_subscripts(
+    alloc: Global,
+    naming: &Naming<'_>,
+    list: &[Expression],
+) -> Result<Vec<TypedExpression>, TypeError>
+    requires { later_list (naming_in naming.now) (syntax.expressions_view list.now) ≡ false }
+    ensures { Gives (λ v. map expression_view v.items) result
+        (typing.all_subscripts (naming_in naming.now) (syntax.expressions_view list.now)) }
+{
+    let mut subscripts = Vec::new(alloc);
+    for expression in list {
+        let one = meant(alloc, naming, Role::Value, expression)?;
+        let value = subscript(greatest(naming), expression, one)?;
+        subscripts.push(value)?;
+    }
+    Ok(subscripts)
+}
+
+/// Arguments from left to right, in their roles; those without a role may be whole aggregates.
+#[cycle(typed)]
+fn all_arguments<'a>(
+    alloc: Global,
+    naming: &Naming<'a>,
+    roles: &[Role],
+    list: &[Expression],
+) -> Result<Vec<Argument<'a>>, TypeError>
+    requires { later_list (naming_in naming.now) (syntax.expressions_view list.now) ≡ false }
+    ensures { Gives (λ v. map argument_view v.items) result
+        (typing.all_arguments (naming_in naming.now) (map role_view roles.now) (syntax.expressions_view list.now)) }
+{
+    let mut arguments = Vec::new(alloc);
+    for (place, expression) in list.iter().enumerate() {
+        let role = role_at(roles, place);
+        let argument = meant(alloc, naming, role, expression)?;
+        arguments.push(Argument {
+            meant: argument,
+            written: number_written(expression),
+        })?;
+    }
+    Ok(arguments)
+}

@@ -1,0 +1,232 @@
+//! Calls of built-in functions.
+ghost use Rattle.std.specs.Prelude.{◌≡◌, ◌<◌, ◌-◌, ℕ, ℤ, true, map, option_map, slice_get, IfOk};
+ghost use Rattle.pli_map.specs.declared.description.Bounds.{Bounds};
+ghost use Rattle.pli_map.specs.views.DescriptionView.{description_view};
+ghost use Rattle.pli_type.specs.FunctionCalls as spec;
+ghost use Rattle.pli_type.specs.views.ValueView.{value_view};
+ghost use Rattle.pli_type_expression.specs.Bounded.{is_bound};
+ghost use Rattle.pli_type_expression.specs.answers.TypingAnswers.{Gives};
+ghost use Rattle.pli_type_expression.specs.views.TypingView.{argument_view, meant_view, role_view};
+
+use crate::answer::{TypeError, fault};
+use crate::argument::Argument;
+use crate::meaning::Meant;
+use crate::role::Role;
+use pli_base::Code;
+use pli_map::{Bounds, Description};
+use pli_resolve::BuiltInFunction;
+use pli_type::{ExpressionType, TypedValue, call, quotient};
+use pli_type_tree::TypedExpression;
+use pli_value::Value;
+use std::alloc::{AllocError, Global};
+
+/// The precision of LBOUND and HBOUND (own).
+const BOUND_PRECISION: u8 = 15;
+
+/// For what the arguments of a built-in function stand, where it may have so many: SUBSTR has two or three. The array of
+/// LBOUND and HBOUND is not evaluated, and their number and the precision of DIVIDE are constants (X3.74).
+pub(crate) fn roles_of(function: BuiltInFunction, given: usize) -> Option<&'static [Role]>
+    ensures { option_map (λ roles. map role_view roles.now) result ≡ spec.roles_of function given }
+{
+    let roles: &'static [Role] = match function {
+        BuiltInFunction::Abs | BuiltInFunction::Sign | BuiltInFunction::Length => &[Role::Value],
+        BuiltInFunction::Substring if given == 3 => &[Role::Value, Role::Value, Role::Value],
+        BuiltInFunction::Max
+        | BuiltInFunction::Min
+        | BuiltInFunction::Mod
+        | BuiltInFunction::Index
+        | BuiltInFunction::Substring => &[Role::Value, Role::Value],
+        BuiltInFunction::Divide => &[Role::Value, Role::Value, Role::Argument],
+        BuiltInFunction::LowBound | BuiltInFunction::HighBound => &[Role::Argument, Role::Argument],
+        _ => return None,
+    };
+    if given == roles.len() { Some(roles) } else { None }
+}
+
+/// The one value that an argument is.
+fn value_in(meant: Meant<'_>) -> Option<TypedValue>
+    ensures { option_map value_view result ≡ spec.value_in (meant_view meant.entry) }
+{
+    match meant {
+        Meant::Value(value) => Some(value),
+        Meant::Aggregate(_) => None,
+    }
+}
+
+/// The values that arguments are, where each is one value.
+fn values_in(
+    alloc: Global,
+    arguments: Vec<Argument<'_>>,
+) -> Result<Option<Vec<TypedValue>>, AllocError>
+    ensures { IfOk result (λ values. option_map (λ v. map value_view v.items) values
+        ≡ spec.values_in (map argument_view arguments.entry.items)) }
+{
+    let mut values = Vec::new(alloc);
+    for argument in arguments {
+        let Some(value) = value_in(argument.meant) else {
+            return Ok(None);
+        };
+        values.push(value)?;
+    }
+    Ok(Some(values))
+}
+
+/// What a built-in function gives of values.
+fn of_values(
+    alloc: Global,
+    greatest: u8,
+    function: BuiltInFunction,
+    values: Vec<TypedValue>,
+) -> Result<Option<TypedValue>, AllocError>
+    ensures { IfOk result (λ given. option_map value_view given ≡ spec.of_values greatest function (map value_view values.items)) }
+{
+    let mut kinds = Vec::new(alloc);
+    let mut operands = Vec::new(alloc);
+    for value in values {
+        kinds.push(value.kind)?;
+        operands.push(value.expression)?;
+    }
+    Ok(call(greatest, function, kinds.as_slice(), operands))
+}
+
+/// What DIVIDE gives of two values, and of the precision that is written.
+fn divided(
+    alloc: Global,
+    greatest: u8,
+    left: Meant<'_>,
+    right: Meant<'_>,
+    written: Option<u32>,
+) -> Result<Option<TypedValue>, AllocError>
+    ensures { IfOk result (λ given. option_map value_view given
+        ≡ spec.divided greatest (meant_view left.entry) (meant_view right.entry) written) }
+{
+    match (left, right) {
+        (Meant::Value(left), Meant::Value(right)) => {
+            quotient(alloc, greatest, left, right, written)
+        }
+        _ => Ok(None),
+    }
+}
+
+/// A number that LBOUND or HBOUND gives.
+fn bound_value(bound: i16) -> TypedValue
+    ensures { value_view result ≡ spec.bound_value bound }
+{
+    TypedValue {
+        expression: TypedExpression::Literal(Value::Number(i64::from(bound))),
+        kind: ExpressionType::FixedBinary {
+            precision: BOUND_PRECISION,
+        },
+    }
+}
+
+/// The dimension of this number, from 1.
+fn dimension(bounds: &[Bounds], number: u32) -> Option<Bounds>
+    requires { 0 < number }
+    ensures { result ≡ slice_get bounds.now (number - 1) }
+{
+    bounds.get(number as usize - 1).copied()
+}
+
+/// The bounds of the dimension of this number, from 1, of an array.
+fn bounds_in(description: &Description, number: u32) -> Option<Bounds>
+    ensures { (which : Bounds → ℤ) → option_map (λ b. spec.bound_value (which b)) result
+        ≡ spec.bound_in which number (description_view description.now) }
+{
+    match description {
+        Description::Array { bounds, .. } if number > 0 => dimension(bounds, number),
+        _ => None,
+    }
+}
+
+/// The bounds of the dimension whose number is written, of an array that is meant as a whole.
+fn bounds_of(meant: &Meant<'_>, written: Option<u32>) -> Option<Bounds>
+    ensures { (which : Bounds → ℤ) → option_map (λ b. spec.bound_value (which b)) result
+        ≡ spec.the_bound which (meant_view meant.now) written }
+{
+    match (meant, written) {
+        (Meant::Aggregate(referent), Some(number)) => bounds_in(referent.description, number),
+        _ => None,
+    }
+}
+
+/// What LBOUND or HBOUND gives of an array and the number of a dimension.
+fn bound_called(function: BuiltInFunction, arguments: &[Argument<'_>]) -> Option<TypedValue>
+    requires { is_bound function ≡ true }
+    ensures { (greatest : ℕ) → option_map value_view result
+        ≡ spec.of_arguments greatest function (map argument_view arguments.now) }
+{
+    let [array, number] = arguments else {
+        return None;
+    };
+    let bounds = bounds_of(&array.meant, number.written)?;
+    let bound = if function == BuiltInFunction::LowBound {
+        bounds.low
+    } else {
+        bounds.high
+    };
+    Some(bound_value(bound))
+}
+
+/// What DIVIDE gives of its arguments.
+fn divide_called(
+    alloc: Global,
+    greatest: u8,
+    arguments: Vec<Argument<'_>>,
+) -> Result<Option<TypedValue>, AllocError>
+    ensures { IfOk result (λ given. option_map value_view given
+        ≡ spec.of_arguments greatest BuiltInFunction.Divide (map argument_view arguments.entry.items)) }
+{
+    if arguments.len() != 3 {
+        return Ok(None);
+    }
+    let mut arguments = arguments;
+    let last = arguments.pop();
+    let right = arguments.pop();
+    let left = arguments.pop();
+    match (left, right, last) {
+        (Some(left), Some(right), Some(last)) => {
+            divided(alloc, greatest, left.meant, right.meant, last.written)
+        }
+        _ => Ok(None),
+    }
+}
+
+/// What a built-in function gives of arguments, or none where it does not take them (X3.74).
+fn of_arguments(
+    alloc: Global,
+    greatest: u8,
+    function: BuiltInFunction,
+    arguments: Vec<Argument<'_>>,
+) -> Result<Option<TypedValue>, AllocError>
+    ensures { IfOk result (λ given. option_map value_view given
+        ≡ spec.of_arguments greatest function (map argument_view arguments.entry.items)) }
+{
+    match function {
+        BuiltInFunction::Divide => divide_called(alloc, greatest, arguments),
+        BuiltInFunction::LowBound | BuiltInFunction::HighBound => {
+            Ok(bound_called(function, arguments.as_slice()))
+        }
+        _ => match values_in(alloc, arguments)? {
+            Some(values) => of_values(alloc, greatest, function, values),
+            None => Ok(None),
+        },
+    }
+}
+
+/// What a built-in function gives of as many arguments as it may have: T13 at its name where it does not take them.
+pub(crate) fn function_called(
+    alloc: Global,
+    greatest: u8,
+    function: BuiltInFunction,
+    at: u32,
+    arguments: Vec<Argument<'_>>,
+) -> Result<TypedValue, TypeError>
+    ensures { Gives value_view result (spec.or_bad_argument at
+        (spec.of_arguments greatest function (map argument_view arguments.entry.items))) }
+{
+    match of_arguments(alloc, greatest, function, arguments)? {
+        Some(value) => Ok(value),
+        None => Err(fault(Code::WrongBuiltInArgument, at)),
+    }
+}
