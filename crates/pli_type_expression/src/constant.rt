@@ -31,7 +31,9 @@ fn literal(alloc: Global, value: &ConstantValue) -> Result<Value, AllocError>
     ensures { IfOk result (λ made. value_view made ≡ literal_value value.now) }
 {
     Ok(match value {
-        ConstantValue::Decimal { value, .. } | ConstantValue::Binary { value, .. } => Value::Number(i64::from(*value)),
+        ConstantValue::Decimal { value, .. } | ConstantValue::Binary { value, .. } => Value::Number(
+            i64::from(*value),
+        ),
         ConstantValue::Characters(text) => Value::Characters(Vec::from_slice(alloc, text.bytes())?),
         ConstantValue::Bits(string) => Value::Bits(bits_of(alloc, string.bits())?),
     })

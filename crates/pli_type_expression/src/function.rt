@@ -40,7 +40,11 @@ pub(crate) fn roles_of(function: BuiltInFunction, given: usize) -> Option<&'stat
         BuiltInFunction::LowBound | BuiltInFunction::HighBound => &[Role::Argument, Role::Argument],
         _ => return None,
     };
-    if given == roles.len() { Some(roles) } else { None }
+    if given == roles.len() {
+        Some(roles)
+    } else {
+        None
+    }
 }
 
 /// The one value that an argument is.

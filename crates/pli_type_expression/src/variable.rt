@@ -97,13 +97,7 @@ pub(crate) fn variable_meant<'a>(
         return Err(fault(Code::WrongNumberOfSubscripts, at));
     };
     let description = part.description;
-    let reference = reference_to(
-        alloc,
-        variable.root,
-        variable.is_member,
-        &part,
-        subscripts,
-    )?;
+    let reference = reference_to(alloc, variable.root, variable.is_member, &part, subscripts)?;
     permitted(
         role,
         located,

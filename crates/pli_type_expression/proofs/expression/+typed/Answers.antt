@@ -185,9 +185,10 @@ all_subscripts-loop-expression-preserved t c =
 
 pub begun-begun_with-requires : goal.begun-begun_with-requires
 begun-begun_with-requires t c =
-    let n = naming_in c.args.naming.now in
-    (omega (arith, c.decreases, ap (λ xs. list_size (syntax.expressions_view xs)) c.as_slice.ensures.value, ap (λ o. arguments_size (syntax.arguments_view o)) c.in-Some.is),
-    ap (λ xs. later_list n (syntax.expressions_view xs)) c.as_slice.ensures.value ∙ sym (ap (λ o. later_arguments n (syntax.arguments_view o)) c.in-Some.is) ∙ c.requires)
+    let n = naming_in c.args.naming.now in (
+      omega (arith, c.decreases, ap (λ xs. list_size (syntax.expressions_view xs)) c.as_slice.ensures.value, ap (λ o. arguments_size (syntax.arguments_view o)) c.in-Some.is),
+      ap (λ xs. later_list n (syntax.expressions_view xs)) c.as_slice.ensures.value ∙ sym (ap (λ o. later_arguments n (syntax.arguments_view o)) c.in-Some.is) ∙ c.requires,
+    )
 
 pub begun-returns-in-None : goal.begun-returns-in-None
 begun-returns-in-None t c =
@@ -383,9 +384,10 @@ called-returns t c =
 
 pub subscripts_in-all_subscripts-requires : goal.subscripts_in-all_subscripts-requires
 subscripts_in-all_subscripts-requires t c =
-    let n = naming_in c.args.naming.now in
-    (omega (arith, c.decreases, ap (λ xs. list_size (syntax.expressions_view xs)) c.as_slice.ensures.value, ap (λ o. arguments_size (syntax.arguments_view o)) c.in-Some.is),
-    ap (λ xs. later_list n (syntax.expressions_view xs)) c.as_slice.ensures.value ∙ sym (ap (λ o. later_arguments n (syntax.arguments_view o)) c.in-Some.is) ∙ c.requires)
+    let n = naming_in c.args.naming.now in (
+      omega (arith, c.decreases, ap (λ xs. list_size (syntax.expressions_view xs)) c.as_slice.ensures.value, ap (λ o. arguments_size (syntax.arguments_view o)) c.in-Some.is),
+      ap (λ xs. later_list n (syntax.expressions_view xs)) c.as_slice.ensures.value ∙ sym (ap (λ o. later_arguments n (syntax.arguments_view o)) c.in-Some.is) ∙ c.requires,
+    )
 
 pub subscripts_in-returns-in-None : goal.subscripts_in-returns-in-None
 subscripts_in-returns-in-None t c =
@@ -473,9 +475,10 @@ referred-continued-requires t c =
     let role = role_view c.args.role in
     let more = syntax.joined_view x.joined.items in
     let first = syntax.arguments_view x.first.arguments in
-    let name = x.first.name in
-    (omega (arith, c.decreases, ap reference_size (reference_out r), ap (λ xs. parts_size (syntax.joined_view xs)) c.as_slice-joined.ensures.value),
-    ap (λ xs. later_joined n (syntax.joined_view xs)) c.as_slice-joined.ensures.value ∙ (reference_built n r c.requires).1)
+    let name = x.first.name in (
+      omega (arith, c.decreases, ap reference_size (reference_out r), ap (λ xs. parts_size (syntax.joined_view xs)) c.as_slice-joined.ensures.value),
+      ap (λ xs. later_joined n (syntax.joined_view xs)) c.as_slice-joined.ensures.value ∙ (reference_built n r c.requires).1,
+    )
 
 pub referred-returns-in_err-first : goal.referred-returns-in_err-first
 referred-returns-in_err-first t c =
