@@ -1,10 +1,10 @@
 -- Quotients of more than 63 binary digits.
-use Rattle.std.proofs.Common.{◌≡◌, ℕ, zero, suc, ◌^◌, ◌≤◌, ◌<◌, nat_lt, Bool, true, false, ℤ, pos, negsuc, unsigned_abs, Result, Ok, Err, refl, ap, ◌∙◌, sym, arith, if◌then◌else◌}
+use Rattle.std.proofs.Common.{◌≡◌, ℕ, zero, suc, ◌^◌, ◌≤◌, ◌<◌, Bool, true, false, ℤ, pos, negsuc, unsigned_abs, Result, Ok, Err, refl, ap, ◌∙◌, arith, if◌then◌else◌}
 use Rattle.std.specs.Prelude.{int_div}
 use Rattle.std.proofs.Math.Nat.{pow-le-pow_right}
 use Rattle.std.proofs.lemmas.Bool.{lt-ltb}
 use borrow.Author.Tests.{ltb-true}
-use Rattle.pli_value.specs.Numbers.{has_digits, within, quotient}
+use Rattle.pli_value.specs.Numbers.{has_digits, quotient}
 use Rattle.pli_value.specs.declared.number.Raised.{Raised}
 use Rattle.pli_value.specs.declared.number.Raised.TheVariants.{Overflow, ZeroDivide}
 

@@ -42,7 +42,14 @@ pub fn activation<'m>(
 ) -> Result<Activation<'m>, AllocError>
     ensures { IfOk result (λ a. (frame_view a ≡ record { unit = 0; next = block.now.entry; operands = []; locals = fresh block.now.temporaries })
         × ((unit : Name) → activation_view unit a ≡ record {
-            unit = unit; block = number; statement = block.now.statement; link = link; slots = map place_view slots.entry.items; pending = []; owned = owned.items })) }
+          unit = unit;
+          block = number;
+          statement = block.now.statement;
+          link = link;
+          slots = map place_view slots.entry.items;
+          pending = [];
+          owned = owned.items;
+        })) }
 {
     let temporaries = unset(alloc, block.temporaries)?;
     Ok(Activation {

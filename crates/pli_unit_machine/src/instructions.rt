@@ -10,14 +10,11 @@ ghost use Rattle.pli_unit_machine.specs.views.CalculationView.{prefix_view, infi
 ghost use Rattle.pli_unit_machine.specs.views.MachineView.{Does};
 
 use crate::calculation::{Infix, Prefix};
-use crate::dummies;
-use crate::jumping;
 use crate::keeping::put_constant;
 use crate::machine::{Machine, Stop};
 use crate::operate::{operate_fit, operate_from, operate_substring, operate_with};
-use crate::places;
-use crate::storing;
 use crate::variables::template_of;
+use crate::{dummies, jumping, places, storing};
 use pli_map::Description;
 use pli_unit_code::Code;
 use std::alloc::{AllocError, Global};
@@ -164,7 +161,11 @@ pub fn fit(
 
 /// An operation on the newest operand.
 #[inline]
-pub fn from_one(alloc: Global, machine: &mut Machine, operation: Prefix) -> Result<Option<Stop>, AllocError>
+pub fn from_one(
+    alloc: Global,
+    machine: &mut Machine,
+    operation: Prefix,
+) -> Result<Option<Stop>, AllocError>
     ensures { IfOk result (Does (Operate (prefix_view operation)) machine.old machine.new) }
 {
     operate_from(alloc, &mut machine.here.operands, operation)
@@ -172,7 +173,11 @@ pub fn from_one(alloc: Global, machine: &mut Machine, operation: Prefix) -> Resu
 
 /// An operation on the newest two operands.
 #[inline]
-pub fn from_two(alloc: Global, machine: &mut Machine, operation: Infix) -> Result<Option<Stop>, AllocError>
+pub fn from_two(
+    alloc: Global,
+    machine: &mut Machine,
+    operation: Infix,
+) -> Result<Option<Stop>, AllocError>
     ensures { IfOk result (Does (Operate (infix_view operation)) machine.old machine.new) }
 {
     operate_with(alloc, &mut machine.here.operands, operation)

@@ -11,7 +11,11 @@ use std::alloc::{AllocError, Global};
 
 /// Puts a copy of a constant upon the operands.
 #[inline]
-pub fn put_constant(alloc: Global, machine: &mut Machine, value: &Value) -> Result<Option<Stop>, AllocError>
+pub fn put_constant(
+    alloc: Global,
+    machine: &mut Machine,
+    value: &Value,
+) -> Result<Option<Stop>, AllocError>
     ensures { IfOk result (Does (Constant (value_view value.now)) machine.old machine.new) }
 {
     let copy = value.copy(alloc)?;
@@ -28,7 +32,11 @@ fn keep(temporaries: &mut Vec<Option<Value>>, number: usize, value: Value)
 }
 
 /// Takes a value and keeps it as a temporary.
-pub fn set_temporary(alloc: Global, machine: &mut Machine, number: usize) -> Result<Option<Stop>, AllocError>
+pub fn set_temporary(
+    alloc: Global,
+    machine: &mut Machine,
+    number: usize,
+) -> Result<Option<Stop>, AllocError>
     ensures { IfOk result (Does (SetTemporary number) machine.old machine.new) }
 {
     let Some(value) = pop_value(alloc, &mut machine.here.operands)? else {
@@ -42,7 +50,11 @@ pub fn set_temporary(alloc: Global, machine: &mut Machine, number: usize) -> Res
 }
 
 /// Puts a copy of a temporary upon the operands, if it was set.
-pub fn take_temporary(alloc: Global, machine: &mut Machine, number: usize) -> Result<Option<Stop>, AllocError>
+pub fn take_temporary(
+    alloc: Global,
+    machine: &mut Machine,
+    number: usize,
+) -> Result<Option<Stop>, AllocError>
     ensures { IfOk result (Does (TakeTemporary number) machine.old machine.new) }
 {
     let copy = match machine.here.temporaries.get(number) {

@@ -37,7 +37,11 @@ pub fn return_from(machine: &mut Machine, outward: u32) -> Option<Stop>
             return Some(Stop::Fault);
         }
     }
-    if leave(machine) { None } else { Some(Stop::Ended) }
+    if leave(machine) {
+        None
+    } else {
+        Some(Stop::Ended)
+    }
 }
 
 /// Ends the newest activation and so many more, and gives a value to the one that goes on.

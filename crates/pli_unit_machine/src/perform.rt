@@ -6,7 +6,8 @@ ghost use Rattle.pli_unit_machine.specs.views.MachineView.{Performs};
 use crate::calculation::{Infix, Prefix};
 use crate::calling::{begin, call};
 use crate::instructions::{
-    constant, copy, field, fit, from_one, from_three, from_two, jump, jump_unless, load, make_dummy, store, subscript,
+    constant, copy, field, fit, from_one, from_three, from_two, jump, jump_unless, load,
+    make_dummy, store, subscript,
 };
 use crate::keeping::{set_temporary, take_temporary};
 use crate::landing::go_to;
@@ -43,15 +44,26 @@ pub fn perform<'m>(
         Instruction::Stop => Ok(Some(Stop::Ended)),
         Instruction::Local { outward, slot } => local(machine, outward, slot as usize),
         Instruction::Global { number } => global(machine, number as usize),
-        Instruction::Field { offset, description } => field(code, machine, offset, description),
-        Instruction::Subscript { low, high, multiplier } => subscript(machine, low, high, multiplier),
+        Instruction::Field {
+            offset,
+            description,
+        } => field(code, machine, offset, description),
+        Instruction::Subscript {
+            low,
+            high,
+            multiplier,
+        } => subscript(machine, low, high, multiplier),
         Instruction::Constant { value } => constant(alloc, code, machine, value),
         Instruction::Load => load(alloc, machine),
         Instruction::Store => store(alloc, machine),
         Instruction::Copy => copy(alloc, machine),
         Instruction::MakeDummy { template } => make_dummy(alloc, code, machine, template),
         Instruction::Fit { description } => fit(alloc, code, machine, description),
-        Instruction::ToCharacters { width } => from_one(alloc, machine, Prefix::ToCharacters { width }),
+        Instruction::ToCharacters { width } => from_one(
+            alloc,
+            machine,
+            Prefix::ToCharacters { width },
+        ),
         Instruction::FromBits => from_one(alloc, machine, Prefix::FromBits),
         Instruction::Negate => from_one(alloc, machine, Prefix::Negate),
         Instruction::Absolute => from_one(alloc, machine, Prefix::Absolute),

@@ -99,7 +99,10 @@ fn make_variable<'m>(
         (made_all more (world_of unit machine.new put)) (world_of unit machine.new put) }
     ensures same { SameFrames machine.old machine.new }
 {
-    match machine.storage.make(alloc, description, Made::Automatic, values) {
+    match machine
+        .storage
+        .make(alloc, description, Made::Automatic, values)
+    {
         Ok(place) => {
             add_slot(&mut machine.here, place)?;
             Ok(())

@@ -1,5 +1,5 @@
 -- What it comes to that variables are made.
-use Rattle.std.specs.Prelude.{◌≡◌, ℕ, List, [], Result, Ok, Err}
+use Rattle.std.specs.Prelude.{◌≡◌, List, [], Result, Ok, Err}
 use Rattle.pli_base.specs.Name.{Name}
 use Rattle.pli_store.specs.World.{World, Answer, Raises}
 use Rattle.pli_store.specs.declared.fault.StoreFault.{StoreFault}

@@ -1,4 +1,4 @@
-use Rattle.std.proofs.Common.{◌++◌, ◌∷◌, [], ◌∙◌, map, sym, ap, arith}
+use Rattle.std.proofs.Common.{◌∙◌, map, sym, ap, arith}
 use Rattle.std.specs.Prelude.{not, get_or}
 use Rattle.pli_store.specs.World.{is_given}
 use Rattle.pli_store.specs.views.StorageView.{place_view}

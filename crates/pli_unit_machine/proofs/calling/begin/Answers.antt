@@ -1,7 +1,7 @@
 use Rattle.std.proofs.Common.{None, Some, ap, ◌∙◌}
 use Rattle.std.proofs.lemmas.Result.{IfOk-weaker}
 use Rattle.pli_machine_step.specs.Machine.{begins}
-use Rattle.pli_unit_code.specs.CodeTables.{program_of, block_looked_up}
+use Rattle.pli_unit_code.specs.CodeTables.{program_of}
 use Rattle.pli_unit_code.specs.views.CodeView.{code_view, block_view}
 use Rattle.pli_unit_machine.specs.views.MachineView.{leads, frame_view, frames_of, world_of, left_of}
 use Rattle.pli_unit_machine.proofs.EnteredBlocks.{block_there}

@@ -1,4 +1,4 @@
-use Rattle.std.proofs.Common.{◌≡◌, ℕ, List, [], ◌∷◌, ◌++◌, map, reverse, refl, sym, ap, ◌∙◌}
+use Rattle.std.proofs.Common.{◌≡◌, ℕ, List, [], ◌∷◌, map, reverse, refl, ap, ◌∙◌}
 use Rattle.std.specs.Prelude.{not}
 use Rattle.std.specs.List.{filter}
 use Rattle.pli_store.specs.Activations as pli
@@ -12,24 +12,29 @@ pub returns : goal.returns
 returns c = λ unit put.
     let m = c.args.machine.now in
     let made : List ℕ → pli.Activation =
-        λ ns. record {
-          unit = unit; block = c.args.number; statement = c.args.block.now.statement; link = c.args.link;
-          slots = map place_view c.args.places.items; pending = []; owned = ns;
-        } in
+    λ ns. record {
+      unit = unit;
+      block = c.args.number;
+      statement = c.args.block.now.statement;
+      link = c.args.link;
+      slots = map place_view c.args.places.items;
+      pending = [];
+      owned = ns;
+    } in
     let handed : c.in_ok-handed.handed.items ≡ filter (is_given (map place_view c.args.places.items)) m.here.pending.items =
-        c.in_ok-handed.ensures.0 ∙ ap (λ ps. filter (is_given (map place_view ps)) c.deref.result.now) c.deref-2.ensures.value
-        ∙ ap (filter (is_given (map place_view c.args.places.items))) c.deref.ensures.value in
+    c.in_ok-handed.ensures.0 ∙ ap (λ ps. filter (is_given (map place_view ps)) c.deref.result.now) c.deref-2.ensures.value
+    ∙ ap (filter (is_given (map place_view c.args.places.items))) c.deref.ensures.value in
     let others : c.in_ok-handed.others.items ≡ filter (λ g. not (is_given (map place_view c.args.places.items) g)) m.here.pending.items =
-        c.in_ok-handed.ensures.1 ∙ ap (λ ps. filter (λ g. not (is_given (map place_view ps) g)) c.deref.result.now) c.deref-2.ensures.value
-        ∙ ap (filter (λ g. not (is_given (map place_view c.args.places.items) g))) c.deref.ensures.value in
+    c.in_ok-handed.ensures.1 ∙ ap (λ ps. filter (λ g. not (is_given (map place_view ps) g)) c.deref.result.now) c.deref-2.ensures.value
+    ∙ ap (filter (λ g. not (is_given (map place_view c.args.places.items) g))) c.deref.ensures.value in
     let first : activation_view unit c.replace-before.new.dest ≡ made (filter (is_given (map place_view c.args.places.items)) m.here.pending.items) =
-        ap (activation_view unit) c.replace-before.ensures.after ∙ c.in_ok-new.ensures.1 unit ∙ ap made handed in
+    ap (activation_view unit) c.replace-before.ensures.after ∙ c.in_ok-new.ensures.1 unit ∙ ap made handed in
     let rest : activations_of unit c.push.new.self.items
-        ≡ record (activation_view unit m.here) { pending = filter (λ g. not (is_given (map place_view c.args.places.items) g)) m.here.pending.items } ∷ activations_of unit m.waiting.items =
-        ap (λ xs. reverse (map (activation_view unit) xs)) c.in_ok-push.ensures.items
-        ∙ newest_first (activation_view unit) m.waiting.items c.replace-before.result
-        ∙ ap (λ a. activation_view unit a ∷ activations_of unit m.waiting.items) c.replace-before.ensures.value
-        ∙ ap (λ ns. record (activation_view unit m.here) { pending = ns } ∷ activations_of unit m.waiting.items) others in
+    ≡ record (activation_view unit m.here) { pending = filter (λ g. not (is_given (map place_view c.args.places.items) g)) m.here.pending.items } ∷ activations_of unit m.waiting.items =
+    ap (λ xs. reverse (map (activation_view unit) xs)) c.in_ok-push.ensures.items
+    ∙ newest_first (activation_view unit) m.waiting.items c.replace-before.result
+    ∙ ap (λ a. activation_view unit a ∷ activations_of unit m.waiting.items) c.replace-before.ensures.value
+    ∙ ap (λ ns. record (activation_view unit m.here) { pending = ns } ∷ activations_of unit m.waiting.items) others in
     record {
       here = ap frame_view c.replace-before.ensures.after ∙ c.in_ok-new.ensures.0;
       frames =

@@ -1,5 +1,5 @@
-use Rattle.std.proofs.Common.{◌≡◌, ◌∷◌, map, sym, ap, subst, ◌∙◌}
-use Rattle.pli_store.specs.World.{made_all, Yields}
+use Rattle.std.proofs.Common.{◌∷◌, map, sym, ap, subst, ◌∙◌}
+use Rattle.pli_store.specs.World.{made_all}
 use Rattle.pli_store.specs.views.StorageView.{place_view}
 use Rattle.pli_machine_step.specs.Program.{head_of}
 use Rattle.pli_unit_code.specs.CodeTables.{program_of, block_looked_up, variables_at}

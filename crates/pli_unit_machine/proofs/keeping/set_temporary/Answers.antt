@@ -1,4 +1,4 @@
-use Rattle.std.proofs.Common.{refl, ◌∙◌, rules, arith, sym, ap}
+use Rattle.std.proofs.Common.{refl, arith}
 use Rattle.pli_unit_machine.specs.views.MachineView.{world_of, frame_view, frames_of, left_of}
 use Rattle.pli_unit_machine.specs.views.OperandView.{stack}
 use Rattle.pli_unit_machine.proofs.Worlds.{temporary_set}

@@ -1,4 +1,4 @@
-use Rattle.std.proofs.Common.{◌≡◌, ℕ, List, [], ◌∷◌, refl, sym, ap, ◌∙◌}
+use Rattle.std.proofs.Common.{◌∷◌, refl, sym, ap, ◌∙◌}
 use Rattle.pli_store.specs.Storage.{without}
 use Rattle.pli_store.specs.World.{cleared}
 use Rattle.pli_store.specs.views.StorageView.{storage_view}

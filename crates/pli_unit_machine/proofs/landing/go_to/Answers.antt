@@ -1,4 +1,4 @@
-use Rattle.std.proofs.Common.{◌+◌, ◌-◌, ◌∷◌, ◌∙◌, sym, ap, arith}
+use Rattle.std.proofs.Common.{◌+◌, ◌-◌, ◌∷◌, ◌∙◌, ap, arith}
 use Rattle.pli_machine_step.specs.Machine.{given, lands}
 use Rattle.pli_unit_machine.specs.views.MachineView.{leads, frame_view, frames_of, world_of, left_of}
 use Rattle.pli_unit_machine.proofs.SlotPlaces.{height_here, height_outward, height_nowhere}

@@ -15,9 +15,9 @@ returns-then-not-leave c = λ unit put.
 pub loop-ended-preserved : goal.loop-ended-preserved
 loop-ended-preserved c = record {
   way = λ unit put.
-    let left = c.if-not-leave.ensures.leaves unit put in
-    c.loop-ended.invariant.way unit put
-    ∙ valued_more (value_view c.args.value) (c.args.outward - c.loop-ended._ended) (c.args.outward - (c.loop-ended._ended + 1)) _ _ _ _ _ _ _ (omega arith) left.frames left.world left.left;
+      let left = c.if-not-leave.ensures.leaves unit put in
+      c.loop-ended.invariant.way unit put
+      ∙ valued_more (value_view c.args.value) (c.args.outward - c.loop-ended._ended) (c.args.outward - (c.loop-ended._ended + 1)) _ _ _ _ _ _ _ (omega arith) left.frames left.world left.left;
   same = c.loop-ended.invariant.same;
 }
 

@@ -1,5 +1,5 @@
-use Rattle.std.proofs.Common.{◌≡◌, ℕ, List, ◌++◌, map, reverse, refl, sym, ap, ◌∙◌}
-use Rattle.pli_store.specs.Storage.{Generation, without}
+use Rattle.std.proofs.Common.{map, reverse, refl, sym, ap, ◌∙◌}
+use Rattle.pli_store.specs.Storage.{without}
 use Rattle.pli_store.specs.World.{left_by}
 use Rattle.pli_store.specs.views.StorageView.{storage_view}
 use Rattle.pli_unit_machine.specs.views.MachineView.{activation_view, frame_view, world_of}

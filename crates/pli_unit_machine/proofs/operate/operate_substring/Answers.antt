@@ -1,8 +1,8 @@
-use Rattle.std.proofs.Common.{[], ◌∷◌, refl, ap, ◌∙◌}
+use Rattle.std.proofs.Common.{[], ◌∷◌, refl, ◌∙◌}
 use Rattle.pli_operation.specs.Operations.{Substring}
 use Rattle.pli_value.specs.Value.{value_view}
-use Rattle.pli_unit_machine.specs.views.CalculationView.{calculation_view, prefix_view, infix_view}
-use Rattle.pli_unit_machine.proofs.Operating.{operates, prefix_one, infix_two, of_one, of_two, of_three}
+use Rattle.pli_unit_machine.specs.views.CalculationView.{calculation_view}
+use Rattle.pli_unit_machine.proofs.Operating.{operates, of_three}
 use Rattle.pli_unit_machine.proofs.operate.operate_substring.Goals as goal
 
 pub returns : goal.returns

@@ -1,8 +1,7 @@
-use Rattle.std.proofs.Common.{[], ◌∷◌, refl, ap, ◌∙◌}
-use Rattle.pli_operation.specs.Operations.{Substring}
+use Rattle.std.proofs.Common.{[], ◌∷◌, ◌∙◌}
 use Rattle.pli_value.specs.Value.{value_view}
-use Rattle.pli_unit_machine.specs.views.CalculationView.{calculation_view, prefix_view, infix_view}
-use Rattle.pli_unit_machine.proofs.Operating.{operates, prefix_one, infix_two, of_one, of_two, of_three}
+use Rattle.pli_unit_machine.specs.views.CalculationView.{calculation_view, infix_view}
+use Rattle.pli_unit_machine.proofs.Operating.{operates, infix_two, of_two}
 use Rattle.pli_unit_machine.proofs.operate.operate_with.Goals as goal
 
 pub returns : goal.returns

@@ -1,4 +1,4 @@
-use Rattle.std.proofs.Common.{◌≡◌, ℕ, ◌-◌, List, [], ◌∷◌, ◌++◌, map, reverse, refl, sym, ap, subst, ◌∙◌, arith}
+use Rattle.std.proofs.Common.{◌≡◌, ℕ, ◌-◌, List, [], ◌∷◌, map, reverse, sym, ap, subst, ◌∙◌, arith}
 use Rattle.pli_store.specs.Activations as pli
 use Rattle.pli_store.specs.Storage as plain
 use Rattle.pli_store.specs.World.{World, made_all, stepped, begun_in}
@@ -21,15 +21,15 @@ returns-in-Ok c =
     let b = block_looked_up code (block_view c.args.block.now) in
     let first = first_world unit c.args.storage c.args.statics.items in
     let world : pli.Activation → List pli.Activation → List ℕ → World =
-        λ a older out. record (first_world unit c.args.storage c.args.statics.items) { activations = a ∷ older; output = out; steps = 1 } in
+    λ a older out. record (first_world unit c.args.storage c.args.statics.items) { activations = a ∷ older; output = out; steps = 1 } in
     let made : List plain.Place → List ℕ → pli.Activation =
-        λ ps ns. record { unit = unit; block = 0; statement = c.args.block.now.statement; link = 0; slots = ps; pending = []; owned = ns } in
+    λ ps ns. record { unit = unit; block = 0; statement = c.args.block.now.statement; link = 0; slots = ps; pending = []; owned = ns } in
     let mid = world (activation_view unit c.in_ok-here.here) (activations_of unit c.new-3.result.items) c.new-4.result.items in
     let is : mid ≡ begun_in (head_of (program_of code unit) 0 b) 0 [] (stepped first) =
-        ap (λ a. world a (activations_of unit c.new-3.result.items) c.new-4.result.items)
-        (c.in_ok-here.ensures.1 unit ∙ ap (λ ps. made (map place_view ps) c.new-2.result.items) c.new.ensures.items ∙ ap (made []) c.new-2.ensures.items)
-        ∙ ap (λ xs. world (made [] []) (reverse (map (activation_view unit) xs)) c.new-4.result.items) c.new-3.ensures.items
-        ∙ ap (world (made [] []) []) c.new-4.ensures.items in
+    ap (λ a. world a (activations_of unit c.new-3.result.items) c.new-4.result.items)
+    (c.in_ok-here.ensures.1 unit ∙ ap (λ ps. made (map place_view ps) c.new-2.result.items) c.new.ensures.items ∙ ap (made []) c.new-2.ensures.items)
+    ∙ ap (λ xs. world (made [] []) (reverse (map (activation_view unit) xs)) c.new-4.result.items) c.new-3.ensures.items
+    ∙ ap (world (made [] []) []) c.new-4.ensures.items in
     let same = c.in-Ok.ensures.same in
     one_step unit (program_of code unit) b c.args.storage c.args.statics.items c.args.limit (c.args.limit - 1) c.requires (omega arith)
     ∙ goes_on _ _
@@ -46,15 +46,15 @@ returns c =
     let b = block_looked_up code (block_view c.args.block.now) in
     let first = first_world unit c.args.storage c.args.statics.items in
     let world : pli.Activation → List pli.Activation → List ℕ → World =
-        λ a older out. record (first_world unit c.args.storage c.args.statics.items) { activations = a ∷ older; output = out; steps = 1 } in
+    λ a older out. record (first_world unit c.args.storage c.args.statics.items) { activations = a ∷ older; output = out; steps = 1 } in
     let made : List plain.Place → List ℕ → pli.Activation =
-        λ ps ns. record { unit = unit; block = 0; statement = c.args.block.now.statement; link = 0; slots = ps; pending = []; owned = ns } in
+    λ ps ns. record { unit = unit; block = 0; statement = c.args.block.now.statement; link = 0; slots = ps; pending = []; owned = ns } in
     let mid = world (activation_view unit c.in_ok-here.here) (activations_of unit c.new-3.result.items) c.new-4.result.items in
     let is : mid ≡ begun_in (head_of (program_of code unit) 0 b) 0 [] (stepped first) =
-        ap (λ a. world a (activations_of unit c.new-3.result.items) c.new-4.result.items)
-        (c.in_ok-here.ensures.1 unit ∙ ap (λ ps. made (map place_view ps) c.new-2.result.items) c.new.ensures.items ∙ ap (made []) c.new-2.ensures.items)
-        ∙ ap (λ xs. world (made [] []) (reverse (map (activation_view unit) xs)) c.new-4.result.items) c.new-3.ensures.items
-        ∙ ap (world (made [] []) []) c.new-4.ensures.items in
+    ap (λ a. world a (activations_of unit c.new-3.result.items) c.new-4.result.items)
+    (c.in_ok-here.ensures.1 unit ∙ ap (λ ps. made (map place_view ps) c.new-2.result.items) c.new.ensures.items ∙ ap (made []) c.new-2.ensures.items)
+    ∙ ap (λ xs. world (made [] []) (reverse (map (activation_view unit) xs)) c.new-4.result.items) c.new-3.ensures.items
+    ∙ ap (world (made [] []) []) c.new-4.ensures.items in
     let last = c.make_variables.new.machine in
     let same = c.in-Err.ensures.same in
     let v = world_of unit last [] in

@@ -1,4 +1,4 @@
-use Rattle.std.proofs.Common.{◌++◌, ◌∷◌, [], suc, length, map, refl}
+use Rattle.std.proofs.Common.{◌++◌, ◌∷◌, [], suc, length, map}
 use Rattle.pli_map.specs.views.DescriptionView.{description_view}
 use Rattle.pli_value.specs.Value.{value_view}
 use Rattle.pli_store.specs.Storage.{Static}

@@ -1,4 +1,4 @@
-use Rattle.std.proofs.Common.{◌≡◌, map, slice_set, ap, ◌∙◌}
+use Rattle.std.proofs.Common.{map, slice_set, ap, ◌∙◌}
 use Rattle.std.proofs.lemmas.List.{map-set}
 use Rattle.pli_value.specs.Value.{value_view}
 use Rattle.pli_unit_machine.proofs.variables.put_initial.Goals as goal

@@ -1,4 +1,4 @@
-use Rattle.std.proofs.Common.{◌≡◌, ◌-◌, sym, ap, ◌∙◌, arith}
+use Rattle.std.proofs.Common.{◌-◌, sym, ap, ◌∙◌, arith}
 use Rattle.pli_store.specs.Activations.{nearest_of}
 use Rattle.pli_unit_machine.proofs.Walks.{first_of}
 use Rattle.pli_unit_machine.proofs.Links.{views, found_near, next_near, past_near, none_near}
@@ -14,10 +14,10 @@ pub loop-height-preserved : goal.loop-height-preserved
 loop-height-preserved c = record {
   within = omega arith;
   way = λ unit.
-    c.loop-height.invariant.way unit
-    ∙ next_near unit c.args.waiting.now c.args.block c.index-waiting-count.result c.loop-height.count c.loop-height.height
-    (omega arith) (omega arith) (omega arith) (λ e. c.if-activation-block.false (ap (λ a. a.block) c.index-waiting-count.is ∙ e))
-    ∙ ap (λ a. nearest_of unit c.args.block (first_of (views unit c.args.waiting.now) (c.loop-height.height - 1)) a.link) (sym c.index-waiting-count.is);
+      c.loop-height.invariant.way unit
+      ∙ next_near unit c.args.waiting.now c.args.block c.index-waiting-count.result c.loop-height.count c.loop-height.height
+      (omega arith) (omega arith) (omega arith) (λ e. c.if-activation-block.false (ap (λ a. a.block) c.index-waiting-count.is ∙ e))
+      ∙ ap (λ a. nearest_of unit c.args.block (first_of (views unit c.args.waiting.now) (c.loop-height.height - 1)) a.link) (sym c.index-waiting-count.is);
 }
 
 pub returns-else-height-count-clause-found : goal.returns-else-height-count-clause-found

@@ -1,4 +1,4 @@
-use Rattle.std.proofs.Common.{◌≡◌, ◌-◌, ◌≤◌, length, map}
+use Rattle.std.proofs.Common.{◌≡◌, ◌≤◌, length, map}
 use Rattle.pli_base.specs.Name.{Name}
 use Rattle.pli_store.specs.Activations.{nearest_of}
 use Rattle.pli_unit_machine.specs.views.MachineView.{activation_view, activations_of}

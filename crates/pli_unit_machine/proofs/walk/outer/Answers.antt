@@ -18,10 +18,10 @@ pub loop-passed-preserved : goal.loop-passed-preserved
 loop-passed-preserved c = record {
   within = omega arith;
   way = λ unit.
-    c.loop-passed.invariant.way unit
-    ∙ next_link unit c.args.waiting.now c.index-waiting-count.result c.loop-passed.count c.loop-passed.height
-    (c.args.outward - c.loop-passed._passed) (c.args.outward - (c.loop-passed._passed + 1))
-    (omega arith) (omega arith) (omega arith)  (omega arith);
+      c.loop-passed.invariant.way unit
+      ∙ next_link unit c.args.waiting.now c.index-waiting-count.result c.loop-passed.count c.loop-passed.height
+      (c.args.outward - c.loop-passed._passed) (c.args.outward - (c.loop-passed._passed + 1))
+      (omega arith) (omega arith) (omega arith) (omega arith);
 }
 
 pub returns-then-height-count-2-clause-found : goal.returns-then-height-count-2-clause-found
