@@ -1,5 +1,5 @@
 -- One step behind another, where each gives a value or a fault.
-use Rattle.std.proofs.Common.{◌≡◌, Result, Ok, Err, List, [], ◌∷◌, ◌++◌, refl, ap, ◌∙◌, sym, subst, append_assoc}
+use Rattle.std.proofs.Common.{◌≡◌, Result, Ok, Err, List, [], ◌∷◌, ◌++◌, refl, ap, sym, subst, append_assoc}
 use Rattle.pli_base.specs.Reading.{◌>>=◌}
 use Rattle.pli_base.specs.declared.token.Fault.{Fault}
 use Rattle.pli_type_expression.specs.answers.TypingAnswers.{Fails}

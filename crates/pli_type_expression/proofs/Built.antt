@@ -1,9 +1,8 @@
 -- What is not left for later, part by part.
-use Rattle.std.proofs.Common.{◌≡◌, ℕ, ◌+◌, ◌<◌, ◌∷◌, Bool, true, false, List, Vec, Global, refl, ap, ◌∙◌, sym}
+use Rattle.std.proofs.Common.{◌≡◌, ℕ, ◌+◌, ◌<◌, ◌∷◌, true, false, List, refl, ap, ◌∙◌, sym}
 use Rattle.std.proofs.Common.{drop, get_or, length, not, ◌||◌}
 use Rattle.std.proofs.lemmas.Bool.{or_parts, not-false}
 use Rattle.std.proofs.lemmas.List.{drop_more}
-use Rattle.pli_base.specs.Syntax.{Expressions, Listed, JoinedParts, Joined}
 use Rattle.pli_base.specs.declared.statement.Procedure.{Procedure}
 use Rattle.pli_base.specs.declared.syntax.ConstantValue.{ConstantValue}
 use Rattle.pli_base.specs.declared.syntax.Expression as program

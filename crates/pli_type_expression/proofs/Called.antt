@@ -1,14 +1,12 @@
 -- Calls of built-in functions as they are written.
-use Rattle.std.proofs.Common.{◌≡◌, ℕ, ◌+◌, ◌∷◌, [], List, Option, Some, None, Result, Ok, Err, refl, ap, ◌∙◌, sym}
+use Rattle.std.proofs.Common.{◌≡◌, ℕ, ◌+◌, ◌∷◌, [], List, Option, Result, Ok, refl, ap, ◌∙◌, sym}
 use Rattle.std.proofs.Common.{subst, length, add_comm, add-one}
-use Rattle.pli_base.specs.Reading.{◌>>=◌, at_fault}
-use Rattle.pli_base.specs.Syntax.{Expressions}
-use Rattle.pli_base.specs.declared.code.Code.TheVariants.{WrongNumberOfArguments}
+use Rattle.pli_base.specs.Reading.{◌>>=◌}
 use Rattle.pli_base.specs.declared.syntax.Expression.{Expression}
 use Rattle.pli_base.specs.declared.token.Fault.{Fault}
 use Rattle.pli_base.specs.views.SyntaxView.{expressions_view}
 use Rattle.pli_resolve.specs.declared.built_in.BuiltInFunction.{BuiltInFunction}
-use Rattle.pli_type.specs.FunctionCalls.{Argument, roles_of, function_called, or_bad_argument, of_arguments}
+use Rattle.pli_type.specs.FunctionCalls.{Argument, roles_of, function_called}
 use Rattle.pli_type.specs.Names.{Naming}
 use Rattle.pli_type.specs.References.{Role}
 use Rattle.pli_type.specs.Typing.{all_arguments, roles_or_none, how_many}

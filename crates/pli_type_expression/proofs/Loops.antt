@@ -1,14 +1,13 @@
 -- The steps of the loops over parts, subscripts and arguments.
-use Rattle.std.proofs.Common.{◌≡◌, ℕ, ◌+◌, ◌<◌, ◌≤◌, ◌∷◌, ◌++◌, [], List, Ok, refl, ap, ◌∙◌, sym, drop, get_or}
+use Rattle.std.proofs.Common.{◌≡◌, ℕ, ◌+◌, ◌<◌, ◌≤◌, ◌∷◌, ◌++◌, [], List, Ok, ap, ◌∙◌, sym, drop, get_or}
 use Rattle.std.proofs.Common.{length, map, append-nil}
 use Rattle.std.proofs.Math.ListN.{drop_of_length-le}
 use Rattle.std.proofs.lemmas.List.{drop_more, map-append}
-use Rattle.pli_base.specs.Syntax.{Expressions, Listed}
+use Rattle.pli_base.specs.Syntax.{Listed}
 use Rattle.pli_base.specs.declared.syntax.Expression as program
 use Rattle.pli_base.specs.declared.syntax.JoinedPart as part
 use Rattle.pli_base.specs.views.SyntaxView.{expression_view, expressions_view, joined_view, arguments_view}
-use Rattle.pli_type.specs.FunctionCalls.{Meant, number_written}
-use Rattle.pli_type.specs.FunctionCalls as calls
+use Rattle.pli_type.specs.FunctionCalls.{Meant}
 use Rattle.pli_type.specs.Names.{Naming}
 use Rattle.pli_type.specs.References.{Role, AsValue, AsArgument}
 use Rattle.pli_type.specs.Typing.{Segment, first_token, meant, argument, all_subscripts, all_arguments}

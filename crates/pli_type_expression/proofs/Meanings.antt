@@ -1,5 +1,5 @@
 -- What typing does with a name, by what the name means.
-use Rattle.std.proofs.Common.{◌≡◌, ℕ, ◌++◌, ◌∷◌, [], List, Bool, true, false, Result, Ok, refl, ap, ◌∙◌, sym, length, arith}
+use Rattle.std.proofs.Common.{◌≡◌, ℕ, ◌++◌, ◌∷◌, [], List, Bool, true, false, Ok, refl, ap, ◌∙◌, sym, length, arith}
 use Rattle.std.proofs.lemmas.Bool.{true≢false, false≢true, ne_eqb}
 use Rattle.std.specs.Bool.{◌==◌}
 use Rattle.pli_base.specs.Reading.{◌>>=◌, at_fault}
@@ -8,13 +8,12 @@ use Rattle.pli_base.specs.declared.syntax.Expression.{Expression}
 use Rattle.pli_base.specs.declared.syntax.JoinedPart.{JoinedPart}
 use Rattle.pli_base.specs.views.SyntaxView.{expressions_view, joined_view}
 use Rattle.pli_base.specs.declared.code.Code.TheVariants.{NotCallableHere, WrongNumberOfArguments}
-use Rattle.pli_base.specs.declared.token.Fault.{Fault}
 use Rattle.pli_resolve.specs.declared.built_in.BuiltInFunction.{BuiltInFunction}
 use Rattle.pli_type.specs.FunctionCalls.{roles_of, function_called}
 use Rattle.pli_type.specs.Names.{Naming, NamedAs, AVariable, AFunction, AProcedure, ALabel}
 use Rattle.pli_type.specs.Names as names
 use Rattle.pli_type.specs.References.{Role, AsValue, AsArgument, Referent, variable_meant}
-use Rattle.pli_type.specs.Typing.{Denoted, DenotesVariable, Segment, OfFunction, begun, ended, with_more}
+use Rattle.pli_type.specs.Typing.{DenotesVariable, OfFunction, begun, ended, with_more}
 use Rattle.pli_type.specs.Typing.{all_subscripts, all_arguments, roles_or_none, how_many, procedure_called, is_call}
 use Rattle.pli_type_names.specs.Meant.{IsMeantAs, IsVariable}
 use Rattle.pli_type_names.specs.declared.naming.NamedAs.TheVariants as answers

@@ -1,13 +1,12 @@
 -- The walk over expressions and references, step by step.
-use Rattle.std.proofs.Common.{◌≡◌, ℕ, ◌+◌, ◌∷◌, ◌++◌, [], List, Bool, true, false, Result, Ok, Err, refl, ap}
+use Rattle.std.proofs.Common.{◌≡◌, ℕ, ◌+◌, ◌∷◌, ◌++◌, [], List, true, false, Result, Ok, Err, refl, ap}
 use Rattle.std.proofs.Common.{◌∙◌, sym, suc, zero, drop, get_or, add-one}
 use Rattle.pli_base.specs.Reading.{◌>>=◌}
-use Rattle.pli_base.specs.Syntax.{Expression, Referred, Prefix, Infix, Named, JoinedParts, Alone, Joined}
-use Rattle.pli_base.specs.Syntax.{Arguments, Given, Expressions, Empty, Listed}
+use Rattle.pli_base.specs.Syntax.{Expression, Prefix, Infix, Named, JoinedParts, Alone, Joined}
+use Rattle.pli_base.specs.Syntax.{Arguments, Expressions, Listed}
 use Rattle.pli_base.specs.declared.syntax.Identifier.{Identifier}
 use Rattle.pli_base.specs.declared.syntax.PrefixOperator.{PrefixOperator}
 use Rattle.pli_base.specs.declared.syntax.InfixOperator.{InfixOperator}
-use Rattle.pli_base.specs.declared.syntax.Joining.{Joining}
 use Rattle.pli_base.specs.declared.syntax.Joining.TheVariants.{Member, Located}
 use Rattle.pli_base.specs.declared.code.Code.TheVariants.{WrongOperandType}
 use Rattle.pli_base.specs.declared.token.Fault.{Fault}
@@ -15,11 +14,11 @@ use Rattle.pli_type.specs.ExpressionTypes.{TypedValue, prefix_value, infix_value
 use Rattle.pli_type.specs.FunctionCalls.{Meant, OneValue, Argument}
 use Rattle.pli_type.specs.Names.{Naming}
 use Rattle.pli_type.specs.References.{Role, AsValue, AsArgument, AsTarget, AsLocator}
-use Rattle.pli_type.specs.Typing.{Denoted, Segment, first_token, meant_as, meant, referred, joined, begun}
+use Rattle.pli_type.specs.Typing.{Denoted, Segment, first_token, meant, referred, joined, begun}
 use Rattle.pli_type.specs.Typing.{all_subscripts, subscripts_in, all_arguments, argument, one_value, as_value}
 use Rattle.pli_type.specs.Typing.{or_fault, subscript_value, ended, with_more, is_call}
 use Rattle.pli_type_tree.specs.TypedTree.{TypedExpression}
-use Rattle.pli_type_expression.specs.Segments.{next_segment, last_segment}
+use Rattle.pli_type_expression.specs.Segments.{last_segment}
 use Rattle.pli_type_expression.specs.Subscripts.{subscript_meant}
 use Rattle.pli_type_expression.specs.answers.TypingAnswers.{Fails}
 use Rattle.pli_type_expression.specs.declared.answer.TypeError.{TypeError}

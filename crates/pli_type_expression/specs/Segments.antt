@@ -1,5 +1,5 @@
 -- A reference, segment by segment.
-use Rattle.std.specs.Prelude.{ℕ, true, false, Result, Ok, List, []}
+use Rattle.std.specs.Prelude.{ℕ, true, false, Result, Ok}
 use Rattle.pli_base.specs.Reading.{◌>>=◌}
 use Rattle.pli_base.specs.Syntax.{JoinedParts, Alone, Joined, Arguments, Expressions}
 use Rattle.pli_base.specs.declared.syntax.Identifier.{Identifier}

@@ -1,7 +1,6 @@
 -- What references and expressions with their types say, apart from where they lie in memory.
 use Rattle.std.specs.Prelude.{ℕ, Bool, List, map}
 use Rattle.pli_map.specs.views.DescriptionView.{description_view}
-use Rattle.pli_type.specs.ExpressionTypes as types
 use Rattle.pli_type.specs.FunctionCalls as calls
 use Rattle.pli_type.specs.Names as names
 use Rattle.pli_type.specs.References as references

@@ -1,17 +1,16 @@
-use Rattle.std.proofs.Common.{rules, ◌≡◌, ◌+◌, ◌<◌, map, drop, length, false, true, [], Some, None, Ok, Result, option_map, ap, ◌∙◌, sym, arith, Bool, Vec, Global}
+use Rattle.std.proofs.Common.{rules, ◌≡◌, map, drop, length, false, true, [], Some, None, Ok, ap, ◌∙◌, sym, arith, Bool, Vec, Global}
 use Rattle.std.proofs.lemmas.Bool.{or_parts}
 use Rattle.std.proofs.lemmas.Result.{err_from_is_err_and}
 use Rattle.pli_base.specs.views.SyntaxView as syntax
-use Rattle.pli_base.specs.Reading.{◌>>=◌}
-use Rattle.pli_base.specs.Syntax.{Given, Arguments}
+use Rattle.pli_base.specs.Syntax.{Given}
 use Rattle.pli_base.specs.laws.SyntaxLaws.{reference_out}
-use Rattle.pli_base.specs.declared.code.Code.TheVariants.{WrongOperandType, WrongNumberOfArguments}
+use Rattle.pli_base.specs.declared.code.Code.TheVariants.{WrongOperandType}
 use Rattle.pli_base.specs.declared.syntax.Expression.{Expression}
 use Rattle.pli_base.specs.declared.syntax.Reference.{out-Reference}
 use Rattle.pli_type.specs.ExpressionTypes as types
 use Rattle.pli_type.specs.FunctionCalls as calls
 use Rattle.pli_type.specs.References.{AsLocator}
-use Rattle.pli_type.specs.Unbuilt.{later_expression, later_reference, later_arguments, later_joined, later_list}
+use Rattle.pli_type.specs.Unbuilt.{later_expression, later_arguments, later_joined, later_list}
 use Rattle.pli_type.specs.views.ValueView.{value_view}
 use Rattle.pli_type.specs.Typing as typing
 use Rattle.pli_type_names.specs.UnitNaming.{naming_in}
@@ -24,7 +23,6 @@ use Rattle.pli_type_expression.proofs.Sizes.{item_size, part_size, expression_si
 use Rattle.pli_type_expression.proofs.Walks.{referred_ends, reference_unbegun, reference_unended, prefix_typed, prefix_unmeant, prefix_of_aggregate, prefix_refused, infix_typed, left_unmeant, left_aggregate, right_unmeant, right_aggregate, infix_refused}
 use Rattle.pli_type_expression.specs.Segments.{next_segment, last_segment, function_typed}
 use Rattle.pli_type_expression.specs.Subscripts.{subscript_meant}
-use Rattle.pli_type_expression.specs.answers.TypingAnswers.{Fails}
 use Rattle.pli_type_expression.specs.declared.argument.Argument.{Argument}
 use Rattle.pli_type_expression.specs.declared.role.Role.TheVariants as roles
 use Rattle.pli_type_tree.specs.declared.expression.TypedExpression.{TypedExpression}
