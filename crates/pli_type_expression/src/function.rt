@@ -23,8 +23,8 @@ use std::alloc::{AllocError, Global};
 /// The precision of LBOUND and HBOUND (own).
 const BOUND_PRECISION: u8 = 15;
 
-/// For what the arguments of a built-in function stand, where it may have so many: SUBSTR has two or three. The array of
-/// LBOUND and HBOUND is not evaluated, and their number and the precision of DIVIDE are constants (X3.74).
+/// For what the arguments of a built-in function stand, where it may have so many: SUBSTR has two or three. The array
+/// of LBOUND and HBOUND is not evaluated, and their number and the precision of DIVIDE are constants (X3.74).
 pub(crate) fn roles_of(function: BuiltInFunction, given: usize) -> Option<&'static [Role]>
     ensures { option_map (λ roles. map role_view roles.now) result ≡ spec.roles_of function given }
 {

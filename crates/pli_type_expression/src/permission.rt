@@ -22,8 +22,8 @@ fn is_scalar(description: &Description) -> bool
     )
 }
 
-/// A reference as it is, where it may stand: T2 at its name where no aggregate may, T10 there behind a locator, since no
-/// variable is BASED so far (own).
+/// A reference as it is, where it may stand: T2 at its name where no aggregate may, T10 there behind a locator, since
+/// no variable is BASED so far (own).
 pub(crate) fn permitted<'a>(
     role: Role,
     located: bool,

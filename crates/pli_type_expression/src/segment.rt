@@ -22,8 +22,8 @@ use std::alloc::{AllocError, Global};
 /// What stands between arrows, so far.
 #[derive(Drop)]
 pub(crate) enum Segment {
-    /// The name at a token, of a variable or of what is none, and the subscripts behind it and behind the members that are
-    /// joined to it; `located` where an arrow stands in front of it.
+    /// The name at a token, of a variable or of what is none, and the subscripts behind it and behind the members
+    /// that are joined to it; `located` where an arrow stands in front of it.
     Named {
         located: bool,
         at: u32,
@@ -33,7 +33,8 @@ pub(crate) enum Segment {
     Function(TypedValue),
 }
 
-/// Whether parentheses behind a reference's first name are those of a call: where it stands alone, and a value is wanted.
+/// Whether parentheses behind a reference's first name are those of a call: where it stands alone, and a value is
+/// wanted.
 #[tactic(auto, using(crate::proofs::Meanings::call_of_value, crate::proofs::Meanings::call_of_argument))]
 pub(crate) fn is_call(role: Role, joined: &[JoinedPart]) -> bool
     ensures { result ≡ typing.is_call (role_view role) false (joined_view joined.now) }

@@ -17,8 +17,8 @@ use pli_type_names::{NamedVariable, StridedPart};
 use pli_type_tree::{Root, Stride, TypedExpression, TypedReference, TypedSubscript};
 use std::alloc::{AllocError, Global};
 
-/// What is meant with so many subscripts: with those of all its levels one element, without any the whole, but only where no
-/// level above it has subscripts; with another number nothing.
+/// What is meant with so many subscripts: with those of all its levels one element, without any the whole, but only
+/// where no level above it has subscripts; with another number nothing.
 fn with_subscripts<'a>(
     alloc: Global,
     given: usize,
