@@ -13,4 +13,5 @@ pub mod SlotPlaces
 pub mod Stack
 pub mod StorageAnswers
 pub mod Walks
+pub mod Wide
 pub mod Worlds

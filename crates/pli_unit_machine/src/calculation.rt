@@ -27,8 +27,8 @@ const WIDEST_PRECISION: u8 = 63;
 /// The most bits of a string (own).
 const BIT_LIMIT: u16 = 32_767;
 
-/// What an operation comes to: a value, or a bit; a condition; a string over the limit, or a part that a string has not; or
-/// nothing, where operands are not of its kinds.
+/// What an operation comes to: a value, or a bit; a condition; a string over the limit, or a part that a string has
+/// not; or nothing, where operands are not of its kinds.
 #[derive(Drop)]
 pub enum Calculation {
     Gives(Value),
@@ -165,8 +165,8 @@ fn in_columns(alloc: Global, width: u8, number: i64) -> Result<Calculation, Allo
     }
 }
 
-/// An operation on a number. Want of memory is answered where the result has more than 64 bits, as it may only where the
-/// number has more than 31 digits.
+/// An operation on a number. Want of memory is answered where the result has more than 64 bits, as it may only where
+/// the number has more than 31 digits.
 fn of_number(alloc: Global, operation: Prefix, number: i64) -> Result<Calculation, AllocError>
     ensures { IfOk result (λ c. calculation_view c ≡ calculated_from (prefix_view operation) (plain.Number number)) }
 {

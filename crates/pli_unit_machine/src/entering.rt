@@ -67,7 +67,8 @@ pub fn activation<'m>(
     })
 }
 
-/// Lets the newest activation wait, with what it hands over, and begins one of a block, whose variables are not made yet.
+/// Lets the newest activation wait, with what it hands over, and begins one of a block, whose variables are not made
+/// yet.
 fn begin_block<'m>(
     alloc: Global,
     machine: &mut Machine<'m>,

@@ -49,8 +49,8 @@ fn within(low: i32, high: i32, subscript: i64) -> Option<i32>
     }
 }
 
-/// Takes a number, tests it and leads a place on by so many bytes for each number over the low one. Want of memory is answered
-/// where the element would begin at 2^64 bytes or behind.
+/// Takes a number, tests it and leads a place on by so many bytes for each number over the low one. Want of memory is
+/// answered where the element would begin at 2^64 bytes or behind.
 #[inline]
 pub fn subscript(
     operands: &mut Vec<Operand>,
