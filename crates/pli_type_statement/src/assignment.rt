@@ -1,0 +1,109 @@
+//! Assignments.
+ghost use Rattle.std.specs.Prelude.{◌≡◌, false};
+ghost use Rattle.pli_base.specs.views.SyntaxView as syntax;
+ghost use Rattle.pli_type.specs.StatementTyping as spec;
+ghost use Rattle.pli_type.specs.Unbuilt.{later_expression, later_reference};
+ghost use Rattle.pli_type_expression.specs.answers.TypingAnswers.{Gives};
+ghost use Rattle.pli_type_expression.specs.views.TypingView.{denoted_view, meant_view, referent_view};
+ghost use Rattle.pli_type_names.specs.UnitNaming.{naming_in};
+ghost use Rattle.pli_type_tree.specs.views.TypedView.{form_view};
+
+use pli_base::Code;
+use pli_base::syntax::{Expression, Reference};
+use pli_map::is_scalar;
+use pli_type::converted;
+use pli_type_expression::{
+    Denoted, Meant, Referent, Role, TypeError, fault, meant, referred, value_of,
+};
+use pli_type_names::Naming;
+use pli_type_tree::Form;
+use std::alloc::Global;
+
+/// An aggregate assigned to one of equal description: types, bounds and structure agree (X3.74). Anything else is T5 at `=`.
+fn aggregate_assigned(
+    equals: u32,
+    target: Referent<'_>,
+    source: Meant<'_>,
+) -> Result<Form, TypeError>
+    ensures { Gives form_view result
+        (spec.aggregate_assigned equals (referent_view target.entry) (meant_view source.entry)) }
+{
+    let Meant::Aggregate(source) = source else {
+        return Err(fault(Code::CannotAssign, equals));
+    };
+    if *target.description == *source.description {
+        Ok(Form::AssignAggregate {
+            target: target.reference,
+            source: source.reference,
+        })
+    } else {
+        Err(fault(Code::CannotAssign, equals))
+    }
+}
+
+/// One value assigned to a scalar: T5 at `=` where it does not suit, T2 where it is an aggregate (X3.74).
+fn scalar_assigned(
+    alloc: Global,
+    naming: &Naming<'_>,
+    equals: u32,
+    target: Referent<'_>,
+    value: &Expression,
+) -> Result<Form, TypeError>
+    requires { later_expression (naming_in naming.now) (syntax.expression_view value.now) ≡ false }
+    ensures { Gives form_view result
+        (spec.scalar_assigned (naming_in naming.now) equals (referent_view target.entry).reference
+        (referent_view target.entry).description (syntax.expression_view value.now)) }
+{
+    let value = value_of(alloc, naming, value)?;
+    match converted(alloc, naming.greatest(), target.description, value)? {
+        Some(value) => Ok(Form::Assign {
+            target: target.reference,
+            value,
+        }),
+        None => Err(fault(Code::CannotAssign, equals)),
+    }
+}
+
+/// What is assigned to what a target denotes; what a function gives is T1 at the statement.
+fn assigned<'a>(
+    alloc: Global,
+    naming: &Naming<'a>,
+    at: u32,
+    equals: u32,
+    target: Denoted<'a>,
+    value: &Expression,
+) -> Result<Form, TypeError>
+    requires { later_expression (naming_in naming.now) (syntax.expression_view value.now) ≡ false }
+    ensures { Gives form_view result
+        (spec.assigned (naming_in naming.now) at equals (denoted_view target.entry) (syntax.expression_view value.now)) }
+{
+    let Denoted::Variable(target) = target else {
+        return Err(fault(Code::NotAVariable, at));
+    };
+    if is_scalar(target.description) {
+        scalar_assigned(alloc, naming, equals, target, value)
+    } else {
+        let source = meant(alloc, naming, Role::Argument, value)?;
+        aggregate_assigned(equals, target, source)
+    }
+}
+
+/// An assignment, or its first fault: the target's, the expression's, and then that at `=` (own). The statement begins at
+/// the token `at`.
+pub(crate) fn assignment(
+    alloc: Global,
+    naming: &Naming<'_>,
+    at: u32,
+    target: &Reference,
+    equals: u32,
+    value: &Expression,
+) -> Result<Form, TypeError>
+    requires target { later_reference (naming_in naming.now) (syntax.reference_view target.now) ≡ false }
+    requires value { later_expression (naming_in naming.now) (syntax.expression_view value.now) ≡ false }
+    ensures { Gives form_view result
+        (spec.assignment (naming_in naming.now) at (syntax.reference_view target.now) equals
+        (syntax.expression_view value.now)) }
+{
+    let target = referred(alloc, naming, Role::Target, target)?;
+    assigned(alloc, naming, at, equals, target, value)
+}
