@@ -9,9 +9,11 @@ use Rattle.std.specs.Cmp.Lexicographic.{nat_list_eq_equiv}
 use Rattle.std.proofs.lemmas.List.{at_drop_more}
 use Rattle.pli_base.specs.Name.{Name}
 use Rattle.pli_base.specs.Words.{same_name, is_among}
-use Rattle.pli_code.specs.Link as link
-use Rattle.pli_code.specs.views.ModuleView.{Module, code_view}
-use Rattle.pli_link.specs.answers.Answers.{compiled_view, place_view, is_past, first_module}
+use Rattle.pli_link.specs.Link as link
+use Rattle.pli_unit_code.specs.Modules.{Module}
+use Rattle.pli_unit_code.specs.views.CodeView.{code_view}
+use Rattle.pli_link.specs.Link.{are_too_large}
+use Rattle.pli_link.specs.answers.Answers.{compiled_view, place_view, is_past, first_module, descriptions_made}
 use Rattle.pli_link.specs.declared.linking.Compiled.{Compiled}
 use Rattle.pli_link.specs.declared.linking.LinkedProcedure.{LinkedProcedure}
 
@@ -112,3 +114,23 @@ one_found xs i m e f = by (nat_lt (position_or_len (λ u. u.is_main) xs) (length
         → Some (unit_module m) ≡ first_module (link.mains (map compiled_view xs))
     by true k e g = let same : k ≡ i = cc in ap (λ x. Some (unit_module x)) (f ∙ ap (λ n. get_or xs n m) (sym same)) ∙ sym g
     by false k e g = cc
+
+-- whether the variables of a module are too large
+abbrev pub large_of : Option Module → List link.LinkFault
+large_of None = []
+large_of (Some m) = if are_too_large (descriptions_made m.code m.code.globals) then link.ModuleTooLarge ∷ [] else []
+
+pub large_among : (cs : List link.Compiled) → link.too_large_among cs ≡ large_of (first_module cs)
+large_among [] = refl
+large_among (c ∷ cs) = refl
+
+-- nothing is told where there is no main procedure, and of the first one else
+pub none_large : (xs : List Compiled) → position (λ u. u.is_main) xs ≡ None → link.too_large_among (link.mains (map compiled_view xs)) ≡ []
+none_large xs e = large_among (link.mains (map compiled_view xs)) ∙ ap large_of (sym (none_found xs e))
+
+pub one_large : (xs : List Compiled) (i : ℕ) (m : Compiled) (b : Bool) → position (λ u. u.is_main) xs ≡ Some i → m ≡ get_or xs i m
+    → b ≡ are_too_large (descriptions_made (code_view (get_or xs i m).code) (get_or xs i m).code.globals.items)
+    → link.too_large_among (link.mains (map compiled_view xs)) ≡ (if b then link.ModuleTooLarge ∷ [] else [])
+one_large xs i m b e f is =
+    large_among (link.mains (map compiled_view xs)) ∙ ap large_of (sym (one_found xs i m e f)) ∙ ap (λ (c : Compiled). large_of (Some (unit_module c))) f
+    ∙ ap (λ t. if t then link.ModuleTooLarge ∷ [] else []) (sym is)

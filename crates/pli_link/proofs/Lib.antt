@@ -1,3 +1,4 @@
+pub mod GlobalLemmas
 pub mod Lemmas
 pub mod PlacesSorted
 pub mod Positions

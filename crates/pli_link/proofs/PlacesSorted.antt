@@ -7,7 +7,7 @@ use Rattle.std.specs.List.Sorted.{ties}
 use Rattle.std.proofs.lemmas.Cmp.{nat_list_cmp_total, alike_right}
 use Rattle.std.proofs.lemmas.List.Elements.{filter-append}
 use Rattle.std.proofs.lemmas.List.Sorted.{IsPermutation-refl, IsPermutation-cons, IsPermutation-trans, IsPermutation-sym, IsPermutation-middle, IsPermutation-append_left}
-use Rattle.pli_code.specs.Link.{Place, inserted, in_order, in_order_after}
+use Rattle.pli_link.specs.Link.{Place, inserted, in_order, in_order_after}
 use Rattle.pli_link.specs.laws.Sorting.{SortsByProcedure, procedure_of}
 
 abbrev by_name : Place → Place → Ordering

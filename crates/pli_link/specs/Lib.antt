@@ -1,2 +1,4 @@
+pub mod Link
 pub mod answers
+pub mod examples
 pub mod laws

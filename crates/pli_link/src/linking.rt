@@ -1,12 +1,13 @@
 //! Modules from the code of units.
 ghost use Rattle.std.specs.Prelude.{◌≡◌, ◌++◌, [], map, option_map, position, OnOk, IfOk};
-ghost use Rattle.pli_code.specs.Link as link;
-ghost use Rattle.pli_code.specs.views.ModuleView.{module_view};
+ghost use Rattle.pli_link.specs.Link as link;
+ghost use Rattle.pli_unit_code.specs.views.CodeView.{module_view};
 ghost use Rattle.pli_link.specs.answers.Answers.{Links, compiled_view, place_view, fault_view, is_past, first_module};
 ghost use Rattle.pli_link.specs.declared.linking.LinkError.TheVariants.{OutOfMemory};
 
+use crate::globals::are_globals_too_large;
 use pli_base::Name;
-use pli_code::{Code, Module};
+use pli_unit_code::{Code, Module};
 use std::alloc::{AllocError, AllocFailed, Global};
 
 /// A unit that has been compiled: the member's name, and its external procedure with its code.
@@ -35,6 +36,8 @@ pub enum LinkFault {
     TwoMainProcedures(LinkedProcedure),
     /// N4, for each procedure that has the name of an earlier one.
     DefinedTwice(LinkedProcedure),
+    /// N6, where the main unit's variables that are made before the program begins take too many bytes.
+    ModuleTooLarge,
 }
 
 /// Why units are not linked.
@@ -158,6 +161,25 @@ fn add_repeated(faults: &mut Vec<LinkFault>, places: &[LinkedProcedure]) -> Resu
     Ok(())
 }
 
+/// Where the first main procedure stands.
+fn main_at(units: &[Compiled]) -> Option<usize>
+    ensures { result ≡ position (λ u. u.is_main) units.now }
+{
+    units.iter().position(|unit| unit.is_main)
+}
+
+/// Appends N6 where the variables of the first main procedure's unit are too large.
+fn add_too_large(faults: &mut Vec<LinkFault>, units: &[Compiled]) -> Result<(), AllocError>
+    ensures { OnOk result (map fault_view faults.new.items ≡ map fault_view faults.old.items ++ link.too_large_among (link.mains (map compiled_view units.now))) }
+{
+    if let Some(at) = main_at(units) {
+        if are_globals_too_large(&units[at].code) {
+            faults.push(LinkFault::ModuleTooLarge)?;
+        }
+    }
+    Ok(())
+}
+
 /// The faults of units, by code, procedure and unit.
 fn faults_of(alloc: Global, units: &[Compiled]) -> Result<Vec<LinkFault>, AllocError>
     ensures { IfOk result (λ found. map fault_view found.items ≡ link.link_faults (map compiled_view units.now)) }
@@ -171,14 +193,8 @@ fn faults_of(alloc: Global, units: &[Compiled]) -> Result<Vec<LinkFault>, AllocE
         &mut faults,
         &in_order(alloc, &repeated_places(alloc, units)?)?,
     )?;
+    add_too_large(&mut faults, units)?;
     Ok(faults)
-}
-
-/// Where the first main procedure stands.
-fn main_at(units: &[Compiled]) -> Option<usize>
-    ensures { result ≡ position (λ u. u.is_main) units.now }
-{
-    units.iter().position(|unit| unit.is_main)
 }
 
 /// The module of the first main procedure.

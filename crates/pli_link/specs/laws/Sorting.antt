@@ -4,7 +4,7 @@ use Rattle.std.specs.Cmp.Lexicographic.{slice_cmp}
 use Rattle.std.specs.List.Sorted.{IsStableByKey}
 use Rattle.std.specs.Ordering.{nat_cmp}
 use Rattle.pli_base.specs.Name.{Name}
-use Rattle.pli_code.specs.Link.{Place, in_order}
+use Rattle.pli_link.specs.Link.{Place, in_order}
 
 -- the name of a place's procedure
 abbrev pub procedure_of : Place → Name

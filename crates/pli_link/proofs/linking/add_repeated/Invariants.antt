@@ -1,5 +1,5 @@
 use Rattle.std.proofs.Common.{◌≡◌, ◌++◌, map, drop}
-use Rattle.pli_code.specs.Link.{DefinedTwice}
+use Rattle.pli_link.specs.Link.{DefinedTwice}
 use Rattle.pli_link.specs.answers.Answers.{place_view, fault_view}
 use Rattle.pli_link.proofs.linking.add_repeated.Given as goal
 

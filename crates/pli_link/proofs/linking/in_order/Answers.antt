@@ -1,4 +1,4 @@
-use Rattle.std.proofs.Common.{◌≡◌, arith, map}
+use Rattle.std.proofs.Common.{arith, map}
 use Rattle.pli_link.specs.answers.Answers.{place_view}
 use Rattle.pli_link.proofs.Lemmas.{sorted_more}
 use Rattle.pli_link.proofs.linking.in_order.Goals as goal

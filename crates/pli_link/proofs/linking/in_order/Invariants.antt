@@ -1,5 +1,5 @@
 use Rattle.std.proofs.Common.{◌≡◌, map, drop}
-use Rattle.pli_code.specs.Link as link
+use Rattle.pli_link.specs.Link as link
 use Rattle.pli_link.specs.answers.Answers.{place_view}
 use Rattle.pli_link.proofs.linking.in_order.Given as goal
 

@@ -1,5 +1,5 @@
-use Rattle.std.proofs.Common.{◌≡◌, arith, ap, sym, ◌∙◌, option_map, position, Some, None}
-use Rattle.pli_code.specs.views.ModuleView.{module_view}
+use Rattle.std.proofs.Common.{ap, sym, ◌∙◌, option_map, position}
+use Rattle.pli_unit_code.specs.views.CodeView.{module_view}
 use Rattle.pli_link.proofs.Lemmas.{none_found, one_found}
 use Rattle.pli_link.proofs.linking.main_module.Goals as goal
 

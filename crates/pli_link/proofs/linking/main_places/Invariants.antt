@@ -1,5 +1,5 @@
 use Rattle.std.proofs.Common.{◌≡◌, ◌++◌, map, drop}
-use Rattle.pli_code.specs.Link.{mains, place_of_unit}
+use Rattle.pli_link.specs.Link.{mains, place_of_unit}
 use Rattle.pli_link.specs.answers.Answers.{compiled_view, place_view}
 use Rattle.pli_link.proofs.linking.main_places.Given as goal
 

@@ -1,7 +1,7 @@
 use Rattle.std.proofs.Common.{◌≡◌, if◌then◌else◌, map, arith, ap, sym, ◌∙◌, ◌++◌, ◌∷◌, []}
 use Rattle.std.proofs.lemmas.List.{map-append}
 use Rattle.pli_base.specs.Words.{is_among}
-use Rattle.pli_code.specs.Link.{place_of_unit}
+use Rattle.pli_link.specs.Link.{place_of_unit}
 use Rattle.pli_link.specs.answers.Answers.{place_view, compiled_view}
 use Rattle.pli_link.proofs.Lemmas.{again_more, among_turns, put_in, left_out}
 use Rattle.pli_link.proofs.linking.repeated_places.Goals as goal
