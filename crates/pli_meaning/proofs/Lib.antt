@@ -1,15 +1,6 @@
-pub mod CodeStandsAsTranslated
-pub mod ExampleLemmas
-pub mod MachineReachesMeaning
 pub mod MembersDoAsMeant
 pub mod MembersHaveOneProgram
-pub mod NothingIsLost
+pub mod ModulesHold
 pub mod ProceduresGrow
 pub mod ProceduresSimulate
-pub mod ReachesLemmas
-pub mod ReadyLemmas
-pub mod WhereCodeStands
-pub mod UsesHaveSlots
-pub mod ValueTableLemmas
-pub mod WidthLemmas
 pub mod ScratchExamplesHold

@@ -1,64 +1,29 @@
 -- The laws, of members.
-use Rattle.std.specs.Prelude.{◌≡◌, ℕ, ◌+◌, Some, Result, Ok, Err, List, [], ◌∷◌, refl}
+use Rattle.std.specs.Prelude.{◌≡◌, ℕ, ◌+◌, Some, Result, Ok, List, [], ◌∷◌}
 use Rattle.std.proofs.Common.{sym, ◌∙◌, ap, subst}
 use Rattle.pli_base.specs.Name.{Name}
-use Rattle.pli_lower.specs.LoweredTree.{LoweredUnit}
-use Rattle.pli_base.specs.declared.token.Fault.{Fault}
-use Rattle.pli_base.specs.declared.token.Origin.{Origin}
-use Rattle.pli_include.specs.Expanded.{outcome_of}
-use Rattle.pli_include.specs.Expansion.{Outcome as Expansion}
 use Rattle.pli_members.specs.Members.{Member}
 use Rattle.pli_machine_step.specs.Runs.{Outcome}
-use Rattle.pli_machine_step.specs.views.ModuleProgram.{RunsTo}
-use Rattle.pli_meaning.specs.Meaning.{alone, whole_run}
+use Rattle.pli_meaning_tree.specs.TreeMeaning.{whole_run}
+use Rattle.pli_type_tree.specs.TypedTree.{TypedUnit}
+use Rattle.pli_unit_code.specs.Modules.{RunsTo}
 use Rattle.pli_meaning.specs.Members.{MembersSimulate, OneMeaning, MembersGrow}
-use Rattle.pli_meaning.specs.Scratch.{read_or_fault, lowered_unless, program_from, program_of, all_located, parsed_from, parsed_of, main_units, Means}
-use Rattle.pli_meaning.specs.Sound.{IsSound}
+use Rattle.pli_meaning.specs.Programs.{alone}
+use Rattle.pli_meaning.specs.Scratch.{parsed_of, main_units, Means}
+use Rattle.pli_meaning.proofs.MembersHaveOneProgram.{program_made}
 use Rattle.pli_meaning.proofs.ProceduresGrow.{growth}
 use Rattle.pli_meaning.proofs.ProceduresSimulate.{some_is, simulation}
-use Rattle.pli_lower.specs.Lowering.{lowered}
-use Rattle.pli_parse_statement.specs.StatementReading.{unit_of}
-use Rattle.pli_base.specs.Statements.{ExternalProcedure}
-use Rattle.pli_declare.specs.Resolution.{resolution_faults}
-use Rattle.pli_lower.proofs.LoweringConstants.{lowers_to_language}
-use Rattle.pli_meaning.proofs.MembersHaveOneProgram.{program_made}
 
-abbrev tree_as : {F : Type 0} → LoweredUnit → Result LoweredUnit F
+abbrev tree_as : {F : Type 0} → TypedUnit → Result TypedUnit F
 tree_as u = Ok u
 
-tree_is : {F : Type 0} (u v : LoweredUnit) → tree_as {F = F} u ≡ tree_as v → u ≡ v
+tree_is : {F : Type 0} (u v : TypedUnit) → tree_as {F = F} u ≡ tree_as v → u ≡ v
 tree_is u v e = cc
-
--- what is lowered is sound
-lowered_sound : (r : Result LoweredUnit Fault) (u : LoweredUnit) → ((v : LoweredUnit) → r ≡ Ok v → IsSound v) → read_or_fault r ≡ Ok u → IsSound u
-lowered_sound (Ok v) u sound h = subst IsSound (tree_is v u h) (sound v refl)
-lowered_sound (Err fault) u sound h = let bad : ⊥ = cc in absurd bad
-
-resolved_sound : (faults : List Fault) (unit : ExternalProcedure) (u : LoweredUnit) → lowered_unless faults unit ≡ Ok u → IsSound u
-resolved_sound [] unit u h = lowered_sound (lowered unit) u (lowers_to_language unit) h
-resolved_sound (fault ∷ faults) unit u h = let bad : ⊥ = cc in absurd bad
-
-program_sound : (read : Result ExternalProcedure Fault) (u : LoweredUnit) → program_from read ≡ Ok u → IsSound u
-program_sound (Ok unit) u h = resolved_sound (resolution_faults unit) unit u h
-program_sound (Err fault) u h = let bad : ⊥ = cc in absurd bad
-
-read_sound : (unit : Name) (origins : List Origin) (r : Result LoweredUnit (List Fault)) (u : LoweredUnit) → ((v : LoweredUnit) → r ≡ Ok v → IsSound v) → all_located unit origins r ≡ Ok u → IsSound u
-read_sound unit origins (Ok v) u sound h = subst IsSound (tree_is v u h) (sound v refl)
-read_sound unit origins (Err faults) u sound h = let bad : ⊥ = cc in absurd bad
-
--- the tree that an expansion gives is sound
-sound_from : (unit : Name) (o : Expansion) (u : LoweredUnit) → parsed_from unit o ≡ Ok u → IsSound u
-sound_from unit (Err stop) u h = let bad : ⊥ = cc in absurd bad
-sound_from unit (Ok p) u h = read_sound unit p.origins (program_of p.texts) u (program_sound (unit_of p.texts)) h
-
-sound_of : (entries : List (Name × Member)) (unit : Name) (u : LoweredUnit) → parsed_of entries unit ≡ Ok u → IsSound u
-unfolding parsed_of
-sound_of entries unit u h = sound_from unit (outcome_of entries unit) u h
 
 pub members_simulate : MembersSimulate
 members_simulate entries m e n =
     let program = program_made entries m e in
-    let s = simulation program.unit program.tree program.faultless (sound_of entries program.unit program.tree program.spelled) n in
+    let s = simulation program.unit program.tree program.typed program.numbered n in
     record {
       outcome = s.outcome;
       means = record { unit = program.unit; tree = program.tree; only = program.only; spelled = program.spelled; run = s.means };
@@ -70,7 +35,7 @@ unit_is : (a b : Name) → a ∷ [] ≡ b ∷ [] → a ≡ b
 unit_is a b e = cc
 
 -- what they mean is of one unit and one tree
-means_of : (entries : List (Name × Member)) (n : ℕ) (o : Outcome) (unit : Name) (u : LoweredUnit) → main_units entries ≡ unit ∷ [] → parsed_of entries unit ≡ Ok u
+means_of : (entries : List (Name × Member)) (n : ℕ) (o : Outcome) (unit : Name) (u : TypedUnit) → main_units entries ≡ unit ∷ [] → parsed_of entries unit ≡ Ok u
     → Means entries n o → whole_run (alone unit u) n ≡ Some o
 means_of entries n o unit u only spelled m =
     let same : m.unit ≡ unit = unit_is _ _ (sym m.only ∙ only) in
@@ -83,6 +48,6 @@ one_meaning entries n o p a b = some_is o p (sym (means_of entries n o b.unit b.
 pub members_grow : MembersGrow
 members_grow entries m e n o p a b =
     let program = program_made entries m e in
-    growth program.unit program.tree program.faultless (sound_of entries program.unit program.tree program.spelled) n o p
+    growth program.unit program.tree program.typed program.numbered n o p
     (means_of entries n o program.unit program.tree program.only program.spelled a)
     (means_of entries (n + 1) p program.unit program.tree program.only program.spelled b)

@@ -1,11 +1,10 @@
--- Members that have a module have one main unit, whose tree has no faults.
+-- Members that have a module have one main unit, whose program is well typed.
 use Rattle.std.specs.Prelude.{◌≡◌, ℕ, Bool, true, false, Result, Ok, Err, List, [], ◌∷◌, ◌++◌, map, refl, if◌then◌else◌}
 use Rattle.std.specs.Cmp.Lexicographic.{slice_cmp}
 use Rattle.std.specs.List.{filter, flat_map}
 use Rattle.std.specs.Ordering.{nat_cmp, is_gt}
 use Rattle.std.proofs.Common.{sym, ◌∙◌, ap, subst}
 use Rattle.pli_base.specs.Name.{Name}
-use Rattle.pli_lower.specs.LoweredTree.{LoweredUnit}
 use Rattle.pli_base.specs.declared.token.Fault.{Fault}
 use Rattle.pli_base.specs.declared.token.Origin.{Origin}
 use Rattle.pli_include.specs.Expanded.{outcome_of}
@@ -13,16 +12,26 @@ use Rattle.pli_include.specs.Expansion.{Outcome}
 use Rattle.pli_members.specs.Members.{Member}
 use Rattle.pli_members.specs.declared.kind.MemberKind.{MemberKind}
 use Rattle.pli_members.specs.declared.kind.MemberKind.TheVariants.{Source, Include}
-use Rattle.pli_lower.specs.LoweredNames.{declaration_faults}
-use Rattle.pli_code.specs.Link.{Compiled, Place, LinkFault, TwoMainProcedures, inserted, in_order_after, in_order, place_of_unit, mains, later, none_among, link_faults, module_or, link_of}
-use Rattle.pli_code.specs.views.ModuleView.{Module}
-use Rattle.pli_gen.specs.Translation.{code_of, is_too_long}
-use Rattle.pli_lower.specs.Lowering.{lowered}
-use Rattle.pli_lower.proofs.LoweringNames.{lowers_to_faultless}
+use Rattle.pli_link.specs.Link.{Compiled, Place, LinkFault, TwoMainProcedures, ModuleTooLarge, inserted, in_order_after, in_order, place_of_unit, mains, later, none_among, are_too_large, globals_of, too_large_among, link_faults, module_or, link_of}
+use Rattle.pli_unit_code.specs.Modules.{Module}
+use Rattle.pli_gen_tree.specs.Encoding.{code_of}
+use Rattle.pli_gen_tree.specs.Limits.{is_too_long}
+use Rattle.pli_gen_tree.specs.WellNumbered.{IsWellNumbered}
+use Rattle.pli_meaning_typed.specs.TypedPrograms.{WellTyped}
+use Rattle.pli_resolve.specs.ResolvedUnits.{ResolvedUnit, resolved_unit_of}
+use Rattle.pli_type.specs.NamedUnits.{named_unit, checked_unit}
+use Rattle.pli_type.specs.laws.Laws.{IsToldOfTypes}
+use Rattle.pli_type.proofs.FaultCodes.{faults_are_of_types}
+use Rattle.pli_type_laws.specs.TypedUnits.{IsTypedMain}
+use Rattle.pli_type_laws.proofs.CheckedUnits.{checked_is_typed}
+use Rattle.pli_type_tree.specs.TypedTree.{TypedUnit}
+use Rattle.pli_meaning.specs.Programs.{alone}
+use Rattle.pli_meaning.proofs.ModulesHold.{module_typed}
 use Rattle.pli_parse_statement.specs.StatementReading.{unit_of}
 use Rattle.pli_base.specs.Statements.{ExternalProcedure}
+use Rattle.pli_base.specs.Words.{Tokens}
 use Rattle.pli_declare.specs.Resolution.{resolution_faults}
-use Rattle.pli_meaning.specs.Scratch.{Diagnostic, read_or_fault, lowered_unless, program_from, program_of, units_of, located, all_located, parsed_from, parsed_of, too_long, coded_from, compiled_from, compiled_of, diagnostics_in, diagnostic_line, one, Made, built, linked, scratch, all_text, all_units, text_in, units_in, sources, source_in, has_main, main_units}
+use Rattle.pli_meaning.specs.Scratch.{Diagnostic, typed_unless, program_from, program_of, units_of, located, all_located, parsed_from, parsed_of, too_long, coded_from, compiled_from, compiled_of, diagnostics_in, diagnostic_line, Made, built, linked, scratch, all_text, all_units, text_in, units_in, sources, source_in, has_main, main_units}
 
 -- a list with an element is not empty
 filled : {A : Type 0} (xs ys : List A) (y : A) → xs ++ y ∷ ys ≡ [] → ⊥
@@ -42,49 +51,62 @@ back_empty (x ∷ xs) ys e = cc
 text_filled : (name : Name) (d : Diagnostic) (ds : List Diagnostic) → flat_map (diagnostic_line name) (d ∷ ds) ≡ [] → ⊥
 text_filled name d ds e = filled _ [] 10 (front_empty (diagnostic_line name d) _ e)
 
--- what reading gives: a tree whose declarations have no faults, or a fault at least
-abbrev IsRead : Result LoweredUnit (List Fault) → Type 0
-IsRead (Ok u) = declaration_faults u ≡ []
+-- a tree is typed and numbered well
+abbrev IsGood : TypedUnit → Type 0
+IsGood u = IsTypedMain 31 u × IsWellNumbered u
+
+-- what the passes give: such a tree, or a fault at least
+abbrev IsRead : Result TypedUnit (List Fault) → Type 0
+IsRead (Ok u) = IsGood u
 IsRead (Err []) = ⊥
 IsRead (Err (fault ∷ faults)) = Unit {0}
 
-lowered_read : (r : Result LoweredUnit Fault) → ((u : LoweredUnit) → r ≡ Ok u → declaration_faults u ≡ []) → IsRead (read_or_fault r)
-lowered_read (Ok u) known = known u refl
-lowered_read (Err fault) known = tt
+told_read : (r : Result TypedUnit (List Fault)) → IsToldOfTypes r → ((u : TypedUnit) → r ≡ Ok u → IsGood u) → IsRead r
+told_read (Ok u) told good = good u refl
+told_read (Err []) told good = told.0
+told_read (Err (fault ∷ faults)) told good = tt
 
-resolved_read : (faults : List Fault) (unit : ExternalProcedure) → IsRead (lowered_unless faults unit)
-resolved_read [] unit = lowered_read (lowered unit) (lowers_to_faultless unit)
-resolved_read (fault ∷ faults) unit = tt
+checked_told : (r : ResolvedUnit) → IsToldOfTypes (checked_unit r)
+unfolding checked_unit
+checked_told r = faults_are_of_types (named_unit 31 r)
 
-program_read : (r : Result ExternalProcedure Fault) → IsRead (program_from r)
-program_read (Ok unit) = resolved_read (resolution_faults unit) unit
-program_read (Err fault) = tt
+typed_read : (texts : Tokens) (unit : ExternalProcedure) → unit_of texts ≡ Ok unit → (faults : List Fault) → IsRead (typed_unless faults unit)
+typed_read texts unit read [] = told_read (checked_unit (resolved_unit_of unit)) (checked_told (resolved_unit_of unit)) (checked_is_typed texts unit read)
+typed_read texts unit read (fault ∷ faults) = tt
 
-abbrev unit_code : Name → LoweredUnit → Compiled
+program_read : (texts : Tokens) → IsRead (program_of texts)
+program_read texts = by (unit_of texts) refl
+  where
+    by : (r : Result ExternalProcedure Fault) → unit_of texts ≡ r → IsRead (program_from r)
+    by (Ok unit) read = typed_read texts unit read (resolution_faults unit)
+    by (Err fault) read = tt
+
+abbrev unit_code : Name → TypedUnit → Compiled
 unit_code name u = record { unit = name; procedure = u.name; is_main = u.is_main; code = code_of u }
 
--- a unit without diagnostics: its tree has no faults, and this is its code
-record IsClean (name : Name) (r : Result LoweredUnit (List Diagnostic)) (c : Result Compiled (List Diagnostic)) : Type 0 where
-  tree : LoweredUnit
+-- a unit without diagnostics: its tree is typed and numbered well, and this is its code, which is not too long
+record IsClean (name : Name) (r : Result TypedUnit (List Diagnostic)) (c : Result Compiled (List Diagnostic)) : Type 0 where
+  tree : TypedUnit
   spelled : r ≡ Ok tree
-  faultless : declaration_faults tree ≡ []
+  good : IsGood tree
+  fits : is_too_long (code_of tree) ≡ false
   code : c ≡ Ok (unit_code name tree)
 
-chosen_clean : (name : Name) (origins : List Origin) (u : LoweredUnit) (b : Bool) → declaration_faults u ≡ []
+chosen_clean : (name : Name) (origins : List Origin) (u : TypedUnit) (b : Bool) → is_too_long (code_of u) ≡ b → IsGood u
     → diagnostics_in name (all_located name origins (if b then Err (too_long ∷ []) else Ok (unit_code name u))) ≡ []
     → IsClean name (Ok u) (all_located name origins (if b then Err (too_long ∷ []) else Ok (unit_code name u)))
-chosen_clean name origins u true none e = absurd (text_filled name (located name origins too_long) [] e)
-chosen_clean name origins u false none e = record { tree = u; spelled = refl; faultless = none; code = refl }
+chosen_clean name origins u true is good e = absurd (text_filled name (located name origins too_long) [] e)
+chosen_clean name origins u false is good e = record { tree = u; spelled = refl; good = good; fits = is; code = refl }
 
-read_clean : (name : Name) (origins : List Origin) (r : Result LoweredUnit (List Fault)) → IsRead r
+read_clean : (name : Name) (origins : List Origin) (r : Result TypedUnit (List Fault)) → IsRead r
     → diagnostics_in name (all_located name origins (coded_from name r)) ≡ [] → IsClean name (all_located name origins r) (all_located name origins (coded_from name r))
-read_clean name origins (Ok u) h e = chosen_clean name origins u (is_too_long (code_of u)) h e
+read_clean name origins (Ok u) h e = chosen_clean name origins u (is_too_long (code_of u)) refl h e
 read_clean name origins (Err []) h e = absurd h
 read_clean name origins (Err (fault ∷ faults)) h e = absurd (text_filled name (located name origins fault) (map (located name origins) faults) e)
 
 compiled_clean : (name : Name) (o : Outcome) → diagnostics_in name (compiled_from name o) ≡ [] → IsClean name (parsed_from name o) (compiled_from name o)
 compiled_clean name (Err stop) e = absurd (text_filled name (record { origin = stop.fault.origin; code = stop.fault.code }) [] e)
-compiled_clean name (Ok p) e = read_clean name p.origins (program_of p.texts) (program_read (unit_of p.texts)) e
+compiled_clean name (Ok p) e = read_clean name p.origins (program_of p.texts) (program_read p.texts) e
 
 -- a unit without diagnostics
 unit_clean : (entries : List (Name × Member)) (name : Name) → diagnostics_in name (compiled_of entries name) ≡ []
@@ -93,11 +115,12 @@ unfolding compiled_of parsed_of
 unit_clean entries name e = compiled_clean name (outcome_of entries name) e
 
 module _ (entries : List (Name × Member)) where
-  -- a unit's code is that of its tree, which has no faults
+  -- a unit's code is that of its tree, which is typed and numbered well
   record IsOfTree (c : Compiled) : Type 0 where
-    tree : LoweredUnit
+    tree : TypedUnit
     spelled : parsed_of entries c.unit ≡ Ok tree
-    faultless : declaration_faults tree ≡ []
+    good : IsGood tree
+    fits : is_too_long (code_of tree) ≡ false
     code : c ≡ unit_code c.unit tree
 
   -- so is each of these
@@ -112,7 +135,7 @@ module _ (entries : List (Name × Member)) where
   trees_in : (name : Name) (kind : MemberKind) (units : List Compiled) → text_in entries name kind ≡ [] → AreOfTrees units → AreOfTrees (units_in entries name kind ++ units)
   trees_in name Source units h all =
       let clean = unit_clean entries name h in
-      subst (λ r. AreOfTrees (units_of r ++ units)) (sym clean.code) (record { tree = clean.tree; spelled = clean.spelled; faultless = clean.faultless; code = refl }, all)
+      subst (λ r. AreOfTrees (units_of r ++ units)) (sym clean.code) (record { tree = clean.tree; spelled = clean.spelled; good = clean.good; fits = clean.fits; code = refl }, all)
   trees_in name Include units h all = all
 
   -- where there is no diagnostic, each unit is of a tree
@@ -171,20 +194,46 @@ none_later (c ∷ cs) e = absurd (order_filled (map place_of_unit cs) (place_of_
 record IsOfMain (cs : List Compiled) (m : Module) : Type 0 where
   compiled : Compiled
   only : cs ≡ compiled ∷ []
+  small : are_too_large (globals_of compiled) ≡ false
   module_is : m ≡ record { unit = compiled.unit; code = compiled.code }
 
 made_is : (a b : Module) → Made a ≡ Made b → a ≡ b
 made_is a b e = cc
 
-main_of : (faults : List LinkFault) (cs : List Compiled) (m : Module) → (faults ≡ [] → later cs ≡ []) → linked (module_or faults cs) ≡ Made m → IsOfMain cs m
-main_of [] [] m one e = let bad : ⊥ = cc in absurd bad
-main_of [] (c ∷ cs) m one e = record { compiled = c; only = ap (λ ds. c ∷ ds) (one refl); module_is = sym (made_is _ m e) }
-main_of (fault ∷ faults) cs m one e = let bad : ⊥ = cc in absurd bad
+none_too_large : (c : Compiled) (cs : List Compiled) → too_large_among (c ∷ cs) ≡ [] → are_too_large (globals_of c) ≡ false
+none_too_large c cs e = by (are_too_large (globals_of c)) e
+  where
+    by : (b : Bool) → (if b then ModuleTooLarge ∷ [] else []) ≡ [] → b ≡ false
+    by true e = let bad : ⊥ = cc in absurd bad
+    by false e = refl
+
+-- what is known where no fault of linking is told
+record IsFaultless (cs : List Compiled) : Type 0 where
+  one : later cs ≡ []
+  small : too_large_among cs ≡ []
+
+main_of : (faults : List LinkFault) (cs : List Compiled) (m : Module) → (faults ≡ [] → IsFaultless cs) → linked (module_or faults cs) ≡ Made m → IsOfMain cs m
+main_of [] [] m known e = let bad : ⊥ = cc in absurd bad
+main_of [] (c ∷ cs) m known e =
+    record {
+      compiled = c;
+      only = ap (λ ds. c ∷ ds) (known refl).one;
+      small = none_too_large c cs (known refl).small;
+      module_is = sym (made_is _ m e);
+    }
+main_of (fault ∷ faults) cs m known e = let bad : ⊥ = cc in absurd bad
+
+linked_faultless : (units : List Compiled) → link_faults units ≡ [] → IsFaultless (mains units)
+linked_faultless units none =
+    let of_names = front_empty _ (too_large_among (mains units)) none in
+    let of_mains = front_empty (none_among (mains units) ++ map TwoMainProcedures (in_order (map place_of_unit (later (mains units))))) _ of_names in
+    record {
+      one = none_later (later (mains units)) (back_empty (none_among (mains units)) _ of_mains);
+      small = back_empty _ (too_large_among (mains units)) none;
+    }
 
 linked_main : (units : List Compiled) (m : Module) → linked (link_of units) ≡ Made m → IsOfMain (mains units) m
-linked_main units m e =
-    main_of (link_faults units) (mains units) m
-    (λ none. none_later (later (mains units)) (back_empty (none_among (mains units)) _ (front_empty (none_among (mains units) ++ map TwoMainProcedures (in_order (map place_of_unit (later (mains units))))) _ none))) e
+linked_main units m e = main_of (link_faults units) (mains units) m (linked_faultless units) e
 
 record IsBuilt (text : List ℕ) (units : List Compiled) (m : Module) : Type 0 where
   clear : text ≡ []
@@ -194,23 +243,26 @@ built_main : (text : List ℕ) (units : List Compiled) (m : Module) → built te
 built_main [] units m e = record { clear = refl; main = linked_main units m e }
 built_main (b ∷ text) units m e = let bad : ⊥ = cc in absurd bad
 
--- members with a module: their one main unit, its tree, without faults, and the module of its code
+-- members with a module: their one main unit, its tree, whose program is well typed, and the module of its code
 pub record HasProgram (entries : List (Name × Member)) (m : Module) : Type 0 where
   pub unit : Name
-  pub tree : LoweredUnit
+  pub tree : TypedUnit
   pub only : main_units entries ≡ unit ∷ []
   pub spelled : parsed_of entries unit ≡ Ok tree
-  pub faultless : declaration_faults tree ≡ []
+  pub typed : WellTyped (alone unit tree)
+  pub numbered : IsWellNumbered tree
   pub module_is : m ≡ record { unit = unit; code = code_of tree }
 
-program_of_tree : (entries : List (Name × Member)) (m : Module) (c : Compiled) → main_units entries ≡ c.unit ∷ [] → IsOfTree entries c → m ≡ record { unit = c.unit; code = c.code } → HasProgram entries m
-program_of_tree entries m c only tree e =
+program_of_tree : (entries : List (Name × Member)) (m : Module) (c : Compiled) → main_units entries ≡ c.unit ∷ [] → IsOfTree entries c → are_too_large (globals_of c) ≡ false
+    → m ≡ record { unit = c.unit; code = c.code } → HasProgram entries m
+program_of_tree entries m c only tree small e =
     record {
       unit = c.unit;
       tree = tree.tree;
       only = only;
       spelled = tree.spelled;
-      faultless = tree.faultless;
+      typed = module_typed c.unit tree.tree tree.good.0 tree.fits (ap (λ x. are_too_large (globals_of x)) (sym tree.code) ∙ small);
+      numbered = tree.good.1;
       module_is = e ∙ ap (λ x. record { unit = c.unit; code = x.code }) tree.code;
     }
 
@@ -220,4 +272,4 @@ program_made entries m e =
     let whole = built_main (all_text entries entries) (all_units entries entries) m e in
     let c = whole.main.compiled in
     let trees : AreOfTrees entries (c ∷ []) = subst (AreOfTrees entries) whole.main.only (mains_of_trees entries _ (all_of_trees entries entries whole.clear)) in
-    program_of_tree entries m c (sym (mains_are entries entries whole.clear) ∙ ap (map (λ c. c.unit)) whole.main.only) trees.0 whole.main.module_is
+    program_of_tree entries m c (sym (mains_are entries entries whole.clear) ∙ ap (map (λ c. c.unit)) whole.main.only) trees.0 whole.main.small whole.main.module_is

@@ -1,7 +1,5 @@
-pub mod Effects
-pub mod Meaning
 pub mod Members
+pub mod Programs
 pub mod Scratch
-pub mod Sound
 pub mod examples
 pub mod laws

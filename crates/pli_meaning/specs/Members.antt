@@ -3,8 +3,7 @@ use Rattle.std.specs.Prelude.{◌≡◌, ◌≢◌, ℕ, ◌+◌, List}
 use Rattle.pli_base.specs.Name.{Name}
 use Rattle.pli_members.specs.Members.{Member}
 use Rattle.pli_machine_step.specs.Runs.{Outcome}
-use Rattle.pli_machine_step.specs.views.ModuleProgram.{RunsTo}
-use Rattle.pli_code.specs.views.ModuleView.{Module}
+use Rattle.pli_unit_code.specs.Modules.{Module, RunsTo}
 use Rattle.pli_code.specs.declared.ending.Ending.TheVariants.{MachineFault}
 use Rattle.pli_machine_step.specs.laws.Laws.{GoesOn}
 use Rattle.pli_meaning.specs.Scratch.{Made, scratch, Means}

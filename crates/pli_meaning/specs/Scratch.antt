@@ -4,7 +4,6 @@ use Rattle.std.specs.Prelude.{map, decimal, slice_get, if◌then◌else◌}
 use Rattle.std.specs.List.{filter, flat_map}
 use Rattle.pli_base.specs.Name.{Name}
 use Rattle.pli_base.specs.Codes.{code_label, code_text}
-use Rattle.pli_lower.specs.LoweredTree.{LoweredUnit}
 use Rattle.pli_base.specs.Words.{Tokens}
 use Rattle.pli_base.specs.declared.code.Code.{Code}
 use Rattle.pli_base.specs.declared.code.Code.TheVariants as code
@@ -12,19 +11,23 @@ use Rattle.pli_base.specs.declared.token.Fault.{Fault}
 use Rattle.pli_base.specs.declared.token.Origin.{Origin}
 use Rattle.pli_include.specs.Expanded.{outcome_of}
 use Rattle.pli_include.specs.Expansion.{Outcome as Expansion}
-use Rattle.pli_lower.specs.Lowering.{lowered}
 use Rattle.pli_members.specs.Members.{Member}
 use Rattle.pli_members.specs.declared.kind.MemberKind.{MemberKind}
 use Rattle.pli_members.specs.declared.kind.MemberKind.TheVariants.{Source, Include}
 use Rattle.pli_parse_statement.specs.StatementReading.{unit_of}
 use Rattle.pli_base.specs.Statements.{ExternalProcedure}
 use Rattle.pli_declare.specs.Resolution.{resolution_faults}
-use Rattle.pli_code.specs.Link.{Compiled, Place, LinkFault, NoMainProcedure, TwoMainProcedures, DefinedTwice}
-use Rattle.pli_code.specs.Link.{link_of}
+use Rattle.pli_link.specs.Link.{Compiled, Place, LinkFault, NoMainProcedure, TwoMainProcedures, DefinedTwice}
+use Rattle.pli_link.specs.Link.{ModuleTooLarge, link_of}
+use Rattle.pli_resolve.specs.ResolvedUnits.{resolved_unit_of}
+use Rattle.pli_type.specs.NamedUnits.{checked_unit}
+use Rattle.pli_type_tree.specs.TypedTree.{TypedUnit}
 use Rattle.pli_machine_step.specs.Runs.{Outcome}
-use Rattle.pli_code.specs.views.ModuleView.{Module}
-use Rattle.pli_gen.specs.Translation.{code_of, is_too_long}
-use Rattle.pli_meaning.specs.Meaning.{alone, whole_run}
+use Rattle.pli_unit_code.specs.Modules.{Module}
+use Rattle.pli_gen_tree.specs.Encoding.{code_of}
+use Rattle.pli_gen_tree.specs.Limits.{is_too_long}
+use Rattle.pli_meaning_tree.specs.TreeMeaning.{whole_run}
+use Rattle.pli_meaning.specs.Programs.{alone}
 
 -- a diagnostic, at a line of a member
 pub record Diagnostic : Type 0 where
@@ -45,26 +48,19 @@ located unit origins fault =
 abbrev pub one : Code → Origin → List Diagnostic
 one code origin = record { origin = origin; code = code } ∷ []
 
--- what is read, or the one fault
-abbrev pub read_or_fault : {A : Type 0} → Result A Fault → Result A (List Fault)
-read_or_fault (Ok x) = Ok x
-read_or_fault (Err fault) = Err (fault ∷ [])
+-- all faults of a unit's declarations and uses, if there are any; else the typed unit, or its faults of types
+abbrev pub typed_unless : List Fault → ExternalProcedure → Result TypedUnit (List Fault)
+typed_unless [] unit = checked_unit (resolved_unit_of unit)
+typed_unless (fault ∷ faults) unit = Err (fault ∷ faults)
 
--- all faults of a unit's declarations and uses, if there are any; else the unit in the language that is
--- compiled today, or the fault of its first form that
--- cannot be compiled yet
-abbrev pub lowered_unless : List Fault → ExternalProcedure → Result LoweredUnit (List Fault)
-lowered_unless [] unit = read_or_fault (lowered unit)
-lowered_unless (fault ∷ faults) unit = Err (fault ∷ faults)
-
--- a unit that was read: its declarations are judged, then it is lowered
-abbrev pub program_from : Result ExternalProcedure Fault → Result LoweredUnit (List Fault)
-program_from (Ok unit) = lowered_unless (resolution_faults unit) unit
+-- a unit that was read: its declarations are judged, then its types
+abbrev pub program_from : Result ExternalProcedure Fault → Result TypedUnit (List Fault)
+program_from (Ok unit) = typed_unless (resolution_faults unit) unit
 program_from (Err fault) = Err (fault ∷ [])
 
--- the tree of a unit's tokens, in the language that is compiled today; or the faults of the first pass that
--- has any: reading, then the declarations, then lowering
-abbrev pub program_of : Tokens → Result LoweredUnit (List Fault)
+-- the typed tree of a unit's tokens, or the faults of the first pass that has any: reading, then the
+-- declarations, then types
+abbrev pub program_of : Tokens → Result TypedUnit (List Fault)
 program_of texts = program_from (unit_of texts)
 
 -- what a pass gives, with its faults where their tokens stand
@@ -74,13 +70,13 @@ all_located unit origins (Ok x) = Ok x
 all_located unit origins (Err faults) = Err (map (located unit origins) faults)
 
 -- the tree of an expansion, or the fault of the expansion
-abbrev pub parsed_from : Name → Expansion → Result LoweredUnit (List Diagnostic)
+abbrev pub parsed_from : Name → Expansion → Result TypedUnit (List Diagnostic)
 parsed_from unit (Err stop) = Err (one stop.fault.code stop.fault.origin)
 parsed_from unit (Ok p) = all_located unit p.origins (program_of p.texts)
 
 -- the tree of a unit's expansion, or its diagnostics: the one of the expansion, or those of the first pass
 -- over its tokens that has any
-unfoldable pub parsed_of : List (Name × Member) → Name → Result LoweredUnit (List Diagnostic)
+unfoldable pub parsed_of : List (Name × Member) → Name → Result TypedUnit (List Diagnostic)
 parsed_of entries unit = parsed_from unit (outcome_of entries unit)
 
 -- code is too long, at the first token
@@ -88,12 +84,12 @@ abbrev pub too_long : Fault
 too_long = record { code = code.CodeTooLong; at = 0 }
 
 -- the code of a tree, if it is not too long
-abbrev pub coded : Name → LoweredUnit → Result Compiled (List Fault)
+abbrev pub coded : Name → TypedUnit → Result Compiled (List Fault)
 coded unit u =
     if is_too_long (code_of u) then Err (too_long ∷ [])
     else Ok (record { unit = unit; procedure = u.name; is_main = u.is_main; code = code_of u })
 
-abbrev pub coded_from : Name → Result LoweredUnit (List Fault) → Result Compiled (List Fault)
+abbrev pub coded_from : Name → Result TypedUnit (List Fault) → Result Compiled (List Fault)
 coded_from unit (Ok u) = coded unit u
 coded_from unit (Err faults) = Err faults
 
@@ -137,15 +133,18 @@ abbrev pub diagnostics_in : Name → Result Compiled (List Diagnostic) → List 
 diagnostics_in unit (Ok c) = []
 diagnostics_in unit (Err diagnostics) = flat_map (diagnostic_line unit) diagnostics
 
--- the line of a fault of linking
+-- the line of a fault of linking: `code text`, and the procedure and the unit where it has them
+abbrev pub code_line : Code → List ℕ
+code_line c = code_label c ++ 32 ∷ code_text c ++ 10 ∷ []
+
 abbrev pub place_line : Code → Place → List ℕ
 place_line c p = code_label c ++ 32 ∷ code_text c ++ 32 ∷ p.procedure ++ 32 ∷ p.unit ++ 10 ∷ []
 
--- `code text`, then the procedure and the unit
 abbrev pub link_line : LinkFault → List ℕ
-link_line NoMainProcedure = code_label code.NoMainProcedure ++ 32 ∷ code_text code.NoMainProcedure ++ 10 ∷ []
+link_line NoMainProcedure = code_line code.NoMainProcedure
 link_line (TwoMainProcedures p) = place_line code.TwoMainProcedures p
 link_line (DefinedTwice p) = place_line code.DefinedTwice p
+link_line ModuleTooLarge = code_line code.ModuleTooLarge
 
 -- what a build gives: the text of its diagnostics, or a module
 pub data Built : Type 0 where
@@ -187,7 +186,7 @@ unfoldable pub scratch : List (Name × Member) → Built
 scratch entries = built (all_text entries entries) (all_units entries entries)
 
 -- a main unit has a tree, and its procedure is a main procedure
-abbrev pub has_main : Result LoweredUnit (List Diagnostic) → Bool
+abbrev pub has_main : Result TypedUnit (List Diagnostic) → Bool
 has_main (Ok u) = u.is_main
 has_main (Err diagnostics) = false
 
@@ -199,7 +198,7 @@ main_units entries = filter (λ unit. has_main (parsed_of entries unit)) (source
 -- has this meaning
 pub record Means (entries : List (Name × Member)) (steps : ℕ) (outcome : Outcome) : Type 0 where
   pub unit : Name
-  pub tree : LoweredUnit
+  pub tree : TypedUnit
   pub only : main_units entries ≡ unit ∷ []
   pub spelled : parsed_of entries unit ≡ Ok tree
   pub run : whole_run (alone unit tree) steps ≡ Some outcome

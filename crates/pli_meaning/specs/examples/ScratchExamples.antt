@@ -1,32 +1,27 @@
--- A worked example of the whole way: the members of a first session, the module that a build from
--- scratch makes
+-- A worked example of the whole way: the members of a first session, the module that a build from scratch makes
 -- of them, and what its runs give.
-use Rattle.std.specs.Prelude.{◌≡◌, pos, List, [], ◌∷◌, ◌++◌, replicate, codes}
+use Rattle.std.specs.Prelude.{◌≡◌, None, pos, List, [], ◌∷◌, ◌++◌, replicate, codes}
 use Rattle.pli_base.specs.Name.{Name}
+use Rattle.pli_map.specs.Description.{FixedBinary}
 use Rattle.pli_members.specs.Members.{Member}
 use Rattle.pli_members.specs.declared.kind.MemberKind.TheVariants.{Source}
-use Rattle.pli_code.specs.views.ModuleView.{Module}
-use Rattle.pli_code.specs.declared.instruction.Description.TheVariants.{FixedBinary}
-use Rattle.pli_code.specs.declared.instruction.Instruction.TheVariants as op
 use Rattle.pli_code.specs.declared.ending.Ending.TheVariants.{Ended, OutOfSteps}
-use Rattle.pli_machine_step.specs.views.ModuleProgram.{RunsTo}
-use Rattle.pli_meaning.specs.Scratch.{Made, scratch}
+use Rattle.pli_machine_step.specs.Program.{Procedure}
+use Rattle.pli_unit_code.specs.Modules.{Module, RunsTo}
+use Rattle.pli_unit_code.specs.declared.instruction.Instruction.TheVariants as op
+use Rattle.pli_value.specs.Value.{Number}
+use Rattle.pli_meaning.specs.Scratch.{Diagnosed, Made, scratch}
+
+-- a member M, of these lines
+abbrev pub member : List Name → List (Name × Member)
+member lines = (codes "M", record { kind = Source; lines = lines; version = 5 }) ∷ []
 
 -- one member, of five lines
 abbrev pub first_members : List (Name × Member)
-first_members = (
-  codes "M",
-  record {
-    kind = Source;
-    lines =
-        codes "M: PROC OPTIONS(MAIN);"
-        ∷ codes "DCL X FIXED BIN(31);"
-        ∷ codes "X = 2 + 3;"
-        ∷ codes "PUT LIST(X);"
-        ∷ codes "END M;" ∷ [];
-    version = 5;
-  },
-) ∷ []
+first_members =
+    member
+    (codes "M: PROC OPTIONS(MAIN);" ∷ codes "DCL X FIXED BIN(31);" ∷ codes "X = 2 + 3;" ∷ codes "PUT LIST(X);"
+    ∷ codes "END M;" ∷ [])
 
 -- its module
 abbrev pub first_module : Module
@@ -34,9 +29,19 @@ first_module = record {
   unit = codes "M";
   code =
       record {
-        slots = 1;
         descriptions = FixedBinary 31 ∷ [];
-        values = pos 2 ∷ pos 3 ∷ [];
+        templates = record { description = 0; initial = [] } ∷ [];
+        values = Number (pos 2) ∷ Number (pos 3) ∷ [];
+        globals = [];
+        blocks = record {
+          kind = Procedure;
+          parent = None;
+          parameters = 0;
+          variables = 0 ∷ [];
+          temporaries = 0;
+          entry = 0;
+          statement = 1;
+        } ∷ [];
         instructions =
             op.Step 3 ∷ op.Local 0 0 ∷ op.Constant 0 ∷ op.Constant 1 ∷ op.Add ∷ op.Fit 0 ∷ op.Store
             ∷ op.Step 4 ∷ op.Local 0 0 ∷ op.Load ∷ op.ToCharacters 14 ∷ op.Put ∷ op.Return 0 ∷ [];
@@ -55,3 +60,10 @@ RunsWithThree =
 -- with two it prints nothing
 abbrev pub RunsWithTwo : Type 0
 RunsWithTwo = RunsTo first_module 2 (record { output = []; ending = OutOfSteps; column = 1 })
+
+-- characters are not assigned to a bit: T5, at the line of `=`
+abbrev pub TypesAreTold : Type 0
+TypesAreTold =
+    scratch
+    (member (codes "M: PROC OPTIONS(MAIN);" ∷ codes "DCL X BIT(1);" ∷ codes "X" ∷ codes "= 'A'; END;" ∷ []))
+    ≡ Diagnosed (codes "M M:4 T5 CANNOT ASSIGN" ++ 10 ∷ [])
