@@ -14,8 +14,9 @@ use Rattle.pli_members.specs.declared.refusal.EditError.{EditError}
 use Rattle.pli_members.specs.declared.refusal.EditError.TheVariants.{Refused, OutOfMemory}
 use Rattle.pli_members.specs.declared.refusal.Refusal.{Refusal}
 use Rattle.pli_members.specs.declared.refusal.Refusal.TheVariants.{NoSuchMember}
-use Rattle.pli_code.specs.views.ModuleView.{Module, module_view}
-use Rattle.pli_code.specs.declared.instruction.Module as declared_module
+use Rattle.pli_unit_code.specs.Modules.{Module, program_of}
+use Rattle.pli_unit_code.specs.views.CodeView.{module_view}
+use Rattle.pli_unit_code.specs.declared.code.Module as declared_module
 use Rattle.pli_bench.specs.answers.Standing.{IsStanding}
 use Rattle.pli_code.specs.declared.ending.Ending.{Ending}
 use Rattle.pli_code.specs.declared.ending.Ran.{Ran}
@@ -23,7 +24,7 @@ use Rattle.pli_meaning.specs.Scratch.{Built, Made, scratch}
 use Rattle.pli_meaning.proofs.MembersDoAsMeant.{members_simulate}
 use Rattle.pli_meaning.specs.Members.{HasMeaning}
 use Rattle.pli_bench.specs.answers.Answering.{Writes}
-use Rattle.pli_machine.specs.answers.Runs.{RanTo, StoppedWithin}
+use Rattle.pli_unit_machine.specs.answers.Runs.{RanTo, StoppedWithin}
 use Rattle.pli_bench.specs.answers.Obeying.{Does, as_edit, edit_answer, end_answer, gone, standing_after}
 use Rattle.pli_bench.specs.Commands.{Command, command_of}
 use Rattle.pli_bench.specs.Exchanges.{exchange, span}
@@ -31,7 +32,6 @@ use Rattle.pli_bench.specs.Runs.{AnsweredOne, next_after}
 use Rattle.pli_bench.specs.declared.serving.Next.{Next}
 use Rattle.pli_bench.specs.declared.serving.WriteFailed.{WriteFailed}
 use Rattle.pli_machine_step.proofs.OutcomesAreOne.{one_outcome}
-use Rattle.pli_machine_step.specs.views.ModuleProgram.{program_of}
 use Rattle.pli_bench.specs.Session.{State, Lists, numbered_lines, EditsInMemory, Edits, ending_line, refused, okay, no_memory, not_built, Builds, is_made, Runs, run_answer, build_answer, Breaks, Obeys, Step, quits, is_quit}
 
 abbrev pub state : Store → Bool → ℕ → State

@@ -5,3 +5,4 @@ pub mod LinesAnswered
 pub mod LinesListed
 pub mod LinesOfBytes
 pub mod PartsPut
+pub mod TypedCompiled

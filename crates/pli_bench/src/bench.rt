@@ -14,10 +14,12 @@ use crate::command::{Command, read_command};
 use crate::listing::{put_lines, put_members};
 use crate::serving::{Interpreter, Next, ServeFault, WriteFailed, serve};
 use pli_base::{Failed, Name, Sink, Source};
-use pli_code::{Module, Ran};
+use pli_code::Ran;
 use pli_include::Expander;
-use pli_machine::{RunFault, run};
+use pli_print::RunFault;
 use pli_members::{EditError, MemberKind, Members, Refusal};
+use pli_unit_code::Module;
+use pli_unit_machine::run;
 use std::alloc::{AllocError, Global};
 use std::marker::Model;
 

@@ -1,17 +1,17 @@
 //! A build from scratch of the members.
 ghost use Rattle.std.specs.Prelude.{◌≡◌, ◌++◌, IfOk, OnOk, map};
 ghost use Rattle.std.specs.List.{flat_map};
-ghost use Rattle.pli_meaning.specs.Scratch.{scratch, link_line, all_text, all_units, text_in, units_in, place_line};
+ghost use Rattle.pli_meaning.specs.Scratch.{scratch, link_line, all_text, all_units, text_in, units_in, code_line, place_line};
 ghost use Rattle.pli_bench.specs.answers.Building.{built_view};
 ghost use Rattle.pli_link.specs.answers.Answers.{compiled_view, fault_view, place_view};
 
 use crate::answer::append_parts;
 use crate::compile::compile;
 use pli_base::Code;
-use pli_code::Module;
 use pli_include::Expander;
 use pli_link::{Compiled, LinkError, LinkFault, LinkedProcedure, link};
 use pli_members::{MemberKind, Members, NamedMember};
+use pli_unit_code::Module;
 use std::alloc::{AllocError, Global};
 
 /// What a build gives: the text of its diagnostics, or a module.
@@ -78,6 +78,21 @@ fn compile_all(
     Ok(units)
 }
 
+/// Appends `code text`.
+fn write_code(text: &mut Vec<u8>, code: Code) -> Result<(), AllocError>
+    ensures { OnOk result (text.new.items ≡ text.old.items ++ code_line code) }
+{
+    append_parts(
+        text,
+        &[
+            code.label().as_bytes(),
+            b" ",
+            code.text().as_bytes(),
+            b"\n",
+        ],
+    )
+}
+
 /// Appends `code text procedure unit`.
 fn write_place(text: &mut Vec<u8>, code: Code, place: LinkedProcedure) -> Result<(), AllocError>
     ensures { OnOk result (text.new.items ≡ text.old.items ++ place_line code (place_view place)) }
@@ -102,17 +117,10 @@ fn write_link_fault(text: &mut Vec<u8>, fault: LinkFault) -> Result<(), AllocErr
     ensures { OnOk result (text.new.items ≡ text.old.items ++ link_line (fault_view fault)) }
 {
     match fault {
-        LinkFault::NoMainProcedure => append_parts(
-            text,
-            &[
-                Code::NoMainProcedure.label().as_bytes(),
-                b" ",
-                Code::NoMainProcedure.text().as_bytes(),
-                b"\n",
-            ],
-        ),
+        LinkFault::NoMainProcedure => write_code(text, Code::NoMainProcedure),
         LinkFault::TwoMainProcedures(place) => write_place(text, Code::TwoMainProcedures, place),
         LinkFault::DefinedTwice(place) => write_place(text, Code::DefinedTwice, place),
+        LinkFault::ModuleTooLarge => write_code(text, Code::ModuleTooLarge),
     }
 }
 

@@ -1,21 +1,25 @@
 //! A unit compiled from its expansion, or its diagnostics as they are answered.
 ghost use Rattle.std.specs.Prelude.{◌≡◌, ◌≤◌, ◌++◌, length, map, option_map, slice_get, IfOk, OnOk};
 ghost use Rattle.std.specs.List.{flat_map};
-ghost use Rattle.pli_meaning.specs.Scratch.{all_located, compiled_of, compiled_texts, diagnostic_line, located, origin_of};
-ghost use Rattle.pli_bench.specs.answers.Compiling.{Compiles, Tells, of_generating, of_lowering, of_parsing, of_resolving};
+ghost use Rattle.pli_base.specs.views.StatementView.{unit_view};
+ghost use Rattle.pli_resolve.specs.ResolvedUnits.{resolved_unit_of};
+ghost use Rattle.pli_type.specs.NamedUnits.{checked_unit};
+ghost use Rattle.pli_meaning.specs.Scratch.{all_located, coded_from, compiled_of, compiled_texts, diagnostic_line, located, origin_of};
+ghost use Rattle.pli_bench.specs.answers.Compiling.{Compiles, Tells, of_checking, of_generating, of_parsing, of_resolving};
 ghost use Rattle.pli_bench.specs.declared.compile.CompileError.TheVariants as errors;
 ghost use Rattle.pli_link.specs.answers.Answers.{compiled_view};
 
 use crate::answer::append_parts;
 use itoa::Buffer;
 use pli_base::{Code, Fault, Name, Origin, TokenText};
-use pli_declare::{ResolveError, resolve};
-use pli_gen::{GenerateError, generate};
+use pli_declare::ResolveError;
+use pli_gen_tree::{GenerateError, generate};
 use pli_include::{Expander, Expansion};
 use pli_link::Compiled;
-use pli_lower::{LowerError, lower};
 use pli_members::Members;
 use pli_parse::{ParseError, parse};
+use pli_resolve::{ResolvedUnit, resolve_unit};
+use pli_type_statement::{CheckError, check};
 use std::alloc::{AllocError, Global};
 
 /// Why the tokens of a unit are not compiled.
@@ -23,7 +27,7 @@ use std::alloc::{AllocError, Global};
 pub enum CompileError {
     /// The one fault of a pass.
     Fault(Fault),
-    /// All faults of the declarations and uses of names, in the order of their tokens.
+    /// All faults of the declarations and uses of names, or of types, in the order of their tokens.
     Faults(Vec<Fault>),
     OutOfMemory,
 }
@@ -50,13 +54,13 @@ impl From<ResolveError> for CompileError {
     }
 }
 
-impl From<LowerError> for CompileError {
-    ghost from_gives = { λ error e. e ≡ of_lowering error };
+impl From<CheckError> for CompileError {
+    ghost from_gives = { λ error e. e ≡ of_checking error };
 
-    fn from(error: LowerError) -> CompileError {
+    fn from(error: CheckError) -> CompileError {
         match error {
-            LowerError::NotYetBuilt(fault) => CompileError::Fault(fault),
-            LowerError::OutOfMemory => CompileError::OutOfMemory,
+            CheckError::Faults(faults) => CompileError::Faults(faults),
+            CheckError::OutOfMemory => CompileError::OutOfMemory,
         }
     }
 }
@@ -104,21 +108,32 @@ pub fn compile(
     }
 }
 
+/// A unit without faults of declarations, compiled, or its faults of types, or that its code is too long.
+fn compile_resolved(
+    alloc: Global,
+    unit: Name,
+    resolved: &ResolvedUnit<'_>,
+) -> Result<Compiled, CompileError>
+    ensures { Compiles result (coded_from unit (checked_unit (resolved_unit_of (unit_view resolved.now)))) }
+{
+    let typed = check(alloc, resolved)?;
+    let code = generate(alloc, &typed)?;
+    Ok(Compiled {
+        unit,
+        procedure: typed.name,
+        is_main: typed.is_main,
+        code,
+    })
+}
+
 /// The tokens of a unit, compiled, or the faults of the first pass that has any.
 fn compile_texts(alloc: Global, unit: Name, texts: &[TokenText]) -> Result<Compiled, CompileError>
     requires { length texts.now ≤ 200000 }
     ensures { Compiles result (compiled_texts unit texts.now) }
 {
     let tree = parse(alloc, texts)?;
-    drop(resolve(alloc, &tree)?);
-    let lowered = lower(alloc, &tree)?;
-    let code = generate(alloc, &lowered)?;
-    Ok(Compiled {
-        unit,
-        procedure: lowered.name,
-        is_main: lowered.is_main,
-        code,
-    })
+    let resolved = resolve_unit(alloc, &tree)?;
+    compile_resolved(alloc, unit, &resolved)
 }
 
 /// An expansion without a fault, compiled, or its diagnostics.

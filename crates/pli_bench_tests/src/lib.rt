@@ -1,4 +1,4 @@
-//! Tests of the workbench, and of lowering, the linker and the machine, over their public calls.
+//! Tests of the workbench, and of the linker and the machine, over their public calls.
 #![tactic(auto)]
 
 #[cfg(test)]
@@ -6,11 +6,13 @@ mod calls;
 #[cfg(test)]
 mod devices;
 #[cfg(test)]
+mod laws;
+#[cfg(test)]
 mod linking;
 #[cfg(test)]
-mod lowering;
-#[cfg(test)]
 mod machine;
+#[cfg(test)]
+mod programs;
 #[cfg(test)]
 mod second_lines;
 #[cfg(test)]

@@ -1,7 +1,8 @@
 //! Units that are linked, with what a link gives of them.
 use pli_base::Name;
-use pli_code::{Code, Instruction, Module};
 use pli_link::{Compiled, LinkError, LinkFault, link};
+use pli_map::{Bounds, Description};
+use pli_unit_code::{Code, CodedTemplate, Instruction, Module};
 use std::alloc::{AllocError, Global};
 use std::fmt::Write;
 use std::test::Fail;
@@ -61,21 +62,26 @@ fn named(name: &str) -> Result<Name, Fail> {
     Ok(Name::read(name.as_bytes()).ok_or("a name")?)
 }
 
+/// Code of one step, without tables.
+fn code_of(alloc: Global, statement: u32) -> Result<Code, AllocError> {
+    Ok(Code {
+        descriptions: Vec::new(alloc),
+        templates: Vec::new(alloc),
+        values: Vec::new(alloc),
+        globals: Vec::new(alloc),
+        blocks: Vec::new(alloc),
+        instructions: Vec::from_slice(alloc, &[Instruction::Step { statement }])?,
+    })
+}
+
 /// A unit of one step, whose number is the place of the unit.
 fn compiled(alloc: Global, row: Row, place: usize) -> Result<Compiled, Fail> {
-    let step = Instruction::Step {
-        statement: u32::try_from(place).ok().ok_or("a place")?,
-    };
+    let statement = u32::try_from(place).ok().ok_or("a place")?;
     Ok(Compiled {
         unit: named(row.0)?,
         procedure: named(row.1)?,
         is_main: row.2,
-        code: Code {
-            slots: 0,
-            descriptions: Vec::new(alloc),
-            values: Vec::new(alloc),
-            instructions: Vec::from_slice(alloc, &[step])?,
-        },
+        code: code_of(alloc, statement)?,
     })
 }
 
@@ -90,6 +96,10 @@ fn told(alloc: Global, faults: &[LinkFault]) -> Result<String, AllocError> {
             }
             LinkFault::TwoMainProcedures(place) => ("N2", place),
             LinkFault::DefinedTwice(place) => ("N4", place),
+            LinkFault::ModuleTooLarge => {
+                text.push_str("N6;")?;
+                continue;
+            }
         };
         let (procedure, unit) = (place.procedure, place.unit);
         write!(text, "{label} {procedure:?} {unit:?};")?;
@@ -123,6 +133,64 @@ fn linked(alloc: Global, rows: &[Row]) -> Result<String, Fail> {
 fn units(rt: HostRuntime) -> Result<(), Fail> {
     for (rows, wanted) in &CASES {
         assert_eq!(rt; linked(rt.alloc(), rows)?.as_str(), *wanted);
+    }
+    Ok(())
+}
+
+/// Adds a variable of so many times so many bytes to those that are made before the program begins.
+fn add_global(alloc: Global, code: &mut Code, rows: i16, columns: i16) -> Result<(), Fail> {
+    let number = u16::try_from(code.templates.len()).ok().ok_or("a number")?;
+    let row = Bounds { low: 1, high: rows };
+    let column = Bounds {
+        low: 1,
+        high: columns,
+    };
+    code.descriptions.push(Description::Array {
+        bounds: Vec::from_slice(alloc, &[row, column])?,
+        element: Box::new(alloc, Description::Character(1))?,
+    })?;
+    code.templates.push(CodedTemplate {
+        description: number,
+        initial: Vec::new(alloc),
+    })?;
+    code.globals.push(number)?;
+    Ok(())
+}
+
+/// How many variables of 1,000,000 bytes a unit has, others of so many times so many bytes, and what a link gives.
+static SIZES: [(u32, &[(i16, i16)], &str); 6] = [
+    (0, &[], "M 1"),
+    (0, &[(1000, 1000)], "M 1"),
+    (0, &[(1001, 1000)], "N6;"),
+    // 777,216 bytes are left
+    (16, &[(512, 1518)], "M 1"),
+    (16, &[(512, 1518), (1, 1)], "N6;"),
+    (17, &[], "N6;"),
+];
+
+/// What a link gives of a main unit with so many variables of 1,000,000 bytes and these.
+fn linked_with(alloc: Global, large: u32, sizes: &[(i16, i16)]) -> Result<String, Fail> {
+    let mut units = Vec::new(alloc);
+    units.push(compiled(alloc, ("A", "F", false), 0)?)?;
+    let mut main = compiled(alloc, ("M", "M", true), 1)?;
+    for _ in 0..large {
+        add_global(alloc, &mut main.code, 1000, 1000)?;
+    }
+    for (rows, columns) in sizes {
+        add_global(alloc, &mut main.code, *rows, *columns)?;
+    }
+    units.push(main)?;
+    match link(alloc, units) {
+        Ok(module) => shown(alloc, &module),
+        Err(LinkError::Faults(faults)) => Ok(told(alloc, &faults)?),
+        Err(LinkError::OutOfMemory) => Err(AllocError.into()),
+    }
+}
+
+#[test]
+fn variables_of_the_program(rt: HostRuntime) -> Result<(), Fail> {
+    for (large, sizes, wanted) in &SIZES {
+        assert_eq!(rt; linked_with(rt.alloc(), *large, sizes)?.as_str(), *wanted);
     }
     Ok(())
 }

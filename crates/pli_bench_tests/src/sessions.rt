@@ -184,13 +184,13 @@ const SESSIONS: [Row; 38] = [
     ),
     // the first form of a unit that cannot be compiled yet is told, at its line, and nothing else of that unit
     (
-        b"ADD M SOURCE\nINSERT M 0 M: PROC OPTIONS(MAIN);\nINSERT M 1 DCL Y FIXED BIN(31); Y = 1;\nINSERT M 2 %INCLUDE K;\nINSERT M 3 IF Y THEN STOP; END M;\nADD K INCLUDE\nINSERT K 0 ;\nINSERT K 1 Y = Y - 1;\nADD N SOURCE\nINSERT N 0 N: PROC; Z = 1; END;\nBUILD\nREPLACE K 2 Y = Y + 1;\nBUILD\nREMOVE M 4 4\nINSERT M 3 END;\nBUILD\n",
+        b"ADD M SOURCE\nINSERT M 0 M: PROC OPTIONS(MAIN);\nINSERT M 1 DCL Y FIXED BIN(31); Y = 1;\nINSERT M 2 %INCLUDE K;\nINSERT M 3 IF Y THEN STOP; END M;\nADD K INCLUDE\nINSERT K 0 ;\nINSERT K 1 DO; Y = Y - 1; END;\nADD N SOURCE\nINSERT N 0 N: PROC; Z = 1; END;\nBUILD\nREPLACE K 2 Y = Y + 1;\nBUILD\nREMOVE M 4 4\nINSERT M 3 END;\nBUILD\n",
         b"OK\nOK\nOK\nOK\nOK\nOK\nOK\nOK\nOK\nOK\nM K:2 Z1 NOT YET BUILT\nN N:1 A1 NOT DECLARED\nNOT BUILT\nOK\nM M:4 Z1 NOT YET BUILT\nN N:1 A1 NOT DECLARED\nNOT BUILT\nOK\nOK\nN N:1 A1 NOT DECLARED\nNOT BUILT\n",
     ),
-    // the faults of declarations come before forms that cannot be compiled yet, wherever they stand; a name that is no variable is such a form
+    // faults of declarations come before forms that cannot be compiled yet, and these before faults of types
     (
         b"ADD M SOURCE\nINSERT M 0 M: PROC OPTIONS(MAIN); L: ;\nINSERT M 1 IF Y > 1 THEN DO; Y = Y - 1; END;\nINSERT M 2 Y = M; END;\nBUILD\nINSERT M 1 DCL Y FIXED BIN(31);\nBUILD\nREPLACE M 1 M: PROC OPTIONS(MAIN);\nBUILD\nREMOVE M 3 3\nBUILD\nREPLACE M 3 Y = Y; PUT LIST(M); END;\nBUILD\nREPLACE M 3 END;\nBUILD\nRUN\n",
-        b"OK\nOK\nOK\nOK\nM M:2 A1 NOT DECLARED\nM M:2 A1 NOT DECLARED\nM M:2 A1 NOT DECLARED\nM M:3 A1 NOT DECLARED\nNOT BUILT\nOK\nM M:1 Z1 NOT YET BUILT\nNOT BUILT\nOK\nM M:3 Z1 NOT YET BUILT\nNOT BUILT\nOK\nM M:3 Z1 NOT YET BUILT\nNOT BUILT\nOK\nM M:3 Z1 NOT YET BUILT\nNOT BUILT\nOK\nBUILT\nENDED\n",
+        b"OK\nOK\nOK\nOK\nM M:2 A1 NOT DECLARED\nM M:2 A1 NOT DECLARED\nM M:2 A1 NOT DECLARED\nM M:3 A1 NOT DECLARED\nNOT BUILT\nOK\nM M:1 Z1 NOT YET BUILT\nNOT BUILT\nOK\nM M:3 Z1 NOT YET BUILT\nNOT BUILT\nOK\nM M:3 T1 NOT A VARIABLE\nNOT BUILT\nOK\nM M:3 T1 NOT A VARIABLE\nNOT BUILT\nOK\nBUILT\nENDED\n",
     ),
     (b"RUN\n", b"B2 NOT BUILT\n"),
     (b"", b""),
@@ -253,11 +253,11 @@ const DIAGNOSTICS: [Row; 23] = [
     ),
     (b"M: PROC OPTIONS(X); END;", b"M M:1 P18 BAD OPTION\n"),
     (
-        b"M: PROC OPTIONS(MAIN); PUT LIST(1 - 2); END;",
-        b"M M:1 Z1 NOT YET BUILT\n",
+        b"M: PROC OPTIONS(MAIN); PUT LIST(1 - 'A'); END;",
+        b"M M:1 T4 WRONG OPERAND TYPE\n",
     ),
     (
-        b"M: PROC OPTIONS(MAIN); PUT SKIP LIST(1); END;",
+        b"M: PROC OPTIONS(MAIN); PUT SKIP LIST(ABS('1'B)); STOP; END;",
         b"M M:1 Z1 NOT YET BUILT\n",
     ),
     (
@@ -265,8 +265,8 @@ const DIAGNOSTICS: [Row; 23] = [
         b"M M:1 A1 NOT DECLARED\n",
     ),
     (
-        b"M: PROC OPTIONS(MAIN); DCL X CHAR(3), Y CHAR(3); X = Y; END;",
-        b"M M:1 Z1 NOT YET BUILT\n",
+        b"M: PROC OPTIONS(MAIN); DCL X CHAR(3), Y FIXED BIN(15), Z(2) BIT(1); X = Z; IF X THEN Y = X; END;",
+        b"M M:1 T2 AGGREGATE NOT ALLOWED HERE\nM M:1 T4 WRONG OPERAND TYPE\nM M:1 T5 CANNOT ASSIGN\n",
     ),
     (
         b"M: PROC OPTIONS(MAIN); L: ; END;",
@@ -548,6 +548,32 @@ fn limits(rt: HostRuntime) -> Result<(), Fail> {
     ] {
         let found = of_null_statements(rt.alloc(), lines)?;
         assert!(rt; found.as_slice().ends_with(wanted), "{lines} lines");
+    }
+    Ok(())
+}
+
+/// The end of the answers where a main procedure with so many STATIC variables of 1,000,000 bytes is built.
+fn of_static_variables(alloc: Global, count: u32) -> Result<Vec<u8>, Fail> {
+    let mut session = Vec::from_slice(
+        alloc,
+        b"ADD M SOURCE\nINSERT M 0 M: PROC OPTIONS(MAIN);\nINSERT M 1 END;\n",
+    )?;
+    for number in 0..count {
+        let text = format!(in alloc; "INSERT M 1 DCL V{number}(500, 500) FIXED BIN(31) STATIC;\n")?;
+        session.extend_from_slice(text.as_bytes())?;
+    }
+    session.extend_from_slice(b"BUILD\n")?;
+    Ok(answers(alloc, &session).ok().ok_or("answers")?)
+}
+
+#[test]
+fn static_variables(rt: HostRuntime) -> Result<(), Fail> {
+    for (count, wanted) in [
+        (16, b"OK\nBUILT\n".as_slice()),
+        (17, b"OK\nN6 MODULE TOO LARGE\nNOT BUILT\n".as_slice()),
+    ] {
+        let found = of_static_variables(rt.alloc(), count)?;
+        assert!(rt; found.as_slice().ends_with(wanted), "{count} variables");
     }
     Ok(())
 }

@@ -1,5 +1,5 @@
 -- What a build answers, apart from where it lies in memory.
-use Rattle.pli_code.specs.views.ModuleView.{module_view}
+use Rattle.pli_unit_code.specs.views.CodeView.{module_view}
 use Rattle.pli_meaning.specs.Scratch as scratch
 use Rattle.pli_bench.specs.declared.build.Built.{Built}
 use Rattle.pli_bench.specs.declared.build.Built.TheVariants.{Diagnosed, Made}

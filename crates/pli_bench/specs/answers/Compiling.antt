@@ -8,11 +8,11 @@ use Rattle.pli_base.specs.declared.reading.ParseError.{ParseError}
 use Rattle.pli_base.specs.declared.reading.ParseError.TheVariants as parsing
 use Rattle.pli_declare.specs.declared.resolving.ResolveError.{ResolveError}
 use Rattle.pli_declare.specs.declared.resolving.ResolveError.TheVariants as resolving
-use Rattle.pli_lower.specs.declared.answer.LowerError.{LowerError}
-use Rattle.pli_lower.specs.declared.answer.LowerError.TheVariants as lowering
-use Rattle.pli_code.specs.Link as link
-use Rattle.pli_gen.specs.declared.translation.GenerateError.{GenerateError}
-use Rattle.pli_gen.specs.declared.translation.GenerateError.TheVariants as generating
+use Rattle.pli_type_statement.specs.declared.checking.CheckError.{CheckError}
+use Rattle.pli_type_statement.specs.declared.checking.CheckError.TheVariants as checking
+use Rattle.pli_link.specs.Link as link
+use Rattle.pli_gen_tree.specs.declared.generating.GenerateError.{GenerateError}
+use Rattle.pli_gen_tree.specs.declared.generating.GenerateError.TheVariants as generating
 use Rattle.pli_link.specs.answers.Answers.{compiled_view}
 use Rattle.pli_link.specs.declared.linking.Compiled.{Compiled}
 use Rattle.pli_meaning.specs.Scratch.{Diagnostic, diagnostic_line, too_long}
@@ -29,9 +29,9 @@ abbrev pub of_resolving : ResolveError → CompileError
 of_resolving (resolving.Faulty faults) = Faults faults
 of_resolving resolving.OutOfMemory = OutOfMemory
 
-abbrev pub of_lowering : LowerError → CompileError
-of_lowering (lowering.NotYetBuilt f) = Fault f
-of_lowering lowering.OutOfMemory = OutOfMemory
+abbrev pub of_checking : CheckError → CompileError
+of_checking (checking.Faults faults) = Faults faults
+of_checking checking.OutOfMemory = OutOfMemory
 
 abbrev pub of_generating : GenerateError → CompileError
 of_generating generating.TooLong = Fault too_long

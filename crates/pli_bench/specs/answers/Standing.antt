@@ -1,8 +1,8 @@
 -- The module that stands is that of a build from scratch of the members.
 use Rattle.std.specs.Prelude.{◌≡◌, List, Option, Some, None}
 use Rattle.pli_base.specs.Name.{Name}
-use Rattle.pli_code.specs.views.ModuleView.{module_view}
-use Rattle.pli_code.specs.declared.instruction.Module.{Module}
+use Rattle.pli_unit_code.specs.views.CodeView.{module_view}
+use Rattle.pli_unit_code.specs.declared.code.Module.{Module}
 use Rattle.pli_members.specs.Members.{Member}
 use Rattle.pli_meaning.specs.Scratch.{scratch, Made}
 

@@ -1,4 +1,4 @@
-use Rattle.pli_code.specs.views.ModuleView.{module_view}
+use Rattle.pli_unit_code.specs.views.CodeView.{module_view}
 use Rattle.pli_meaning.specs.Scratch.{Made, Diagnosed}
 use Rattle.pli_bench.specs.Session.{build_answer, no_memory}
 use Rattle.pli_bench.proofs.CommandsObeyed.{builds, builds_not}
