@@ -1,3 +1,0 @@
-pub mod Translation
-pub mod answers
-pub mod examples

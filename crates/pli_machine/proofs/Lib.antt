@@ -1,9 +1,0 @@
-pub mod Digits
-pub mod Entering
-pub mod Outcome
-pub mod Performed
-pub mod PrintLemmas
-pub mod RunLemmas
-pub mod Stack
-pub mod Stores
-pub mod Worlds

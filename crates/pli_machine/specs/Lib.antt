@@ -1,2 +1,0 @@
-pub mod answers
-pub mod views
