@@ -84,12 +84,7 @@ fn write_code(text: &mut Vec<u8>, code: Code) -> Result<(), AllocError>
 {
     append_parts(
         text,
-        &[
-            code.label().as_bytes(),
-            b" ",
-            code.text().as_bytes(),
-            b"\n",
-        ],
+        &[code.label().as_bytes(), b" ", code.text().as_bytes(), b"\n"],
     )
 }
 

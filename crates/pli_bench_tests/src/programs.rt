@@ -78,7 +78,10 @@ fn programs(rt: HostRuntime) -> Result<(), Fail> {
             .serve(&mut reader, &mut writer, 99)
             .ok()
             .ok_or("answers")?;
-        assert!(rt; writer.into_inner().as_slice() == *wanted, "program {place}");
+        assert!(rt;
+            writer.into_inner().as_slice() == *wanted,
+            "program {place}"
+        );
     }
     Ok(())
 }
