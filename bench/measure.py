@@ -89,6 +89,23 @@ def structure(count, uses):
     yield from ["PUT LIST("] + listed([f"G{k * 7 % count // 100}.M{k * 7 % count}" for k in range(uses)]) + [");"]
 
 
+def straight(count):
+    """So many statements of arithmetic, strings, subscripts and structures, one behind the other."""
+    yield "DCL (X,Y) FIXED BIN(31),(I,J) FIXED BIN(15),A(100) FIXED BIN(31),S CHAR(20) VAR,T CHAR(10) INIT('ABCDEFGHIJ');"
+    yield "DCL 1 P(10),2 Q FIXED BIN(31),2 R(3) FIXED BIN(15);I=1;J=2;"
+    group = ("X=MOD(X*7+Y,1000);", "A(I+3)=A(J)+X;", "S=SUBSTR(T,J,4)||'-';", "P(J).R(I)=P(I).R(J)+1;", "IF X>Y THEN Y=X-1;ELSE Y=Y-1;")
+    for _ in range(count // 6):
+        yield from group
+    yield "PUT LIST(X,Y,A(4),S,P(2).R(1));"
+
+
+def filled(count):
+    """An array of so many elements, each of which is assigned and printed."""
+    yield f"DCL A({count}) FIXED BIN(15);"
+    yield from [f"A({k})={k};" for k in range(1, count + 1)]
+    yield from ["PUT LIST("] + listed([f"A({k})" for k in range(1, count + 1)]) + [");"]
+
+
 def sessions():
     one = list(member("M", procedure("M", 9999)))
     yield "one member of 9,999 lines, built and run", one + ["BUILD", "RUN"]
@@ -114,6 +131,8 @@ def sessions():
     yield "a unit of 60,000 names and 39,000 uses, built ten times", list(member("M", unit("M", names(60000, 39000)))) + ["BUILD"] * 10
     yield "a structure of 25,000 members and 12,000 uses, built ten times", list(member("M", unit("M", structure(25000, 12000)))) + ["BUILD"] * 10
     printing = ["M: PROC OPTIONS(MAIN);", "DCL X FIXED BIN(31);"] + ["PUT LIST(X, X, X, X, X, X, X, X, X, X);"] * 1500 + ["END;"]
+    yield "12,000 statements of arithmetic, strings and subscripts, 17 times", list(member("M", unit("M", straight(12000)))) + ["BUILD"] + ["RUN"] * 17
+    yield "an array of 9,000 elements filled and printed, ten times", list(member("M", unit("M", filled(9000)))) + ["BUILD"] + ["RUN"] * 10
     yield "15,000 items printed, ten times", list(member("M", printing)) + ["BUILD"] + ["RUN"] * 10
 
 
