@@ -4,8 +4,8 @@ ghost use Rattle.pli_meaning.specs.Members.{MembersSimulate, MembersGrow, OneMea
 ghost use Rattle.pli_meaning.specs.examples.ScratchExamples.{FirstIsMade, RunsWithThree, RunsWithTwo, TypesAreTold};
 
 /// For members that have a module and every number of steps, the module's run gives the output, the ending and the next
-/// column that the source means. The source has a meaning, which no run ends in a fault of the machine and no bound of the
-/// definition cuts short; so it is of each unit that is typed and numbered well.
+/// column that the source means. The source has a meaning, which no run ends in a fault of the machine and no bound of
+/// the definition cuts short; so it is of each unit that is typed and numbered well.
 pub fn simulates()
     ensures members { MembersSimulate }
     ensures procedures { Simulation }

@@ -1,5 +1,5 @@
--- A worked example of the whole way: the members of a first session, the module that a build from scratch makes
--- of them, and what its runs give.
+-- A worked example of the whole way: the members of a first session, the module that a build from scratch
+-- makes of them, and what its runs give.
 use Rattle.std.specs.Prelude.{◌≡◌, None, pos, List, [], ◌∷◌, ◌++◌, replicate, codes}
 use Rattle.pli_base.specs.Name.{Name}
 use Rattle.pli_map.specs.Description.{FixedBinary}
