@@ -11,7 +11,7 @@ use Rattle.pli_type.specs.StatementTyping.{item, items, together, listed}
 use Rattle.pli_type_tree.specs.TypedTree.{TypedExpression, TypedStatement, TypedStatements, NoStatement, StatementThen}
 use Rattle.pli_type_tree.specs.declared.statement.TypedStatement as program
 use Rattle.pli_type_tree.specs.views.TypedView.{statement_view, statements_view}
-use Rattle.pli_type_statement.specs.Parts.{given, told, is_declare, listed_if}
+use Rattle.pli_type_statement.specs.Parts.{given, is_declare, listed_if}
 
 -- items
 

@@ -1,5 +1,5 @@
 -- One turn of the loops over items and over statements.
-use Rattle.std.proofs.Common.{◌≡◌, ◌++◌, ◌+◌, ◌<◌, ◌≤◌, ◌&&◌, ◌||◌, ℕ, zero, suc, Bool, true, false, [], ◌∷◌, List, Option, Some, None, Result, Ok, Err, map, drop, get_or, length, is_some, refl, ap, sym, ◌∙◌, append_assoc, arith}
+use Rattle.std.proofs.Common.{◌≡◌, ◌++◌, ◌+◌, ◌<◌, ◌≤◌, ◌&&◌, ℕ, zero, suc, Bool, true, false, [], ◌∷◌, List, Option, Some, None, Result, Ok, Err, map, drop, get_or, length, is_some, refl, ap, sym, ◌∙◌, append_assoc, arith}
 use Rattle.std.proofs.lemmas.List.{at_drop_more}
 use Rattle.std.specs.List.{list_any}
 use Rattle.pli_base.specs.declared.statement.Statement.{Statement}
@@ -8,7 +8,7 @@ use Rattle.pli_base.specs.declared.token.Fault.{Fault}
 use Rattle.pli_base.specs.views.StatementView as source
 use Rattle.pli_base.specs.views.SyntaxView as syntax
 use Rattle.pli_type.specs.Names.{Naming}
-use Rattle.pli_type.specs.StatementTyping.{item, items, together, listed, statement_typed, statements_typed}
+use Rattle.pli_type.specs.StatementTyping.{item, items, statement_typed, statements_typed}
 use Rattle.pli_type.specs.Unbuilt.{later_expression, later_statement, later_statements}
 use Rattle.pli_type_tree.specs.TypedTree.{TypedExpression, TypedStatement, TypedStatements, StatementThen, NoStatement}
 use Rattle.pli_type_tree.specs.declared.statement.TypedStatement as program

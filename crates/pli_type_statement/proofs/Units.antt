@@ -1,5 +1,5 @@
 -- The typed unit, by its parts.
-use Rattle.std.proofs.Common.{◌≡◌, ◌∷◌, [], ℕ, Bool, List, Option, Some, None, Result, Ok, Err, refl, ap, sym, ◌∙◌}
+use Rattle.std.proofs.Common.{◌≡◌, ◌∷◌, [], ℕ, Bool, List, Option, Some, None, Result, Ok, Err, ap, sym, ◌∙◌}
 use Rattle.pli_base.specs.Name.{Name}
 use Rattle.pli_base.specs.declared.code.Code.TheVariants.{NotYetBuilt}
 use Rattle.pli_base.specs.declared.statement.Procedure.{Procedure, out-Procedure}

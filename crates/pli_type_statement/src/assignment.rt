@@ -19,7 +19,8 @@ use pli_type_names::Naming;
 use pli_type_tree::Form;
 use std::alloc::Global;
 
-/// An aggregate assigned to one of equal description: types, bounds and structure agree (X3.74). Anything else is T5 at `=`.
+/// An aggregate assigned to one of equal description: types, bounds and structure agree (X3.74). Anything else is T5 at
+/// `=`.
 fn aggregate_assigned(
     equals: u32,
     target: Referent<'_>,
@@ -88,8 +89,8 @@ fn assigned<'a>(
     }
 }
 
-/// An assignment, or its first fault: the target's, the expression's, and then that at `=` (own). The statement begins at
-/// the token `at`.
+/// An assignment, or its first fault: the target's, the expression's, and then that at `=` (own). The statement begins
+/// at the token `at`.
 pub(crate) fn assignment(
     alloc: Global,
     naming: &Naming<'_>,

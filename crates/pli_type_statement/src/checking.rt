@@ -107,8 +107,8 @@ fn built(
     }
 }
 
-/// The typed tree of a resolved unit, or its faults of types. A unit with a form that is not compiled yet has Z1 in their
-/// place (own).
+/// The typed tree of a resolved unit, or its faults of types. A unit with a form that is not compiled yet has Z1 in
+/// their place (own).
 pub fn check(alloc: Global, unit: &ResolvedUnit<'_>) -> Result<TypedUnit, CheckError>
     ensures { Checks result (checked_unit (resolved_unit_of (unit_view unit.now))) }
 {

@@ -241,8 +241,8 @@ fn keep(
     Ok(true)
 }
 
-/// Statements, without the DECLAREs, if none has a fault. All faults are put behind the others, in the order of the text.
-/// It calls itself as deep as IF statements nest.
+/// Statements, without the DECLAREs, if none has a fault. All faults are put behind the others, in the order of the
+/// text. It calls itself as deep as IF statements nest.
 pub(crate) fn type_statements(
     alloc: Global,
     naming: &Naming<'_>,

@@ -1,4 +1,4 @@
-use Rattle.std.proofs.Common.{◌≡◌, ◌++◌, Ok, Err, Vec, Global, option_map, ap, sym, ◌∙◌}
+use Rattle.std.proofs.Common.{◌++◌, Ok, Err, Vec, Global, option_map, ap, sym, ◌∙◌}
 use Rattle.pli_base.specs.declared.statement.Procedure.{out-Procedure}
 use Rattle.pli_base.specs.views.StatementView.{statements_view}
 use Rattle.pli_type.specs.StatementTyping.{statements_typed}

@@ -1,4 +1,4 @@
-use Rattle.std.proofs.Common.{◌≡◌, ap, sym, ◌∙◌}
+use Rattle.std.proofs.Common.{ap, sym, ◌∙◌}
 use Rattle.pli_base.specs.views.StatementView.{unit_view}
 use Rattle.pli_type.specs.Unbuilt.{first_unbuilt}
 use Rattle.pli_type_names.specs.UnitNaming.{naming_in}

@@ -1,4 +1,4 @@
-use Rattle.std.proofs.Common.{◌≡◌, ◌++◌, option_map, ap, sym, ◌∙◌}
+use Rattle.std.proofs.Common.{◌++◌, option_map, ap, sym, ◌∙◌}
 use Rattle.pli_base.specs.laws.StatementLaws as laws
 use Rattle.pli_base.specs.views.StatementView as source
 use Rattle.std.proofs.Common.{append-nil, arith}
@@ -11,8 +11,8 @@ use Rattle.pli_type.specs.Unbuilt.{later_body, later_alternative, later_statemen
 use Rattle.pli_type_statement.proofs.Built.{if_built, statement_built}
 use Rattle.pli_type_names.specs.UnitNaming.{naming_in}
 use Rattle.pli_type_tree.specs.TypedTree.{Statement, Else}
-use Rattle.pli_type_tree.specs.views.TypedView.{form_view, statement_view}
-use Rattle.pli_type_statement.specs.Parts.{given, told, main_in}
+use Rattle.pli_type_tree.specs.views.TypedView.{form_view}
+use Rattle.pli_type_statement.specs.Parts.{told, main_in}
 use Rattle.pli_type_statement.proofs.Noted.{given_made, told_made, if_faults, of_any}
 use Rattle.pli_type_statement.proofs.statement.+typed.Goals as goal
 
