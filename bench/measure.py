@@ -131,8 +131,8 @@ def sessions():
     yield "a unit of 60,000 names and 39,000 uses, built ten times", list(member("M", unit("M", names(60000, 39000)))) + ["BUILD"] * 10
     yield "a structure of 25,000 members and 12,000 uses, built ten times", list(member("M", unit("M", structure(25000, 12000)))) + ["BUILD"] * 10
     printing = ["M: PROC OPTIONS(MAIN);", "DCL X FIXED BIN(31);"] + ["PUT LIST(X, X, X, X, X, X, X, X, X, X);"] * 1500 + ["END;"]
-    yield "12,000 statements of arithmetic, strings and subscripts, 17 times", list(member("M", unit("M", straight(12000)))) + ["BUILD"] + ["RUN"] * 17
-    yield "an array of 9,000 elements filled and printed, ten times", list(member("M", unit("M", filled(9000)))) + ["BUILD"] + ["RUN"] * 10
+    yield "3,000 statements of arithmetic, strings and subscripts, 67 times", list(member("M", unit("M", straight(3000)))) + ["BUILD"] + ["RUN"] * 67
+    yield "an array of 2,500 elements filled and printed, ten times", list(member("M", unit("M", filled(2500)))) + ["BUILD"] + ["RUN"] * 10
     yield "15,000 items printed, ten times", list(member("M", printing)) + ["BUILD"] + ["RUN"] * 10
 
 
