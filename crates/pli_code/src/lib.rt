@@ -1,10 +1,8 @@
-//! The instructions of the machine, the modules that are made of them, and how a run ends.
+//! How a run ends, and how items are printed.
 #![tactic(auto)]
 
 mod ending;
 mod examples;
-mod instruction;
 
 pub use ending::{Ending, Ran, RunError};
 pub use examples::worked_examples;
-pub use instruction::{Code, Description, Instruction, Module};

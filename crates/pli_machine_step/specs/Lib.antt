@@ -3,4 +3,3 @@ pub mod Program
 pub mod Runs
 pub mod examples
 pub mod laws
-pub mod views

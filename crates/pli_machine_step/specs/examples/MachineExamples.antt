@@ -5,8 +5,6 @@ use Rattle.pli_code.specs.declared.ending.Ending.{Ending}
 use Rattle.pli_code.specs.declared.ending.Ending.TheVariants.{Ended, OutOfSteps, Error, MachineFault}
 use Rattle.pli_code.specs.declared.ending.RunError.TheVariants.{TooManyActivations, SubscriptRange}
 use Rattle.pli_code.specs.declared.ending.RunError.TheVariants.{StringRange}
-use Rattle.pli_code.specs.declared.instruction.Instruction.TheVariants as today
-use Rattle.pli_code.specs.views.ModuleView.{Module}
 use Rattle.pli_map.specs.Description.{FixedBinary, Array}
 use Rattle.pli_operation.specs.Operations.{Operation, ToCharacters, Add, Compare, AtMost, Less, Substring}
 use Rattle.pli_value.specs.Value.{Value, Number, Characters, Bits}
@@ -17,8 +15,7 @@ use Rattle.pli_machine_step.specs.Program.{Return, ReturnValue, Local, Global, F
 use Rattle.pli_machine_step.specs.Program.{Load, Store, Operate, Put, Skip}
 use Rattle.pli_machine_step.specs.Program.{BlockKind, Procedure, BeginBlock, Block, Program}
 use Rattle.pli_machine_step.specs.Machine.{State, At, Over, iterate}
-use Rattle.pli_machine_step.specs.Runs.{Outcome, outcome_of, start}
-use Rattle.pli_machine_step.specs.views.ModuleProgram.{RunsTo}
+use Rattle.pli_machine_step.specs.Runs.{Outcome, outcome_of, start, ProgramRunsTo}
 
 -- what is printed, how it ends, and the next column
 abbrev pub gives : List ℕ → Ending → ℕ → Outcome
@@ -31,20 +28,6 @@ outcome_at (Over ending w) = Some (outcome_of ending w)
 
 abbrev pub after : Program → (steps instructions : ℕ) → Option Outcome
 after p steps instructions = outcome_at (iterate p instructions (start p steps))
-
--- the smallest module
-abbrev pub smallest : Module
-smallest = record {
-  unit = codes "M";
-  code = record { slots = 0; descriptions = []; values = []; instructions = today.Return 0 ∷ [] };
-}
-
--- its one step is the activation of its procedure
-abbrev pub SmallestStops : Type 0
-SmallestStops = RunsTo smallest 0 (gives [] OutOfSteps 1)
-
-abbrev pub SmallestEnds : Type 0
-SmallestEnds = RunsTo smallest 1 (gives [] Ended 1)
 
 -- programs of one unit, whose block 0 is its procedure
 
@@ -71,6 +54,17 @@ program inner instructions = record {
   main = 0;
   greatest = 31;
 }
+
+-- the smallest program
+abbrev pub smallest : Program
+smallest = program [] (Return 0 ∷ [])
+
+-- its one step is the activation of its procedure
+abbrev pub SmallestStops : Type 0
+SmallestStops = ProgramRunsTo smallest 0 (gives [] OutOfSteps 1)
+
+abbrev pub SmallestEnds : Type 0
+SmallestEnds = ProgramRunsTo smallest 1 (gives [] Ended 1)
 
 -- constants
 abbrev pub text : List ℕ → Instruction
