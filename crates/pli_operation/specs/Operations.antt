@@ -21,7 +21,8 @@ pub data Relation : Type 0 where
 
 -- with one operand: prefix `-`, ABS, SIGN, `^`, LENGTH; bits as characters; a number as characters of so many
 -- columns; a value fitted to a description. With two: `+`, `-`, `*`, DIVIDE to so many binary digits, MOD,
--- MAX, MIN, a comparison, `||`, `&`, `|`, INDEX, and SUBSTR without a length. With three: SUBSTR.
+-- MAX, MIN, a comparison, `||`, `&`, `|`, INDEX, and SUBSTR without a length. With three: SUBSTR; and whether
+-- a control variable has not passed its limit, with the step.
 pub data Operation : Type 0 where
   Negate Absolute Sign Not LengthOf FromBits : Operation
   ToCharacters : (width : ℕ) → Operation
@@ -29,7 +30,7 @@ pub data Operation : Type 0 where
   Add Subtract Multiply Modulo Greatest Least : Operation
   Divide : (precision : ℕ) → Operation
   Compare : (relation : Relation) → Operation
-  Concatenate And Or Index Rest Substring : Operation
+  Concatenate And Or Index Rest Substring Within : Operation
 
 -- how many operands it has
 abbrev pub operands_of : Operation → ℕ
@@ -55,6 +56,7 @@ operands_of Or = 2
 operands_of Index = 2
 operands_of Rest = 2
 operands_of Substring = 3
+operands_of Within = 3
 
 -- what an operation comes to: a value; a condition; a string over the limit, or a part that a string has not;
 -- or nothing, where operands are not of its kinds
@@ -105,6 +107,10 @@ greatest_of x y = if int_le x y then y else x
 
 abbrev pub least_of : ℤ → ℤ → ℤ
 least_of x y = if int_le x y then x else y
+
+-- a number has not passed a limit: it is at most the limit where the step is not negative, else at least
+abbrev pub is_within_limit : (x limit step : ℤ) → Bool
+is_within_limit x limit step = if int_le (pos 0) step then int_le x limit else int_le limit x
 
 -- a number at the right of so many columns, where they hold it
 abbrev pub in_columns : (width : ℕ) → ℤ → Calculation
@@ -162,6 +168,7 @@ calculated_with n operation v w = Misfits
 abbrev pub calculated_by : Operation → (first second third : Value) → Calculation
 calculated_by Substring (Characters s) (Number i) (Number k) = as_characters (substring s i k)
 calculated_by Substring (Bits s) (Number i) (Number k) = as_bits (substring s i k)
+calculated_by Within (Number x) (Number limit) (Number step) = as_bit (is_within_limit x limit step)
 calculated_by operation u v w = Misfits
 
 -- an operation on its operands, from left to right

@@ -56,6 +56,9 @@ pub enum Operation {
     Rest,
     /// SUBSTR with a length.
     Substring,
+    /// Whether a control variable has not passed its limit: the variable, the limit and the step. A step of 0 counts as
+    /// a positive one.
+    Within,
 }
 
 impl Operation {
@@ -88,6 +91,7 @@ impl Operation {
             Operation::Index => Operation::Index,
             Operation::Rest => Operation::Rest,
             Operation::Substring => Operation::Substring,
+            Operation::Within => Operation::Within,
         })
     }
 }

@@ -49,13 +49,24 @@ mutual
     ByPlace : (variable : TypedReference) (more : TypedArguments) → TypedArguments
     ByDummy : (description : Description) (value : TypedExpression) (more : TypedArguments) → TypedArguments
 
--- what limits or continues an iteration, with the types of the control variable; TO and BY in the order of
--- the text
+-- what limits or continues an iteration: TO and BY in the order of the text, which are not converted; or
+-- REPEAT, which stands converted to the control variable
 pub data TypedRange : Type 0 where
   Once : TypedRange
   ToBy : (to : TypedExpression) (by : Option TypedExpression) → TypedRange
   ByTo : (by : TypedExpression) (to : Option TypedExpression) → TypedRange
   Repeated : (next : TypedExpression) → TypedRange
+
+-- `DO v = a ..`: the control variable, and the operations that convert a value to it in turn; a, which is not
+-- converted; TO, BY or REPEAT; WHILE; and the first of the temporaries that keep a and then TO and BY in the
+-- order of the text, or TO and 1
+pub record Iteration : Type 0 where
+  pub control : TypedReference
+  pub conversion : List Operation
+  pub start : TypedExpression
+  pub range : TypedRange
+  pub condition : Option TypedExpression
+  pub temporary : ℕ
 
 -- an activation of a block begins with these variables; its temporaries are numbered
 pub record BlockHead : Type 0 where
@@ -80,6 +91,7 @@ mutual
     Begin : (head : BlockHead) (statements : TypedStatements) → Form
     Group : (statements : TypedStatements) → Form
     While : (condition : TypedExpression) (statements : TypedStatements) → Form
+    Iterate : (iteration : Iteration) (statements : TypedStatements) → Form
     Call : (block : ℕ) (arguments : TypedArguments) → Form
     Goto : (outward label : ℕ) → Form
     Return : (outward : ℕ) → Form

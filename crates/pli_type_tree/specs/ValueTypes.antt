@@ -7,7 +7,7 @@ use Rattle.pli_operation.specs.Operations.{Operation, Negate, Absolute, Sign, No
 use Rattle.pli_operation.specs.Operations.{ToCharacters}
 use Rattle.pli_operation.specs.Operations.{Fit, Add, Subtract, Multiply, Modulo, Greatest, Least, Divide}
 use Rattle.pli_operation.specs.Operations.{Compare}
-use Rattle.pli_operation.specs.Operations.{Concatenate, And, Or, Index, Rest, Substring}
+use Rattle.pli_operation.specs.Operations.{Concatenate, And, Or, Index, Rest, Substring, Within}
 use Rattle.pli_value.specs.Value.{Value, Number, Characters, Bits}
 
 -- what a string is made of
@@ -69,12 +69,15 @@ length_precision = 15
 abbrev pub HaveColumns : (width digits : ℕ) → Type 0
 HaveColumns width p = (p ≤ 31) × (n : ℕ) × (width ≡ suc n) × (2 ^ p ≤ 10 ^ n)
 
--- the operands are one number, two numbers, one string, or two strings of one kind
+-- the operands are one number, two numbers, three numbers, one string, or two strings of one kind
 abbrev pub OnNumber : List ValueType → (ℕ → Type 0) → Type 0
 OnNumber ts Of = (p : ℕ) × (ts ≡ Numbers p ∷ []) × Of p
 
 abbrev pub OnNumbers : List ValueType → (ℕ → ℕ → Type 0) → Type 0
 OnNumbers ts Of = (p : ℕ) × (q : ℕ) × (ts ≡ Numbers p ∷ Numbers q ∷ []) × Of p q
+
+abbrev pub OnThreeNumbers : List ValueType → Type 0
+OnThreeNumbers ts = (p : ℕ) × (q : ℕ) × (r : ℕ) × (ts ≡ Numbers p ∷ Numbers q ∷ Numbers r ∷ [])
 
 abbrev pub OnString : List ValueType → (StringKind → ℕ → ℕ → Type 0) → Type 0
 OnString ts Of = (k : StringKind) × (a : ℕ) × (b : ℕ) × (ts ≡ Strings k a b ∷ []) × Of k a b
@@ -115,3 +118,4 @@ Operates n Rest ts t =
 Operates n Substring ts t =
     (k : StringKind) × (a : ℕ) × (b : ℕ) × (p : ℕ) × (q : ℕ)
     × (ts ≡ Strings k a b ∷ Numbers p ∷ Numbers q ∷ []) × (t ≡ Strings k 0 b)
+Operates n Within ts t = OnThreeNumbers ts × (t ≡ Strings OfBits 1 1)

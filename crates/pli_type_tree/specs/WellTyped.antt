@@ -11,6 +11,7 @@ use Rattle.pli_map.specs.Description.{Description, Array, Structure, Members, No
 use Rattle.pli_map.specs.Scalars.{first_scalar}
 use Rattle.pli_map.specs.Sizes.{count_of}
 use Rattle.pli_map.specs.Values.{holds}
+use Rattle.pli_operation.specs.Operations.{Operation}
 use Rattle.pli_store.specs.World.{Variable}
 use Rattle.pli_value.specs.Value.{Value}
 use Rattle.pli_type_tree.specs.Templates.{variable_of}
@@ -20,7 +21,8 @@ use Rattle.pli_type_tree.specs.TypedTree.{OperandThen}
 use Rattle.pli_type_tree.specs.TypedTree.{Subscripts, NoSubscript, SubscriptThen, TypedArguments, NoArgument}
 use Rattle.pli_type_tree.specs.TypedTree.{ByPlace, ByDummy, BlockHead, TypedStatement, Statement, Form}
 use Rattle.pli_type_tree.specs.TypedTree.{Null, Assign}
-use Rattle.pli_type_tree.specs.TypedTree.{AssignAggregate, Put, If, Begin, Group, While, Call, Goto, Return}
+use Rattle.pli_type_tree.specs.TypedTree.{AssignAggregate, Put, If, Begin, Group, While, Iterate, TypedRange, Once}
+use Rattle.pli_type_tree.specs.TypedTree.{ToBy, ByTo, Repeated, Iteration, Call, Goto, Return}
 use Rattle.pli_type_tree.specs.TypedTree.{ReturnValue, Stop, OtherWise, NoElse, Else, TypedStatements}
 use Rattle.pli_type_tree.specs.TypedTree.{NoStatement}
 use Rattle.pli_type_tree.specs.TypedTree.{StatementThen}
@@ -165,6 +167,46 @@ abbrev pub AreItems : (greatest : ℕ) → TypingContext → List TypedExpressio
 AreItems n s [] = Unit {0}
 AreItems n s (e ∷ es) = ((kind : StringKind) × IsString n s kind e) × AreItems n s es
 
+-- groups with a control variable
+
+-- one operation after another takes values of a type to values that a variable of the description holds
+abbrev pub Convert : (greatest : ℕ) → List Operation → ValueType → Description → Type 0
+Convert n [] t d = IsHeldBy d t
+Convert n (operation ∷ more) t d =
+    (u : ValueType) × Operates n operation (t ∷ []) u × Convert n more u d
+
+abbrev pub IsNumber : (greatest : ℕ) → TypingContext → TypedExpression → Type 0
+IsNumber n s e = (p : ℕ) × IsTyped n s e (Numbers p)
+
+abbrev pub IsPossibleNumber : (greatest : ℕ) → TypingContext → Option TypedExpression → Type 0
+IsPossibleNumber n s None = Unit {0}
+IsPossibleNumber n s (Some e) = IsNumber n s e
+
+-- a variable of the description counts: it is a number, and each number is converted to it
+abbrev pub Counts : (greatest : ℕ) → List Operation → Description → Type 0
+Counts n conversion d =
+    ((q : ℕ) × (type_held d ≡ Some (Numbers q))) × ((p : ℕ) → Convert n conversion (Numbers p) d)
+
+-- with TO or BY the control variable counts, and these are numbers; REPEAT gives values that it holds
+abbrev pub IsRange : (greatest : ℕ) → TypingContext → List Operation → Description → TypedRange → Type 0
+IsRange n s conversion d Once = Unit {0}
+IsRange n s conversion d (ToBy to by) =
+    Counts n conversion d × IsNumber n s to × IsPossibleNumber n s by
+IsRange n s conversion d (ByTo by to) =
+    Counts n conversion d × IsNumber n s by × IsPossibleNumber n s to
+IsRange n s conversion d (Repeated next) = IsValueFor n s d next
+
+abbrev pub IsPossibleCondition : (greatest : ℕ) → TypingContext → Option TypedExpression → Type 0
+IsPossibleCondition n s None = Unit {0}
+IsPossibleCondition n s (Some e) = IsString n s OfBits e
+
+-- the control variable is a scalar, to which the start's values are converted
+abbrev pub IsIteration : (greatest : ℕ) → TypingContext → Iteration → Type 0
+IsIteration n s i =
+    (d : Description) × IsPlaced n s i.control d
+    × ((t : ValueType) × IsTyped n s i.start t × Convert n i.conversion t d)
+    × IsRange n s i.conversion d i.range × IsPossibleCondition n s i.condition
+
 -- statements
 
 -- the labels of a list are the numbers of its statements
@@ -214,6 +256,8 @@ abbrev mutual
   IsTypedForm n s (Group statements) = AreTypedStatements n (in_group statements s) statements
   IsTypedForm n s (While condition statements) =
       IsString n s OfBits condition × AreTypedStatements n (in_group statements s) statements
+  IsTypedForm n s (Iterate iteration statements) =
+      IsIteration n s iteration × AreTypedStatements n (in_group statements s) statements
   IsTypedForm n s (Call block arguments) =
       (p : Signature) × (s.procedures block ≡ Some p) × IsReached p.parent s.blocks p.around
       × ArePassed n s arguments p.parameters × (p.value ≡ None)

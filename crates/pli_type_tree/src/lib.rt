@@ -2,6 +2,7 @@
 #![tactic(auto)]
 
 mod expression;
+mod iteration;
 mod statement;
 mod template;
 mod unit;
@@ -9,6 +10,7 @@ mod unit;
 pub use expression::{
     Root, Stride, TypedArgument, TypedExpression, TypedReference, TypedSubscript,
 };
+pub use iteration::{Iteration, TypedRange};
 pub use statement::{BlockHead, Form, TypedStatement};
 pub use template::{InitialScalar, Template, VariableGroup};
 pub use unit::{TypedProcedure, TypedUnit};

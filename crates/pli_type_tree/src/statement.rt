@@ -1,6 +1,7 @@
 //! Typed statements. Statements of a unit are numbered from 1 in the order in which they begin, its blocks from 0 in
 //! the order of the text (own).
 use crate::expression::{TypedArgument, TypedExpression, TypedReference};
+use crate::iteration::Iteration;
 use crate::template::VariableGroup;
 
 /// What an activation of a block begins with.
@@ -56,6 +57,10 @@ pub enum Form {
     Group(Vec<TypedStatement>),
     While {
         condition: TypedExpression,
+        statements: Vec<TypedStatement>,
+    },
+    Iterate {
+        iteration: Box<Iteration>,
         statements: Vec<TypedStatement>,
     },
     /// A call of the procedure whose block has this number.

@@ -37,3 +37,4 @@ operation_view code.Or = plain.Or
 operation_view code.Index = plain.Index
 operation_view code.Rest = plain.Rest
 operation_view code.Substring = plain.Substring
+operation_view code.Within = plain.Within

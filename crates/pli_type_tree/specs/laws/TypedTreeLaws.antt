@@ -8,16 +8,18 @@ use Rattle.pli_type_tree.specs.TypedTree as plain
 use Rattle.pli_type_tree.specs.views.TypedView.{root_view, stride_view, expression_view, reference_view}
 use Rattle.pli_type_tree.specs.views.TypedView.{operand_row, subscript_row, argument_row, argument_before}
 use Rattle.pli_type_tree.specs.views.TypedView.{operands_view, subscripts_view, arguments_view, head_view}
-use Rattle.pli_type_tree.specs.views.TypedView.{form_view, statement_row, statement_view, statements_view}
+use Rattle.pli_type_tree.specs.views.TypedView.{iteration_view, form_view, statement_row}
+use Rattle.pli_type_tree.specs.views.TypedView.{statement_view, statements_view}
 use Rattle.pli_type_tree.specs.declared.expression.Root.{Root}
 use Rattle.pli_type_tree.specs.declared.expression.TypedExpression.{TypedExpression, Calculated, Called}
 use Rattle.pli_type_tree.specs.declared.expression.TypedReference.{Part}
 use Rattle.pli_type_tree.specs.declared.expression.TypedSubscript.{TypedSubscript}
 use Rattle.pli_type_tree.specs.declared.expression.TypedArgument.{TypedArgument}
 use Rattle.pli_type_tree.specs.declared.expression.TypedArgument.TheBlock as block
+use Rattle.pli_type_tree.specs.declared.iteration.Iteration.{Iteration}
 use Rattle.pli_type_tree.specs.declared.statement.BlockHead.{BlockHead}
 use Rattle.pli_type_tree.specs.declared.statement.TypedStatement.{TypedStatement}
-use Rattle.pli_type_tree.specs.declared.statement.Form.{Begin, Group, While, If}
+use Rattle.pli_type_tree.specs.declared.statement.Form.{Begin, Group, While, Iterate, If}
 use Rattle.pli_type_tree.specs.declared.statement.Form.TheBlock as form_block
 
 operands_row : (n : _) (k : block.Row_of-TypedExpression n) → operand_row k
@@ -77,7 +79,7 @@ list_made statements =
     statements_row _ (form_block.hidden-the_row-TypedStatement-0 statements)
     ∙ ap statements_view (form_block.items_hidden-the_row-TypedStatement-0 statements)
 
--- a BEGIN block, a group and a loop
+-- a BEGIN block, a group, and a loop of each kind
 pub begin_made : (head : BlockHead) (statements : Vec TypedStatement Global)
     → form_view (Begin head statements) ≡ plain.Begin (head_view head) (statements_view statements.items)
 begin_made head statements = ap (plain.Begin (head_view head)) (list_made statements)
@@ -90,6 +92,12 @@ pub while_made : (condition : TypedExpression) (statements : Vec TypedStatement 
     → form_view (While condition statements)
     ≡ plain.While (expression_view condition) (statements_view statements.items)
 while_made condition statements = ap (plain.While (expression_view condition)) (list_made statements)
+
+pub iterate_made : (iteration : Box Iteration Global) (statements : Vec TypedStatement Global)
+    → form_view (Iterate iteration statements)
+    ≡ plain.Iterate (iteration_view iteration.value) (statements_view statements.items)
+iterate_made iteration statements =
+    ap (plain.Iterate (iteration_view iteration.value)) (list_made statements)
 
 -- what stands behind ELSE, if it is there
 abbrev pub boxed_view : Option (Box TypedStatement Global) → plain.OtherWise

@@ -1,5 +1,5 @@
 -- What a typed tree says, apart from where it lies in memory.
-use Rattle.std.specs.Prelude.{List, [], ◌∷◌, map}
+use Rattle.std.specs.Prelude.{List, [], ◌∷◌, option_map, map}
 use Rattle.pli_map.specs.views.DescriptionView.{description_view}
 use Rattle.pli_operation.specs.views.OperationView.{operation_view}
 use Rattle.pli_value.specs.Value.{value_view}
@@ -22,10 +22,14 @@ use Rattle.pli_type_tree.specs.declared.expression.TypedArgument.TheBlock.{more_
 use Rattle.pli_type_tree.specs.declared.expression.TypedSubscript.{TypedSubscript}
 use Rattle.pli_type_tree.specs.declared.expression.TypedReference.{TypedReference, Whole, Part'}
 use Rattle.pli_type_tree.specs.declared.expression.TypedArgument.{TypedArgument, ByPlace, ByDummy}
+use Rattle.pli_type_tree.specs.declared.iteration.Iteration.{Iteration}
+use Rattle.pli_type_tree.specs.declared.iteration.TypedRange.{TypedRange}
+use Rattle.pli_type_tree.specs.declared.iteration.TypedRange.TheVariants as ranges
 use Rattle.pli_type_tree.specs.declared.statement.BlockHead.{BlockHead}
 use Rattle.pli_type_tree.specs.declared.statement.TypedStatement.{TypedStatement}
 use Rattle.pli_type_tree.specs.declared.statement.Form.{Form, Null, Assign, AssignAggregate, Put, If', Begin'}
-use Rattle.pli_type_tree.specs.declared.statement.Form.{Group', While', Call, Goto, Return, ReturnValue, Stop}
+use Rattle.pli_type_tree.specs.declared.statement.Form.{Group', While', Iterate', Call, Goto, Return}
+use Rattle.pli_type_tree.specs.declared.statement.Form.{ReturnValue, Stop}
 use Rattle.pli_type_tree.specs.declared.statement.Form.{Held-Form-If-2, None', Some', Row_of-TypedStatement}
 use Rattle.pli_type_tree.specs.declared.statement.Form.{end_of-TypedStatement, more_of-TypedStatement}
 use Rattle.pli_type_tree.specs.declared.unit.TypedProcedure.{TypedProcedure}
@@ -92,6 +96,23 @@ head_view h =
       temporaries = h.temporaries;
     }
 
+abbrev pub range_view : TypedRange → plain.TypedRange
+range_view ranges.Once = plain.Once
+range_view (ranges.ToBy to by) = plain.ToBy (expression_view to) (option_map expression_view by)
+range_view (ranges.ByTo by to) = plain.ByTo (expression_view by) (option_map expression_view to)
+range_view (ranges.Repeated next) = plain.Repeated (expression_view next)
+
+abbrev pub iteration_view : Iteration → plain.Iteration
+iteration_view i =
+    record {
+      control = reference_view i.control;
+      conversion = map operation_view i.conversion.items;
+      start = expression_view i.start;
+      range = range_view i.range;
+      condition = option_map expression_view i.condition;
+      temporary = i.temporary;
+    }
+
 abbrev mutual
   pub form_view : Form → plain.Form
   form_view Null = plain.Null
@@ -105,6 +126,8 @@ abbrev mutual
   form_view (Group' shape statements) = plain.Group (statement_row statements)
   form_view (While' condition shape statements) =
       plain.While (expression_view condition) (statement_row statements)
+  form_view (Iterate' iteration shape statements) =
+      plain.Iterate (iteration_view iteration.value) (statement_row statements)
   form_view (Call block arguments) = plain.Call block (arguments_view arguments.items)
   form_view (Goto outward label) = plain.Goto outward label
   form_view (Return outward) = plain.Return outward
