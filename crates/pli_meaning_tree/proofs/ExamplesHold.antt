@@ -64,3 +64,31 @@ goto_group_begins_anew = refl
 pub return_leaves_block : example.ReturnLeavesBlock
 unfolding calculated nothing made_of parts_held parts_stored held stored copied entered left_by cleared at_statement stepped height_of slot_place static_place dummy_of printed line_ended error_at digits
 return_leaves_block = refl
+
+pub turns_are_steps : example.TurnsAreSteps
+unfolding calculated nothing made_of parts_held parts_stored held stored copied entered left_by cleared at_statement stepped height_of slot_place static_place dummy_of printed line_ended error_at digits
+turns_are_steps = (refl, refl)
+
+pub no_turn_and_one : example.NoTurnAndOne
+unfolding calculated nothing made_of parts_held parts_stored held stored copied entered left_by cleared at_statement stepped height_of slot_place static_place dummy_of printed line_ended error_at digits
+no_turn_and_one = (refl, refl)
+
+pub start_must_fit : example.StartMustFit
+unfolding calculated nothing made_of parts_held parts_stored held stored copied entered left_by cleared at_statement stepped height_of slot_place static_place dummy_of printed line_ended error_at digits
+start_must_fit = refl
+
+pub step_may_be_negative : example.StepMayBeNegative
+unfolding calculated nothing made_of parts_held parts_stored held stored copied entered left_by cleared at_statement stepped height_of slot_place static_place dummy_of printed line_ended error_at digits
+step_may_be_negative = refl
+
+pub step_overflows : example.StepOverflows
+unfolding calculated nothing made_of parts_held parts_stored held stored copied entered left_by cleared at_statement stepped height_of slot_place static_place dummy_of printed line_ended error_at digits
+step_overflows = refl
+
+pub variable_is_looked_at_anew : example.VariableIsLookedAtAnew
+unfolding calculated nothing made_of parts_held parts_stored held stored copied entered left_by cleared at_statement stepped height_of slot_place static_place dummy_of printed line_ended error_at digits
+variable_is_looked_at_anew = refl
+
+pub repeat_goes_on : example.RepeatGoesOn
+unfolding calculated nothing made_of parts_held parts_stored held stored copied entered left_by cleared at_statement stepped height_of slot_place static_place dummy_of printed line_ended error_at digits
+repeat_goes_on = refl

@@ -1,15 +1,15 @@
 -- Meaning: what a program of typed units does, by recursion on its trees (own). No instruction is mentioned.
-use Rattle.std.specs.Prelude.{ℕ, ℤ, zero, suc, nat_eq, Bool, true, false, ◌||◌, ◌&&◌, Option, Some, None}
-use Rattle.std.specs.Prelude.{List, [], ◌∷◌, length, map, slice_get, if◌then◌else◌}
+use Rattle.std.specs.Prelude.{ℕ, ℤ, pos, zero, suc, nat_eq, Bool, true, false, ◌||◌, ◌&&◌, Option, Some, None}
+use Rattle.std.specs.Prelude.{List, [], ◌∷◌, ◌++◌, length, map, slice_get, if◌then◌else◌}
 use Rattle.pli_base.specs.Name.{Name}
 use Rattle.pli_code.specs.declared.ending.Ending.{Ending}
 use Rattle.pli_code.specs.declared.ending.Ending.TheVariants.{Ended, OutOfSteps, Error, MachineFault}
 use Rattle.pli_machine_step.specs.Runs.{Outcome, outcome_of, is_external}
-use Rattle.pli_operation.specs.Operations.{Operation, calculated}
+use Rattle.pli_operation.specs.Operations.{Operation, Add, Within, calculated}
 use Rattle.pli_store.specs.Activations.{nearest_of}
 use Rattle.pli_store.specs.Storage.{Place, field_of}
-use Rattle.pli_store.specs.World.{World, Answer, Yields, further, nothing, height, held, stored, copied}
-use Rattle.pli_store.specs.World.{subscripted, calculation, Head, entered, height_of, slot_place}
+use Rattle.pli_store.specs.World.{World, Answer, Yields, known, further, nothing, height, held, stored}
+use Rattle.pli_store.specs.World.{copied, subscripted, calculation, Head, entered, height_of, slot_place}
 use Rattle.pli_store.specs.World.{static_place, dummy_of, printed, line_ended, statics_made}
 use Rattle.pli_type_tree.specs.Templates.{variable_of}
 use Rattle.pli_type_tree.specs.TypedTree.{Root, InSlot, OfProgram, TypedExpression, Literal, Held, Calculated}
@@ -17,6 +17,7 @@ use Rattle.pli_type_tree.specs.TypedTree.{Called, TypedReference, Whole, Part, O
 use Rattle.pli_type_tree.specs.TypedTree.{OperandThen, Subscripts, NoSubscript, SubscriptThen, TypedArguments}
 use Rattle.pli_type_tree.specs.TypedTree.{NoArgument, ByPlace, ByDummy, BlockHead, TypedStatement, Statement}
 use Rattle.pli_type_tree.specs.TypedTree.{Form, Null, Assign, AssignAggregate, Put, If, Begin, Group, While}
+use Rattle.pli_type_tree.specs.TypedTree.{Iterate, TypedRange, Once, ToBy, ByTo, Repeated, Iteration}
 use Rattle.pli_type_tree.specs.TypedTree.{Call, Goto, Return, ReturnValue, Stop, OtherWise, NoElse, Else}
 use Rattle.pli_type_tree.specs.TypedTree.{TypedStatements, NoStatement, StatementThen, TypedProcedure}
 use Rattle.pli_type_tree.specs.TypedTree.{TypedUnit}
@@ -25,8 +26,7 @@ use Rattle.pli_value.specs.Value.{Value, Number, Characters, Bits}
 use Rattle.pli_meaning_tree.specs.Effects.{Effect, Gives, Jumps, Fails, Spent, Lost, Short, Flow, Next}
 use Rattle.pli_meaning_tree.specs.Effects.{Returned, Doing, and_then, nothing_done, followed, answered}
 use Rattle.pli_meaning_tree.specs.Effects.{as_step, as_statement, back_at, truth, chosen, turns, caught}
-use Rattle.pli_meaning_tree.specs.Effects.{unless_full}
-use Rattle.pli_meaning_tree.specs.Effects.{leaving, block_end, procedure_end}
+use Rattle.pli_meaning_tree.specs.Effects.{unless_full, leaving, block_end, procedure_end}
 
 -- a program: its units, and which of them is the main one; no number has more binary digits than the greatest
 -- precision
@@ -69,6 +69,36 @@ abbrev pub printed_item : Value → Doing Flow
 printed_item (Characters text) w left = Gives Next (printed text w) left
 printed_item (Bits bits) w left = Gives Next (printed (bit_constant bits) w) left
 printed_item v w left = Lost
+
+-- what an iteration keeps beside its start: TO and BY in the order of the text; the step is 1 where TO stands
+-- without BY
+abbrev pub kept_by : TypedRange → List TypedExpression
+kept_by Once = []
+kept_by (ToBy to None) = to ∷ Literal (Number (pos 1)) ∷ []
+kept_by (ToBy to (Some by)) = to ∷ by ∷ []
+kept_by (ByTo by None) = by ∷ []
+kept_by (ByTo by (Some to)) = by ∷ to ∷ []
+kept_by (Repeated next) = []
+
+-- the numbers of the limit, where there is one, and of the step among what is kept, the start being 0
+abbrev pub limit_number : TypedRange → Option ℕ
+limit_number Once = None
+limit_number (ToBy to by) = Some 1
+limit_number (ByTo by None) = None
+limit_number (ByTo by (Some to)) = Some 2
+limit_number (Repeated next) = None
+
+abbrev pub step_number : TypedRange → ℕ
+step_number Once = 0
+step_number (ToBy to by) = 2
+step_number (ByTo by to) = 1
+step_number (Repeated next) = 0
+
+abbrev pub is_iterated : TypedRange → Bool
+is_iterated Once = false
+is_iterated (ToBy to by) = true
+is_iterated (ByTo by to) = true
+is_iterated (Repeated next) = true
 
 -- expressions and references, with numbers of at most so many digits, where calls do so
 module _ (greatest : ℕ) (call : Calls) where
@@ -145,6 +175,83 @@ module _ (greatest : ℕ) (call : Calls) where
   -- a call, of what is no function
   abbrev pub does_call : (block : ℕ) → TypedArguments → Doing Flow
   does_call block arguments w left = and_then (called_with block arguments [] w left) no_value
+
+  -- an iteration's values are evaluated in turn, and kept as they are; those before
+  abbrev pub keeps : List TypedExpression → (before : List Value) → (List Value → Doing Flow) → Doing Flow
+  keeps [] before go w left = go before w left
+  keeps (e ∷ es) before go w left =
+      and_then (value_of e w left) (λ v w left. keeps es (before ++ v ∷ []) go w left)
+
+  -- the one of a number, from 0
+  abbrev pub kept : List Value → (number : ℕ) → Doing Value
+  kept vs number w left = answered (known (slice_get vs number) w) left
+
+  -- a value converted by one operation after another
+  abbrev pub converted : List Operation → Value → Doing Value
+  converted [] v w left = Gives v w left
+  converted (operation ∷ more) v w left =
+      and_then (answered (calculation (calculated greatest operation (v ∷ [])) w) left) (converted more)
+
+  -- the control variable's place, a value, its conversion, the store
+  abbrev pub sets : Iteration → Doing Value → Doing Flow
+  sets i value w left =
+      and_then (place_of i.control w left)
+      (λ p w left. and_then (value w left)
+      (λ v w left. and_then (converted i.conversion v w left)
+      (λ x w left. and_then (answered (stored p x w) left) (λ _ w left. Gives Next w left))))
+
+  -- the control variable and a step more
+  abbrev pub advanced : Iteration → (step : ℕ) → List Value → Doing Value
+  advanced i step vs w left =
+      and_then (place_of i.control w left)
+      (λ p w left. and_then (answered (held p w) left)
+      (λ x w left. and_then (kept vs step w left)
+      (λ c w left. answered (calculation (calculated greatest Add (x ∷ c ∷ [])) w) left)))
+
+  -- it has not passed the limit, where there is one
+  abbrev pub within_limit : Iteration → (limit : Option ℕ) → (step : ℕ) → List Value → Doing Bool
+  within_limit i None step vs w left = Gives true w left
+  within_limit i (Some limit) step vs w left =
+      and_then (place_of i.control w left)
+      (λ p w left. and_then (answered (held p w) left)
+      (λ x w left. and_then (kept vs limit w left)
+      (λ b w left. and_then (kept vs step w left)
+      (λ c w left. and_then (answered (calculation (calculated greatest Within (x ∷ b ∷ c ∷ [])) w) left)
+      truth))))
+
+  -- WHILE holds, where it stands
+  abbrev pub while_holds : Option TypedExpression → Doing Bool
+  while_holds None w left = Gives true w left
+  while_holds (Some e) w left = condition e w left
+
+  -- the test before a turn: the limit, then WHILE
+  abbrev pub may_turn : Iteration → List Value → Doing Bool
+  may_turn i vs w left =
+      and_then (within_limit i (limit_number i.range) (step_number i.range) vs w left)
+      (λ b w left. chosen b (while_holds i.condition) (λ w left. Gives false w left) w left)
+
+  -- what comes between two turns: the step, or REPEAT
+  abbrev pub advances : TypedRange → Iteration → List Value → Doing Flow
+  advances Once i vs w left = Gives Next w left
+  advances (ToBy to by) i vs w left = sets i (advanced i 2 vs) w left
+  advances (ByTo by to) i vs w left = sets i (advanced i 1 vs) w left
+  advances (Repeated next) i vs w left = assigns i.control next w left
+
+  -- without TO, BY and REPEAT there is one turn
+  abbrev pub turned : (iterated : Bool) (level : ℕ) → (test : Doing Bool) → (list between : Doing Flow)
+      → Doing Flow
+  turned true level test list between w left = turns level test list between w left
+  turned false level test list between w left =
+      and_then (test w left) (λ b w left. chosen b list nothing_done w left)
+
+  -- an iteration: a, TO and BY are evaluated; the variable gets a; and then its turns, whose list is a step;
+  -- what comes between two turns is at the group's statement
+  abbrev pub iterates : (level number : ℕ) → Iteration → Doing Flow → Doing Flow
+  iterates level number i list w left =
+      keeps (i.start ∷ kept_by i.range) []
+      (λ vs w left. followed (sets i (kept vs 0) w left)
+      (turned (is_iterated i.range) level (may_turn i vs) (as_statement number list)
+      (back_at number (advances i.range i vs)))) w left
 
   -- RETURN with a value
   abbrev pub returns_value : (outward : ℕ) → TypedExpression → Doing Flow
@@ -224,6 +331,9 @@ module _ (greatest : ℕ) (call : Calls) (unit : Name) (level : ℕ) where
     does_form block number (While e statements) w left =
         turns level (back_at number (condition greatest call e))
         (as_statement number (as_list level statements (does_from block statements))) nothing_done w left
+    does_form block number (Iterate iteration statements) w left =
+        iterates greatest call level number iteration
+        (as_list level statements (does_from block statements)) w left
     does_form block number (Call called arguments) w left = does_call greatest call called arguments w left
     does_form block number (Goto outward label) w left = jumps_to outward label w left
     does_form block number (Return outward) w left = Gives (Returned outward None) w left

@@ -1,8 +1,9 @@
 //! Worked examples of the meaning.
-ghost use Rattle.pli_meaning_tree.specs.examples.TreeExamples.{LoopEnds, LoopStops, IfChooses, SubscriptIsTested, AggregateIsCopied, BitsArePrinted, ItemBeforeIsWritten, FunctionCallsItself, FunctionStops, ByReferenceChanges, NoValueIsReturned, GotoLeavesBlock, GotoLeavesCall, GotoGroupBeginsAnew, ReturnLeavesBlock};
+ghost use Rattle.pli_meaning_tree.specs.examples.TreeExamples.{LoopEnds, LoopStops, IfChooses, SubscriptIsTested, AggregateIsCopied, BitsArePrinted, ItemBeforeIsWritten, FunctionCallsItself, FunctionStops, ByReferenceChanges, NoValueIsReturned, GotoLeavesBlock, GotoLeavesCall, GotoGroupBeginsAnew, ReturnLeavesBlock, TurnsAreSteps, NoTurnAndOne, StartMustFit, StepMayBeNegative, StepOverflows, VariableIsLookedAtAnew, RepeatGoesOn};
 
-/// What programs give with so many steps: a loop, IF, an element out of bounds, an aggregate copied, bits printed, functions
-/// that call themselves, an argument changed by the procedure, GOTO out of blocks and calls, RETURN and STOP.
+/// What programs give with so many steps: loops of all forms, IF, an element out of bounds, an aggregate copied, bits
+/// printed, functions that call themselves, an argument changed by the procedure, GOTO out of blocks and calls, RETURN
+/// and STOP.
 pub fn worked_examples()
     ensures loop_ends { LoopEnds }
     ensures loop_stops { LoopStops }
@@ -19,4 +20,11 @@ pub fn worked_examples()
     ensures goto_leaves_call { GotoLeavesCall }
     ensures goto_group_begins_anew { GotoGroupBeginsAnew }
     ensures return_leaves_block { ReturnLeavesBlock }
+    ensures turns_are_steps { TurnsAreSteps }
+    ensures no_turn_and_one { NoTurnAndOne }
+    ensures start_must_fit { StartMustFit }
+    ensures step_may_be_negative { StepMayBeNegative }
+    ensures step_overflows { StepOverflows }
+    ensures variable_is_looked_at_anew { VariableIsLookedAtAnew }
+    ensures repeat_goes_on { RepeatGoesOn }
 {}

@@ -21,8 +21,8 @@ use Rattle.pli_type_tree.specs.TypedTree.{OperandThen}
 use Rattle.pli_type_tree.specs.TypedTree.{Subscripts, NoSubscript, SubscriptThen, TypedArguments, NoArgument}
 use Rattle.pli_type_tree.specs.TypedTree.{ByPlace, ByDummy, BlockHead, TypedStatement, Statement, Form}
 use Rattle.pli_type_tree.specs.TypedTree.{Null, Assign}
-use Rattle.pli_type_tree.specs.TypedTree.{AssignAggregate, Put, If, Begin, Group, While, Iterate, TypedRange, Once}
-use Rattle.pli_type_tree.specs.TypedTree.{ToBy, ByTo, Repeated, Iteration, Call, Goto, Return}
+use Rattle.pli_type_tree.specs.TypedTree.{AssignAggregate, Put, If, Begin, Group, While, Iterate, TypedRange}
+use Rattle.pli_type_tree.specs.TypedTree.{Once, ToBy, ByTo, Repeated, Iteration, Call, Goto, Return}
 use Rattle.pli_type_tree.specs.TypedTree.{ReturnValue, Stop, OtherWise, NoElse, Else, TypedStatements}
 use Rattle.pli_type_tree.specs.TypedTree.{NoStatement}
 use Rattle.pli_type_tree.specs.TypedTree.{StatementThen}

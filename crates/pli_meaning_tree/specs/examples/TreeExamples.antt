@@ -1,18 +1,20 @@
 -- Worked examples of the meaning, in a unit M whose external procedure is block 0 and statement 1.
-use Rattle.std.specs.Prelude.{◌≡◌, ℕ, pos, true, false, Option, Some, None, List, [], ◌∷◌, ◌++◌, map, codes}
+use Rattle.std.specs.Prelude.{◌≡◌, ℕ, pos, neg_ℤ, true, false, Option, Some, None, List, [], ◌∷◌, ◌++◌}
+use Rattle.std.specs.Prelude.{map, codes}
 use Rattle.pli_code.specs.declared.ending.Ending.{Ending}
 use Rattle.pli_code.specs.declared.ending.Ending.TheVariants.{Ended, OutOfSteps, Error}
 use Rattle.pli_code.specs.declared.ending.RunError.TheVariants.{SubscriptRange, FixedOverflow}
 use Rattle.pli_code.specs.declared.ending.RunError.TheVariants.{NoReturnedValue}
 use Rattle.pli_map.specs.Description.{Description, FixedBinary, Array}
-use Rattle.pli_operation.specs.Operations.{Operation, Add, Subtract, Compare, Less, ToCharacters}
+use Rattle.pli_operation.specs.Operations.{Operation, Add, Subtract, Compare, Less, ToCharacters, Fit}
 use Rattle.pli_value.specs.Value.{Number, Characters, Bits}
 use Rattle.pli_type_tree.specs.Templates.{Template}
 use Rattle.pli_type_tree.specs.TypedTree.{InSlot, TypedExpression, Literal, Held, Calculated, Called}
 use Rattle.pli_type_tree.specs.TypedTree.{TypedReference, Whole, Part, NoOperand, OperandThen, NoSubscript}
 use Rattle.pli_type_tree.specs.TypedTree.{SubscriptThen, NoArgument, ByPlace, ByDummy}
 use Rattle.pli_type_tree.specs.TypedTree.{TypedStatement, Statement, Form, Assign}
-use Rattle.pli_type_tree.specs.TypedTree.{AssignAggregate, Put, If, Begin, Group, While, Call, Goto, Return}
+use Rattle.pli_type_tree.specs.TypedTree.{AssignAggregate, Put, If, Begin, Group, While, Iterate, Call, Goto}
+use Rattle.pli_type_tree.specs.TypedTree.{Return, Null, TypedRange, Once, ToBy, ByTo, Repeated, Iteration}
 use Rattle.pli_type_tree.specs.TypedTree.{ReturnValue, Stop, NoElse, Else, TypedStatements, NoStatement}
 use Rattle.pli_type_tree.specs.TypedTree.{StatementThen, TypedProcedure}
 use Rattle.pli_meaning_tree.specs.TreeMeaning.{TypedProgram, whole_run}
@@ -232,3 +234,73 @@ ReturnLeavesBlock =
     ∷ inner_of 1 5 0 None [] (listed (Statement 6 (begins 2 6 (Statement 7 (Return 1) ∷ []))
     ∷ Statement 9 (prints (codes "B")) ∷ [])) ∷ [])
     6 [] Ended 1
+
+-- a group whose control variable is X, of so many binary digits, without WHILE; it begins at a number
+abbrev pub from_number : (precision start : ℕ) → TypedRange → Iteration
+from_number precision start range =
+    record {
+      control = slot 0 0;
+      conversion = Fit (FixedBinary precision) ∷ [];
+      start = number start;
+      range = range;
+      condition = None;
+      temporary = 0;
+    }
+
+abbrev pub iterating : (precision start : ℕ) → TypedRange → List TypedStatement → List TypedProcedure
+iterating precision start range statements =
+    alone (FixedBinary precision ∷ [])
+    (Statement 2 (Iterate (from_number precision start range) (listed statements)) ∷ [])
+
+-- `DO X = 1 TO 3; END;`: the activation, the group, and a step for each turn
+abbrev pub TurnsAreSteps : Type 0
+TurnsAreSteps =
+    Prints (iterating 15 1 (ToBy (number 3) None) []) 5 [] Ended 1
+    × Prints (iterating 15 1 (ToBy (number 3) None) []) 4 [] OutOfSteps 1
+
+-- `DO X = 2 TO 1; END;` has no turn, and `DO X = 1; END;` has one
+abbrev pub NoTurnAndOne : Type 0
+NoTurnAndOne =
+    Prints (iterating 15 2 (ToBy (number 1) None) []) 2 [] Ended 1
+    × Prints (iterating 15 1 Once []) 3 [] Ended 1
+
+-- `DO X = 9 TO G(); END;` with X of 3 digits: G is called, and then 9 does not fit, which is an error of the
+-- group
+abbrev pub StartMustFit : Type 0
+StartMustFit =
+    Prints (main_of (of (FixedBinary 3) ∷ []) (listed (Statement 2
+    (Iterate (from_number 3 9 (ToBy (Called 1 NoArgument) None)) NoStatement) ∷ []))
+    ∷ inner_of 1 3 0 (Some 6) []
+    (listed (Statement 4 (prints (codes "G")) ∷ Statement 5 (ReturnValue 0 (number 3)) ∷ [])) ∷ [])
+    9 (codes "G ") (Error FixedOverflow (codes "M") 2) 3
+
+-- `DO X = 5 BY -2 TO 2; PUT LIST(X); END;`
+abbrev pub StepMayBeNegative : Type 0
+StepMayBeNegative =
+    Prints (iterating 15 5 (ByTo (Literal (Number (neg_ℤ (pos 2)))) (Some (number 2)))
+    (Statement 3 (prints_number (held_in 0 0)) ∷ []))
+    6 (codes "   5                       3 ") Ended 30
+
+-- `DO X = 7 TO 8; ; END;` with X of 3 digits: 8 does not fit, which is an error of the group
+abbrev pub StepOverflows : Type 0
+StepOverflows =
+    Prints (iterating 3 7 (ToBy (number 8) None) (Statement 3 Null ∷ []))
+    9 [] (Error FixedOverflow (codes "M") 2) 1
+
+-- `DO X = 1 TO 2; X = X + 1; END;`: the variable is looked at anew, so there is one turn
+abbrev pub VariableIsLookedAtAnew : Type 0
+VariableIsLookedAtAnew =
+    Prints (iterating 15 1 (ToBy (number 2) None) (Statement 3 (adds 1) ∷ [])) 4 [] Ended 1
+
+-- `DO X = 1 REPEAT X + X WHILE(X < 5); PUT LIST(X); END;`
+abbrev pub RepeatGoesOn : Type 0
+RepeatGoesOn =
+    Prints (alone (FixedBinary 15 ∷ []) (Statement 2 (Iterate (record {
+      control = slot 0 0;
+      conversion = Fit (FixedBinary 15) ∷ [];
+      start = number 1;
+      range = Repeated (with_two Add (held_in 0 0) (held_in 0 0));
+      condition = Some (is_less 5);
+      temporary = 0;
+    }) (listed (Statement 3 (prints_number (held_in 0 0)) ∷ []))) ∷ []))
+    8 (codes "   1                       2                       4 ") Ended 54

@@ -45,3 +45,24 @@ returns-clause-goto_group_begins_anew c = holds.goto_group_begins_anew
 
 pub returns-clause-return_leaves_block : goal.returns-clause-return_leaves_block
 returns-clause-return_leaves_block c = holds.return_leaves_block
+
+pub returns-clause-turns_are_steps : goal.returns-clause-turns_are_steps
+returns-clause-turns_are_steps c = holds.turns_are_steps
+
+pub returns-clause-no_turn_and_one : goal.returns-clause-no_turn_and_one
+returns-clause-no_turn_and_one c = holds.no_turn_and_one
+
+pub returns-clause-start_must_fit : goal.returns-clause-start_must_fit
+returns-clause-start_must_fit c = holds.start_must_fit
+
+pub returns-clause-step_may_be_negative : goal.returns-clause-step_may_be_negative
+returns-clause-step_may_be_negative c = holds.step_may_be_negative
+
+pub returns-clause-step_overflows : goal.returns-clause-step_overflows
+returns-clause-step_overflows c = holds.step_overflows
+
+pub returns-clause-variable_is_looked_at_anew : goal.returns-clause-variable_is_looked_at_anew
+returns-clause-variable_is_looked_at_anew c = holds.variable_is_looked_at_anew
+
+pub returns-clause-repeat_goes_on : goal.returns-clause-repeat_goes_on
+returns-clause-repeat_goes_on c = holds.repeat_goes_on
