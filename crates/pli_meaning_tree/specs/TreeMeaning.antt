@@ -1,5 +1,5 @@
 -- Meaning: what a program of typed units does, by recursion on its trees (own). No instruction is mentioned.
-use Rattle.std.specs.Prelude.{ℕ, ℤ, pos, zero, suc, nat_eq, Bool, true, false, ◌||◌, ◌&&◌, Option, Some, None}
+use Rattle.std.specs.Prelude.{ℕ, ℤ, zero, suc, nat_eq, Bool, true, false, ◌||◌, ◌&&◌, Option, Some, None}
 use Rattle.std.specs.Prelude.{List, [], ◌∷◌, ◌++◌, length, map, slice_get, if◌then◌else◌}
 use Rattle.pli_base.specs.Name.{Name}
 use Rattle.pli_code.specs.declared.ending.Ending.{Ending}
@@ -11,6 +11,7 @@ use Rattle.pli_store.specs.Storage.{Place, field_of}
 use Rattle.pli_store.specs.World.{World, Answer, Yields, known, further, nothing, height, held, stored}
 use Rattle.pli_store.specs.World.{copied, subscripted, calculation, Head, entered, height_of, slot_place}
 use Rattle.pli_store.specs.World.{static_place, dummy_of, printed, line_ended, statics_made}
+use Rattle.pli_type_tree.specs.Iterations.{kept_by, limit_number, step_number, is_iterated}
 use Rattle.pli_type_tree.specs.Templates.{variable_of}
 use Rattle.pli_type_tree.specs.TypedTree.{Root, InSlot, OfProgram, TypedExpression, Literal, Held, Calculated}
 use Rattle.pli_type_tree.specs.TypedTree.{Called, TypedReference, Whole, Part, Operands, NoOperand}
@@ -69,36 +70,6 @@ abbrev pub printed_item : Value → Doing Flow
 printed_item (Characters text) w left = Gives Next (printed text w) left
 printed_item (Bits bits) w left = Gives Next (printed (bit_constant bits) w) left
 printed_item v w left = Lost
-
--- what an iteration keeps beside its start: TO and BY in the order of the text; the step is 1 where TO stands
--- without BY
-abbrev pub kept_by : TypedRange → List TypedExpression
-kept_by Once = []
-kept_by (ToBy to None) = to ∷ Literal (Number (pos 1)) ∷ []
-kept_by (ToBy to (Some by)) = to ∷ by ∷ []
-kept_by (ByTo by None) = by ∷ []
-kept_by (ByTo by (Some to)) = by ∷ to ∷ []
-kept_by (Repeated next) = []
-
--- the numbers of the limit, where there is one, and of the step among what is kept, the start being 0
-abbrev pub limit_number : TypedRange → Option ℕ
-limit_number Once = None
-limit_number (ToBy to by) = Some 1
-limit_number (ByTo by None) = None
-limit_number (ByTo by (Some to)) = Some 2
-limit_number (Repeated next) = None
-
-abbrev pub step_number : TypedRange → ℕ
-step_number Once = 0
-step_number (ToBy to by) = 2
-step_number (ByTo by to) = 1
-step_number (Repeated next) = 0
-
-abbrev pub is_iterated : TypedRange → Bool
-is_iterated Once = false
-is_iterated (ToBy to by) = true
-is_iterated (ByTo by to) = true
-is_iterated (Repeated next) = true
 
 -- expressions and references, with numbers of at most so many digits, where calls do so
 module _ (greatest : ℕ) (call : Calls) where

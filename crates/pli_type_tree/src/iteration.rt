@@ -34,7 +34,7 @@ pub struct Iteration {
     pub range: TypedRange,
     /// WHILE.
     pub condition: Option<TypedExpression>,
-    /// The first of its temporaries, which follow one another: for a, then for TO and BY in the order of the text, or for
-    /// TO and 1 where TO stands without BY.
+    /// The first of its temporaries, which follow one another: for a, then for TO and BY in the order of the text, or
+    /// for TO and 1 where TO stands without BY.
     pub temporary: u32,
 }
