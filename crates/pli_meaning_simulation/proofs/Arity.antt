@@ -1,6 +1,6 @@
 -- An operation on another number of operands than it has misfits.
 use Rattle.std.specs.Prelude.{◌≡◌, ℕ, List, [], ◌∷◌, length, refl}
-use Rattle.pli_operation.specs.Operations.{Operation, Negate, Absolute, Sign, Not, LengthOf, FromBits, ToCharacters, Fit, Add, Subtract, Multiply, Modulo, Greatest, Least, Divide, Compare, Concatenate, And, Or, Index, Rest, Substring}
+use Rattle.pli_operation.specs.Operations.{Operation, Negate, Absolute, Sign, Not, LengthOf, FromBits, ToCharacters, Fit, Add, Subtract, Multiply, Modulo, Greatest, Least, Divide, Compare, Concatenate, And, Or, Index, Rest, Substring, Within}
 use Rattle.pli_operation.specs.Operations.{operands_of, Misfits, calculated}
 use Rattle.pli_value.specs.Value.{Value}
 
@@ -33,6 +33,7 @@ one g Or v = Misfit refl
 one g Index v = Misfit refl
 one g Rest v = Misfit refl
 one g Substring v = Misfit refl
+one g Within v = Misfit refl
 
 two : (greatest : ℕ) (operation : Operation) (v w : Value) → Arity greatest operation (v ∷ w ∷ [])
 unfolding calculated
@@ -58,6 +59,7 @@ two g Or v w = Full refl
 two g Index v w = Full refl
 two g Rest v w = Full refl
 two g Substring v w = Misfit refl
+two g Within v w = Misfit refl
 
 three : (greatest : ℕ) (operation : Operation) (v w x : Value) → Arity greatest operation (v ∷ w ∷ x ∷ [])
 unfolding calculated
@@ -83,6 +85,7 @@ three g Or v w x = Misfit refl
 three g Index v w x = Misfit refl
 three g Rest v w x = Misfit refl
 three g Substring v w x = Full refl
+three g Within v w x = Full refl
 
 pub arity : (greatest : ℕ) (operation : Operation) (vs : List Value) → Arity greatest operation vs
 unfolding calculated

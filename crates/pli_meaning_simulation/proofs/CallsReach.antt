@@ -15,7 +15,8 @@ use Rattle.pli_meaning_simulation.specs.CodeStands.{Context, block_of, EndStands
 use Rattle.pli_meaning_simulation.proofs.ReachesLemmas.{Fine, calm_kept, calm_fine, stays, from, frame, flows, returns, Reaches, gives, keeping, goes}
 use Rattle.pli_meaning_simulation.proofs.ExpressionsReach.{CallsRun, places_above, places_come_off, as_long}
 use Rattle.pli_meaning_simulation.proofs.ControlReaches.{fresh_fine, leaves, full_run, step_run, enters_run}
-use Rattle.pli_meaning_simulation.proofs.StatementsReach.{list_run, from_run}
+use Rattle.pli_meaning_simulation.proofs.FormsReach.{list_run}
+use Rattle.pli_meaning_simulation.proofs.StatementsReach.{from_run}
 
 module _ (p : Program) (number : ℕ) (u : UnitCode) (at : ℕ → ℕ) where
   -- what a look-up of a procedure finds has its number, and its code stands

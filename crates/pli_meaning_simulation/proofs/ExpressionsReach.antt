@@ -65,7 +65,7 @@ module _ (p : Program) (number : ℕ) (u : UnitCode) (at : ℕ → ℕ) where
     subscript_run low high multiplier is q (Bits bits) ops l fine fs w left = record { by = tt }
 
     -- an operation on what lies above
-    operation_run : (operation : Operation) {a b : ℕ} → Is u (op.Operate operation) a b → (before : List Value) (ops : List Operand) (l : Locals) → Fine c l
+    pub operation_run : (operation : Operation) {a b : ℕ} → Is u (op.Operate operation) a b → (before : List Value) (ops : List Operand) (l : Locals) → Fine c l
         → (fs : List Frame) (w : World) (left : ℕ)
         → Reaches p number u at c (At (frame p number u a (values_above before ops) l) fs w left) l (pushes p number u OfValue b ops fs) fs
         (answered (calculation (calculated p.greatest operation (in_order before [])) w) left)

@@ -2,6 +2,8 @@ pub mod Arity
 pub mod CallsReach
 pub mod ControlReaches
 pub mod ExpressionsReach
+pub mod FormsReach
+pub mod IterationsReach
 pub mod ProgramsGoOn
 pub mod ProgramsSimulate
 pub mod ReachesLemmas

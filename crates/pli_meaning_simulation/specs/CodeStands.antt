@@ -1,17 +1,20 @@
 -- The code of typed units, as a relation: which instructions stand from a place up to a place for each form.
 -- The inner places are parts of it.
-use Rattle.std.specs.Prelude.{◌≡◌, ℕ, suc, ◌-◌, ◌≤◌, Bool, true, false, Option, Some, None}
+use Rattle.std.specs.Prelude.{◌≡◌, ℕ, suc, ◌+◌, ◌-◌, ◌≤◌, Bool, true, false, Option, Some, None}
 use Rattle.std.specs.Prelude.{List, [], ◌∷◌, map, slice_get}
 use Rattle.pli_code.specs.declared.ending.RunError.TheVariants.{NoReturnedValue}
 use Rattle.pli_machine_step.specs.Program as op
 use Rattle.pli_machine_step.specs.Program.{Instruction, BlockKind, Procedure, BeginBlock, Block, UnitCode}
 use Rattle.pli_machine_step.specs.Program.{Program}
+use Rattle.pli_operation.specs.Operations.{Operation, Add, Within}
+use Rattle.pli_type_tree.specs.Iterations.{kept_by, temporaries_of, limit_number, step_number, is_iterated}
 use Rattle.pli_type_tree.specs.Templates.{variable_of}
 use Rattle.pli_type_tree.specs.TypedTree.{Root, InSlot, OfProgram, TypedExpression, Literal, Held, Calculated}
 use Rattle.pli_type_tree.specs.TypedTree.{Called, TypedReference, Whole, Part, Operands, NoOperand}
 use Rattle.pli_type_tree.specs.TypedTree.{OperandThen, Subscripts, NoSubscript, SubscriptThen, TypedArguments}
 use Rattle.pli_type_tree.specs.TypedTree.{NoArgument, ByPlace, ByDummy, BlockHead, TypedStatement, Statement}
 use Rattle.pli_type_tree.specs.TypedTree.{Form, Null, Assign, AssignAggregate, Put, If, Begin, Group, While}
+use Rattle.pli_type_tree.specs.TypedTree.{Iterate, TypedRange, Once, ToBy, ByTo, Repeated, Iteration}
 use Rattle.pli_type_tree.specs.TypedTree.{Call, Goto, Return, ReturnValue, Stop, OtherWise, NoElse, Else}
 use Rattle.pli_type_tree.specs.TypedTree.{TypedStatements, NoStatement, StatementThen, TypedProcedure}
 use Rattle.pli_type_tree.specs.TypedTree.{TypedUnit}
@@ -38,6 +41,10 @@ pub record Context : Type 0 where
   pub depth : ℕ
   pub bound : ℕ
 
+-- with the temporaries before this one in use
+abbrev pub using : (temporary : ℕ) → Context → Context
+using temporary c = record { size = c.size; depth = temporary; bound = c.bound }
+
 -- in the list of an iterative group: the jump to its next turn is yet to come
 abbrev pub deeper : Context → Context
 deeper c = record { size = c.size; depth = c.depth; bound = c.bound - 1 }
@@ -46,6 +53,11 @@ deeper c = record { size = c.size; depth = c.depth; bound = c.bound - 1 }
 pub record Nests (c : Context) : Type 0 where
   pub least : 2 ≤ c.bound
   pub most : c.bound ≤ 64
+
+-- an iteration's temporaries are free, and there is room for them
+pub record HasTemporaries (i : Iteration) (c : Context) : Type 0 where
+  pub free : c.depth ≤ i.temporary
+  pub room : i.temporary + temporaries_of i.range ≤ c.size
 
 -- how many arguments there are
 abbrev pub arguments_in : TypedArguments → ℕ
@@ -153,6 +165,69 @@ module _ (u : UnitCode) where
     pub does_between : between finish behind
     pub back : Is (op.Jump p) behind q
 
+  -- iterations
+
+  -- values, each kept in the next temporary
+  abbrev pub KeepsStand : (temporary : ℕ) → List TypedExpression → Span
+  KeepsStand temporary [] = Empty
+  KeepsStand temporary (e ∷ es) =
+      Then (ValueStands e) (Then (Is (op.SetTemporary temporary)) (KeepsStand (suc temporary) es))
+
+  abbrev pub ConversionStands : List Operation → Span
+  ConversionStands [] = Empty
+  ConversionStands (operation ∷ more) = Then (Is (op.Operate operation)) (ConversionStands more)
+
+  -- the control variable gets a value
+  abbrev pub SetsStand : Iteration → (value : Span) → Span
+  SetsStand i value =
+      Then (PlaceStands i.control) (Then value (Then (ConversionStands i.conversion) (Is op.Store)))
+
+  -- it and the step, which is kept under a number
+  abbrev pub AdvancedStands : Iteration → (step : ℕ) → Span
+  AdvancedStands i step =
+      Then (PlaceStands i.control)
+      (Then (Is op.Load) (Then (Is (op.TakeTemporary (i.temporary + step))) (Is (op.Operate Add))))
+
+  -- the tests before a turn
+  abbrev pub LimitStands : Iteration → (limit : Option ℕ) → (step target : ℕ) → Span
+  LimitStands i None step target = Empty
+  LimitStands i (Some limit) step target =
+      Then (PlaceStands i.control)
+      (Then (Is op.Load)
+      (Then (Is (op.TakeTemporary (i.temporary + limit)))
+      (Then (Is (op.TakeTemporary (i.temporary + step)))
+      (Then (Is (op.Operate Within)) (Forward op.JumpUnless target)))))
+
+  abbrev pub WhileStands : Option TypedExpression → (target : ℕ) → Span
+  WhileStands None target = Empty
+  WhileStands (Some e) target = ConditionStands e target
+
+  abbrev pub TestStands : Iteration → (target : ℕ) → Span
+  TestStands i target =
+      Then (LimitStands i (limit_number i.range) (step_number i.range) target)
+      (WhileStands i.condition target)
+
+  -- what comes between two turns
+  abbrev pub AdvancesStand : TypedRange → Iteration → Span
+  AdvancesStand Once i = Empty
+  AdvancesStand (ToBy to by) i = SetsStand i (AdvancedStands i 2)
+  AdvancesStand (ByTo by to) i = SetsStand i (AdvancedStands i 1)
+  AdvancesStand (Repeated next) i = Then (PlaceStands i.control) (Then (ValueStands next) (Is op.Store))
+
+  abbrev pub TurnsStand : (iterated : Bool) → (test : (target : ℕ) → Span) → (list : Context → Span)
+      → (between : Span) → Context → Span
+  TurnsStand true test list between c = λ p q. Nests c × Loop test (list (deeper c)) between p q
+  TurnsStand false test list between c = Guarded test (list c)
+
+  abbrev pub IterateStands : (number : ℕ) → Iteration → (list : Context → Span) → Context → Span
+  IterateStands number i list c =
+      λ p q. HasTemporaries i c
+      × Then (KeepsStand i.temporary (i.start ∷ kept_by i.range))
+      (Then (SetsStand i (Is (op.TakeTemporary i.temporary)))
+      (TurnsStand (is_iterated i.range) (TestStands i) list
+      (Then (Is (op.Line number)) (AdvancesStand i.range i))
+      (using (i.temporary + temporaries_of i.range) c))) p q
+
   -- a block's code stands elsewhere, from its entry; its own count of backward jumps begins anew
   pub record BlockStands (block : ℕ → Block) (number temporaries : ℕ) (list : Context → Span) (end : Span)
       : Type 0 where
@@ -195,6 +270,8 @@ module _ (u : UnitCode) where
           λ p q. Nests c × Loop
           (λ target. Then (Is (op.Line number)) (ConditionStands e target))
           (Then (Is (op.Step number)) (ListStands block statements (deeper c))) Empty p q
+      FormStands block number (Iterate iteration statements) c =
+          IterateStands number iteration (λ c. Then (Is (op.Step number)) (ListStands block statements c)) c
       FormStands block number (Call called arguments) c =
           Then (ArgumentsStand arguments) (Is (op.Call called (arguments_in arguments)))
       FormStands block number (Goto outward label) c = Is (op.Goto outward (at label))
