@@ -7,25 +7,32 @@ use Rattle.pli_base.specs.Statements.{Statement, Numbered, Body, Statements, End
 use Rattle.pli_base.specs.Syntax.{Expression, Referred, Constant, Parenthesized, Prefix, Infix, Reference, Named}
 use Rattle.pli_base.specs.Syntax.{JoinedParts, Alone, Joined, Arguments, Absent, Given, Expressions, Empty, Listed}
 use Rattle.pli_base.specs.declared.code.Code.{Code}
-use Rattle.pli_base.specs.declared.code.Code.TheVariants.{WrongOperandType, CannotAssign, CannotPrint}
+use Rattle.pli_base.specs.declared.code.Code.TheVariants.{WrongOperandType, CannotAssign, CannotPrint, NotYetBuilt}
+use Rattle.pli_base.specs.declared.syntax.Identifier.{Identifier}
 use Rattle.pli_base.specs.declared.syntax.Joining.TheVariants.{Member, Located}
 use Rattle.pli_base.specs.declared.token.Fault.{Fault}
+use Rattle.pli_map.specs.Description.{Description}
 use Rattle.pli_resolve.specs.declared.built_in.BuiltInFunction.{BuiltInFunction}
-use Rattle.pli_type.specs.Checked.{checked, unless_unbuilt, unit_of}
+use Rattle.pli_type.specs.Checked.{checked, unless_unbuilt, typed_as}
 use Rattle.pli_type.specs.ExpressionTypes.{TypedValue}
-use Rattle.pli_type.specs.FunctionCalls.{Meant, OneValue, WholeAggregate, Argument, function_called}
-use Rattle.pli_type.specs.FunctionCalls.{or_bad_argument}
-use Rattle.pli_type.specs.Names.{NamedAs, AVariable, AFunction, AProcedure, ALabel, NamedVariable, Naming}
+use Rattle.pli_type.specs.FunctionCalls.{Denoted, DenotesVariable, DenotesResult, Meant, OneValue, WholeAggregate}
+use Rattle.pli_type.specs.FunctionCalls.{Argument, function_called, or_bad_argument}
+use Rattle.pli_type.specs.Names.{NamedAs, AVariable, AFunction, AProcedure, ALabel, Untyped, NamedVariable}
+use Rattle.pli_type.specs.Names.{NamedProcedure, NamedUnit, Naming}
+use Rattle.pli_type.specs.ProcedureCalls.{arguments_passed, or_wrong_argument, result_of}
 use Rattle.pli_type.specs.References.{Role, AsValue, AsArgument, AsTarget, AsLocator, Referent, StridedPart}
 use Rattle.pli_type.specs.References.{settled}
 use Rattle.pli_type.specs.StatementTyping as statements
+use Rattle.pli_type.specs.StatementTyping.{WithProcedures}
+use Rattle.pli_type.specs.TreeBlocks.{Next}
 use Rattle.pli_type.specs.Typing as typing
-use Rattle.pli_type.specs.Typing.{Segment, OfVariable, OfFunction, OfNoVariable, Denoted, DenotesVariable}
-use Rattle.pli_type.specs.Typing.{DenotesResult, or_fault, first_token, meant, referred, joined, begun, is_call}
-use Rattle.pli_type.specs.Typing.{all_subscripts, subscripts_in, all_arguments, as_value, one_value, ended, with_more}
+use Rattle.pli_type.specs.Typing.{Segment, OfVariable, OfFunction, OfNoVariable, or_fault, first_token, denoted}
+use Rattle.pli_type.specs.Typing.{referred, joined, begun, is_call, all_subscripts, subscripts_in, all_arguments}
+use Rattle.pli_type.specs.Typing.{as_value, one_value, ended, with_more}
+use Rattle.pli_type.specs.declared.expression_type.ExpressionType.{ExpressionType}
 use Rattle.pli_type.specs.laws.Laws.{is_of_types, AreOfTypes, IsFault, IsToldOfTypes, FaultsAreOfTypes}
-use Rattle.pli_type_tree.specs.TypedTree.{TypedExpression, TypedStatement, TypedStatements, StatementThen}
-use Rattle.pli_type_tree.specs.TypedTree.{TypedUnit}
+use Rattle.pli_type_tree.specs.TypedTree.{TypedExpression, TypedArguments, TypedRange, TypedStatements}
+use Rattle.pli_type_tree.specs.TypedTree.{TypedProcedure, TypedUnit}
 
 -- a fault, where there is one, is of types
 Only : {A : Type 0} → Result A Fault → Type 0
@@ -75,12 +82,27 @@ only_one : (at : ℕ) (m : Meant) → Only (one_value at m)
 only_one at (OneValue v) = fine _
 only_one at (WholeAggregate r) = told _ _ refl
 
-only_value : (at : ℕ) (m : Result Meant Fault) → Only m → Only (as_value at m)
-only_value at m p = only_then m _ p (λ x. only_one at x)
+only_value : (at : ℕ) (d : Result Denoted Fault) → Only d → Only (as_value at d)
+only_value at d p = only_then d _ p (λ x. only_one at _)
 
-only_procedure : (at : ℕ) (list : Expressions) → Only (typing.procedure_called at list)
-only_procedure at Empty = told _ _ refl
-only_procedure at (Listed first more) = told _ _ refl
+only_wrong : (at : ℕ) (o : Option TypedArguments) → Only (or_wrong_argument at o)
+only_wrong at None = told _ _ refl
+only_wrong at (Some arguments) = fine _
+
+only_passed : (greatest : ℕ) (p : NamedProcedure) (at : ℕ) (gs : List Argument)
+    → Only (arguments_passed greatest p at gs)
+only_passed greatest p at gs = only_if _ _ _ (only_wrong at _) (told _ _ refl)
+
+only_result : (at block : ℕ) (arguments : TypedArguments) (o : Option ExpressionType)
+    → Only (result_of at block arguments o)
+only_result at block arguments None = told _ _ refl
+only_result at block arguments (Some kind) = fine _
+
+only_procedure : (greatest : ℕ) (p : NamedProcedure) (at : ℕ) (gs : List Argument)
+    → Only (typing.procedure_called greatest p at gs)
+only_procedure greatest p at gs =
+    only_then _ _ (only_passed greatest p at gs)
+    (λ passed. only_then _ _ (only_result at p.block passed _) (λ v. fine _))
 
 only_given : (at : ℕ) (o : Option TypedValue) → Only (or_bad_argument at o)
 only_given at None = told _ _ refl
@@ -92,16 +114,17 @@ only_function greatest function at None arguments = told _ _ refl
 only_function greatest function at (Some roles) arguments = only_given at _
 
 mutual
-  only_meant : (n : Naming) (role : Role) (e : Expression) → Only (meant n role e)
-  only_meant n role (Referred reference) = only_then _ _ (only_referred n role reference) (λ d. fine _)
-  only_meant n role (Constant at value) = fine _
-  only_meant n role (Parenthesized at inner) = only_meant n AsValue inner
-  only_meant n role (Prefix operator at operand) =
-      only_then _ _ (only_value (first_token operand) _ (only_meant n AsValue operand))
+  only_denoted : (n : Naming) (role : Role) (e : Expression) → Only (denoted n role e)
+  only_denoted n role (Referred reference) = only_referred n role reference
+  only_denoted n role (Constant at value) = fine _
+  only_denoted n role (Parenthesized at inner) =
+      only_then _ _ (only_value (first_token inner) _ (only_denoted n AsValue inner)) (λ v. fine _)
+  only_denoted n role (Prefix operator at operand) =
+      only_then _ _ (only_value (first_token operand) _ (only_denoted n AsValue operand))
       (λ v. only_then _ _ (only_or WrongOperandType at _ refl) (λ u. fine _))
-  only_meant n role (Infix operator at left right) =
-      only_then _ _ (only_value (first_token left) _ (only_meant n AsValue left))
-      (λ v. only_then _ _ (only_value (first_token right) _ (only_meant n AsValue right))
+  only_denoted n role (Infix operator at left right) =
+      only_then _ _ (only_value (first_token left) _ (only_denoted n AsValue left))
+      (λ v. only_then _ _ (only_value (first_token right) _ (only_denoted n AsValue right))
       (λ w. only_then _ _ (only_or WrongOperandType at _ refl) (λ u. fine _)))
 
   only_referred : (n : Naming) (role : Role) (r : Reference) → Only (referred n role r)
@@ -130,15 +153,18 @@ mutual
       only_then _ _ (only_arguments n [] list) (λ gs. fine _)
   only_begun n (AFunction function) true located at Absent = fine _
   only_begun n (AFunction function) false located at Absent = fine _
-  only_begun n AProcedure true located at (Given list) =
-      only_then _ _ (only_arguments n [] list) (λ gs. only_procedure at list)
-  only_begun n AProcedure false located at (Given list) =
+  only_begun n (AProcedure p) true located at (Given list) =
+      only_then _ _ (only_arguments n [] list) (λ gs. only_procedure n.greatest p at gs)
+  only_begun n (AProcedure p) false located at (Given list) =
       only_then _ _ (only_arguments n [] list) (λ gs. fine _)
-  only_begun n AProcedure true located at Absent = fine _
-  only_begun n AProcedure false located at Absent = fine _
-  only_begun n ALabel call located at (Given list) =
+  only_begun n (AProcedure p) true located at Absent = fine _
+  only_begun n (AProcedure p) false located at Absent = fine _
+  only_begun n (ALabel statement) call located at (Given list) =
       only_then _ _ (only_arguments n [] list) (λ gs. fine _)
-  only_begun n ALabel call located at Absent = fine _
+  only_begun n (ALabel statement) call located at Absent = fine _
+  only_begun n Untyped call located at (Given list) =
+      only_then _ _ (only_arguments n [] list) (λ gs. fine _)
+  only_begun n Untyped call located at Absent = fine _
 
   only_in : (n : Naming) (arguments : Arguments) → Only (subscripts_in n arguments)
   only_in n Absent = fine _
@@ -147,7 +173,7 @@ mutual
   only_subscripts : (n : Naming) (list : Expressions) → Only (all_subscripts n list)
   only_subscripts n Empty = fine _
   only_subscripts n (Listed first more) =
-      only_then _ _ (only_value (first_token first) _ (only_meant n AsValue first))
+      only_then _ _ (only_value (first_token first) _ (only_denoted n AsValue first))
       (λ v. only_then _ _ (only_or WrongOperandType (first_token first) _ refl)
       (λ x. only_then _ _ (only_subscripts n more) (λ xs. fine _)))
 
@@ -155,16 +181,16 @@ mutual
   only_arguments n [] Empty = fine _
   only_arguments n (role ∷ roles) Empty = fine _
   only_arguments n [] (Listed first more) =
-      only_then _ _ (only_meant n AsArgument first)
+      only_then _ _ (only_denoted n AsArgument first)
       (λ m. only_then _ _ (only_arguments n [] more) (λ gs. fine _))
   only_arguments n (role ∷ roles) (Listed first more) =
-      only_then _ _ (only_meant n role first)
+      only_then _ _ (only_denoted n role first)
       (λ m. only_then _ _ (only_arguments n roles more) (λ gs. fine _))
 
 -- statements
 
 only_value_of : (n : Naming) (e : Expression) → Only (typing.value_of n e)
-only_value_of n e = only_value (first_token e) _ (only_meant n AsValue e)
+only_value_of n e = only_value (first_token e) _ (only_denoted n AsValue e)
 
 only_aggregate : (equals : ℕ) (target : Referent) (m : Meant)
     → Only (statements.aggregate_assigned equals target m)
@@ -176,7 +202,7 @@ only_assigned : (n : Naming) (at equals : ℕ) (d : Denoted) (e : Expression)
 only_assigned n at equals (DenotesVariable target) e =
     only_if _ _ _
     (only_then _ _ (only_value_of n e) (λ v. only_then _ _ (only_or CannotAssign equals _ refl) (λ x. fine _)))
-    (only_then _ _ (only_meant n AsArgument e) (λ m. only_aggregate equals target m))
+    (only_then _ _ (only_then _ _ (only_denoted n AsArgument e) (λ d. fine _)) (λ m. only_aggregate equals target m))
 only_assigned n at equals (DenotesResult value) e = told _ _ refl
 
 only_items : (n : Naming) (es : List Expression) → Only (statements.items n es)
@@ -185,6 +211,93 @@ only_items n (e ∷ es) =
     only_then _ _
     (only_then _ _ (only_value_of n e) (λ v. only_or CannotPrint (first_token e) _ refl))
     (λ x. only_then _ _ (only_items n es) (λ xs. fine _))
+
+only_condition : (n : Naming) (e : Expression) → Only (statements.condition n e)
+only_condition n e =
+    only_then _ _ (only_value_of n e) (λ v. only_or WrongOperandType (first_token e) _ refl)
+
+only_goto : (n : Naming) (s : statements.Surroundings) (label : Identifier) → Only (statements.goto_typed n s label)
+only_goto n s label = only_or NotYetBuilt label.at _ refl
+
+only_no_function : (at block : ℕ) (d : Option Description) (arguments : TypedArguments)
+    → Only (statements.no_function at block d arguments)
+only_no_function at block None arguments = fine _
+only_no_function at block (Some d) arguments = told _ _ refl
+
+only_call_of : (greatest at : ℕ) (name : NamedAs) (gs : List Argument) → Only (statements.call_of greatest at name gs)
+only_call_of greatest at (AProcedure p) gs =
+    only_then _ _ (only_passed greatest p at gs) (λ arguments. only_no_function at p.block p.returned arguments)
+only_call_of greatest at (AVariable v) gs = told _ _ refl
+only_call_of greatest at (AFunction function) gs = told _ _ refl
+only_call_of greatest at (ALabel statement) gs = told _ _ refl
+only_call_of greatest at Untyped gs = told _ _ refl
+
+only_given_arguments : (n : Naming) (arguments : Arguments) → Only (statements.arguments_typed n arguments)
+only_given_arguments n Absent = fine _
+only_given_arguments n (Given list) = only_arguments n [] list
+
+only_call : (n : Naming) (name : Identifier) (arguments : Arguments) → Only (statements.call_typed n name arguments)
+only_call n name arguments =
+    only_then _ _ (only_given_arguments n arguments)
+    (λ gs. only_call_of n.greatest name.at (n.meaning name.at) gs)
+
+only_returned : (greatest at first begins : ℕ) (d : Option Description) (v : TypedValue)
+    → Only (statements.returned_value greatest at first begins d v)
+only_returned greatest at first begins None v = told _ _ refl
+only_returned greatest at first begins (Some d) v = only_then _ _ (only_or CannotAssign first _ refl) (λ x. fine _)
+
+only_return : (n : Naming) (s : statements.Surroundings) (at : ℕ) (value : Option Expression)
+    → Only (statements.return_typed n s at value)
+only_return n s at None = only_if _ _ _ (fine _) (told _ _ refl)
+only_return n s at (Some e) =
+    only_then _ _ (only_value_of n e) (λ v. only_returned n.greatest at (first_token e) s.begins s.value v)
+
+only_limit : (n : Naming) (e : Expression) → Only (statements.limit n e)
+only_limit n e = only_then _ _ (only_value_of n e) (λ v. only_or WrongOperandType (first_token e) _ refl)
+
+only_possible : (n : Naming) (o : Option Expression) → Only (statements.possible_limit n o)
+only_possible n None = fine _
+only_possible n (Some e) = only_then _ _ (only_limit n e) (λ x. fine _)
+
+only_limits : (n : Naming) (range : Option tree.Range) → Only (statements.limits n range)
+only_limits n None = fine _
+only_limits n (Some (tree.To to by)) =
+    only_then _ _ (only_limit n to) (λ x. only_then _ _ (only_possible n by) (λ y. fine _))
+only_limits n (Some (tree.By by to)) =
+    only_then _ _ (only_limit n by) (λ x. only_then _ _ (only_possible n to) (λ y. fine _))
+only_limits n (Some (tree.Repeat next)) = fine _
+
+only_suited : (at : ℕ) (range : TypedRange) (r : Referent) (b : Bool) → Only (statements.suited_control at r b)
+only_suited at range r true = fine _
+only_suited at range r false = told _ _ refl
+
+only_controls : (at : ℕ) (range : TypedRange) (d : Denoted) → Only (statements.controls at range d)
+only_controls at range (DenotesResult value) = told _ _ refl
+only_controls at range (DenotesVariable r) = only_if _ _ _ (only_suited at range r _) (told _ _ refl)
+
+only_possible_condition : (n : Naming) (o : Option Expression) → Only (statements.possible_condition n o)
+only_possible_condition n None = fine _
+only_possible_condition n (Some e) = only_then _ _ (only_condition n e) (λ x. fine _)
+
+only_repeat : (n : Naming) (d : Description) (kept : TypedRange) (range : Option tree.Range)
+    → Only (statements.with_repeat n d kept range)
+only_repeat n d kept None = fine _
+only_repeat n d kept (Some (tree.To to by)) = fine _
+only_repeat n d kept (Some (tree.By by to)) = fine _
+only_repeat n d kept (Some (tree.Repeat next)) =
+    only_then _ _ (only_value_of n next) (λ v. only_then _ _ (only_or CannotAssign (first_token next) _ refl) (λ x. fine _))
+
+only_iteration : (n : Naming) (temporary : ℕ) (variable : Reference) (equals : ℕ) (first : Expression)
+    (range : Option tree.Range) (tested : Option Expression)
+    → Only (statements.iteration n temporary variable equals first range tested)
+only_iteration n temporary variable equals first range tested =
+    only_then _ _ (only_value_of n first)
+    (λ v. only_then _ _ (only_limits n range)
+    (λ kept. only_then _ _ (only_referred n AsLocator variable)
+    (λ d. only_then _ _ (only_controls (first_token (Referred variable)) kept d)
+    (λ r. only_then _ _ (only_or CannotAssign equals _ refl)
+    (λ operations. only_then _ _ (only_possible_condition n tested)
+    (λ x. only_then _ _ (only_repeat n r.description kept range) (λ turns. fine _)))))))
 
 -- faults of a statement and of those in it
 Told : {A : Type 0} → Result A (List Fault) → Type 0
@@ -207,13 +320,14 @@ still_fault : (fs gs : List Fault) → IsFault fs → IsFault (fs ++ gs)
 still_fault [] gs p = absurd p
 still_fault (f ∷ fs) gs p = tt
 
-told_made : {A B : Type 0} (make : A → B) (r : Result A (List Fault)) → Told r → Told (statements.made make r)
+told_made : {A B : Type 0} (make : A → B) (r : Result (WithProcedures A) (List Fault)) → Told r
+    → Told (statements.made make r)
 unfolding Told
 told_made make (Ok x) p = tt
 told_made make (Err fs) p = p
 
-told_together : {A B C : Type 0} (make : A → B → C) (r : Result A (List Fault)) (s : Result B (List Fault))
-    → Told r → Told s → Told (statements.together make r s)
+told_together : {A B C : Type 0} (make : A → B → C) (r : Result (WithProcedures A) (List Fault))
+    (s : Result (WithProcedures B) (List Fault)) → Told r → Told s → Told (statements.together make r s)
 unfolding Told
 told_together make (Ok x) (Ok y) p q = tt
 told_together make (Ok x) (Err gs) p q = q
@@ -221,42 +335,61 @@ told_together make (Err fs) (Ok y) p q = p
 told_together make (Err fs) (Err gs) p q =
     (still_fault fs gs p.0, both_of_types fs gs p.1 q.1)
 
+told_procedure : (make : TypedStatements → TypedProcedure) (r : Result (WithProcedures TypedStatements) (List Fault))
+    → Told r → Told (statements.as_procedure make r)
+unfolding Told
+told_procedure make (Ok x) p = tt
+told_procedure make (Err fs) p = p
+
 -- units
 
-told_listed : (first : Statement) (r : Result TypedStatement (List Fault))
-    (more : Result TypedStatements (List Fault)) → Told r → Told more → Told (statements.listed first r more)
-told_listed (Numbered number label at body) r more p q = listed_by body
-  where
-    listed_by : (b : Body) → Told (statements.listed (Numbered number label at b) r more)
-    listed_by (tree.Declare declared) = q
-    listed_by other = told_together StatementThen r more p q
-
 mutual
-  told_statement : (n : Naming) (s : Statement) → Told (statements.statement_typed n s)
-  told_statement n (Numbered number label at body) = told_made _ _ (told_body n at body)
+  told_statement : (u : NamedUnit) (s : statements.Surroundings) (x : Next) (st : Statement)
+      → Told (statements.statement_typed u s x st)
+  told_statement u s x (Numbered number label at body) = told_made _ _ (told_body u s x number at body)
 
-  told_body : (n : Naming) (at : ℕ) (body : Body) → Told (statements.body_typed n at body)
-  told_body n at tree.Null = passed _
-  told_body n at (tree.Assign target equals value) =
+  told_body : (u : NamedUnit) (s : statements.Surroundings) (x : Next) (number at : ℕ) (body : Body)
+      → Told (statements.body_typed u s x number at body)
+  told_body u s x number at tree.Null = passed _
+  told_body u s x number at (tree.Assign target equals value) =
       told_own _
-      (only_then _ _ (only_referred n AsTarget target) (λ d. only_assigned n at equals d value))
-  told_body n at (tree.Declare declared) = passed _
-  told_body n at (tree.If tested consequence alternative) =
-      told_together _ _ _
-      (told_own _
-      (only_then _ _ (only_value_of n tested) (λ v. only_or WrongOperandType (first_token tested) _ refl)))
-      (told_together _ _ _ (told_statement n consequence) (told_alternative n alternative))
-  told_body n at (tree.Put skip printed_items) = told_made _ _ (told_own _ (only_items n printed_items))
-  told_body n at other = told_own _ (told _ _ refl)
+      (only_then _ _ (only_referred (statements.naming_at u s) AsTarget target) (λ d. only_assigned (statements.naming_at u s) at equals d value))
+  told_body u s x number at (tree.Declare declared) = passed _
+  told_body u s x number at (tree.Procedure heading list end) = told_procedure _ _ (told_statements u _ _ list)
+  told_body u s x number at (tree.Begin list end) = told_made _ _ (told_statements u _ _ list)
+  told_body u s x number at (tree.Do None list end) = told_made _ _ (told_statements u _ _ list)
+  told_body u s x number at (tree.Do (Some (tree.While tested)) list end) =
+      told_together _ _ _ (told_own _ (only_condition (statements.naming_at u s) tested)) (told_statements u _ _ list)
+  told_body u s x number at (tree.Do (Some (tree.Iterate variable equals first range tested)) list end) =
+      told_together _ _ _ (told_own _ (only_iteration (statements.naming_at u s) x.temporary variable equals first range tested))
+      (told_statements u _ _ list)
+  told_body u s x number at (tree.If tested consequence alternative) =
+      told_together _ _ _ (told_own _ (only_condition (statements.naming_at u s) tested))
+      (told_together _ _ _ (told_statement u s x consequence) (told_alternative u s _ alternative))
+  told_body u s x number at tree.Stop = passed _
+  told_body u s x number at (tree.Call name arguments) = told_own _ (only_call (statements.naming_at u s) name arguments)
+  told_body u s x number at (tree.Goto label) = told_own _ (only_goto (statements.naming_at u s) s label)
+  told_body u s x number at (tree.Return value) = told_own _ (only_return (statements.naming_at u s) s at value)
+  told_body u s x number at (tree.Put skip printed_items) =
+      told_made _ _ (told_own _ (only_items (statements.naming_at u s) printed_items))
+  told_body u s x number at other = told_own _ (told _ _ refl)
 
-  told_alternative : (n : Naming) (a : Alternative) → Told (statements.alternative_typed n a)
-  told_alternative n tree.NoElse = passed _
-  told_alternative n (tree.Else statement) = told_made _ _ (told_statement n statement)
+  told_alternative : (u : NamedUnit) (s : statements.Surroundings) (x : Next) (a : Alternative)
+      → Told (statements.alternative_typed u s x a)
+  told_alternative u s x tree.NoElse = passed _
+  told_alternative u s x (tree.Else statement) = told_made _ _ (told_statement u s x statement)
 
-  told_statements : (n : Naming) (ss : Statements) → Told (statements.statements_typed n ss)
-  told_statements n Ended = passed _
-  told_statements n (Before first more) =
-      told_listed first _ _ (told_statement n first) (told_statements n more)
+  told_statements : (u : NamedUnit) (s : statements.Surroundings) (x : Next) (ss : Statements)
+      → Told (statements.statements_typed u s x ss)
+  told_statements u s x Ended = passed _
+  told_statements u s x (Before first more) =
+      told_together _ _ _ (told_statement u s x first) (told_statements u s _ more)
+
+told_unit : (u : NamedUnit) (r : Result (WithProcedures TypedStatements) (List Fault)) → Told r
+    → Told (typed_as u r)
+unfolding Told
+told_unit u (Ok list) p = tt
+told_unit u (Err faults) p = p
 
 told_unless : (o : Option ℕ) (r : Result TypedUnit (List Fault)) → Told r → Told (unless_unbuilt o r)
 unfolding Told
@@ -266,5 +399,4 @@ told_unless (Some at) r p = (tt, (refl, tt))
 -- a unit that is not typed has a fault of types, and no fault of another kind
 pub faults_are_of_types : FaultsAreOfTypes
 unfolding checked Told
-faults_are_of_types u =
-    told_unless _ _ (told_made (unit_of u) _ (told_statements u.naming u.tree.statements))
+faults_are_of_types u = told_unless _ _ (told_unit u _ (told_statements u _ _ u.tree.statements))

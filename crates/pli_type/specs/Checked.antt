@@ -1,44 +1,49 @@
 -- The typed unit, or all its faults of types: one for each statement, in the order of the text. A unit with a
 -- form that is not compiled yet has Z1 in their place.
-use Rattle.std.specs.Prelude.{ℕ, Option, Some, None, List, [], ◌∷◌, Result, Err}
-use Rattle.pli_base.specs.Statements.{ExternalProcedure}
+use Rattle.std.specs.Prelude.{ℕ, Option, Some, None, List, [], ◌∷◌, Result, Ok, Err}
+use Rattle.pli_base.specs.Statements.{Statements}
 use Rattle.pli_base.specs.declared.code.Code.TheVariants.{NotYetBuilt}
 use Rattle.pli_base.specs.declared.token.Fault.{Fault}
-use Rattle.pli_type.specs.Names.{Naming}
-use Rattle.pli_type.specs.StatementTyping.{made, statements_typed}
+use Rattle.pli_type.specs.Names.{NamedUnit}
+use Rattle.pli_type.specs.StatementTyping.{Surroundings, WithProcedures, enclosing}
+use Rattle.pli_type.specs.StatementTyping.{statements_typed}
+use Rattle.pli_type.specs.TreeBlocks.{Next, temporaries_among}
 use Rattle.pli_type.specs.Unbuilt.{first_unbuilt, is_main}
-use Rattle.pli_type_tree.specs.Templates.{Template}
-use Rattle.pli_type_tree.specs.TypedTree.{TypedUnit, TypedProcedure, BlockHead, TypedStatements}
+use Rattle.pli_type_tree.specs.TypedTree.{TypedUnit, TypedProcedure, TypedStatements}
 
--- a unit without faults of declarations: its tree, what its names mean, and what its AUTOMATIC and STATIC
--- variables are made from, in the order of the text
-pub record NamedUnit : Type 0 where
-  pub tree : ExternalProcedure
-  pub naming : Naming
-  pub automatic : List Template
-  pub statics : List Template
+-- the external procedure is block 0, and no function
+abbrev pub in_unit : Statements → Surroundings
+in_unit statements = record { blocks = enclosing 0 statements ∷ []; begins = 0; value = None }
 
--- its one block, the external procedure
-abbrev pub head_of : NamedUnit → BlockHead
-head_of u =
-    record { number = 0; statement = u.tree.heading.number; variables = u.automatic; temporaries = 0 }
+abbrev pub first_inside : Next
+first_inside = record { block = 1; temporary = 0 }
 
-abbrev pub procedure_of : NamedUnit → TypedStatements → TypedProcedure
-procedure_of u statements = record {
-  head = head_of u;
+abbrev pub external_of : NamedUnit → TypedStatements → TypedProcedure
+external_of u list = record {
+  head = record {
+    number = 0;
+    statement = u.tree.heading.number;
+    variables = u.automatic 0;
+    temporaries = temporaries_among u.tree.statements;
+  };
   parent = None;
   parameters = 0;
   function_end = None;
-  statements = statements;
+  statements = list;
 }
 
-abbrev pub unit_of : NamedUnit → TypedStatements → TypedUnit
-unit_of u statements = record {
+abbrev pub unit_of : NamedUnit → WithProcedures TypedStatements → TypedUnit
+unit_of u list = record {
   name = u.tree.heading.name.name;
   is_main = is_main u.tree;
   statics = u.statics;
-  procedures = procedure_of u statements ∷ [];
+  procedures = external_of u list.part ∷ list.procedures;
 }
+
+abbrev pub typed_as : NamedUnit → Result (WithProcedures TypedStatements) (List Fault)
+    → Result TypedUnit (List Fault)
+typed_as u (Ok list) = Ok (unit_of u list)
+typed_as u (Err faults) = Err faults
 
 abbrev pub unless_unbuilt : Option ℕ → Result TypedUnit (List Fault) → Result TypedUnit (List Fault)
 unless_unbuilt None typed = typed
@@ -47,5 +52,5 @@ unless_unbuilt (Some at) typed = Err (record { code = NotYetBuilt; at = at } ∷
 -- what `check` answers
 unfoldable pub checked : NamedUnit → Result TypedUnit (List Fault)
 checked u =
-    unless_unbuilt (first_unbuilt u.naming u.tree)
-    (made (unit_of u) (statements_typed u.naming u.tree.statements))
+    unless_unbuilt (first_unbuilt u.compiled u.tree)
+    (typed_as u (statements_typed u (in_unit u.tree.statements) first_inside u.tree.statements))

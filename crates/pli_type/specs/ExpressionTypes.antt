@@ -2,7 +2,7 @@
 -- and which conversion a value goes through where it is assigned or printed. Precisions are own, the rest is
 -- X3.74.
 use Rattle.std.specs.Prelude.{ℕ, ◌+◌, ◌*◌, max, min, Option, Some, None, option_map, pos}
-use Rattle.std.specs.Prelude.{List, [], ◌∷◌}
+use Rattle.std.specs.Prelude.{List, [], ◌∷◌, ◌++◌}
 use Rattle.std.specs.Int.{div_ceil}
 use Rattle.pli_base.specs.declared.syntax.ConstantValue.{ConstantValue}
 use Rattle.pli_base.specs.declared.syntax.ConstantValue.TheVariants as constants
@@ -238,6 +238,27 @@ suited greatest other e kind = None
 -- and fitted to it, also where it has the type already
 abbrev pub converted : (greatest : ℕ) → Description → TypedValue → Option TypedExpression
 converted greatest d v = option_map (with_one (Fit d)) (suited greatest d v.expression v.kind)
+
+-- the operations of this conversion, one after the other: where it is needed, to characters
+abbrev pub string_conversions : ExpressionType → Option (List Operation)
+string_conversions types.Characters = Some []
+string_conversions types.Bits = Some (FromBits ∷ [])
+string_conversions other = option_map (λ width. ToCharacters width ∷ []) (width_of other)
+
+abbrev pub bit_conversions : ExpressionType → Option (List Operation)
+bit_conversions types.Bits = Some []
+bit_conversions other = None
+
+abbrev pub suiting : (greatest : ℕ) → Description → ExpressionType → Option (List Operation)
+suiting greatest (described.FixedBinary precision) kind = option_map (λ p. []) (precision_of greatest kind)
+suiting greatest (described.Character n) kind = string_conversions kind
+suiting greatest (described.Varying n) kind = string_conversions kind
+suiting greatest (described.Bit n) kind = bit_conversions kind
+suiting greatest other kind = None
+
+-- and then to the variable's range or length
+abbrev pub conversions : (greatest : ℕ) → Description → ExpressionType → Option (List Operation)
+conversions greatest d kind = option_map (λ operations. operations ++ Fit d ∷ []) (suiting greatest d kind)
 
 -- what PUT prints: characters and bits as they stand, a number as characters; no locator and no area
 abbrev pub printed_from : TypedExpression → ExpressionType → Option TypedExpression

@@ -14,24 +14,41 @@ use Rattle.pli_operation.specs.Operations.{Operation, Absolute, Sign as SignOf, 
 use Rattle.pli_operation.specs.Operations.{Modulo, Divide as DivideTo, Index as IndexOf, Rest}
 use Rattle.pli_operation.specs.Operations.{Substring as SubstringOf}
 use Rattle.pli_type.specs.ExpressionTypes.{precisions}
-use Rattle.pli_type.specs.ExpressionTypes.{TypedValue}
+use Rattle.pli_type.specs.ExpressionTypes.{TypedValue, type_of}
 use Rattle.pli_type.specs.ExpressionTypes.{precision_of, count_precision, all_operands}
 use Rattle.pli_type.specs.References.{Role, AsValue, AsArgument, Referent}
-use Rattle.pli_type_tree.specs.TypedTree.{TypedExpression, Literal, Calculated}
+use Rattle.pli_type_tree.specs.TypedTree.{TypedExpression, Literal, Held, Calculated}
 use Rattle.pli_value.specs.Value.{Number}
 use Rattle.pli_type.specs.declared.expression_type.ExpressionType.{ExpressionType}
 use Rattle.pli_type.specs.declared.expression_type.ExpressionType.TheVariants as types
 use Rattle.pli_resolve.specs.declared.built_in.BuiltInFunction.{BuiltInFunction}
 use Rattle.pli_resolve.specs.declared.built_in.BuiltInFunction.TheVariants as functions
 
--- what an expression is: one value, or a whole aggregate
+-- what an expression denotes: a variable or a part of one, where it is a reference to that; else a value
+pub data Denoted : Type 0 where
+  DenotesVariable : (referent : Referent) → Denoted
+  DenotesResult : (value : TypedValue) → Denoted
+
+-- what it is: one value, or a whole aggregate
 pub data Meant : Type 0 where
   OneValue : (value : TypedValue) → Meant
   WholeAggregate : (referent : Referent) → Meant
 
+-- a variable or a part of one that is a scalar has a value
+abbrev pub meant_by : Referent → Meant
+meant_by r = held (type_of r.description)
+  where
+    held : Option ExpressionType → Meant
+    held None = WholeAggregate r
+    held (Some kind) = OneValue (record { expression = Held r.reference; kind = kind })
+
+abbrev pub meant_as : Denoted → Meant
+meant_as (DenotesVariable r) = meant_by r
+meant_as (DenotesResult value) = OneValue value
+
 -- an argument, and the number that it is if it is a decimal constant and nothing else
 pub record Argument : Type 0 where
-  pub meant : Meant
+  pub denoted : Denoted
   pub written : Option ℕ
 
 -- the number that stands here, without a sign and without parentheses
@@ -181,7 +198,7 @@ value_in (WholeAggregate r) = None
 abbrev pub values_in : List Argument → Option (List TypedValue)
 values_in [] = Some []
 values_in (a ∷ more) =
-    option_and_then (λ v. option_map (λ vs. v ∷ vs) (values_in more)) (value_in a.meant)
+    option_and_then (λ v. option_map (λ vs. v ∷ vs) (values_in more)) (value_in (meant_as a.denoted))
 
 -- DIVIDE's two values
 abbrev pub divided : (greatest : ℕ) → (x y : Meant) → (written : Option ℕ) → Option TypedValue
@@ -190,9 +207,12 @@ divided greatest x y written = None
 
 -- what a function gives of arguments
 abbrev pub of_arguments : (greatest : ℕ) → BuiltInFunction → List Argument → Option TypedValue
-of_arguments greatest functions.Divide (x ∷ y ∷ p ∷ []) = divided greatest x.meant y.meant p.written
-of_arguments greatest functions.LowBound (a ∷ n ∷ []) = the_bound (λ b. b.low) a.meant n.written
-of_arguments greatest functions.HighBound (a ∷ n ∷ []) = the_bound (λ b. b.high) a.meant n.written
+of_arguments greatest functions.Divide (x ∷ y ∷ p ∷ []) =
+    divided greatest (meant_as x.denoted) (meant_as y.denoted) p.written
+of_arguments greatest functions.LowBound (a ∷ n ∷ []) =
+    the_bound (λ b. b.low) (meant_as a.denoted) n.written
+of_arguments greatest functions.HighBound (a ∷ n ∷ []) =
+    the_bound (λ b. b.high) (meant_as a.denoted) n.written
 of_arguments greatest function arguments = option_and_then (of_values greatest function) (values_in arguments)
 
 -- T13 at the function's name where it does not take the arguments

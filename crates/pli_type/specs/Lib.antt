@@ -4,9 +4,11 @@ pub mod FunctionCalls
 pub mod InitialScalars
 pub mod NamedUnits
 pub mod Names
+pub mod ProcedureCalls
 pub mod References
 pub mod StatementTyping
 pub mod Typing
+pub mod TreeBlocks
 pub mod Unbuilt
 pub mod examples
 pub mod laws

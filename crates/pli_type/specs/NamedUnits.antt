@@ -1,23 +1,30 @@
 -- A resolved unit as types see it: where its variables begin, what its names mean, and what its variables are
--- made from. It has one block so far, the external procedure, beside the outermost one, which declares the
--- unit's own name.
-use Rattle.std.specs.Prelude.{ℕ, zero, suc, ◌+◌, nat_eq, nat_lt, nat_le, Bool, true, false, ◌&&◌}
-use Rattle.std.specs.Prelude.{unsigned_abs, Option, Some, None, List, [], ◌∷◌, ◌++◌, get_or, slice_get}
-use Rattle.std.specs.Prelude.{Result, if◌then◌else◌}
+-- made from. A name is looked at from where it is used: what the blocks around are says how many static links
+-- outward a variable is.
+use Rattle.std.specs.Prelude.{ℕ, zero, suc, ◌+◌, nat_eq, nat_lt, nat_le, Bool, true, false, ◌&&◌, map, length}
+use Rattle.std.specs.Prelude.{unsigned_abs, Option, Some, None, option_map, option_and_then, List, [], ◌∷◌}
+use Rattle.std.specs.Prelude.{◌++◌, get_or, take, slice_get, Result, if◌then◌else◌}
+use Rattle.std.specs.List.{flat_map}
 use Rattle.pli_base.specs.declared.token.Fault.{Fault}
+use Rattle.pli_map.specs.Description as described
 use Rattle.pli_map.specs.Description.{Description, FixedBinary, Character, Varying, Bit, Array, Structure}
 use Rattle.pli_map.specs.Description.{Members, NoMembers, MemberThen}
 use Rattle.pli_map.specs.Sizes.{count_of, size_of}
 use Rattle.pli_map.specs.declared.description.Bounds.{Bounds}
-use Rattle.pli_resolve.specs.ResolvedUnits.{ResolvedUnit, meaning_at, all_symbols}
+use Rattle.pli_resolve.specs.ResolvedUnits.{ResolvedUnit, ResolvedBlock, meaning_at, all_symbols, symbol_at}
 use Rattle.pli_resolve.specs.Symbols.{Symbol, SymbolKind, Variable, Member, Label, Procedure, Entry, BuiltIn}
+use Rattle.pli_resolve.specs.declared.block_numbers.ResolvedBlockKind.{ResolvedBlockKind}
+use Rattle.pli_resolve.specs.declared.block_numbers.ResolvedBlockKind.TheVariants as kinds
 use Rattle.pli_resolve.specs.declared.symbol.NameMeaning.{NameMeaning}
 use Rattle.pli_resolve.specs.declared.symbol.NameMeaning.TheVariants as meanings
 use Rattle.pli_resolve.specs.declared.symbol.StorageClass.{StorageClass}
 use Rattle.pli_resolve.specs.declared.symbol.StorageClass.TheVariants as classes
-use Rattle.pli_type.specs.Checked.{NamedUnit, checked}
+use Rattle.pli_resolve.specs.declared.symbol.SymbolKey.{SymbolKey}
+use Rattle.pli_type.specs.Checked.{checked}
 use Rattle.pli_type.specs.InitialScalars.{InitialItem, template_of}
-use Rattle.pli_type.specs.Names.{NamedAs, AVariable, AFunction, AProcedure, ALabel, Naming}
+use Rattle.pli_type.specs.Names.{NamedAs, AVariable, AFunction, AProcedure, ALabel, Untyped, NamedProcedure}
+use Rattle.pli_type.specs.Names.{Naming, Compiled, NamedUnit}
+use Rattle.pli_type.specs.Unbuilt.{is_later_function}
 use Rattle.pli_type_tree.specs.Templates.{Template}
 use Rattle.pli_type_tree.specs.TypedTree.{Root, InSlot, OfProgram, TypedUnit}
 
@@ -62,6 +69,57 @@ abbrev pub is_static : (greatest : ℕ) → StorageClass → Description → Boo
 is_static greatest classes.Static d = is_stored greatest d
 is_static greatest class d = false
 
+-- blocks
+
+-- what the block of a number declares
+abbrev pub block_symbols : ResolvedUnit → (block : ℕ) → List Symbol
+block_symbols r block = get_or (all_symbols r) block []
+
+abbrev pub of_block : {A : Type 0} → (ResolvedBlock → A) → (otherwise : A) → Option ResolvedBlock → A
+of_block part otherwise None = otherwise
+of_block part otherwise (Some b) = part b
+
+-- a procedure, and one inside the external procedure, which has no parameters and gives nothing so far
+abbrev pub is_procedure : ResolvedBlockKind → Bool
+is_procedure kinds.Procedure = true
+is_procedure other = false
+
+abbrev pub is_internal : (block : ℕ) → ResolvedBlockKind → Bool
+is_internal block kind = nat_lt 0 block && is_procedure kind
+
+-- the numbers of its parameters among its symbols, each under its slot
+abbrev pub parameter_numbers : ResolvedUnit → (block : ℕ) → List ℕ
+parameter_numbers r block =
+    of_block (λ b. if is_internal block b.kind then b.parameters else []) [] (slice_get r.blocks block)
+
+-- what a variable of its own is; each parameter is one
+abbrev pub description_in : Option Symbol → Description
+description_in None = described.Pointer
+description_in (Some s) = of_kind s.kind
+  where
+    of_kind : SymbolKind → Description
+    of_kind (Variable description class scope initial area) = description
+    of_kind other = described.Pointer
+
+-- what the parameters of a procedure are
+abbrev pub parameters_of : ResolvedUnit → (block : ℕ) → List Description
+parameters_of r block =
+    map (λ number. description_in (slice_get (block_symbols r block) number)) (parameter_numbers r block)
+
+-- what a procedure gives, by the symbol of its name
+abbrev pub returned_by : Option Symbol → Option Description
+returned_by None = None
+returned_by (Some s) = of_kind s.kind
+  where
+    of_kind : SymbolKind → Option Description
+    of_kind (Procedure block returned area) = returned
+    of_kind other = None
+
+abbrev pub returned_of : ResolvedUnit → (block : ℕ) → Option Description
+returned_of r block =
+    option_and_then (λ key. returned_by (symbol_at r key))
+    (of_block (λ b. if is_internal block b.kind then b.name else None) None (slice_get r.blocks block))
+
 -- where variables begin
 
 -- a variable of its own of such a class: one, or none
@@ -75,65 +133,129 @@ such_before is_such [] number = 0
 such_before is_such (s ∷ ss) zero = 0
 such_before is_such (s ∷ ss) (suc number) = one_such is_such s.kind + such_before is_such ss number
 
--- AUTOMATIC variables stand in slots, STATIC ones before the program begins, each kind in the order of the
--- text; so a root's class and its number say where it begins. Others begin nowhere yet
-abbrev pub root_of : (greatest : ℕ) → List Symbol → (number : ℕ) → StorageClass → Description → Option Root
-root_of greatest symbols number class d =
-    if is_automatic greatest class d
-    then Some (InSlot 0 (such_before (is_automatic greatest) symbols number))
-    else if is_static greatest class d
-    then Some (OfProgram (such_before (is_static greatest) symbols number))
+-- how many of the symbols of all these blocks
+abbrev pub such_in : (StorageClass → Description → Bool) → List (List Symbol) → ℕ
+such_in is_such [] = 0
+such_in is_such (ss ∷ more) = such_before is_such ss (length ss) + such_in is_such more
+
+-- how many static links outward a block is, if it stands around
+abbrev pub outward_to : (blocks : List ℕ) → (block : ℕ) → Option ℕ
+outward_to [] block = None
+outward_to (b ∷ bs) block = if nat_eq b block then Some 0 else option_map suc (outward_to bs block)
+
+-- a slot of a block, if the block stands around
+abbrev pub in_slot : (outward : Option ℕ) → (slot : ℕ) → Option Root
+in_slot outward slot = option_map (λ o. InSlot o slot) outward
+
+-- the parameter in a slot is the symbol of this number
+abbrev pub is_parameter : (numbers : List ℕ) → (slot number : ℕ) → Bool
+is_parameter numbers slot number = is_number (slice_get numbers slot)
+  where
+    is_number : Option ℕ → Bool
+    is_number None = false
+    is_number (Some n) = nat_eq n number
+
+-- Parameters stand in slots, each in its own, and AUTOMATIC variables behind them; STATIC variables stand
+-- before the program begins, block after block. Each kind stands in the order of the text. Other variables
+-- begin nowhere yet
+abbrev pub root_of : (greatest : ℕ) → ResolvedUnit → (blocks : List ℕ) → SymbolKey → StorageClass → Description
+    → Option Root
+root_of greatest r blocks key classes.Automatic d =
+    if is_stored greatest d
+    then in_slot (outward_to blocks key.block)
+    (length (parameter_numbers r key.block)
+    + such_before (is_automatic greatest) (block_symbols r key.block) key.number)
     else None
+root_of greatest r blocks key (classes.Parameter slot) d =
+    if is_stored greatest d && is_parameter (parameter_numbers r key.block) slot key.number
+    then in_slot (outward_to blocks key.block) slot else None
+root_of greatest r blocks key classes.Static d =
+    if is_stored greatest d
+    then Some (OfProgram (such_in (is_static greatest) (take key.block (all_symbols r))
+    + such_before (is_static greatest) (block_symbols r key.block) key.number))
+    else None
+root_of greatest r blocks key class d = None
 
 -- what names mean
 
 abbrev pub variable_from : Option Root → (whole : Description) → (path : List ℕ) → NamedAs
-variable_from None whole path = ALabel
+variable_from None whole path = Untyped
 variable_from (Some root) whole path = AVariable (record { root = root; whole = whole; path = path })
 
 -- a variable of its own, or its member on this way
-abbrev pub variable_at : (greatest : ℕ) → List Symbol → (root : ℕ) → (path : List ℕ) → Option Symbol
-    → NamedAs
-variable_at greatest symbols root path None = ALabel
-variable_at greatest symbols root path (Some s) = of_kind s.kind
+abbrev pub variable_at : (greatest : ℕ) → ResolvedUnit → (blocks : List ℕ) → SymbolKey → (path : List ℕ)
+    → Option Symbol → NamedAs
+variable_at greatest r blocks key path None = Untyped
+variable_at greatest r blocks key path (Some s) = of_kind s.kind
   where
     of_kind : SymbolKind → NamedAs
     of_kind (Variable description class scope initial area) =
-        variable_from (root_of greatest symbols root class description) description path
-    of_kind other = ALabel
+        variable_from (root_of greatest r blocks key class description) description path
+    of_kind other = Untyped
 
--- by the symbols of the external procedure's block
-abbrev pub symbol_meant : (greatest : ℕ) → List Symbol → (number : ℕ) → SymbolKind → NamedAs
-symbol_meant greatest symbols number (Variable description class scope initial area) =
-    variable_from (root_of greatest symbols number class description) description []
-symbol_meant greatest symbols number (Member root path initial area) =
-    variable_at greatest symbols root path (slice_get symbols root)
-symbol_meant greatest symbols number (Label statement) = ALabel
-symbol_meant greatest symbols number (Procedure block returned area) = AProcedure
-symbol_meant greatest symbols number (Entry parameters returned) = AProcedure
-symbol_meant greatest symbols number BuiltIn = ALabel
+-- a procedure is reached that stands directly in a block around; so is the external one
+abbrev pub stands_around : (blocks : List ℕ) → Option ℕ → Bool
+stands_around blocks None = true
+stands_around blocks (Some outer) = not_none (outward_to blocks outer)
+  where
+    not_none : Option ℕ → Bool
+    not_none None = false
+    not_none (Some outward) = true
 
-abbrev pub declared_as : (greatest : ℕ) → List Symbol → (number : ℕ) → NamedAs
-declared_as greatest symbols number = of_symbol (slice_get symbols number)
+abbrev pub is_reached : (blocks : List ℕ) → Option ResolvedBlock → Bool
+is_reached blocks None = false
+is_reached blocks (Some b) = is_procedure b.kind && stands_around blocks b.outer
+
+-- a function gives what a variable could hold
+abbrev pub gives_stored : (greatest : ℕ) → Option Description → Bool
+gives_stored greatest None = true
+gives_stored greatest (Some d) = is_stored greatest d
+
+abbrev pub named_procedure : ResolvedUnit → (block : ℕ) → NamedProcedure
+named_procedure r block =
+    record { block = block; parameters = parameters_of r block; returned = returned_of r block }
+
+abbrev pub procedure_named : (greatest : ℕ) → ResolvedUnit → (blocks : List ℕ) → (block : ℕ) → NamedAs
+procedure_named greatest r blocks block =
+    if is_reached blocks (slice_get r.blocks block) && gives_stored greatest (returned_of r block)
+    then AProcedure (named_procedure r block) else Untyped
+
+-- by the symbols of its block
+abbrev pub symbol_meant : (greatest : ℕ) → ResolvedUnit → (blocks : List ℕ) → SymbolKey → SymbolKind → NamedAs
+symbol_meant greatest r blocks key (Variable description class scope initial area) =
+    variable_from (root_of greatest r blocks key class description) description []
+symbol_meant greatest r blocks key (Member root path initial area) =
+    variable_at greatest r blocks (record { block = key.block; number = root }) path
+    (slice_get (block_symbols r key.block) root)
+symbol_meant greatest r blocks key (Label statement) = ALabel statement
+symbol_meant greatest r blocks key (Procedure block returned area) = procedure_named greatest r blocks block
+symbol_meant greatest r blocks key (Entry parameters returned) = Untyped
+symbol_meant greatest r blocks key BuiltIn = Untyped
+
+abbrev pub declared_as : (greatest : ℕ) → ResolvedUnit → (blocks : List ℕ) → SymbolKey → NamedAs
+declared_as greatest r blocks key = of_symbol (symbol_at r key)
   where
     of_symbol : Option Symbol → NamedAs
-    of_symbol None = ALabel
-    of_symbol (Some s) = symbol_meant greatest symbols number s.kind
+    of_symbol None = Untyped
+    of_symbol (Some s) = symbol_meant greatest r blocks key s.kind
 
--- the symbols of the external procedure
-abbrev pub own_symbols : ResolvedUnit → List Symbol
-own_symbols r = get_or (all_symbols r) 0 []
+abbrev pub named_as : (greatest : ℕ) → ResolvedUnit → (blocks : List ℕ) → Option NameMeaning → NamedAs
+named_as greatest r blocks None = Untyped
+named_as greatest r blocks (Some (meanings.BuiltIn function)) = AFunction function
+named_as greatest r blocks (Some (meanings.Symbol key)) = declared_as greatest r blocks key
 
--- a name of the external procedure's block; any other is that procedure's own, which stands around it
-abbrev pub named_as : (greatest : ℕ) → ResolvedUnit → Option NameMeaning → NamedAs
-named_as greatest r None = ALabel
-named_as greatest r (Some (meanings.BuiltIn function)) = AFunction function
-named_as greatest r (Some (meanings.Symbol key)) =
-    if nat_eq key.block 0 then declared_as greatest (own_symbols r) key.number else AProcedure
+abbrev pub naming_of : (greatest : ℕ) → ResolvedUnit → (blocks : List ℕ) → Naming
+naming_of greatest r blocks =
+    record { greatest = greatest; meaning = λ at. named_as greatest r blocks (meaning_at r at) }
 
-abbrev pub naming_of : (greatest : ℕ) → ResolvedUnit → Naming
-naming_of greatest r =
-    record { greatest = greatest; meaning = λ at. named_as greatest r (meaning_at r at) }
+-- the name of a function that is not compiled yet
+abbrev pub means_later : Option NameMeaning → Bool
+means_later None = false
+means_later (Some (meanings.BuiltIn function)) = is_later_function function
+means_later (Some (meanings.Symbol key)) = false
+
+abbrev pub compiled_of : (greatest : ℕ) → ResolvedUnit → Compiled
+compiled_of greatest r = record { greatest = greatest; is_later = λ at. means_later (meaning_at r at) }
 
 -- what variables are made from
 
@@ -168,12 +290,19 @@ templates_of is_such symbols = templates_from is_such symbols 0 symbols
 
 -- the unit
 
+-- the STATIC variables of blocks, block after block
+abbrev pub all_statics : (greatest : ℕ) → List (List Symbol) → List Template
+all_statics greatest blocks = flat_map (templates_of (is_static greatest)) blocks
+
 abbrev pub named_unit : (greatest : ℕ) → ResolvedUnit → NamedUnit
 named_unit greatest r = record {
   tree = r.tree;
+  compiled = compiled_of greatest r;
   naming = naming_of greatest r;
-  automatic = templates_of (is_automatic greatest) (own_symbols r);
-  statics = templates_of (is_static greatest) (own_symbols r);
+  parameters = parameters_of r;
+  returned = returned_of r;
+  automatic = λ block. templates_of (is_automatic greatest) (block_symbols r block);
+  statics = all_statics greatest (all_symbols r);
 }
 
 -- what `check` answers for a resolved unit, where numbers have at most 31 binary digits

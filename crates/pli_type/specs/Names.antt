@@ -1,7 +1,9 @@
--- What names mean where types are asked for.
-use Rattle.std.specs.Prelude.{ℕ, List}
+-- What names mean where types are asked for, and a unit as types see it.
+use Rattle.std.specs.Prelude.{ℕ, Bool, Option, List}
+use Rattle.pli_base.specs.Statements.{ExternalProcedure}
 use Rattle.pli_map.specs.Description.{Description}
 use Rattle.pli_resolve.specs.declared.built_in.BuiltInFunction.{BuiltInFunction}
+use Rattle.pli_type_tree.specs.Templates.{Template}
 use Rattle.pli_type_tree.specs.TypedTree.{Root}
 
 -- a variable of its own, or a member of one: where the variable begins, the description of the whole
@@ -11,15 +13,42 @@ pub record NamedVariable : Type 0 where
   pub whole : Description
   pub path : List ℕ
 
--- what a name means where it is used; the one procedure so far is the unit's own, without parameters and
--- RETURNS
+-- a procedure: its block, what its parameters are, and what it gives if it is a function
+pub record NamedProcedure : Type 0 where
+  pub block : ℕ
+  pub parameters : List Description
+  pub returned : Option Description
+
+-- what a name means where it is used: a variable, a built-in function, a procedure, the label of a statement,
+-- or what has no type
 pub data NamedAs : Type 0 where
   AVariable : (variable : NamedVariable) → NamedAs
   AFunction : (function : BuiltInFunction) → NamedAs
-  AProcedure ALabel : NamedAs
+  AProcedure : (procedure : NamedProcedure) → NamedAs
+  ALabel : (statement : ℕ) → NamedAs
+  Untyped : NamedAs
 
 -- how many binary digits numbers have at most, and what the name at a token means: the first name of each
--- reference between arrows
+-- reference between arrows, the name in CALL, and the label in GOTO
 pub record Naming : Type 0 where
   pub greatest : ℕ
   pub meaning : (at : ℕ) → NamedAs
+
+-- what is compiled so far, as it shows in names and constants: how many binary digits numbers have at most,
+-- and at which tokens stands the name of a function that is not compiled yet
+pub record Compiled : Type 0 where
+  pub greatest : ℕ
+  pub is_later : (at : ℕ) → Bool
+
+-- a unit without faults of declarations: its tree; what is compiled; what its names mean where these blocks
+-- stand around, the innermost first; of each block what its parameters are, what it gives if it is that of a
+-- function, and what its AUTOMATIC variables are made from; and what the STATIC variables of all blocks are
+-- made from
+pub record NamedUnit : Type 0 where
+  pub tree : ExternalProcedure
+  pub compiled : Compiled
+  pub naming : (blocks : List ℕ) → Naming
+  pub parameters : (block : ℕ) → List Description
+  pub returned : (block : ℕ) → Option Description
+  pub automatic : (block : ℕ) → List Template
+  pub statics : List Template

@@ -1,28 +1,34 @@
 -- Typed statements: a statement gives a typed one, or its first fault of types and those of the statements in
--- it. An IF has a fault of its own, and so has each statement behind THEN and ELSE (own).
-use Rattle.std.specs.Prelude.{ℕ, Bool, Option, Some, None, List, [], ◌∷◌, ◌++◌, Result, Ok, Err}
-use Rattle.std.specs.Prelude.{if◌then◌else◌}
+-- it. An IF and a DO have a fault of their own, and so has each statement in them (own).
+use Rattle.std.specs.Prelude.{ℕ, suc, ◌+◌, nat_eq, Bool, true, false, Option, Some, None, is_none, option_map}
+use Rattle.std.specs.Prelude.{List, [], ◌∷◌, ◌++◌, length, map, Result, Ok, Err, if◌then◌else◌}
+use Rattle.std.specs.List.{list_any}
 use Rattle.pli_base.specs.Reading.{◌>>=◌, at_fault}
 use Rattle.pli_base.specs.Statements as tree
-use Rattle.pli_base.specs.Statements.{Statement, Numbered, Body, Assign, Declare, Statements, Before, Ended}
-use Rattle.pli_base.specs.Statements.{Alternative}
-use Rattle.pli_base.specs.Syntax.{Expression, Reference}
-use Rattle.pli_base.specs.declared.code.Code.TheVariants.{NotAVariable, CannotAssign}
-use Rattle.pli_base.specs.declared.code.Code.TheVariants.{CannotPrint, WrongOperandType, NotYetBuilt}
+use Rattle.pli_base.specs.Statements.{Range, Statement, Numbered, Body, Assign, Declare, Statements}
+use Rattle.pli_base.specs.Statements.{Before, Ended, Alternative}
+use Rattle.pli_base.specs.Syntax.{Expression, Referred, Reference, Arguments, Absent, Given}
+use Rattle.pli_base.specs.declared.code.Code.TheVariants.{NotAVariable, CannotAssign, NotCallableHere}
+use Rattle.pli_base.specs.declared.code.Code.TheVariants.{CannotPrint, WrongOperandType, WrongReturn}
+use Rattle.pli_base.specs.declared.code.Code.TheVariants.{BadControlVariable, NotYetBuilt}
+use Rattle.pli_base.specs.declared.syntax.Identifier.{Identifier}
 use Rattle.pli_base.specs.declared.token.Fault.{Fault}
-use Rattle.pli_map.specs.Description.{Description}
+use Rattle.pli_map.specs.Description.{Description, FixedBinary}
 use Rattle.pli_map.specs.Same.{same}
 use Rattle.pli_map.specs.Scalars.{is_scalar}
-use Rattle.pli_type.specs.ExpressionTypes.{TypedValue, converted, printed}
-use Rattle.pli_type.specs.FunctionCalls.{Meant, OneValue, WholeAggregate}
-use Rattle.pli_type.specs.Names.{Naming}
-use Rattle.pli_type.specs.References.{AsArgument, AsTarget, Referent}
-use Rattle.pli_type.specs.Typing.{Denoted, DenotesVariable, DenotesResult, first_token, or_fault, meant}
-use Rattle.pli_type.specs.Typing.{referred, value_of}
+use Rattle.pli_type.specs.ExpressionTypes.{TypedValue, conversions, converted, precision_of, printed}
+use Rattle.pli_type.specs.FunctionCalls.{Denoted, DenotesVariable, DenotesResult, Meant, OneValue}
+use Rattle.pli_type.specs.FunctionCalls.{WholeAggregate, Argument}
+use Rattle.pli_type.specs.Names.{NamedAs, AProcedure, ALabel, Naming, NamedUnit}
+use Rattle.pli_type.specs.ProcedureCalls.{arguments_passed}
+use Rattle.pli_type.specs.References.{AsArgument, AsLocator, AsTarget, Referent}
+use Rattle.pli_type.specs.TreeBlocks.{Next, behind, temporaries_among, limits_kept}
+use Rattle.pli_type.specs.Typing.{first_token, or_fault, meant, referred, value_of, all_arguments}
 use Rattle.pli_type_tree.specs.TypedTree as typed
-use Rattle.pli_type_tree.specs.TypedTree.{TypedExpression, Held, TypedReference, Form, TypedStatement}
-use Rattle.pli_type_tree.specs.TypedTree.{TypedStatements, NoStatement, StatementThen, OtherWise, NoElse}
-use Rattle.pli_type_tree.specs.TypedTree.{Else}
+use Rattle.pli_type_tree.specs.TypedTree.{TypedExpression, Held, TypedReference, Whole, Part, Subscripts}
+use Rattle.pli_type_tree.specs.TypedTree.{NoSubscript, SubscriptThen, BlockHead, TypedRange, Iteration, Form}
+use Rattle.pli_type_tree.specs.TypedTree.{TypedArguments, TypedStatement, TypedStatements, NoStatement}
+use Rattle.pli_type_tree.specs.TypedTree.{StatementThen, OtherWise, NoElse, Else, TypedProcedure}
 use Rattle.pli_type.specs.declared.expression_type.ExpressionType.{ExpressionType}
 use Rattle.pli_type.specs.declared.expression_type.ExpressionType.TheVariants as types
 
@@ -85,62 +91,378 @@ items n (e ∷ es) = do
   xs ← items n es
   Ok (x ∷ xs)
 
+-- where statements stand
+
+-- a block around: its number, and the labels of its lists in which the statement stands
+pub record Enclosing : Type 0 where
+  pub number : ℕ
+  pub labels : List ℕ
+
+-- where a statement stands: the blocks around, the innermost first; how many of them are BEGIN blocks of its
+-- procedure; and what its procedure gives, if it is a function
+pub record Surroundings : Type 0 where
+  pub blocks : List Enclosing
+  pub begins : ℕ
+  pub value : Option Description
+
+-- what names mean there
+abbrev pub naming_at : NamedUnit → Surroundings → Naming
+naming_at u s = u.naming (map (λ b. b.number) s.blocks)
+
+-- the number of the block there
+abbrev pub block_at : Surroundings → ℕ
+block_at s = innermost s.blocks
+  where
+    innermost : List Enclosing → ℕ
+    innermost [] = 0
+    innermost (b ∷ bs) = b.number
+
+-- a DECLARE and a procedure leave nothing among the statements
+abbrev pub leaves_nothing : Body → Bool
+leaves_nothing (Declare declared) = true
+leaves_nothing (tree.Procedure heading statements end) = true
+leaves_nothing body = false
+
+-- the labels of a list are the numbers of its statements that have one
+abbrev pub label_of : Statement → List ℕ
+label_of (Numbered number None at body) = []
+label_of (Numbered number (Some label) at body) = if leaves_nothing body then [] else number ∷ []
+
+abbrev pub labels_of : Statements → List ℕ
+labels_of Ended = []
+labels_of (Before first more) = label_of first ++ labels_of more
+
+-- in a group
+abbrev pub with_labels : List ℕ → List Enclosing → List Enclosing
+with_labels labels [] = []
+with_labels labels (b ∷ bs) = record { number = b.number; labels = labels ++ b.labels } ∷ bs
+
+abbrev pub in_group : Statements → Surroundings → Surroundings
+in_group statements s = record {
+  blocks = with_labels (labels_of statements) s.blocks;
+  begins = s.begins;
+  value = s.value;
+}
+
+abbrev pub enclosing : (number : ℕ) → Statements → Enclosing
+enclosing number statements = record { number = number; labels = labels_of statements }
+
+-- in a BEGIN block of this number
+abbrev pub in_begin : (number : ℕ) → Statements → Surroundings → Surroundings
+in_begin number statements s = record {
+  blocks = enclosing number statements ∷ s.blocks;
+  begins = suc s.begins;
+  value = s.value;
+}
+
+-- in a procedure whose block has this number
+abbrev pub in_procedure : (number : ℕ) → (value : Option Description) → Statements → Surroundings
+    → Surroundings
+in_procedure number value statements s = record {
+  blocks = enclosing number statements ∷ s.blocks;
+  begins = 0;
+  value = value;
+}
+
+-- jumps, calls and returns
+
+-- how many static links outward the label of a statement is
+abbrev pub label_found : List Enclosing → (label : ℕ) → Option ℕ
+label_found [] label = None
+label_found (b ∷ bs) label =
+    if list_any (nat_eq label) b.labels then Some 0 else option_map suc (label_found bs label)
+
+abbrev pub jump_to : (label : ℕ) → Option ℕ → Option Form
+jump_to label None = None
+jump_to label (Some outward) = Some (typed.Goto outward label)
+
+-- a GOTO leads to a label of a list that it stands in; any other is a fault of declarations, and is not
+-- compiled
+abbrev pub jump : Surroundings → NamedAs → Option Form
+jump s (ALabel statement) = jump_to statement (label_found s.blocks statement)
+jump s other = None
+
+abbrev pub goto_typed : Naming → Surroundings → (label : Identifier) → Result Form Fault
+goto_typed n s label = or_fault NotYetBuilt label.at (jump s (n.meaning label.at))
+
+-- what CALL has in parentheses
+abbrev pub arguments_typed : Naming → Arguments → Result (List Argument) Fault
+arguments_typed n Absent = Ok []
+arguments_typed n (Given list) = all_arguments n [] list
+
+-- a call of what is no function: T6, T7 or T8 at the name, in this order
+abbrev pub no_function : (at block : ℕ) → Option Description → TypedArguments → Result Form Fault
+no_function at block None arguments = Ok (typed.Call block arguments)
+no_function at block (Some d) arguments = at_fault NotCallableHere at
+
+abbrev pub call_of : (greatest : ℕ) → (at : ℕ) → NamedAs → List Argument → Result Form Fault
+call_of greatest at (AProcedure p) gs =
+    arguments_passed greatest p at gs >>= no_function at p.block p.returned
+call_of greatest at other gs = at_fault NotCallableHere at
+
+abbrev pub call_typed : Naming → (name : Identifier) → Arguments → Result Form Fault
+call_typed n name arguments = do
+  gs ← arguments_typed n arguments
+  call_of n.greatest name.at (n.meaning name.at) gs
+
+-- RETURN with a value: T9 at RETURN where the procedure is no function, T5 at the value where it does not
+-- suit
+abbrev pub returned_value : (greatest : ℕ) → (at first begins : ℕ) → Option Description → TypedValue
+    → Result Form Fault
+returned_value greatest at first begins None v = at_fault WrongReturn at
+returned_value greatest at first begins (Some d) v = do
+  x ← or_fault CannotAssign first (converted greatest d v)
+  Ok (typed.ReturnValue begins x)
+
+-- and without one: T9 there where it is a function
+abbrev pub return_typed : Naming → Surroundings → (at : ℕ) → Option Expression → Result Form Fault
+return_typed n s at None =
+    if is_none s.value then Ok (typed.Return s.begins) else at_fault WrongReturn at
+return_typed n s at (Some e) = do
+  v ← value_of n e
+  returned_value n.greatest at (first_token e) s.begins s.value v
+
+-- groups with a control variable
+
+-- TO and BY take a number, else T4 at its first token
+abbrev pub number_of : (greatest : ℕ) → TypedValue → Option TypedExpression
+number_of greatest v = option_map (λ p. v.expression) (precision_of greatest v.kind)
+
+abbrev pub limit : Naming → Expression → Result TypedExpression Fault
+limit n e = do
+  v ← value_of n e
+  or_fault WrongOperandType (first_token e) (number_of n.greatest v)
+
+abbrev pub possible_limit : Naming → Option Expression → Result (Option TypedExpression) Fault
+possible_limit n None = Ok None
+possible_limit n (Some e) = do
+  x ← limit n e
+  Ok (Some x)
+
+-- TO and BY as they stand; what REPEAT says is looked at behind the variable
+abbrev pub limits : Naming → Option Range → Result TypedRange Fault
+limits n (Some (tree.To to by)) = do
+  x ← limit n to
+  y ← possible_limit n by
+  Ok (typed.ToBy x y)
+limits n (Some (tree.By by to)) = do
+  x ← limit n by
+  y ← possible_limit n to
+  Ok (typed.ByTo x y)
+limits n other = Ok typed.Once
+
+-- the variable has no subscripts, and is a number where TO or BY stands
+abbrev pub without_subscripts : TypedReference → Bool
+without_subscripts (Whole root) = true
+without_subscripts (Part root offset d NoSubscript) = true
+without_subscripts (Part root offset d (SubscriptThen stride value more)) = false
+
+abbrev pub suits_range : Description → TypedRange → Bool
+suits_range d typed.Once = true
+suits_range (FixedBinary p) range = true
+suits_range d range = false
+
+-- T12 at the variable where it may not control a group
+abbrev pub suited_control : (at : ℕ) → Referent → Bool → Result Referent Fault
+suited_control at r true = Ok r
+suited_control at r false = at_fault BadControlVariable at
+
+abbrev pub controls : (at : ℕ) → TypedRange → Denoted → Result Referent Fault
+controls at range (DenotesResult value) = at_fault NotAVariable at
+controls at range (DenotesVariable r) =
+    if without_subscripts r.reference then suited_control at r (suits_range r.description range)
+    else at_fault BadControlVariable at
+
+-- WHILE behind them
+abbrev pub possible_condition : Naming → Option Expression → Result (Option TypedExpression) Fault
+possible_condition n None = Ok None
+possible_condition n (Some e) = do
+  x ← condition n e
+  Ok (Some x)
+
+-- and REPEAT: T5 at its expression where that does not suit the variable
+abbrev pub next_value : Naming → Description → Expression → Result TypedRange Fault
+next_value n d e = do
+  v ← value_of n e
+  x ← or_fault CannotAssign (first_token e) (converted n.greatest d v)
+  Ok (typed.Repeated x)
+
+abbrev pub with_repeat : Naming → Description → TypedRange → Option Range → Result TypedRange Fault
+with_repeat n d range (Some (tree.Repeat next)) = next_value n d next
+with_repeat n d range other = Ok range
+
+-- `v = a ..`: the faults of a, of TO and BY, of v, T12, T5 at `=`, those of WHILE, those of REPEAT
+abbrev pub iteration : Naming → (temporary : ℕ) → Reference → (equals : ℕ) → (first : Expression)
+    → Option Range → (condition : Option Expression) → Result Iteration Fault
+iteration n temporary variable equals first range tested = do
+  v ← value_of n first
+  kept ← limits n range
+  d ← referred n AsLocator variable
+  r ← controls (first_token (Referred variable)) kept d
+  operations ← or_fault CannotAssign equals (conversions n.greatest r.description v.kind)
+  x ← possible_condition n tested
+  turns ← with_repeat n r.description kept range
+  Ok (record {
+    control = r.reference;
+    conversion = operations;
+    start = v.expression;
+    range = turns;
+    condition = x;
+    temporary = temporary;
+  })
+
 -- statements
 
+-- a part of a unit, with the procedures in it, in the order in which they end
+pub record WithProcedures (A : Type 0) : Type 0 where
+  pub part : A
+  pub procedures : List TypedProcedure
+
+abbrev pub alone : {A : Type 0} → A → WithProcedures A
+alone x = record { part = x; procedures = [] }
+
 -- with the one fault that a statement has, as a list
-abbrev pub of_own : {A : Type 0} → Result A Fault → Result A (List Fault)
-of_own (Ok x) = Ok x
+abbrev pub of_own : {A : Type 0} → Result A Fault → Result (WithProcedures A) (List Fault)
+of_own (Ok x) = Ok (alone x)
 of_own (Err f) = Err (f ∷ [])
 
 -- two parts together, or the faults of both
-abbrev pub together : {A B C : Type 0} → (A → B → C) → Result A (List Fault) → Result B (List Fault)
-    → Result C (List Fault)
-together make (Ok x) (Ok y) = Ok (make x y)
+abbrev pub together : {A B C : Type 0} → (A → B → C) → Result (WithProcedures A) (List Fault)
+    → Result (WithProcedures B) (List Fault) → Result (WithProcedures C) (List Fault)
+together make (Ok x) (Ok y) =
+    Ok (record { part = make x.part y.part; procedures = x.procedures ++ y.procedures })
 together make (Ok x) (Err gs) = Err gs
 together make (Err fs) (Ok y) = Err fs
 together make (Err fs) (Err gs) = Err (fs ++ gs)
 
 -- one part as it becomes another
-abbrev pub made : {A B : Type 0} → (A → B) → Result A (List Fault) → Result B (List Fault)
-made make (Ok x) = Ok (make x)
+abbrev pub made : {A B : Type 0} → (A → B) → Result (WithProcedures A) (List Fault)
+    → Result (WithProcedures B) (List Fault)
+made make (Ok x) = Ok (record { part = make x.part; procedures = x.procedures })
 made make (Err fs) = Err fs
 
 -- PUT with its items
-abbrev pub put_form : (skip : Bool) → Result (List TypedExpression) Fault → Result Form (List Fault)
+abbrev pub put_form : (skip : Bool) → Result (List TypedExpression) Fault
+    → Result (WithProcedures Form) (List Fault)
 put_form skip typed_items = made (typed.Put skip) (of_own typed_items)
 
 -- IF with its three parts
-abbrev pub if_form : Result TypedExpression Fault → Result TypedStatement (List Fault)
-    → Result OtherWise (List Fault) → Result Form (List Fault)
+abbrev pub if_form : Result TypedExpression Fault → Result (WithProcedures TypedStatement) (List Fault)
+    → Result (WithProcedures OtherWise) (List Fault) → Result (WithProcedures Form) (List Fault)
 if_form tested consequence alternative =
-    let parts : Result (TypedStatement × OtherWise) (List Fault) =
+    let parts : Result (WithProcedures (TypedStatement × OtherWise)) (List Fault) =
     together (λ s otherwise. (s, otherwise)) consequence alternative in
     together (λ x both. typed.If x both.0 both.1) (of_own tested) parts
 
--- a statement in a list: a DECLARE leaves nothing
-abbrev pub listed : Statement → Result TypedStatement (List Fault) → Result TypedStatements (List Fault)
-    → Result TypedStatements (List Fault)
-listed (Numbered number label at (Declare declared)) first more = more
-listed statement first more = together StatementThen first more
+-- a group: what controls it, then its list
+abbrev pub while_form : Result TypedExpression Fault → Result (WithProcedures TypedStatements) (List Fault)
+    → Result (WithProcedures Form) (List Fault)
+while_form tested list = together typed.While (of_own tested) list
+
+abbrev pub iterate_form : Result Iteration Fault → Result (WithProcedures TypedStatements) (List Fault)
+    → Result (WithProcedures Form) (List Fault)
+iterate_form controlled list = together typed.Iterate (of_own controlled) list
+
+-- what an activation of a block begins with
+abbrev pub head_of : NamedUnit → (number statement : ℕ) → Statements → BlockHead
+head_of u number statement statements = record {
+  number = number;
+  statement = statement;
+  variables = u.automatic number;
+  temporaries = temporaries_among statements;
+}
+
+-- the END of a function must not be reached
+abbrev pub function_end : Option Description → (end : ℕ) → Option ℕ
+function_end None end = None
+function_end (Some d) end = Some end
+
+abbrev pub procedure_of : NamedUnit → (parent : Option ℕ) → (number statement end : ℕ) → Statements
+    → TypedStatements → TypedProcedure
+procedure_of u parent number statement end statements list = record {
+  head = head_of u number statement statements;
+  parent = parent;
+  parameters = length (u.parameters number);
+  function_end = function_end (u.returned number) end;
+  statements = list;
+}
+
+-- a procedure leaves nothing where it stands
+abbrev pub as_procedure : (TypedStatements → TypedProcedure)
+    → Result (WithProcedures TypedStatements) (List Fault) → Result (WithProcedures Form) (List Fault)
+as_procedure make (Ok x) =
+    Ok (record { part = typed.Null; procedures = x.procedures ++ make x.part ∷ [] })
+as_procedure make (Err fs) = Err fs
+
+-- in a list
+abbrev pub put_before : (nothing : Bool) → TypedStatement → TypedStatements → TypedStatements
+put_before true first more = more
+put_before false first more = StatementThen first more
+
+abbrev pub says_nothing : Statement → Bool
+says_nothing (Numbered number label at body) = leaves_nothing body
+
+abbrev pub listed : Statement → Result (WithProcedures TypedStatement) (List Fault)
+    → Result (WithProcedures TypedStatements) (List Fault)
+    → Result (WithProcedures TypedStatements) (List Fault)
+listed statement first more = together (put_before (says_nothing statement)) first more
+
+-- inside the block that begins next
+abbrev pub inside : Next → Next
+inside x = record { block = suc x.block; temporary = 0 }
+
+-- in a group with a control variable, whose own temporaries come first
+abbrev pub behind_limits : Option Range → Next → Next
+behind_limits range x = record { block = x.block; temporary = x.temporary + suc (limits_kept range) }
 
 -- forms that are not compiled yet are Z1, which is found before types are asked for
 abbrev mutual
-  pub statement_typed : Naming → Statement → Result TypedStatement (List Fault)
-  statement_typed n (Numbered number label at body) = made (typed.Statement number) (body_typed n at body)
+  pub statement_typed : NamedUnit → Surroundings → Next → Statement
+      → Result (WithProcedures TypedStatement) (List Fault)
+  statement_typed u s x (Numbered number label at body) =
+      made (typed.Statement number) (body_typed u s x number at body)
 
-  pub body_typed : Naming → (at : ℕ) → Body → Result Form (List Fault)
-  body_typed n at tree.Null = Ok typed.Null
-  body_typed n at (Assign target equals value) = of_own (assignment n at target equals value)
-  body_typed n at (Declare declared) = Ok typed.Null
-  body_typed n at (tree.If tested consequence alternative) =
-      if_form (condition n tested) (statement_typed n consequence) (alternative_typed n alternative)
-  body_typed n at (tree.Put skip printed_items) = put_form skip (items n printed_items)
-  body_typed n at other = of_own (at_fault NotYetBuilt at)
+  pub body_typed : NamedUnit → Surroundings → Next → (number at : ℕ) → Body
+      → Result (WithProcedures Form) (List Fault)
+  body_typed u s x number at tree.Null = Ok (alone typed.Null)
+  body_typed u s x number at (Assign target equals value) =
+      of_own (assignment (naming_at u s) at target equals value)
+  body_typed u s x number at (Declare declared) = Ok (alone typed.Null)
+  body_typed u s x number at (tree.Procedure heading statements end) =
+      as_procedure
+      (procedure_of u (Some (block_at s)) x.block number end statements)
+      (statements_typed u (in_procedure x.block (u.returned x.block) statements s) (inside x) statements)
+  body_typed u s x number at (tree.Begin statements end) =
+      made (typed.Begin (head_of u x.block number statements))
+      (statements_typed u (in_begin x.block statements s) (inside x) statements)
+  body_typed u s x number at (tree.Do None statements end) =
+      made typed.Group (statements_typed u (in_group statements s) x statements)
+  body_typed u s x number at (tree.Do (Some (tree.While tested)) statements end) =
+      while_form (condition (naming_at u s) tested)
+      (statements_typed u (in_group statements s) x statements)
+  body_typed u s x number at (tree.Do (Some (tree.Iterate variable equals first range tested)) statements
+      end) =
+      iterate_form (iteration (naming_at u s) x.temporary variable equals first range tested)
+      (statements_typed u (in_group statements s) (behind_limits range x) statements)
+  body_typed u s x number at (tree.If tested consequence alternative) =
+      if_form (condition (naming_at u s) tested) (statement_typed u s x consequence)
+      (alternative_typed u s (behind x consequence) alternative)
+  body_typed u s x number at tree.Stop = Ok (alone typed.Stop)
+  body_typed u s x number at (tree.Call name arguments) =
+      of_own (call_typed (naming_at u s) name arguments)
+  body_typed u s x number at (tree.Goto label) = of_own (goto_typed (naming_at u s) s label)
+  body_typed u s x number at (tree.Return value) = of_own (return_typed (naming_at u s) s at value)
+  body_typed u s x number at (tree.Put skip printed_items) =
+      put_form skip (items (naming_at u s) printed_items)
+  body_typed u s x number at other = of_own (at_fault NotYetBuilt at)
 
-  pub alternative_typed : Naming → Alternative → Result OtherWise (List Fault)
-  alternative_typed n tree.NoElse = Ok NoElse
-  alternative_typed n (tree.Else statement) = made Else (statement_typed n statement)
+  pub alternative_typed : NamedUnit → Surroundings → Next → Alternative
+      → Result (WithProcedures OtherWise) (List Fault)
+  alternative_typed u s x tree.NoElse = Ok (alone NoElse)
+  alternative_typed u s x (tree.Else statement) = made Else (statement_typed u s x statement)
 
-  pub statements_typed : Naming → Statements → Result TypedStatements (List Fault)
-  statements_typed n Ended = Ok NoStatement
-  statements_typed n (Before first more) = listed first (statement_typed n first) (statements_typed n more)
+  pub statements_typed : NamedUnit → Surroundings → Next → Statements
+      → Result (WithProcedures TypedStatements) (List Fault)
+  statements_typed u s x Ended = Ok (alone NoStatement)
+  statements_typed u s x (Before first more) =
+      listed first (statement_typed u s x first) (statements_typed u s (behind x first) more)

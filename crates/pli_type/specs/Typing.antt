@@ -10,19 +10,19 @@ use Rattle.pli_base.specs.Syntax.{JoinedParts, Alone, Joined, Arguments, Absent,
 use Rattle.pli_base.specs.Syntax.{Listed}
 use Rattle.pli_base.specs.declared.code.Code.{Code}
 use Rattle.pli_base.specs.declared.code.Code.TheVariants.{NotAVariable, AggregateNotAllowedHere}
-use Rattle.pli_base.specs.declared.code.Code.TheVariants.{WrongOperandType, WrongNumberOfArguments}
-use Rattle.pli_base.specs.declared.code.Code.TheVariants.{NotCallableHere}
+use Rattle.pli_base.specs.declared.code.Code.TheVariants.{WrongOperandType}
 use Rattle.pli_base.specs.declared.syntax.Joining.TheVariants.{Member, Located}
 use Rattle.pli_base.specs.declared.token.Fault.{Fault}
-use Rattle.pli_type.specs.ExpressionTypes.{TypedValue, precision_of, type_of, constant}
+use Rattle.pli_type.specs.ExpressionTypes.{TypedValue, precision_of, constant}
 use Rattle.pli_type.specs.ExpressionTypes.{prefix_value, infix_value}
-use Rattle.pli_type.specs.FunctionCalls.{Meant, OneValue, WholeAggregate, Argument, number_written, roles_of}
+use Rattle.pli_type.specs.FunctionCalls.{Denoted, DenotesVariable, DenotesResult, Meant, OneValue}
+use Rattle.pli_type.specs.FunctionCalls.{WholeAggregate, meant_as, Argument, number_written, roles_of}
 use Rattle.pli_type.specs.FunctionCalls.{function_called}
-use Rattle.pli_type.specs.Names.{NamedVariable, NamedAs, AVariable, AFunction, AProcedure}
+use Rattle.pli_type.specs.Names.{NamedVariable, NamedProcedure, NamedAs, AVariable, AFunction, AProcedure}
 use Rattle.pli_type.specs.Names.{Naming}
-use Rattle.pli_type.specs.References.{Role, AsValue, AsArgument, AsLocator, Referent, variable_meant}
-use Rattle.pli_type_tree.specs.TypedTree.{TypedExpression, Held}
-use Rattle.pli_type.specs.declared.expression_type.ExpressionType.{ExpressionType}
+use Rattle.pli_type.specs.ProcedureCalls.{arguments_passed, result_of, type_returned}
+use Rattle.pli_type.specs.References.{Role, AsValue, AsArgument, AsLocator, variable_meant}
+use Rattle.pli_type_tree.specs.TypedTree.{TypedExpression}
 
 -- the first token of an expression: a parenthesis, a sign, a constant or a name
 abbrev pub first_token : Expression → ℕ
@@ -41,23 +41,6 @@ how_many (Listed first more) = 1 + how_many more
 abbrev pub or_fault : {A : Type 0} → Code → (at : ℕ) → Option A → Result A Fault
 or_fault code at None = at_fault code at
 or_fault code at (Some x) = Ok x
-
--- what a reference denotes: a variable or a part of one, or what a function gives
-pub data Denoted : Type 0 where
-  DenotesVariable : (referent : Referent) → Denoted
-  DenotesResult : (value : TypedValue) → Denoted
-
--- what a variable or a part of one is as an expression: a scalar has a value
-abbrev pub meant_by : Referent → Meant
-meant_by r = held (type_of r.description)
-  where
-    held : Option ExpressionType → Meant
-    held None = WholeAggregate r
-    held (Some kind) = OneValue (record { expression = Held r.reference; kind = kind })
-
-abbrev pub meant_as : Denoted → Meant
-meant_as (DenotesVariable r) = meant_by r
-meant_as (DenotesResult value) = OneValue value
 
 -- one value; an aggregate in its place is T2
 abbrev pub one_value : (at : ℕ) → Meant → Result TypedValue Fault
@@ -95,40 +78,43 @@ ended role (OfVariable located at v xs) =
 ended role (OfFunction value) = Ok (DenotesResult value)
 ended role (OfNoVariable at) = at_fault NotAVariable at
 
--- a call of the unit's own procedure, which takes nothing and gives nothing: T6 with arguments, else T8
-abbrev pub procedure_called : (at : ℕ) → Expressions → Result Segment Fault
-procedure_called at Empty = at_fault NotCallableHere at
-procedure_called at (Listed first more) = at_fault WrongNumberOfArguments at
+-- a call of a function: T6, T7 or T8 at its name, in this order
+abbrev pub procedure_called : (greatest : ℕ) → NamedProcedure → (at : ℕ) → List Argument
+    → Result Segment Fault
+procedure_called greatest p at gs = do
+  passed ← arguments_passed greatest p at gs
+  v ← result_of at p.block passed (type_returned p.returned)
+  Ok (OfFunction v)
 
 abbrev pub roles_or_none : Option (List Role) → List Role
 roles_or_none None = []
 roles_or_none (Some roles) = roles
 
 -- where one value is wanted
-abbrev pub as_value : (at : ℕ) → Result Meant Fault → Result TypedValue Fault
-as_value at m = m >>= one_value at
+abbrev pub as_value : (at : ℕ) → Result Denoted Fault → Result TypedValue Fault
+as_value at d = d >>= λ d. one_value at (meant_as d)
 
 -- an argument
-abbrev pub argument : Expression → Meant → Argument
-argument e m = record { meant = m; written = number_written e }
+abbrev pub argument : Expression → Denoted → Argument
+argument e d = record { denoted = d; written = number_written e }
 
 abbrev mutual
-  -- an expression in its role
-  pub meant : Naming → Role → Expression → Result Meant Fault
-  meant n role (Referred reference) = do
-    d ← referred n role reference
-    Ok (meant_as d)
-  meant n role (Constant at value) = Ok (OneValue (constant value))
-  meant n role (Parenthesized at inner) = meant n AsValue inner
-  meant n role (Prefix operator at operand) = do
-    v ← as_value (first_token operand) (meant n AsValue operand)
+  -- an expression in its role; parentheses and operators leave a value
+  pub denoted : Naming → Role → Expression → Result Denoted Fault
+  denoted n role (Referred reference) = referred n role reference
+  denoted n role (Constant at value) = Ok (DenotesResult (constant value))
+  denoted n role (Parenthesized at inner) = do
+    v ← as_value (first_token inner) (denoted n AsValue inner)
+    Ok (DenotesResult v)
+  denoted n role (Prefix operator at operand) = do
+    v ← as_value (first_token operand) (denoted n AsValue operand)
     u ← or_fault WrongOperandType at (prefix_value n.greatest operator v)
-    Ok (OneValue u)
-  meant n role (Infix operator at left right) = do
-    v ← as_value (first_token left) (meant n AsValue left)
-    w ← as_value (first_token right) (meant n AsValue right)
+    Ok (DenotesResult u)
+  denoted n role (Infix operator at left right) = do
+    v ← as_value (first_token left) (denoted n AsValue left)
+    w ← as_value (first_token right) (denoted n AsValue right)
     u ← or_fault WrongOperandType at (infix_value n.greatest operator v w)
-    Ok (OneValue u)
+    Ok (DenotesResult u)
 
   -- a reference in its role: that of its last part, all before an arrow being a locator
   pub referred : Naming → Role → Reference → Result Denoted Fault
@@ -158,9 +144,9 @@ abbrev mutual
     gs ← all_arguments n (roles_or_none (roles_of function (how_many list))) list
     v ← function_called n.greatest function at (roles_of function (how_many list)) gs
     Ok (OfFunction v)
-  begun n AProcedure true located at (Given list) = do
+  begun n (AProcedure p) true located at (Given list) = do
     gs ← all_arguments n [] list
-    procedure_called at list
+    procedure_called n.greatest p at gs
   begun n other call located at (Given list) = do
     gs ← all_arguments n [] list
     Ok (OfNoVariable at)
@@ -174,7 +160,7 @@ abbrev mutual
   pub all_subscripts : Naming → Expressions → Result (List TypedExpression) Fault
   all_subscripts n Empty = Ok []
   all_subscripts n (Listed first more) = do
-    v ← as_value (first_token first) (meant n AsValue first)
+    v ← as_value (first_token first) (denoted n AsValue first)
     x ← subscript_value n.greatest (first_token first) v
     xs ← all_subscripts n more
     Ok (x ∷ xs)
@@ -183,14 +169,18 @@ abbrev mutual
   pub all_arguments : Naming → List Role → Expressions → Result (List Argument) Fault
   all_arguments n roles Empty = Ok []
   all_arguments n [] (Listed first more) = do
-    m ← meant n AsArgument first
+    d ← denoted n AsArgument first
     gs ← all_arguments n [] more
-    Ok (argument first m ∷ gs)
+    Ok (argument first d ∷ gs)
   all_arguments n (role ∷ roles) (Listed first more) = do
-    m ← meant n role first
+    d ← denoted n role first
     gs ← all_arguments n roles more
-    Ok (argument first m ∷ gs)
+    Ok (argument first d ∷ gs)
+
+-- what an expression is in its role
+abbrev pub meant : Naming → Role → Expression → Result Meant Fault
+meant n role e = denoted n role e >>= λ d. Ok (meant_as d)
 
 -- one value of an expression
 abbrev pub value_of : Naming → Expression → Result TypedValue Fault
-value_of n e = as_value (first_token e) (meant n AsValue e)
+value_of n e = as_value (first_token e) (denoted n AsValue e)

@@ -5,11 +5,12 @@ use Rattle.std.specs.Prelude.{ℕ, ◌^◌, nat_lt, nat_le, length, Bool, true, 
 use Rattle.std.specs.Prelude.{Some, None, List, [], ◌∷◌}
 use Rattle.std.specs.Prelude.{if◌then◌else◌}
 use Rattle.std.specs.List.{list_any}
-use Rattle.pli_base.specs.Declarations.{SimpleAttribute, Attribute, Simple, Item}
+use Rattle.pli_base.specs.Declarations.{SimpleAttribute, Attribute, Simple, Item, DescribedAttribute, Plain}
 use Rattle.pli_base.specs.Declarations as declared
 use Rattle.pli_base.specs.Name.{Name}
 use Rattle.pli_base.specs.Statements as tree
-use Rattle.pli_base.specs.Statements.{ProcedureOption, Main, Returns, Heading, Statement, Numbered, Body}
+use Rattle.pli_base.specs.Statements.{ProcedureOption, Main, Returns, Heading, Range, Control, Statement}
+use Rattle.pli_base.specs.Statements.{Numbered, Body}
 use Rattle.pli_base.specs.Statements.{Statements, Ended, Before, Alternative, ExternalProcedure}
 use Rattle.pli_base.specs.Syntax.{Expression, Referred, Constant, Parenthesized, Prefix, Infix, Reference}
 use Rattle.pli_base.specs.Syntax.{Named}
@@ -18,7 +19,8 @@ use Rattle.pli_base.specs.Syntax.{Listed}
 use Rattle.pli_resolve.specs.BuiltIns.{function_named}
 use Rattle.pli_base.specs.declared.syntax.ConstantValue.{ConstantValue}
 use Rattle.pli_base.specs.declared.syntax.ConstantValue.TheVariants as constants
-use Rattle.pli_type.specs.Names.{NamedAs, AFunction, Naming}
+use Rattle.pli_base.specs.declared.syntax.Identifier.{Identifier}
+use Rattle.pli_type.specs.Names.{Compiled}
 use Rattle.pli_resolve.specs.declared.built_in.BuiltInFunction.{BuiltInFunction}
 use Rattle.pli_resolve.specs.declared.built_in.BuiltInFunction.TheVariants as functions
 
@@ -42,11 +44,6 @@ is_later_name name = later_function (function_named name)
     later_function None = false
     later_function (Some function) = is_later_function function
 
--- a name that means one of them where it is used
-abbrev pub names_later : NamedAs → Bool
-names_later (AFunction function) = is_later_function function
-names_later other = false
-
 -- a constant within the language's limits, as each constant of a text is: no more digits than are written,
 -- and no longer string than one that can be declared
 abbrev pub is_of_language : (greatest : ℕ) → ConstantValue → Bool
@@ -57,28 +54,28 @@ is_of_language greatest (constants.Characters text) = nat_le (length text) 32767
 is_of_language greatest (constants.Bits bits) = nat_le (length bits) 32767
 
 abbrev mutual
-  pub later_expression : Naming → Expression → Bool
+  pub later_expression : Compiled → Expression → Bool
   later_expression n (Referred reference) = later_reference n reference
   later_expression n (Constant at value) = not (is_of_language n.greatest value)
   later_expression n (Parenthesized at inner) = later_expression n inner
   later_expression n (Prefix operator at operand) = later_expression n operand
   later_expression n (Infix operator at left right) = later_expression n left || later_expression n right
 
-  pub later_reference : Naming → Reference → Bool
+  pub later_reference : Compiled → Reference → Bool
   later_reference n (Named name arguments more) =
-      names_later (n.meaning name.at) || later_arguments n arguments || later_joined n more
+      n.is_later name.at || later_arguments n arguments || later_joined n more
 
   -- only the first name between arrows has a meaning of its own
-  pub later_joined : Naming → JoinedParts → Bool
+  pub later_joined : Compiled → JoinedParts → Bool
   later_joined n Alone = false
   later_joined n (Joined joining name arguments more) =
-      names_later (n.meaning name.at) || later_arguments n arguments || later_joined n more
+      n.is_later name.at || later_arguments n arguments || later_joined n more
 
-  pub later_arguments : Naming → Arguments → Bool
+  pub later_arguments : Compiled → Arguments → Bool
   later_arguments n Absent = false
   later_arguments n (Given list) = later_list n list
 
-  pub later_list : Naming → Expressions → Bool
+  pub later_list : Compiled → Expressions → Bool
   later_list n Empty = false
   later_list n (Listed first more) = later_expression n first || later_list n more
 
@@ -108,6 +105,11 @@ later_item main item =
     list_any (later_attribute main) item.attributes
     || (list_any is_builtin item.attributes && list_any (λ i. is_later_name i.name) item.names)
 
+-- the first token of a statement
+abbrev pub first_of : Option Identifier → (at : ℕ) → ℕ
+first_of None at = at
+first_of (Some label) at = label.at
+
 -- the first of two tokens
 abbrev pub or_else : Option ℕ → Option ℕ → Option ℕ
 or_else (Some at) other = Some at
@@ -119,27 +121,63 @@ token_if later at = if later then Some at else None
 
 -- statements
 
-abbrev mutual
-  pub later_statement : Naming → (main : Bool) → Statement → Option ℕ
-  later_statement n main (Numbered number (Some label) at body) = Some label.at
-  later_statement n main (Numbered number None at body) = later_body n main at body
+-- of what there may be, such a part
+abbrev pub later_part : {A : Type 0} → (A → Bool) → Option A → Bool
+later_part is_later None = false
+later_part is_later (Some x) = is_later x
 
-  pub later_body : Naming → (main : Bool) → (at : ℕ) → Body → Option ℕ
+-- what limits or continues a group
+abbrev pub later_range : Compiled → Range → Bool
+later_range n (tree.To to by) = later_expression n to || later_part (later_expression n) by
+later_range n (tree.By by to) = later_expression n by || later_part (later_expression n) to
+later_range n (tree.Repeat next) = later_expression n next
+
+abbrev pub later_control : Compiled → Control → Bool
+later_control n (tree.While condition) = later_expression n condition
+later_control n (tree.Iterate variable equals first range condition) =
+    later_reference n variable || later_expression n first || later_part (later_range n) range
+    || later_part (later_expression n) condition
+
+-- what a function gives
+abbrev pub later_described : DescribedAttribute → Bool
+later_described (Plain attribute) = later_simple true attribute
+later_described other = true
+
+abbrev pub later_option : ProcedureOption → Bool
+later_option (Returns attributes) = list_any later_described attributes
+later_option option = false
+
+-- at is the first token of the statement, its label where it has one; the label of a PROCEDURE is its name
+abbrev mutual
+  pub later_statement : Compiled → (main : Bool) → Statement → Option ℕ
+  later_statement n main (Numbered number label at body) = later_body n main (first_of label at) body
+
+  pub later_body : Compiled → (main : Bool) → (at : ℕ) → Body → Option ℕ
   later_body n main at tree.Null = None
   later_body n main at (tree.Assign target equals value) =
       token_if (later_reference n target || later_expression n value) at
   later_body n main at (tree.Declare items) = token_if (list_any (later_item main) items) at
+  later_body n main at (tree.Procedure heading statements end) =
+      or_else (token_if (list_any later_option heading.options) heading.name.at)
+      (later_statements n main statements)
+  later_body n main at (tree.Begin statements end) = later_statements n main statements
+  later_body n main at (tree.Do control statements end) =
+      or_else (token_if (later_part (later_control n) control) at) (later_statements n main statements)
   later_body n main at (tree.If condition consequence alternative) =
       or_else (token_if (later_expression n condition) at)
       (or_else (later_statement n main consequence) (later_alternative n main alternative))
+  later_body n main at tree.Stop = None
+  later_body n main at (tree.Call name arguments) = token_if (later_arguments n arguments) at
+  later_body n main at (tree.Goto label) = None
+  later_body n main at (tree.Return value) = token_if (later_part (later_expression n) value) at
   later_body n main at (tree.Put skip items) = token_if (list_any (later_expression n) items) at
   later_body n main at other = Some at
 
-  pub later_alternative : Naming → (main : Bool) → Alternative → Option ℕ
+  pub later_alternative : Compiled → (main : Bool) → Alternative → Option ℕ
   later_alternative n main tree.NoElse = None
   later_alternative n main (tree.Else statement) = later_statement n main statement
 
-  pub later_statements : Naming → (main : Bool) → Statements → Option ℕ
+  pub later_statements : Compiled → (main : Bool) → Statements → Option ℕ
   later_statements n main Ended = None
   later_statements n main (Before first more) =
       or_else (later_statement n main first) (later_statements n main more)
@@ -165,5 +203,5 @@ abbrev pub later_heading : Heading → Option ℕ
 later_heading h = token_if (has_parameters h.parameters || list_any is_returns h.options) h.name.at
 
 -- the token at which Z1 stands, if a form of the unit is not compiled yet
-abbrev pub first_unbuilt : Naming → ExternalProcedure → Option ℕ
+abbrev pub first_unbuilt : Compiled → ExternalProcedure → Option ℕ
 first_unbuilt n u = or_else (later_heading u.heading) (later_statements n (is_main u) u.statements)

@@ -1,3 +1,4 @@
+pub mod ControlExamples
 pub mod ExampleTrees
 pub mod FaultExamples
 pub mod NameExamples

@@ -1,6 +1,7 @@
 //! Laws and worked examples of types and of their faults.
 ghost use Rattle.pli_type.specs.laws.Laws.{FaultsAreOfTypes};
 ghost use Rattle.pli_type.specs.examples.FaultExamples.{OneFaultToAStatement, OperatorsTakeTheirTypes, AssignmentsConvert, AggregatesStandAlone, SubscriptsAreCounted, LocatorsAreNotAllowed, NamesOfNoVariable, FunctionsConvertNothing, BareConstants};
+ghost use Rattle.pli_type.specs.examples.ControlExamples.{ControlVariables, CallsAreTyped, BlocksAreTyped};
 ghost use Rattle.pli_type.specs.examples.TypeExamples.{ConstantsAreDecimal, PrecisionsOfOperations, PrecisionsOfFunctions, KindsOfStrings, ColumnsOfNumbers};
 ghost use Rattle.pli_type.specs.examples.TypedExamples.{ConversionsStand, SubscriptsHaveStrides};
 ghost use Rattle.pli_type.specs.examples.UnitExamples.{FirstUnbuilt, InitialValues, CheckedUnits};
@@ -17,6 +18,13 @@ pub fn fault_examples()
     ensures names { NamesOfNoVariable }
     ensures functions { FunctionsConvertNothing }
     ensures constants { BareConstants }
+{}
+
+/// Worked examples of groups, calls and blocks.
+pub fn control_examples()
+    ensures groups { ControlVariables }
+    ensures calls { CallsAreTyped }
+    ensures blocks { BlocksAreTyped }
 {}
 
 /// Worked examples of types.

@@ -1,7 +1,7 @@
 //! Types of expressions, references and statements: the typed tree of a unit, or its faults of types.
 #![tactic(auto)]
 
-mod conversions;
+mod converting;
 mod expression_type;
 mod function_calls;
 mod laws;
@@ -9,13 +9,13 @@ mod operators;
 mod typed_value;
 mod unbuilt;
 
-pub use conversions::{converted, printed};
+pub use converting::{conversions, converted, printed};
 pub use expression_type::{ExpressionType, product_precision, sum_precision};
 pub use function_calls::{call, call_type, operation_of, quotient, quotient_type};
 pub use laws::{
-    fault_examples, faults_are_of_types, name_examples, type_examples, typed_examples,
-    unit_examples,
+    control_examples, fault_examples, faults_are_of_types, name_examples, type_examples,
+    typed_examples, unit_examples,
 };
 pub use operators::{infix_value, prefix_value};
 pub use typed_value::TypedValue;
-pub use unbuilt::{is_later_function, later_heading, later_item, later_items};
+pub use unbuilt::{is_later_function, later_heading, later_item, later_items, later_returns};

@@ -1,11 +1,11 @@
 //! What is not compiled yet, as far as it shows without names.
 ghost use Rattle.std.specs.Prelude.{◌≡◌, ◌||◌, map};
 ghost use Rattle.std.specs.List.{list_any};
-ghost use Rattle.pli_base.specs.views.DeclarationView.{attribute_view, item_view, simple_view};
+ghost use Rattle.pli_base.specs.views.DeclarationView.{attribute_view, described_view, item_view, simple_view};
 ghost use Rattle.pli_base.specs.views.StatementView.{option_view};
 ghost use Rattle.pli_type.specs.Unbuilt as spec;
 
-use pli_base::declaration::{Attribute, Item, SimpleAttribute};
+use pli_base::declaration::{Attribute, DescribedAttribute, Item, SimpleAttribute};
 use pli_base::statement::ProcedureOption;
 use pli_base::syntax::Identifier;
 use pli_resolve::{BuiltInFunction, function_named};
@@ -138,4 +138,50 @@ pub fn later_heading(parameters: &[Identifier], options: &[ProcedureOption]) -> 
     ensures { result ≡ (spec.has_parameters parameters.now || list_any spec.is_returns (map option_view options.now)) }
 {
     !parameters.is_empty() || any_returns(options)
+}
+
+/// Whether an attribute in RETURNS is of what is not compiled yet.
+fn later_described(attribute: &DescribedAttribute) -> bool
+    ensures { result ≡ spec.later_described (described_view attribute.now) }
+{
+    match attribute {
+        DescribedAttribute::Simple(attribute) => later_simple(true, attribute),
+        DescribedAttribute::Entry | DescribedAttribute::Returns => true,
+    }
+}
+
+/// Whether one of the attributes in RETURNS is of what is not compiled yet.
+fn any_described(attributes: &[DescribedAttribute]) -> bool
+    ensures { result ≡ list_any (λ attribute. spec.later_described (described_view attribute)) attributes.now }
+{
+    attributes
+        .iter()
+        .any(|attribute| later_described(attribute))
+}
+
+/// Whether an option is RETURNS with an attribute of what is not compiled yet.
+#[tactic(auto, using(crate::proofs::Lists::any_map))]
+fn later_option(option: &ProcedureOption) -> bool
+    ensures { result ≡ spec.later_option (option_view option.now) }
+{
+    match option {
+        ProcedureOption::Returns(attributes) => any_described(attributes.as_slice()),
+        ProcedureOption::Main | ProcedureOption::Recursive => false,
+    }
+}
+
+/// Whether one of the options is.
+fn any_later_option(options: &[ProcedureOption]) -> bool
+    ensures { result ≡ list_any (λ option. spec.later_option (option_view option)) options.now }
+{
+    options.iter().any(|option| later_option(option))
+}
+
+/// Whether an internal procedure gives what is not compiled yet: a locator (own).
+#[tactic(auto, using(crate::proofs::Lists::any_map))]
+pub fn later_returns(options: &[ProcedureOption]) -> bool
+    ensures { result ≡ list_any spec.later_option (map option_view options.now) }
+{
+    let later = any_later_option(options);
+    later
 }

@@ -5,10 +5,11 @@
 -- Y BIT;
 --
 -- and a label L in the procedure M.
-use Rattle.std.specs.Prelude.{ℕ, nat_eq, Bool, pos, Option, Some, None, option_map, List, [], ◌∷◌, map}
+use Rattle.std.specs.Prelude.{ℕ, nat_eq, Bool, false, pos, Option, Some, None, option_map, List, [], ◌∷◌, map}
 use Rattle.std.specs.Prelude.{Result, Ok, Err, option_and_then, if◌then◌else◌}
 use Rattle.pli_base.specs.Name.{Name}
-use Rattle.pli_base.specs.Statements.{Statement, Alternative, Numbered, Assign, Put, If, Null}
+use Rattle.pli_base.specs.Statements.{Statement, Alternative, Numbered, Assign, Put, If, Null, Ended}
+use Rattle.pli_base.specs.Statements.{ExternalProcedure}
 use Rattle.pli_base.specs.Syntax.{Expression, Referred, Constant, Reference, Named, Absent, Alone}
 use Rattle.pli_base.specs.declared.code.Code.{Code}
 use Rattle.pli_base.specs.declared.syntax.ConstantValue.TheVariants.{Decimal, Binary, Characters, Bits}
@@ -18,10 +19,14 @@ use Rattle.pli_map.specs.Description.{Description, FixedBinary, Character, Varyi
 use Rattle.pli_map.specs.Description.{NoMembers, MemberThen}
 use Rattle.pli_map.specs.declared.description.Bounds.{Bounds}
 use Rattle.pli_type.specs.ExpressionTypes.{width_of}
-use Rattle.pli_type.specs.Names.{NamedAs, AVariable, AFunction, AProcedure, ALabel, Naming}
+use Rattle.pli_type.specs.Checked.{in_unit, first_inside}
+use Rattle.pli_type.specs.FunctionCalls.{Denoted, DenotesVariable, DenotesResult}
+use Rattle.pli_type.specs.Names.{NamedAs, AVariable, AFunction, AProcedure, ALabel, Untyped, Naming}
+use Rattle.pli_type.specs.Names.{Compiled, NamedUnit}
 use Rattle.pli_type.specs.References.{AsTarget}
-use Rattle.pli_type.specs.StatementTyping.{statement_typed}
-use Rattle.pli_type.specs.Typing.{Denoted, DenotesVariable, DenotesResult, value_of, referred}
+use Rattle.pli_type.specs.StatementTyping.{WithProcedures, statement_typed}
+use Rattle.pli_type.specs.Typing.{value_of, referred}
+use Rattle.pli_type.specs.Unbuilt.{is_later_function}
 use Rattle.pli_type_tree.specs.TypedTree.{InSlot, TypedExpression, Literal, Held, TypedReference, Whole}
 use Rattle.pli_type_tree.specs.TypedTree.{Stride}
 use Rattle.pli_type_tree.specs.TypedTree.{TypedStatement, Form}
@@ -101,10 +106,10 @@ abbrev pub t : NamedAs
 t = alone 11 (Structure (MemberThen (Bit 1) NoMembers))
 
 abbrev pub label : NamedAs
-label = ALabel
+label = ALabel 7
 
 abbrev pub procedure : NamedAs
-procedure = AProcedure
+procedure = AProcedure (record { block = 0; parameters = []; returned = None })
 
 abbrev pub abs : NamedAs
 abs = AFunction functions.Abs
@@ -141,11 +146,47 @@ substring = AFunction functions.Substring
 
 -- what names at tokens mean
 abbrev pub meaning_in : List (ℕ × NamedAs) → (at : ℕ) → NamedAs
-meaning_in [] at = ALabel
+meaning_in [] at = Untyped
 meaning_in (m ∷ ms) at = if nat_eq m.0 at then m.1 else meaning_in ms at
 
 abbrev pub naming : List (ℕ × NamedAs) → Naming
 naming meanings = record { greatest = 31; meaning = meaning_in meanings }
+
+-- what is compiled, where these names mean such
+abbrev pub is_later_in : List (ℕ × NamedAs) → (at : ℕ) → Bool
+is_later_in meanings at = later (meaning_in meanings at)
+  where
+    later : NamedAs → Bool
+    later (AFunction function) = is_later_function function
+    later other = false
+
+abbrev pub compiled : List (ℕ × NamedAs) → Compiled
+compiled meanings = record { greatest = 31; is_later = is_later_in meanings }
+
+-- a unit of this tree, whose names mean the same in all its blocks, and which has no variables
+abbrev pub unit_of : ExternalProcedure → List (ℕ × NamedAs) → NamedUnit
+unit_of tree meanings = record {
+  tree = tree;
+  compiled = compiled meanings;
+  naming = λ blocks. naming meanings;
+  parameters = λ block. [];
+  returned = λ block. None;
+  automatic = λ block. [];
+  statics = [];
+}
+
+abbrev pub no_tree : ExternalProcedure
+no_tree = record {
+  heading = record { name = record { name = []; at = 0 }; number = 1; parameters = []; options = [] };
+  statements = Ended;
+  end = 2;
+}
+
+-- a statement directly in the external procedure
+abbrev pub typed_statement : List (ℕ × NamedAs) → Statement
+    → Result (WithProcedures TypedStatement) (List Fault)
+typed_statement meanings statement =
+    statement_typed (unit_of no_tree meanings) (in_unit Ended) first_inside statement
 
 -- parts of trees
 
@@ -194,7 +235,7 @@ faults_in (Ok x) = []
 faults_in (Err fs) = fs
 
 abbrev pub faults : List (ℕ × NamedAs) → Statement → List Fault
-faults meanings statement = faults_in (statement_typed (naming meanings) statement)
+faults meanings statement = faults_in (typed_statement meanings statement)
 
 -- one fault at a token
 abbrev pub one : Code → (at : ℕ) → List Fault
@@ -220,7 +261,8 @@ abbrev pub form_in : TypedStatement → Form
 form_in (typed.Statement number form) = form
 
 abbrev pub form_of : List (ℕ × NamedAs) → Statement → Option Form
-form_of meanings statement = option_map form_in (if_good (statement_typed (naming meanings) statement))
+form_of meanings statement =
+    option_map (λ s. form_in s.part) (if_good (typed_statement meanings statement))
 
 -- the variable or part of one that a target is
 abbrev pub part_in : Denoted → Option TypedReference

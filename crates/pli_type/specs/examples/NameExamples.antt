@@ -74,19 +74,19 @@ resolved = record {
 }
 
 abbrev pub meant_at : (at : ℕ) → NamedAs
-meant_at at = named_as 31 resolved (used at)
+meant_at at = named_as 31 resolved (0 ∷ []) (used at)
 
 abbrev pub NamesOfUnit : Type 0
 NamesOfUnit =
     (meant_at 50 ≡ AVariable (record { root = OfProgram 0; whole = pair; path = 1 ∷ [] }))
     × (meant_at 52 ≡ AVariable (record { root = InSlot 0 1; whole = FixedBinary 15; path = [] }))
     × (meant_at 54 ≡ AFunction functions.Abs)
-    × (meant_at 56 ≡ AProcedure)
+    × (meant_at 56 ≡ AProcedure (record { block = 0; parameters = []; returned = None }))
 
 -- AUTOMATIC: X without initial values, Y with 3; STATIC: S, whose second scalar is B
 abbrev pub VariablesOfUnit : Type 0
 VariablesOfUnit =
-    ((named_unit 31 resolved).automatic
+    ((named_unit 31 resolved).automatic 0
     ≡ record { description = Bit 1; initial = [] }
     ∷ record { description = FixedBinary 15; initial = record { scalar = 0; value = Number (pos 3) } ∷ [] }
     ∷ [])

@@ -4,19 +4,20 @@ use Rattle.std.specs.Prelude.{codes}
 use Rattle.pli_base.specs.Declarations.{Attribute, Simple, SimpleAttribute, Bit, Pointer, Static, Builtin}
 use Rattle.pli_base.specs.Statements.{ProcedureOption, Main, Returns, Statement, Numbered, Statements, Ended}
 use Rattle.pli_base.specs.Statements.{Before}
-use Rattle.pli_base.specs.Statements.{Declare, Stop, Null, If, NoElse, ExternalProcedure}
+use Rattle.pli_base.specs.Statements.{Declare, Stop, Begin, Signal, Free, If, NoElse, ExternalProcedure}
+use Rattle.pli_base.specs.declared.statement.Condition.TheVariants.{Area as AreaCondition}
 use Rattle.pli_base.specs.declared.code.Code.TheVariants.{NotYetBuilt, CannotAssign}
 use Rattle.pli_base.specs.declared.declaration.InitialValue.{InitialValue}
 use Rattle.pli_base.specs.declared.declaration.InitialValue.TheVariants as initial
 use Rattle.pli_map.specs.Description as described
 use Rattle.pli_map.specs.Description.{Description, Structure, NoMembers, MemberThen}
 use Rattle.pli_operation.specs.Operations.{Fit}
-use Rattle.pli_type.specs.Checked.{NamedUnit, checked}
+use Rattle.pli_type.specs.Checked.{checked}
 use Rattle.pli_type.specs.ExpressionTypes.{with_one}
 use Rattle.pli_type.specs.InitialScalars.{InitialItem, template_of, initial_scalars}
-use Rattle.pli_type.specs.Names.{NamedAs, AFunction}
+use Rattle.pli_type.specs.Names.{NamedAs, AFunction, NamedUnit}
 use Rattle.pli_type.specs.Unbuilt.{first_unbuilt}
-use Rattle.pli_type.specs.examples.ExampleTrees.{array, naming, called, alone_named, named, text}
+use Rattle.pli_type.specs.examples.ExampleTrees.{array, naming, compiled, called, alone_named, named, text}
 use Rattle.pli_type.specs.examples.ExampleTrees.{of_bits, assign, null, x}
 use Rattle.pli_type_tree.specs.Templates.{InitialScalar}
 use Rattle.pli_type_tree.specs.TypedTree as typed
@@ -61,21 +62,25 @@ no_names = []
 -- DCL X BIT; null statements
 -- DCL X POINTER; Z1 at DCL
 -- DCL X BIT STATIC; only in a unit that is MAIN
--- a labelled statement, at its label; STOP behind THEN, at STOP; RETURNS, at the procedure's name
+-- a labelled SIGNAL, at its label; FREE behind THEN, at FREE; none in `BEGIN; STOP; END;`; RETURNS, at the
+-- procedure's name
 -- ALLOCATION, where the name means the function, at the statement
 abbrev pub FirstUnbuilt : Type 0
 FirstUnbuilt =
-    (first_unbuilt (naming no_names) (main (declare (Bit None ∷ []) ∷ null 3 12 ∷ [])) ≡ None)
-    × (first_unbuilt (naming no_names) (main (declare (Pointer ∷ []) ∷ null 3 12 ∷ [])) ≡ Some 8)
-    × (first_unbuilt (naming no_names) (main (declare (Bit None ∷ Static ∷ []) ∷ [])) ≡ None)
-    × (first_unbuilt (naming no_names) (unit [] (declare (Bit None ∷ Static ∷ []) ∷ [])) ≡ Some 8)
-    × (first_unbuilt (naming no_names) (main (declare (Builtin ∷ []) ∷ [])) ≡ None)
-    × (first_unbuilt (naming no_names)
-    (main (null 2 8 ∷ Numbered 3 (Some (called (codes "L") 9)) 11 Null ∷ [])) ≡ Some 9)
-    × (first_unbuilt (naming no_names)
-    (main (Numbered 2 None 8 (If (of_bits (codes "1") 9) (Numbered 3 None 11 Stop) NoElse) ∷ [])) ≡ Some 11)
-    × (first_unbuilt (naming no_names) (unit (Returns [] ∷ []) []) ≡ Some 0)
-    × (first_unbuilt (naming ((8, x) ∷ (10, AFunction functions.Allocation) ∷ []))
+    (first_unbuilt (compiled no_names) (main (declare (Bit None ∷ []) ∷ null 3 12 ∷ [])) ≡ None)
+    × (first_unbuilt (compiled no_names) (main (declare (Pointer ∷ []) ∷ null 3 12 ∷ [])) ≡ Some 8)
+    × (first_unbuilt (compiled no_names) (main (declare (Bit None ∷ Static ∷ []) ∷ [])) ≡ None)
+    × (first_unbuilt (compiled no_names) (unit [] (declare (Bit None ∷ Static ∷ []) ∷ [])) ≡ Some 8)
+    × (first_unbuilt (compiled no_names) (main (declare (Builtin ∷ []) ∷ [])) ≡ None)
+    × (first_unbuilt (compiled no_names)
+    (main (null 2 8 ∷ Numbered 3 (Some (called (codes "L") 9)) 11 (Signal AreaCondition) ∷ [])) ≡ Some 9)
+    × (first_unbuilt (compiled no_names)
+    (main (Numbered 2 None 8 (If (of_bits (codes "1") 9) (Numbered 3 None 11 (Free [])) NoElse) ∷ []))
+    ≡ Some 11)
+    × (first_unbuilt (compiled no_names)
+    (main (Numbered 2 None 8 (Begin (Before (Numbered 3 None 10 Stop) Ended) 4) ∷ [])) ≡ None)
+    × (first_unbuilt (compiled no_names) (unit (Returns [] ∷ []) []) ≡ Some 0)
+    × (first_unbuilt (compiled ((8, x) ∷ (10, AFunction functions.Allocation) ∷ []))
     (main (assign 2 8 (alone_named (codes "X") 8) 9 (named (codes "ALLOCATION") 10) ∷ [])) ≡ Some 8)
 
 -- FIXED BINARY values without a factor
@@ -125,8 +130,11 @@ InitialValues =
 abbrev pub with_x : List ℕ → List Statement → NamedUnit
 with_x tokens statements = record {
   tree = main (declare (Bit None ∷ []) ∷ statements);
-  naming = naming (map (λ at. (at, x)) tokens);
-  automatic = template_of (described.Bit 1) [] ∷ [];
+  compiled = compiled [];
+  naming = λ blocks. naming (map (λ at. (at, x)) tokens);
+  parameters = λ block. [];
+  returned = λ block. None;
+  automatic = λ block. template_of (described.Bit 1) [] ∷ [];
   statics = [];
 }
 
@@ -160,11 +168,11 @@ typed_unit = record {
 }
 
 -- M: PROC OPTIONS(MAIN); DCL X BIT; X = '1'B; END M;
--- with two bad assignments in its place; with a bad one and STOP, which is not compiled yet
+-- with two bad assignments in its place; with a bad one and FREE, which is not compiled yet
 abbrev pub CheckedUnits : Type 0
 CheckedUnits =
     (checked (with_x (12 ∷ []) (good_assignment 3 12 ∷ [])) ≡ Ok typed_unit)
     × (checked (with_x (12 ∷ 16 ∷ []) (bad_assignment 3 12 ∷ bad_assignment 4 16 ∷ []))
     ≡ Err (record { code = CannotAssign; at = 13 } ∷ record { code = CannotAssign; at = 17 } ∷ []))
-    × (checked (with_x (12 ∷ []) (bad_assignment 3 12 ∷ Numbered 4 None 16 Stop ∷ []))
+    × (checked (with_x (12 ∷ []) (bad_assignment 3 12 ∷ Numbered 4 None 16 (Free []) ∷ []))
     ≡ Err (record { code = NotYetBuilt; at = 16 } ∷ []))

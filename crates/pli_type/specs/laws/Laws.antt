@@ -3,7 +3,8 @@ use Rattle.std.specs.Prelude.{nat_le, Bool, ◌&&◌, IsTrue, List, [], ◌∷�
 use Rattle.pli_base.specs.Codes.{code_place}
 use Rattle.pli_base.specs.declared.code.Code.{Code}
 use Rattle.pli_base.specs.declared.token.Fault.{Fault}
-use Rattle.pli_type.specs.Checked.{NamedUnit, checked}
+use Rattle.pli_type.specs.Checked.{checked}
+use Rattle.pli_type.specs.Names.{NamedUnit}
 
 -- a code of types, T1 to T14, or Z1, which stands before them in the order of diagnostics
 abbrev pub is_of_types : Code → Bool

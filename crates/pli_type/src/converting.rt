@@ -1,6 +1,7 @@
 //! Which conversions a value goes through where it is assigned or printed.
-ghost use Rattle.std.specs.Prelude.{◌≡◌, IfOk, option_map};
+ghost use Rattle.std.specs.Prelude.{◌≡◌, IfOk, map, option_map};
 ghost use Rattle.pli_map.specs.views.DescriptionView.{description_view};
+ghost use Rattle.pli_operation.specs.views.OperationView.{operation_view};
 ghost use Rattle.pli_type.specs.ExpressionTypes as spec;
 ghost use Rattle.pli_type.specs.views.ValueView.{value_view};
 ghost use Rattle.pli_type_tree.specs.views.TypedView.{expression_view};
@@ -94,4 +95,67 @@ pub fn printed(alloc: Global, value: TypedValue) -> Result<Option<TypedExpressio
         ExpressionType::Characters | ExpressionType::Bits => Ok(Some(value.expression)),
         _ => number_as_characters(alloc, value),
     }
+}
+
+/// The conversions to characters: none for characters; none at all for what does not become characters.
+fn string_conversions(
+    alloc: Global,
+    kind: ExpressionType,
+) -> Result<Option<Vec<Operation>>, AllocError>
+    ensures { IfOk result (λ made. option_map (λ v. map operation_view v.items) made ≡ spec.string_conversions kind) }
+{
+    let mut made = Vec::new(alloc);
+    match kind {
+        ExpressionType::Characters => Ok(Some(made)),
+        ExpressionType::Bits => {
+            made.push(Operation::FromBits)?;
+            Ok(Some(made))
+        }
+        _ => match kind.width() {
+            Some(width) => {
+                made.push(Operation::ToCharacters { width })?;
+                Ok(Some(made))
+            }
+            None => Ok(None),
+        },
+    }
+}
+
+/// The conversions of a value of a type to what suits a description, not fitted yet.
+fn suiting(
+    alloc: Global,
+    greatest: u8,
+    description: &Description,
+    kind: ExpressionType,
+) -> Result<Option<Vec<Operation>>, AllocError>
+    ensures { IfOk result (λ made. option_map (λ v. map operation_view v.items) made
+        ≡ spec.suiting greatest (description_view description.now) kind) }
+{
+    match (description, kind) {
+        (Description::FixedBinary(_), kind) => match kind.precision(greatest) {
+            Some(_) => Ok(Some(Vec::new(alloc))),
+            None => Ok(None),
+        },
+        (Description::Character(_) | Description::Varying(_), _) => string_conversions(alloc, kind),
+        (Description::Bit(_), ExpressionType::Bits) => Ok(Some(Vec::new(alloc))),
+        _ => Ok(None),
+    }
+}
+
+/// The operations that convert a value of a type to a variable of this description, one after the other, or none where
+/// it does not suit: what `converted` puts round an expression.
+pub fn conversions(
+    alloc: Global,
+    greatest: u8,
+    description: &Description,
+    kind: ExpressionType,
+) -> Result<Option<Vec<Operation>>, AllocError>
+    ensures { IfOk result (λ made. option_map (λ v. map operation_view v.items) made
+        ≡ spec.conversions greatest (description_view description.now) kind) }
+{
+    let Some(mut made) = suiting(alloc, greatest, description, kind)? else {
+        return Ok(None);
+    };
+    made.push(Operation::Fit(description.copy(alloc)?))?;
+    Ok(Some(made))
 }

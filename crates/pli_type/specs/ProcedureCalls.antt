@@ -1,0 +1,69 @@
+-- Calls of procedures: how arguments are handed over, and what a function gives (X3.74; the order of faults is
+-- own).
+use Rattle.std.specs.Prelude.{ℕ, nat_eq, Option, Some, None, List, [], ◌∷◌, length, Result, Ok}
+use Rattle.std.specs.Prelude.{if◌then◌else◌}
+use Rattle.pli_base.specs.Reading.{at_fault}
+use Rattle.pli_base.specs.declared.code.Code.TheVariants.{WrongNumberOfArguments, WrongArgument}
+use Rattle.pli_base.specs.declared.code.Code.TheVariants.{NotCallableHere}
+use Rattle.pli_base.specs.declared.token.Fault.{Fault}
+use Rattle.pli_map.specs.Description.{Description}
+use Rattle.pli_map.specs.Same.{same}
+use Rattle.pli_type.specs.ExpressionTypes.{TypedValue, converted, type_of}
+use Rattle.pli_type.specs.FunctionCalls.{Denoted, DenotesVariable, DenotesResult, Meant, OneValue}
+use Rattle.pli_type.specs.FunctionCalls.{WholeAggregate, meant_as, Argument}
+use Rattle.pli_type.specs.Names.{NamedProcedure}
+use Rattle.pli_type.specs.declared.expression_type.ExpressionType.{ExpressionType}
+use Rattle.pli_type_tree.specs.TypedTree.{TypedExpression, Called, TypedReference, TypedArguments, NoArgument}
+use Rattle.pli_type_tree.specs.TypedTree.{ByPlace, ByDummy}
+
+-- a variable of the very description of the parameter is handed over itself
+abbrev pub passed_place : Description → Denoted → Option TypedReference
+passed_place d (DenotesVariable r) = if same r.description d then Some r.reference else None
+passed_place d (DenotesResult value) = None
+
+-- any other value is converted to it, and a dummy argument holds it
+abbrev pub passed_value : (greatest : ℕ) → Description → Meant → Option TypedExpression
+passed_value greatest d (OneValue v) = converted greatest d v
+passed_value greatest d (WholeAggregate r) = None
+
+abbrev pub passed : Description → Option TypedReference → Option TypedExpression → TypedArguments
+    → Option TypedArguments
+passed d (Some place) value more = Some (ByPlace place more)
+passed d None (Some e) more = Some (ByDummy d e more)
+passed d None None more = None
+
+-- an argument, and those behind it
+abbrev pub passed_before : (greatest : ℕ) → Description → Argument → Option TypedArguments
+    → Option TypedArguments
+passed_before greatest d a None = None
+passed_before greatest d a (Some more) =
+    passed d (passed_place d a.denoted) (passed_value greatest d (meant_as a.denoted)) more
+
+-- as many arguments as parameters, where each suits its parameter
+abbrev pub all_passed : (greatest : ℕ) → (parameters : List Description) → List Argument
+    → Option TypedArguments
+all_passed greatest [] [] = Some NoArgument
+all_passed greatest (d ∷ ds) (a ∷ more) = passed_before greatest d a (all_passed greatest ds more)
+all_passed greatest parameters arguments = None
+
+-- T7 at the called name where one does not suit
+abbrev pub or_wrong_argument : (at : ℕ) → Option TypedArguments → Result TypedArguments Fault
+or_wrong_argument at None = at_fault WrongArgument at
+or_wrong_argument at (Some arguments) = Ok arguments
+
+-- T6 there where their number is wrong
+abbrev pub arguments_passed : (greatest : ℕ) → NamedProcedure → (at : ℕ) → List Argument
+    → Result TypedArguments Fault
+arguments_passed greatest p at arguments =
+    if nat_eq (length arguments) (length p.parameters)
+    then or_wrong_argument at (all_passed greatest p.parameters arguments)
+    else at_fault WrongNumberOfArguments at
+
+-- what a function gives; T8 at the called name of what is none
+abbrev pub result_of : (at block : ℕ) → TypedArguments → Option ExpressionType → Result TypedValue Fault
+result_of at block arguments None = at_fault NotCallableHere at
+result_of at block arguments (Some kind) = Ok (record { expression = Called block arguments; kind = kind })
+
+abbrev pub type_returned : Option Description → Option ExpressionType
+type_returned None = None
+type_returned (Some d) = type_of d

@@ -1,0 +1,70 @@
+-- The blocks and temporaries of statements. A procedure and a BEGIN block are numbered in the order in which
+-- they begin in the text; so is an ON-unit. The temporaries of a block are counted from 0 in the order of the
+-- text.
+use Rattle.std.specs.Prelude.{ℕ, suc, ◌+◌, Option, Some, None}
+use Rattle.pli_base.specs.Statements.{Range, To, By, Repeat, Control, While, Iterate, Statement, Numbered}
+use Rattle.pli_base.specs.Statements.{Body, Procedure, Begin, Do, If, On, Statements, Ended, Before}
+use Rattle.pli_base.specs.Statements.{Alternative, NoElse, Else}
+
+-- how many blocks begin in a statement
+abbrev mutual
+  pub blocks_in : Statement → ℕ
+  blocks_in (Numbered number label at body) = blocks_of body
+
+  pub blocks_of : Body → ℕ
+  blocks_of (Procedure heading statements end) = suc (blocks_among statements)
+  blocks_of (Begin statements end) = suc (blocks_among statements)
+  blocks_of (Do control statements end) = blocks_among statements
+  blocks_of (If condition consequence alternative) = blocks_in consequence + blocks_behind alternative
+  blocks_of (On condition unit) = suc (blocks_in unit)
+  blocks_of body = 0
+
+  pub blocks_among : Statements → ℕ
+  blocks_among Ended = 0
+  blocks_among (Before first more) = blocks_in first + blocks_among more
+
+  pub blocks_behind : Alternative → ℕ
+  blocks_behind NoElse = 0
+  blocks_behind (Else statement) = blocks_in statement
+
+-- what a group keeps of what limits it: TO and BY, and 1 where TO stands without BY
+abbrev pub limits_kept : Option Range → ℕ
+limits_kept None = 0
+limits_kept (Some (To to by)) = 2
+limits_kept (Some (By by None)) = 1
+limits_kept (Some (By by (Some to))) = 2
+limits_kept (Some (Repeat next)) = 0
+
+-- and what its variable begins with
+abbrev pub kept_by : Option Control → ℕ
+kept_by None = 0
+kept_by (Some (While condition)) = 0
+kept_by (Some (Iterate variable equals first range condition)) = suc (limits_kept range)
+
+-- how many temporaries a statement has in its block
+abbrev mutual
+  pub temporaries_in : Statement → ℕ
+  temporaries_in (Numbered number label at body) = temporaries_of body
+
+  pub temporaries_of : Body → ℕ
+  temporaries_of (Do control statements end) = kept_by control + temporaries_among statements
+  temporaries_of (If condition consequence alternative) =
+      temporaries_in consequence + temporaries_behind alternative
+  temporaries_of body = 0
+
+  pub temporaries_among : Statements → ℕ
+  temporaries_among Ended = 0
+  temporaries_among (Before first more) = temporaries_in first + temporaries_among more
+
+  pub temporaries_behind : Alternative → ℕ
+  temporaries_behind NoElse = 0
+  temporaries_behind (Else statement) = temporaries_in statement
+
+-- the next block of a unit, and the next temporary of the block here
+pub record Next : Type 0 where
+  pub block : ℕ
+  pub temporary : ℕ
+
+-- behind a statement
+abbrev pub behind : Next → Statement → Next
+behind x s = record { block = x.block + blocks_in s; temporary = x.temporary + temporaries_in s }
