@@ -208,6 +208,13 @@ module _ (greatest level : ℕ) (call : Calls) (unit : Name) (s : TypingContext)
   calculation_answers t OutOfString w sound h = error_named unit s.statics x ss w StringRange sound
   calculation_answers t Misfits w sound h = absurd h
 
+  pub calculated_means : (operation : Operation) (ts : List ValueType) (t : ValueType) (vs : List Value)
+      → Operates greatest operation ts t → AreOf ts vs → (w : World) (left : ℕ) → Sound w
+      → Here left w (OfType t) (answered (calculation (calculated greatest operation vs) w) left)
+  calculated_means operation ts t vs fits are w left sound =
+      answer_means unit s.statics (OfType t) level left known (x ∷ ss) w (calculation (calculated greatest operation vs) w)
+      (calculation_answers t (calculated greatest operation vs) w sound (operated_fits greatest operation ts t vs fits are))
+
   -- a subscript
   abbrev OnWay : Description → ℕ → Description → Place → World → Type 0
   OnWay whole offset d p w = IsOn w whole offset d p
@@ -239,6 +246,13 @@ module _ (greatest level : ℕ) (call : Calls) (unit : Name) (s : TypingContext)
   held_of d t p w e (Raises r u) h = h
   held_of d t p w e Wrong h = h
 
+  pub held_means : (d : Description) (t : ValueType) (p : Place) → type_held d ≡ Some t → (w : World) (left : ℕ) → Sound w
+      → IsGood w d p → Here left w (OfType t) (answered (held p w) left)
+  held_means d t p e w left sound good =
+      let one = one_scalar d t e in
+      answer_means unit s.statics (OfType t) level left known (x ∷ ss) w (held p w)
+      (held_of d t p w e (held p w) (held_answers unit s.statics x ss d p w sound good one.0 one.1))
+
   returned_means : (t : ValueType) (d : Description) (o : Option Description) (v : Option Value) (w : World) (left : ℕ) → o ≡ Some d
       → type_held d ≡ Some t → Sound w → IsReturned o v → Here left w (OfType t) (a_value v w left)
   returned_means t d None v w left e f sound is = absurd (none_some e)
@@ -252,10 +266,8 @@ module _ (greatest level : ℕ) (call : Calls) (unit : Name) (s : TypingContext)
     value_means (Literal v) t typed w left sound = (omega arith, typed, sound, later_same w)
     value_means (Held r) t typed w left sound =
         let d = typed.0 in
-        let one = one_scalar d t typed.2 in
         then_here (AtPlace d) (OfType t) left w (place_of greatest call r w left) _ (place_means r d typed.1 w left sound)
-        (λ p w l good sound later. answer_means unit s.statics (OfType t) level l known (x ∷ ss) w (held p w)
-        (held_of d t p w typed.2 (held p w) (held_answers unit s.statics x ss d p w sound good one.0 one.1)))
+        (λ p w l good sound later. held_means d t p typed.2 w l sound good)
     value_means (Calculated operation operands) t typed w left sound =
         operated_means operands typed.0 operation [] [] t typed.1 tt typed.2 w left sound
     value_means (Called block arguments) t typed w left sound =
@@ -267,10 +279,8 @@ module _ (greatest level : ℕ) (call : Calls) (unit : Name) (s : TypingContext)
         → AreTyped greatest s operands ts → AreOf done before → Operates greatest operation (in_order done ts) t
         → (w : World) (left : ℕ) → Sound w → Here left w (OfType t) (operated greatest call operation operands before w left)
     operated_means NoOperand ts operation before done t typed are fits w left sound =
-        answer_means unit s.statics (OfType t) level left known (x ∷ ss) w (calculation (calculated greatest operation (in_order before [])) w)
-        (calculation_answers t (calculated greatest operation (in_order before [])) w sound
-        (operated_fits greatest operation (in_order done []) t (in_order before [])
-        (subst (λ ts. Operates greatest operation (in_order done ts) t) typed fits) (ordered_of done [] before [] are tt)))
+        calculated_means operation (in_order done []) t (in_order before [])
+        (subst (λ ts. Operates greatest operation (in_order done ts) t) typed fits) (ordered_of done [] before [] are tt) w left sound
     operated_means (OperandThen e more) ts operation before done t typed are fits w left sound =
         then_here (OfType typed.0) (OfType t) left w (value_of greatest call e w left) _ (value_means e typed.0 typed.3 w left sound)
         (λ v w l is sound later. operated_means more typed.1 operation (v ∷ before) (typed.0 ∷ done) t typed.4 (is, are)

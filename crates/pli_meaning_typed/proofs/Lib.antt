@@ -1,6 +1,8 @@
 pub mod ContextLaws
 pub mod ExamplesAreTyped
 pub mod ExpressionsMean
+pub mod FormsMean
+pub mod IterationsMean
 pub mod MeansLemmas
 pub mod OperationsFit
 pub mod Parts

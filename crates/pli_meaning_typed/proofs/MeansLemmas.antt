@@ -208,37 +208,41 @@ module _ (unit : Name) (statics : List Description) where
   behind_step P m l known ss u v Lost later h = h
   behind_step P m l known ss u v Short later h = omega (arith, h)
 
-  -- turns of a group: the test, and a list that begins with a step
-  abbrev turn_then : ℕ → Doing Flow → Doing Flow → Doing Flow
-  turn_then number list go w left =
-      followed (as_statement number list w left) (λ w left. followed (nothing_done w left) go)
+  -- turns of a group: the test, a list that begins with a step, and what comes between two turns
+  abbrev turn_then : ℕ → (list between go : Doing Flow) → Doing Flow
+  turn_then number list between go w left =
+      followed (as_statement number list w left) (λ w left. followed (between w left) go)
 
-  turn_means : (P : Flow → World → Type 0) (n m : ℕ) (known : Known) (ss : List Shape) (number : ℕ) (list go : Doing Flow) → m ≤ n
+  turn_means : (P : Flow → World → Type 0) (n m : ℕ) (known : Known) (ss : List Shape) (number : ℕ) (list between go : Doing Flow) → m ≤ n
       → ((w : World) (left : ℕ) → IsSound unit statics ss w → Means n left known ss w P (list w left))
+      → ((w : World) (left : ℕ) → IsSound unit statics ss w → Means n left known ss w P (between w left))
       → ((w : World) (left : ℕ) → IsSound unit statics ss w → Means m left known ss w P (go w left))
-      → (w : World) (left : ℕ) → IsSound unit statics ss w → Means (suc m) left known ss w P (turn_then number list go w left)
-  turn_means P n m known ss number list go le g rest w zero sound = tt
-  turn_means P n m known ss number list go le g rest w (suc left) sound =
+      → (w : World) (left : ℕ) → IsSound unit statics ss w → Means (suc m) left known ss w P (turn_then number list between go w left)
+  turn_means P n m known ss number list between go le g b rest w zero sound = tt
+  turn_means P n m known ss number list between go le g b rest w (suc left) sound =
       let v = stepped w in
       let u = at_statement number v in
       let s = stepped_sound unit statics ss w sound in
       let t = statement_sound unit statics ss number v s.0 in
-      behind_step P m left known ss w u (followed (list u left) (λ w left. followed (nothing_done w left) go)) (later_then w v u s.1 t.1)
-      (followed_means P m left known ss u (list u left) (λ w left. followed (nothing_done w left) go)
-      (lower_means P n m left known ss u (list u left) le (g u left t.0)) (λ w left le sound. rest w left sound))
+      behind_step P m left known ss w u (followed (list u left) (λ w left. followed (between w left) go)) (later_then w v u s.1 t.1)
+      (followed_means P m left known ss u (list u left) (λ w left. followed (between w left) go)
+      (lower_means P n m left known ss u (list u left) le (g u left t.0))
+      (λ w left le2 sound. followed_means P m left known ss w (between w left) go
+      (lower_means P n m left known ss w (between w left) le (b w left sound)) (λ w left le3 sound. rest w left sound)))
 
-  pub turns_means : (P : Flow → World → Type 0) (n : ℕ) (known : Known) (ss : List Shape) (number : ℕ) (test : Doing Bool) (list : Doing Flow)
+  pub turns_means : (P : Flow → World → Type 0) (n : ℕ) (known : Known) (ss : List Shape) (number : ℕ) (test : Doing Bool) (list between : Doing Flow)
       → ((w : World) → P Next w)
       → ((w : World) (left : ℕ) → IsSound unit statics ss w → Means n left known ss w Anything (test w left))
       → ((w : World) (left : ℕ) → IsSound unit statics ss w → Means n left known ss w P (list w left))
+      → ((w : World) (left : ℕ) → IsSound unit statics ss w → Means n left known ss w P (between w left))
       → (m : ℕ) → m ≤ n → (w : World) (left : ℕ) → IsSound unit statics ss w
-      → Means m left known ss w P (turns m test (as_statement number list) nothing_done w left)
-  turns_means P n known ss number test list next f g zero le w left sound = omega arith
-  turns_means P n known ss number test list next f g (suc m) le w left sound =
-      let go = turns m test (as_statement number list) nothing_done in
+      → Means m left known ss w P (turns m test (as_statement number list) between w left)
+  turns_means P n known ss number test list between next f g h zero le w left sound = omega arith
+  turns_means P n known ss number test list between next f g h (suc m) le w left sound =
+      let go = turns m test (as_statement number list) between in
       then_means Anything P (suc m) left known ss w (test w left) _
       (lower_means Anything n (suc m) left known ss w (test w left) le (f w left sound))
-      (λ b v l le2 any s later. chosen_means P (suc m) l known ss v b (turn_then number list go) nothing_done v l
-      (turn_means P n m known ss number list go (omega (arith, le)) g
-      (λ w left s. turns_means P n known ss number test list next f g m (omega (arith, le)) w left s) v l s)
+      (λ b v l le2 any s later. chosen_means P (suc m) l known ss v b (turn_then number list between go) nothing_done v l
+      (turn_means P n m known ss number list between go (omega (arith, le)) g h
+      (λ w left s. turns_means P n known ss number test list between next f g h m (omega (arith, le)) w left s) v l s)
       (omega arith, next v, s, later_same v))

@@ -19,9 +19,9 @@ use Rattle.std.specs.Prelude.{nat_eq, slice_index_or, ◌&&◌, ◌||◌}
 use Rattle.pli_map.specs.Description.{Description, FixedBinary, Character, Varying, Bit}
 use Rattle.pli_operation.specs.Operations.{Operation, Negate, Absolute, Sign, Not, LengthOf, FromBits, ToCharacters}
 use Rattle.pli_operation.specs.Operations.{Fit, Add, Subtract, Multiply, Modulo, Greatest, Least, Divide, Compare}
-use Rattle.pli_operation.specs.Operations.{Concatenate, And, Or, Index, Rest, Substring, Calculation, Calculates}
+use Rattle.pli_operation.specs.Operations.{Concatenate, And, Or, Index, Rest, Substring, Within, Calculation, Calculates}
 use Rattle.pli_operation.specs.Operations.{RaisesCondition, OutOfString, Misfits, as_number, as_characters, as_bits}
-use Rattle.pli_operation.specs.Operations.{calculated, sign_of, in_columns, fitted_to, greatest_of, least_of}
+use Rattle.pli_operation.specs.Operations.{calculated, sign_of, in_columns, fitted_to, greatest_of, least_of, is_within_limit}
 use Rattle.pli_value.specs.Numbers.{has_digits, within, quotient, remainder}
 use Rattle.pli_value.specs.Strings.{piece, concatenation, first_place, one_behind, index_of, fitted}
 use Rattle.pli_value.specs.Strings.{by_place, conjunction, disjunction, substring, substring_from, part_of, rest_of}
@@ -425,3 +425,10 @@ module _ (n : ℕ) where
       (λ i hi. string (λ v. IsCalculated t (calculated n Substring (v ∷ Number i ∷ Number j ∷ []))) h.0 h.1 h.2 v hv
       (λ s k le1 le2. subst (λ t. IsCalculated t (as_characters (substring s i j))) (sym (h.6 ∙ ap (λ k. Strings k 0 h.2) k)) (characters_short h.2 s (part_of (length s) i j) le2))
       (λ s k le1 le2. subst (λ t. IsCalculated t (as_bits (substring s i j))) (sym (h.6 ∙ ap (λ k. Strings k 0 h.2) k)) (bits_short h.2 s (part_of (length s) i j) le2)))))
+  operated_fits Within ts t vs h b =
+      three (λ vs. IsCalculated t (calculated n Within vs)) (Numbers h.0.0) (Numbers h.0.1) (Numbers h.0.2) vs (subst (λ ts. AreOf ts vs) h.0.3 b)
+      (λ v w z hv hw hz. number (λ z. IsCalculated t (calculated n Within (v ∷ w ∷ z ∷ []))) h.0.2 z hz
+      (λ j hj. number (λ w. IsCalculated t (calculated n Within (v ∷ w ∷ Number j ∷ []))) h.0.1 w hw
+      (λ i hi. number (λ v. IsCalculated t (calculated n Within (v ∷ Number i ∷ Number j ∷ []))) h.0.0 v hv
+      (λ x hx. subst (λ t. IsOf t (Bits (is_within_limit x i j ∷ []))) (sym h.1)
+      (is_within_limit x i j ∷ [], refl, omega arith, omega arith)))))

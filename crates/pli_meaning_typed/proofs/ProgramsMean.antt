@@ -24,7 +24,8 @@ use Rattle.pli_meaning_typed.specs.TypedPrograms.{descriptions, context_in, HasE
 use Rattle.pli_meaning_typed.proofs.ExpressionsMean.{IsReturned, Gives as GivesBack, CallsMean}
 use Rattle.pli_meaning_typed.proofs.MeansLemmas.{IsBelow, Means, behind_step, full_means}
 use Rattle.pli_meaning_typed.proofs.ContextLaws.{Known, Stand, near, stand_around, shaped_length}
-use Rattle.pli_meaning_typed.proofs.StatementsMean.{FlowIs, in_own_block, activation_means, list_means}
+use Rattle.pli_meaning_typed.proofs.FormsMean.{FlowIs}
+use Rattle.pli_meaning_typed.proofs.StatementsMean.{in_own_block, activation_means, list_means}
 use Rattle.pli_meaning_typed.proofs.StaticsMade.{statics_there}
 use Rattle.pli_meaning_typed.proofs.WorldLaws.{goods_later, error_named, stepped_sound, statement_sound, left_sound, left_later}
 
