@@ -2,12 +2,13 @@
 use Rattle.std.specs.Prelude.{◌≡◌, ℕ, nat_eq, Bool, true, false, pos, Some, None, [], ◌∷◌, if◌then◌else◌, refl}
 use Rattle.std.proofs.Common.{arith, ap, subst, inl}
 use Rattle.std.proofs.lemmas.Bool.{eqb-true}
+use Rattle.pli_operation.specs.Operations.{Fit}
 use Rattle.pli_type_tree.specs.TypedTree.{TypedProcedure, TypedUnit, Held}
-use Rattle.pli_type_tree.specs.ValueTypes.{OfCharacters, Numbers}
-use Rattle.pli_type_tree.specs.WellTyped.{Signature, TypingContext, IsTyped, AreTypedStatements}
+use Rattle.pli_type_tree.specs.ValueTypes.{OfCharacters, OfBits, Numbers}
+use Rattle.pli_type_tree.specs.WellTyped.{Signature, TypingContext, IsTyped, IsString, IsValueFor, Convert, AreTypedStatements}
 use Rattle.pli_meaning_tree.specs.TreeMeaning.{procedure_in}
 use Rattle.pli_meaning_typed.specs.TypedPrograms.{context_in, IsTypedProcedure, IsTypedUnit}
-use Rattle.pli_meaning_typed.specs.examples.TypedExamples.{number, counter, counting, returning, caller, successor, of_caller, of_successor, signatures, ExampleIsWellTyped}
+use Rattle.pli_meaning_typed.specs.examples.TypedExamples.{number, counter, one_more, few, counting, returning, caller, successor, of_caller, of_successor, signatures, ExampleIsWellTyped, GroupsAreWellTyped}
 
 abbrev in_caller : TypingContext
 in_caller = context_in [] signatures of_caller caller
@@ -52,6 +53,17 @@ successor_typed = (
   tt,
 )
 
+few_in_caller : IsString 31 in_caller OfBits few
+few_in_caller = (
+  1,
+  1,
+  (
+    Numbers 31 ∷ Numbers 4 ∷ [],
+    (Numbers 31, Numbers 4 ∷ [], refl, counter_in_caller, (Numbers 4, [], refl, (pos 9, refl, omega arith), refl)),
+    (inl (31, 4, refl, tt), refl),
+  ),
+)
+
 caller_typed : AreTypedStatements 31 in_caller counting
 caller_typed = (
   (
@@ -73,15 +85,7 @@ caller_typed = (
     ((OfCharacters, (14, 14, (Numbers 31 ∷ [], (Numbers 31, [], refl, counter_in_caller, refl), (31, refl, ((omega arith, 13, refl, omega arith), refl))))), tt),
     (
       (
-        (
-          1,
-          1,
-          (
-            Numbers 31 ∷ Numbers 4 ∷ [],
-            (Numbers 31, Numbers 4 ∷ [], refl, counter_in_caller, (Numbers 4, [], refl, (pos 9, refl, omega arith), refl)),
-            (inl (31, 4, refl, tt), refl),
-          ),
-        ),
+        few_in_caller,
         refl,
         tt,
       ),
@@ -129,3 +133,43 @@ example_is = record {
   count = omega arith;
   main = (unit_is, of_caller, refl, refl, refl, refl, refl);
 }
+
+-- any number is converted to the control variable
+counts : (p : ℕ) → Convert 31 (Fit number ∷ []) (Numbers p) number
+counts p = (Numbers 31, (Numbers p, refl, tt, refl), (Numbers 31, refl, omega arith))
+
+one_more_in_caller : IsValueFor 31 in_caller number one_more
+one_more_in_caller = (
+  Numbers 31,
+  (
+    Numbers 31 ∷ [],
+    (
+      Numbers 31,
+      [],
+      refl,
+      (
+        Numbers 31 ∷ Numbers 1 ∷ [],
+        (Numbers 31, Numbers 1 ∷ [], refl, counter_in_caller, (Numbers 1, [], refl, (pos 1, refl, omega arith), refl)),
+        (31, 1, refl, refl),
+      ),
+      refl,
+    ),
+    (Numbers 31, refl, tt, refl),
+  ),
+  (Numbers 31, refl, omega arith),
+)
+
+pub groups_are : GroupsAreWellTyped
+groups_are = (
+  (
+    (
+      number,
+      refl,
+      (Numbers 1, (pos 1, refl, omega arith), counts 1),
+      (((31, refl), counts), (2, (pos 2, refl, omega arith)), (4, (pos 9, refl, omega arith))),
+      few_in_caller,
+    ),
+    tt,
+  ),
+  ((number, refl, (Numbers 1, (pos 1, refl, omega arith), counts 1), one_more_in_caller, few_in_caller), tt),
+)

@@ -1,6 +1,6 @@
 //! Laws of well-typed programs.
 ghost use Rattle.pli_meaning_typed.specs.TypedPrograms.{EveryRunIsMeant};
-ghost use Rattle.pli_meaning_typed.specs.examples.TypedExamples.{ExampleIsWellTyped};
+ghost use Rattle.pli_meaning_typed.specs.examples.TypedExamples.{ExampleIsWellTyped, GroupsAreWellTyped};
 
 /// A law: each run of a well-typed program, with any number of steps, has a meaning. No operation asks for what is not
 /// there, no label is sought in vain, no bound of the definition is too low, and no run ends in a fault of the machine.
@@ -8,8 +8,9 @@ pub fn every_run_is_meant()
     ensures { EveryRunIsMeant }
 {}
 
-/// A worked example: a program with a function that is called with a variable as its argument, a conversion to
-/// characters and a GOTO is well-typed.
+/// Worked examples: a program with a function that is called with a variable as its argument, a conversion to characters
+/// and a GOTO is well-typed; so are groups with BY, TO, REPEAT and WHILE in it.
 pub fn worked_examples()
-    ensures { ExampleIsWellTyped }
+    ensures program { ExampleIsWellTyped }
+    ensures groups { GroupsAreWellTyped }
 {}

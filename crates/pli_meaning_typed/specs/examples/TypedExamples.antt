@@ -8,10 +8,11 @@ use Rattle.pli_type_tree.specs.TypedTree.{TypedReference}
 use Rattle.pli_type_tree.specs.TypedTree.{Whole, NoOperand, OperandThen, NoArgument, ByPlace, BlockHead}
 use Rattle.pli_type_tree.specs.TypedTree.{Statement}
 use Rattle.pli_type_tree.specs.TypedTree.{Assign, Put, If, Goto, ReturnValue, NoElse, TypedStatements}
+use Rattle.pli_type_tree.specs.TypedTree.{Form, Iterate, TypedRange, ByTo, Repeated}
 use Rattle.pli_type_tree.specs.TypedTree.{NoStatement, StatementThen, TypedProcedure}
-use Rattle.pli_type_tree.specs.WellTyped.{Signature, block_of}
+use Rattle.pli_type_tree.specs.WellTyped.{Signature, block_of, IsTypedForm}
 use Rattle.pli_meaning_tree.specs.TreeMeaning.{TypedProgram}
-use Rattle.pli_meaning_typed.specs.TypedPrograms.{WellTyped}
+use Rattle.pli_meaning_typed.specs.TypedPrograms.{WellTyped, context_in}
 
 -- P: PROCEDURE; DECLARE X FIXED BINARY(31);
 --   L: X = F(X); PUT LIST(X); IF X < 9 THEN GOTO L;
@@ -90,3 +91,24 @@ signatures n = if nat_eq n 0 then Some of_caller else if nat_eq n 1 then Some of
 
 abbrev pub ExampleIsWellTyped : Type 0
 ExampleIsWellTyped = WellTyped example
+
+-- `DO X = 1 BY 2 TO 9 WHILE(X < 9);` and `DO X = 1 REPEAT X + 1 WHILE(X < 9);`, with nothing between them and
+-- their END
+abbrev pub turning : TypedRange → Form
+turning range =
+    Iterate (record {
+      control = counter;
+      conversion = Fit number ∷ [];
+      start = Literal (Number (pos 1));
+      range = range;
+      condition = Some few;
+      temporary = 0;
+    }) NoStatement
+
+abbrev pub by_two : TypedRange
+by_two = ByTo (Literal (Number (pos 2))) (Some (Literal (Number (pos 9))))
+
+abbrev pub GroupsAreWellTyped : Type 0
+GroupsAreWellTyped =
+    IsTypedForm 31 (context_in [] signatures of_caller caller) (turning by_two)
+    × IsTypedForm 31 (context_in [] signatures of_caller caller) (turning (Repeated one_more))

@@ -1,5 +1,8 @@
 use Rattle.pli_meaning_typed.proofs.ExamplesAreTyped as law
 use Rattle.pli_meaning_typed.proofs.laws.worked_examples.Goals as goal
 
-pub returns : goal.returns
-returns c = law.example_is
+pub returns-clause-program : goal.returns-clause-program
+returns-clause-program c = law.example_is
+
+pub returns-clause-groups : goal.returns-clause-groups
+returns-clause-groups c = law.groups_are
