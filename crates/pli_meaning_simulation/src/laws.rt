@@ -9,8 +9,8 @@ pub fn simulates()
     ensures no_fault { NoFault }
 {}
 
-/// With a step more the output of a program goes on from what it was, and a run that did not end for want of steps is the
-/// same.
+/// With a step more the output of a program goes on from what it was, and a run that did not end for want of steps is
+/// the same.
 pub fn goes_on()
     ensures { Growth }
 {}

@@ -8,8 +8,8 @@ pub fn every_run_is_meant()
     ensures { EveryRunIsMeant }
 {}
 
-/// Worked examples: a program with a function that is called with a variable as its argument, a conversion to characters
-/// and a GOTO is well-typed; so are groups with BY, TO, REPEAT and WHILE in it.
+/// Worked examples: a program with a function that is called with a variable as its argument, a conversion to
+/// characters and a GOTO is well-typed; so are groups with BY, TO, REPEAT and WHILE in it.
 pub fn worked_examples()
     ensures program { ExampleIsWellTyped }
     ensures groups { GroupsAreWellTyped }
