@@ -184,12 +184,12 @@ const SESSIONS: [Row; 38] = [
     ),
     // the first form of a unit that cannot be compiled yet is told, at its line, and nothing else of that unit
     (
-        b"ADD M SOURCE\nINSERT M 0 M: PROC OPTIONS(MAIN);\nINSERT M 1 DCL Y FIXED BIN(31); Y = 1;\nINSERT M 2 %INCLUDE K;\nINSERT M 3 IF Y THEN STOP; END M;\nADD K INCLUDE\nINSERT K 0 ;\nINSERT K 1 DO; Y = Y - 1; END;\nADD N SOURCE\nINSERT N 0 N: PROC; Z = 1; END;\nBUILD\nREPLACE K 2 Y = Y + 1;\nBUILD\nREMOVE M 4 4\nINSERT M 3 END;\nBUILD\n",
+        b"ADD M SOURCE\nINSERT M 0 M: PROC OPTIONS(MAIN);\nINSERT M 1 DCL Y FIXED BIN(31); Y = 1;\nINSERT M 2 %INCLUDE K;\nINSERT M 3 IF Y THEN SIGNAL AREA; END M;\nADD K INCLUDE\nINSERT K 0 ;\nINSERT K 1 REVERT AREA;\nADD N SOURCE\nINSERT N 0 N: PROC; Z = 1; END;\nBUILD\nREPLACE K 2 Y = Y + 1;\nBUILD\nREMOVE M 4 4\nINSERT M 3 END;\nBUILD\n",
         b"OK\nOK\nOK\nOK\nOK\nOK\nOK\nOK\nOK\nOK\nM K:2 Z1 NOT YET BUILT\nN N:1 A1 NOT DECLARED\nNOT BUILT\nOK\nM M:4 Z1 NOT YET BUILT\nN N:1 A1 NOT DECLARED\nNOT BUILT\nOK\nOK\nN N:1 A1 NOT DECLARED\nNOT BUILT\n",
     ),
     // faults of declarations come before forms that cannot be compiled yet, and these before faults of types
     (
-        b"ADD M SOURCE\nINSERT M 0 M: PROC OPTIONS(MAIN); L: ;\nINSERT M 1 IF Y > 1 THEN DO; Y = Y - 1; END;\nINSERT M 2 Y = M; END;\nBUILD\nINSERT M 1 DCL Y FIXED BIN(31);\nBUILD\nREPLACE M 1 M: PROC OPTIONS(MAIN);\nBUILD\nREMOVE M 3 3\nBUILD\nREPLACE M 3 Y = Y; PUT LIST(M); END;\nBUILD\nREPLACE M 3 END;\nBUILD\nRUN\n",
+        b"ADD M SOURCE\nINSERT M 0 M: PROC OPTIONS(MAIN); L: SIGNAL AREA;\nINSERT M 1 IF Y > Y + Y THEN SIGNAL AREA;\nINSERT M 2 Y = M; END;\nBUILD\nINSERT M 1 DCL Y FIXED BIN(31);\nBUILD\nREPLACE M 1 M: PROC OPTIONS(MAIN);\nBUILD\nREMOVE M 3 3\nBUILD\nREPLACE M 3 Y = Y; PUT LIST(M); END;\nBUILD\nREPLACE M 3 END;\nBUILD\nRUN\n",
         b"OK\nOK\nOK\nOK\nM M:2 A1 NOT DECLARED\nM M:2 A1 NOT DECLARED\nM M:2 A1 NOT DECLARED\nM M:3 A1 NOT DECLARED\nNOT BUILT\nOK\nM M:1 Z1 NOT YET BUILT\nNOT BUILT\nOK\nM M:3 Z1 NOT YET BUILT\nNOT BUILT\nOK\nM M:3 T1 NOT A VARIABLE\nNOT BUILT\nOK\nM M:3 T1 NOT A VARIABLE\nNOT BUILT\nOK\nBUILT\nENDED\n",
     ),
     (b"RUN\n", b"B2 NOT BUILT\n"),
@@ -206,7 +206,7 @@ fn sessions(rt: HostRuntime) -> Result<(), Fail> {
 }
 
 /// The one line of a member, with what a build says of it. `second_lines` has more faults.
-const DIAGNOSTICS: [Row; 23] = [
+const DIAGNOSTICS: [Row; 26] = [
     (
         b"M: PROC OPTIONS(MAIN); X = 2 ? 1; END;",
         b"M M:1 X3 BAD CHARACTER\n",
@@ -257,7 +257,7 @@ const DIAGNOSTICS: [Row; 23] = [
         b"M M:1 T4 WRONG OPERAND TYPE\n",
     ),
     (
-        b"M: PROC OPTIONS(MAIN); PUT SKIP LIST(ABS('1'B)); STOP; END;",
+        b"M: PROC OPTIONS(MAIN); PUT SKIP LIST(ABS('1'B)); SIGNAL AREA; END;",
         b"M M:1 Z1 NOT YET BUILT\n",
     ),
     (
@@ -269,12 +269,24 @@ const DIAGNOSTICS: [Row; 23] = [
         b"M M:1 T2 AGGREGATE NOT ALLOWED HERE\nM M:1 T4 WRONG OPERAND TYPE\nM M:1 T5 CANNOT ASSIGN\n",
     ),
     (
-        b"M: PROC OPTIONS(MAIN); L: ; END;",
+        b"M: PROC OPTIONS(MAIN); L: SIGNAL AREA; END;",
         b"M M:1 Z1 NOT YET BUILT\n",
     ),
     (
-        b"M: PROC OPTIONS(MAIN); BEGIN; END; END;",
+        b"M: PROC OPTIONS(MAIN); BEGIN; REVERT AREA; END; END;",
         b"M M:1 Z1 NOT YET BUILT\n",
+    ),
+    (
+        b"M: PROC OPTIONS(MAIN); CALL S; CALL S('A'); CALL M(1); S: PROC(P); DCL P FIXED BIN; END; END;",
+        b"M M:1 T6 WRONG NUMBER OF ARGUMENTS\nM M:1 T7 WRONG ARGUMENT\nM M:1 T6 WRONG NUMBER OF ARGUMENTS\n",
+    ),
+    (
+        b"M: PROC OPTIONS(MAIN); DCL X BIT; X = M(); CALL F; RETURN(1); F: PROC RETURNS(BIT); RETURN; END; END;",
+        b"M M:1 T8 NOT CALLABLE HERE\nM M:1 T8 NOT CALLABLE HERE\nM M:1 T9 WRONG RETURN\nM M:1 T9 WRONG RETURN\n",
+    ),
+    (
+        b"M: PROC OPTIONS(MAIN); DCL V BIT, A(2) BIT; DO V = '1'B TO 'A'; END; DO V = 1; END; DO A(1) = '1'B; END; END;",
+        b"M M:1 T4 WRONG OPERAND TYPE\nM M:1 T5 CANNOT ASSIGN\nM M:1 T12 BAD CONTROL VARIABLE\n",
     ),
     (
         b"M: PROC(A) OPTIONS(MAIN); END;",
