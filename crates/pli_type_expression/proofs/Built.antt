@@ -11,44 +11,44 @@ use Rattle.pli_base.specs.declared.syntax.Reference.{Reference, out-Reference}
 use Rattle.pli_base.specs.laws.SyntaxLaws.{reference_out}
 use Rattle.pli_base.specs.views.SyntaxView.{expression_view, expressions_view, joined_view, arguments_view}
 use Rattle.pli_base.specs.views.SyntaxView.{reference_view}
-use Rattle.pli_type.specs.Names.{Naming}
+use Rattle.pli_type.specs.Names.{Compiled}
 use Rattle.pli_type.specs.Unbuilt.{later_expression, later_reference, later_joined, later_arguments, later_list}
-use Rattle.pli_type.specs.Unbuilt.{names_later, is_of_language}
-use Rattle.pli_type_names.specs.UnitNaming.{naming_in}
+use Rattle.pli_type.specs.Unbuilt.{is_of_language}
+use Rattle.pli_type_names.specs.UnitNaming.{unit_compiled}
 
-pub greatest_in : (u : Procedure) → (naming_in u).greatest ≡ 31
-unfolding naming_in
+pub greatest_in : (u : Procedure) → (unit_compiled u).greatest ≡ 31
+unfolding unit_compiled
 greatest_in u = refl
 
 -- a constant is within the language's limits
 pub constant_built : (u : Procedure) (value : ConstantValue)
-    → not (is_of_language (naming_in u).greatest value) ≡ false → is_of_language 31 value ≡ true
+    → not (is_of_language (unit_compiled u).greatest value) ≡ false → is_of_language 31 value ≡ true
 constant_built u value p =
-    ap (λ g. is_of_language g value) (sym (greatest_in u)) ∙ not-false (is_of_language (naming_in u).greatest value) p
+    ap (λ g. is_of_language g value) (sym (greatest_in u)) ∙ not-false (is_of_language (unit_compiled u).greatest value) p
 
 -- a reference's first part, and those joined to it
-pub reference_built : (n : Naming) (r : Reference) → later_reference n (reference_view r) ≡ false
+pub reference_built : (n : Compiled) (r : Reference) → later_reference n (reference_view r) ≡ false
     → (later_arguments n (arguments_view (out-Reference r).first.arguments) ≡ false)
     × (later_joined n (joined_view (out-Reference r).joined.items) ≡ false)
 reference_built n r p =
     let x = out-Reference r in
     let whole = sym (ap (later_reference n) (reference_out r)) ∙ p in
-    let halves = or_parts (names_later (n.meaning x.first.name.at) || later_arguments n (arguments_view x.first.arguments)) (later_joined n (joined_view x.joined.items)) whole in
-    ((or_parts (names_later (n.meaning x.first.name.at)) (later_arguments n (arguments_view x.first.arguments)) halves.0).1, halves.1)
+    let halves = or_parts (n.is_later x.first.name.at || later_arguments n (arguments_view x.first.arguments)) (later_joined n (joined_view x.joined.items)) whole in
+    ((or_parts (n.is_later x.first.name.at) (later_arguments n (arguments_view x.first.arguments)) halves.0).1, halves.1)
 
 -- a part that is joined, and those behind it
-pub part_built : (n : Naming) (xs : List part.JoinedPart) (i : ℕ) (x : part.JoinedPart) → i < length xs
+pub part_built : (n : Compiled) (xs : List part.JoinedPart) (i : ℕ) (x : part.JoinedPart) → i < length xs
     → x ≡ get_or xs i x → later_joined n (joined_view (drop i xs)) ≡ false
     → (later_arguments n (arguments_view x.part.arguments) ≡ false)
     × (later_joined n (joined_view (drop (i + 1) xs)) ≡ false)
 part_built n xs i x within is p =
     let more = drop (i + 1) xs in
     let whole = sym (ap (λ ys. later_joined n (joined_view ys)) (drop_more xs i x within ∙ ap (λ y. y ∷ more) (sym is))) ∙ p in
-    let halves = or_parts (names_later (n.meaning x.part.name.at) || later_arguments n (arguments_view x.part.arguments)) (later_joined n (joined_view more)) whole in
-    ((or_parts (names_later (n.meaning x.part.name.at)) (later_arguments n (arguments_view x.part.arguments)) halves.0).1, halves.1)
+    let halves = or_parts (n.is_later x.part.name.at || later_arguments n (arguments_view x.part.arguments)) (later_joined n (joined_view more)) whole in
+    ((or_parts (n.is_later x.part.name.at) (later_arguments n (arguments_view x.part.arguments)) halves.0).1, halves.1)
 
 -- an expression in a list, and those behind it
-pub item_built : (n : Naming) (xs : List program.Expression) (i : ℕ) (x : program.Expression) → i < length xs
+pub item_built : (n : Compiled) (xs : List program.Expression) (i : ℕ) (x : program.Expression) → i < length xs
     → x ≡ get_or xs i x → later_list n (expressions_view (drop i xs)) ≡ false
     → (later_expression n (expression_view x) ≡ false) × (later_list n (expressions_view (drop (i + 1) xs)) ≡ false)
 item_built n xs i x within is p =

@@ -4,6 +4,7 @@ pub mod Called
 pub mod Calls
 pub mod Loops
 pub mod Meanings
+pub mod Passing
 pub mod References
 pub mod Sizes
 pub mod Walks

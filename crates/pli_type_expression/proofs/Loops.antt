@@ -7,14 +7,15 @@ use Rattle.pli_base.specs.Syntax.{Listed}
 use Rattle.pli_base.specs.declared.syntax.Expression as program
 use Rattle.pli_base.specs.declared.syntax.JoinedPart as part
 use Rattle.pli_base.specs.views.SyntaxView.{expression_view, expressions_view, joined_view, arguments_view}
-use Rattle.pli_type.specs.FunctionCalls.{Meant}
+use Rattle.pli_type.specs.ExpressionTypes.{TypedValue}
+use Rattle.pli_type.specs.FunctionCalls.{Denoted}
 use Rattle.pli_type.specs.Names.{Naming}
-use Rattle.pli_type.specs.References.{Role, AsValue, AsArgument}
-use Rattle.pli_type.specs.Typing.{Segment, first_token, meant, argument, all_subscripts, all_arguments}
+use Rattle.pli_type.specs.References.{Role, AsArgument}
+use Rattle.pli_type.specs.Typing.{Segment, first_token, denoted, value_of, subscript_value, argument}
+use Rattle.pli_type.specs.Typing.{all_subscripts, all_arguments}
 use Rattle.pli_type_tree.specs.declared.expression.TypedExpression.{TypedExpression}
 use Rattle.pli_type_tree.specs.views.TypedView as typed
 use Rattle.pli_type_expression.specs.Segments.{next_segment, last_segment}
-use Rattle.pli_type_expression.specs.Subscripts.{subscript_meant}
 use Rattle.pli_type_expression.specs.answers.TypingAnswers.{Fails}
 use Rattle.pli_type_expression.specs.declared.answer.TypeError.{TypeError}
 use Rattle.pli_type_expression.specs.declared.argument.Argument.{Argument}
@@ -48,50 +49,50 @@ module _ (n : Naming) (xs : List program.Expression) (i : ℕ) (e : program.Expr
   listed : expressions_view (drop i xs) ≡ Listed (expression_view e) (expressions_view (drop (i + 1) xs))
   listed = ap expressions_view (at_place xs i e within is)
 
-  pub subscript_goes_on : (done after : List TypedExpression) (m : Meant) (x : TypedExpression)
-      → meant n AsValue (expression_view e) ≡ Ok m
-      → subscript_meant n.greatest (first_token (expression_view e)) m ≡ Ok (typed.expression_view x)
+  pub subscript_goes_on : (done after : List TypedExpression) (v : TypedValue) (x : TypedExpression)
+      → value_of n (expression_view e) ≡ Ok v
+      → subscript_value n.greatest (first_token (expression_view e)) v ≡ Ok (typed.expression_view x)
       → after ≡ done ++ x ∷ []
       → subscripts_with n (map typed.expression_view done) (expressions_view (drop i xs))
       ≡ subscripts_with n (map typed.expression_view after) (expressions_view (drop (i + 1) xs))
-  subscript_goes_on done after m x p q pushed =
+  subscript_goes_on done after v x p q pushed =
       ap (subscripts_with n (map typed.expression_view done)) listed
-      ∙ more_subscripts n (map typed.expression_view done) (expression_view e) (expressions_view (drop (i + 1) xs)) m (typed.expression_view x) p q
+      ∙ more_subscripts n (map typed.expression_view done) (expression_view e) (expressions_view (drop (i + 1) xs)) v (typed.expression_view x) p q
       ∙ ap (λ zs. subscripts_with n zs (expressions_view (drop (i + 1) xs))) (sym (ap (map typed.expression_view) pushed ∙ map-append typed.expression_view done (x ∷ [])))
 
-  pub subscript_meant_not : (done : List TypedExpression) (error : TypeError)
-      → Fails error (meant n AsValue (expression_view e))
+  pub subscript_valueless : (done : List TypedExpression) (error : TypeError)
+      → Fails error (value_of n (expression_view e))
       → Fails error (subscripts_with n (map typed.expression_view done) (expressions_view (drop i xs)))
-  subscript_meant_not done error p =
+  subscript_valueless done error p =
       fails_as error _ _ (ap (subscripts_with n (map typed.expression_view done)) listed)
       (subscript_unmeant n (map typed.expression_view done) (expression_view e) (expressions_view (drop (i + 1) xs)) error p)
 
-  pub subscript_no_number : (done : List TypedExpression) (m : Meant) (error : TypeError)
-      → meant n AsValue (expression_view e) ≡ Ok m
-      → Fails error (subscript_meant n.greatest (first_token (expression_view e)) m)
+  pub subscript_no_number : (done : List TypedExpression) (v : TypedValue) (error : TypeError)
+      → value_of n (expression_view e) ≡ Ok v
+      → Fails error (subscript_value n.greatest (first_token (expression_view e)) v)
       → Fails error (subscripts_with n (map typed.expression_view done) (expressions_view (drop i xs)))
-  subscript_no_number done m error p q =
+  subscript_no_number done v error p q =
       fails_as error _ _ (ap (subscripts_with n (map typed.expression_view done)) listed)
-      (subscript_refused n (map typed.expression_view done) (expression_view e) (expressions_view (drop (i + 1) xs)) m error p q)
+      (subscript_refused n (map typed.expression_view done) (expression_view e) (expressions_view (drop (i + 1) xs)) v error p q)
 
-  pub argument_goes_on : (roles : List Role) (done after : List Argument) (role : Role) (m : Meant) (a : Argument)
-      → role ≡ get_or roles i AsArgument → meant n role (expression_view e) ≡ Ok m
-      → argument_view a ≡ argument (expression_view e) m → after ≡ done ++ a ∷ []
+  pub argument_goes_on : (roles : List Role) (done after : List Argument) (role : Role) (d : Denoted) (a : Argument)
+      → role ≡ get_or roles i AsArgument → denoted n role (expression_view e) ≡ Ok d
+      → argument_view a ≡ argument (expression_view e) d → after ≡ done ++ a ∷ []
       → arguments_with n (drop i roles) (map argument_view done) (expressions_view (drop i xs))
       ≡ arguments_with n (drop (i + 1) roles) (map argument_view after) (expressions_view (drop (i + 1) xs))
-  argument_goes_on roles done after role m a r p q pushed =
+  argument_goes_on roles done after role d a r p q pushed =
       ap (arguments_with n (drop i roles) (map argument_view done)) listed
-      ∙ more_arguments n roles i (map argument_view done) (expression_view e) (expressions_view (drop (i + 1) xs)) m (ap (λ r. meant n r (expression_view e)) (sym r) ∙ p)
+      ∙ more_arguments n roles i (map argument_view done) (expression_view e) (expressions_view (drop (i + 1) xs)) d (ap (λ r. denoted n r (expression_view e)) (sym r) ∙ p)
       ∙ ap (λ zs. arguments_with n (drop (i + 1) roles) zs (expressions_view (drop (i + 1) xs)))
       (ap (λ b. map argument_view done ++ b ∷ []) (sym q) ∙ sym (ap (map argument_view) pushed ∙ map-append argument_view done (a ∷ [])))
 
-  pub argument_meant_not : (roles : List Role) (done : List Argument) (role : Role) (error : TypeError)
-      → role ≡ get_or roles i AsArgument → Fails error (meant n role (expression_view e))
+  pub argument_undenoted : (roles : List Role) (done : List Argument) (role : Role) (error : TypeError)
+      → role ≡ get_or roles i AsArgument → Fails error (denoted n role (expression_view e))
       → Fails error (arguments_with n (drop i roles) (map argument_view done) (expressions_view (drop i xs)))
-  argument_meant_not roles done role error r p =
+  argument_undenoted roles done role error r p =
       fails_as error _ _ (ap (arguments_with n (drop i roles) (map argument_view done)) listed)
       (argument_unmeant n roles i (map argument_view done) (expression_view e) (expressions_view (drop (i + 1) xs)) error
-      (fails_as error _ _ (ap (λ r. meant n r (expression_view e)) (sym r)) p))
+      (fails_as error _ _ (ap (λ r. denoted n r (expression_view e)) (sym r)) p))
 
 -- nothing is left
 pub no_subscript_left : (n : Naming) (done : List TypedExpression)

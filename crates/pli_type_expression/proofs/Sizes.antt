@@ -10,9 +10,9 @@ abbrev mutual
   pub expression_size : Expression → ℕ
   expression_size (Referred reference) = 1 + reference_size reference
   expression_size (Constant at value) = 1
-  expression_size (Parenthesized at inner) = 1 + expression_size inner
-  expression_size (Prefix operator at operand) = 1 + expression_size operand
-  expression_size (Infix operator at left right) = 1 + expression_size left + expression_size right
+  expression_size (Parenthesized at inner) = 2 + expression_size inner
+  expression_size (Prefix operator at operand) = 2 + expression_size operand
+  expression_size (Infix operator at left right) = 2 + expression_size left + expression_size right
 
   pub reference_size : Reference → ℕ
   reference_size (Named name arguments more) = 5 + arguments_size arguments + parts_size more

@@ -2,7 +2,7 @@
 use Rattle.std.proofs.Common.{◌≡◌, ℕ, ◌+◌, ◌∷◌, ◌++◌, [], List, true, false, Result, Ok, Err, refl, ap}
 use Rattle.std.proofs.Common.{◌∙◌, sym, suc, zero, drop, get_or, add-one}
 use Rattle.pli_base.specs.Reading.{◌>>=◌}
-use Rattle.pli_base.specs.Syntax.{Expression, Prefix, Infix, Named, JoinedParts, Alone, Joined}
+use Rattle.pli_base.specs.Syntax.{Expression, Parenthesized, Prefix, Infix, Named, JoinedParts, Alone, Joined}
 use Rattle.pli_base.specs.Syntax.{Arguments, Expressions, Listed}
 use Rattle.pli_base.specs.declared.syntax.Identifier.{Identifier}
 use Rattle.pli_base.specs.declared.syntax.PrefixOperator.{PrefixOperator}
@@ -11,18 +11,17 @@ use Rattle.pli_base.specs.declared.syntax.Joining.TheVariants.{Member, Located}
 use Rattle.pli_base.specs.declared.code.Code.TheVariants.{WrongOperandType}
 use Rattle.pli_base.specs.declared.token.Fault.{Fault}
 use Rattle.pli_type.specs.ExpressionTypes.{TypedValue, prefix_value, infix_value}
-use Rattle.pli_type.specs.FunctionCalls.{Meant, OneValue, Argument}
+use Rattle.pli_type.specs.FunctionCalls.{Denoted, DenotesResult, Argument}
 use Rattle.pli_type.specs.Names.{Naming}
 use Rattle.pli_type.specs.References.{Role, AsValue, AsArgument, AsTarget, AsLocator}
-use Rattle.pli_type.specs.Typing.{Denoted, Segment, first_token, meant, referred, joined, begun}
-use Rattle.pli_type.specs.Typing.{all_subscripts, subscripts_in, all_arguments, argument, one_value, as_value}
+use Rattle.pli_type.specs.Typing.{Segment, first_token, denoted, value_of, referred, joined, begun}
+use Rattle.pli_type.specs.Typing.{all_subscripts, subscripts_in, all_arguments, argument}
 use Rattle.pli_type.specs.Typing.{or_fault, subscript_value, ended, with_more, is_call}
 use Rattle.pli_type_tree.specs.TypedTree.{TypedExpression}
 use Rattle.pli_type_expression.specs.Segments.{last_segment}
-use Rattle.pli_type_expression.specs.Subscripts.{subscript_meant}
 use Rattle.pli_type_expression.specs.answers.TypingAnswers.{Fails}
 use Rattle.pli_type_expression.specs.declared.answer.TypeError.{TypeError}
-use Rattle.pli_type_expression.proofs.Binds.{fails_on, fails_as, bind_assoc, bind_ok, one_behind}
+use Rattle.pli_type_expression.proofs.Binds.{fails_on, fails_as, bind_ok, one_behind}
 
 -- subscripts
 
@@ -30,54 +29,37 @@ use Rattle.pli_type_expression.proofs.Binds.{fails_on, fails_as, bind_assoc, bin
 abbrev pub subscripts_with : Naming → List TypedExpression → Expressions → Result (List TypedExpression) Fault
 subscripts_with n xs list = all_subscripts n list >>= λ ys. Ok (xs ++ ys)
 
--- what the first one gives, and what the others give behind it
-abbrev one_subscript : Naming → Expression → Result Meant Fault → Result TypedExpression Fault
-one_subscript n e r = r >>= subscript_meant n.greatest (first_token e)
+-- what a value gives as a subscript, with the others behind it
+abbrev subscript_then : Naming → Expression → Expressions → TypedValue → Result (List TypedExpression) Fault
+subscript_then n e more v =
+    subscript_value n.greatest (first_token e) v >>= λ x. (all_subscripts n more >>= λ xs. Ok (x ∷ xs))
 
-subscript_first : (n : Naming) (e : Expression) (rest : Result (List TypedExpression) Fault)
-    (r : Result Meant Fault)
-    → ((r >>= one_value (first_token e)) >>= λ v. (subscript_value n.greatest (first_token e) v >>= λ x. (rest
-    >>= λ xs. Ok (x ∷ xs))))
-    ≡ (one_subscript n e r >>= λ x. (rest >>= λ xs. Ok (x ∷ xs)))
-subscript_first n e rest (Err f) = refl
-subscript_first n e rest (Ok m) =
-    sym (bind_assoc (one_value (first_token e) m) (subscript_value n.greatest (first_token e)) (λ x. (rest
-    >>= λ xs. Ok (x ∷ xs))))
-
-subscripts_step : (n : Naming) (e : Expression) (more : Expressions)
-    → all_subscripts n (Listed e more)
-    ≡ (one_subscript n e (meant n AsValue e) >>= λ x. (all_subscripts n more >>= λ xs. Ok (x ∷ xs)))
-subscripts_step n e more = subscript_first n e (all_subscripts n more) (meant n AsValue e)
-
-pub more_subscripts : (n : Naming) (xs : List TypedExpression) (e : Expression) (more : Expressions) (m : Meant)
-    (x : TypedExpression) → meant n AsValue e ≡ Ok m
-    → subscript_meant n.greatest (first_token e) m ≡ Ok x
+pub more_subscripts : (n : Naming) (xs : List TypedExpression) (e : Expression) (more : Expressions)
+    (v : TypedValue) (x : TypedExpression) → value_of n e ≡ Ok v
+    → subscript_value n.greatest (first_token e) v ≡ Ok x
     → subscripts_with n xs (Listed e more) ≡ subscripts_with n (xs ++ x ∷ []) more
-more_subscripts n xs e more m x p q =
+more_subscripts n xs e more v x p q =
     let k : TypedExpression → Result (List TypedExpression) Fault = λ x. (all_subscripts n more >>= λ xs. Ok (x ∷ xs)) in
     let g : List TypedExpression → Result (List TypedExpression) Fault = λ ys. Ok (xs ++ ys) in
-    ap (λ r. r >>= g) (subscripts_step n e more)
-    ∙ ap (λ r. (one_subscript n e r >>= k) >>= g) p
+    ap (λ r. (r >>= subscript_then n e more) >>= g) p
     ∙ ap (λ r. (r >>= k) >>= g) q
     ∙ one_behind (all_subscripts n more) xs x
 
 pub subscript_unmeant : (n : Naming) (xs : List TypedExpression) (e : Expression) (more : Expressions)
-    (error : TypeError) → Fails error (meant n AsValue e) → Fails error (subscripts_with n xs (Listed e more))
+    (error : TypeError) → Fails error (value_of n e) → Fails error (subscripts_with n xs (Listed e more))
 subscript_unmeant n xs e more error p =
-    let k : TypedExpression → Result (List TypedExpression) Fault = λ x. (all_subscripts n more >>= λ xs. Ok (x ∷ xs)) in
     let g : List TypedExpression → Result (List TypedExpression) Fault = λ ys. Ok (xs ++ ys) in
-    fails_as error _ _ (ap (λ r. r >>= g) (subscripts_step n e more))
-    (fails_on error _ g (fails_on error _ k (fails_on error _ (subscript_meant n.greatest (first_token e)) p)))
+    fails_on error _ g (fails_on error (value_of n e) (subscript_then n e more) p)
 
-pub subscript_refused : (n : Naming) (xs : List TypedExpression) (e : Expression) (more : Expressions) (m : Meant)
-    (error : TypeError) → meant n AsValue e ≡ Ok m
-    → Fails error (subscript_meant n.greatest (first_token e) m)
+pub subscript_refused : (n : Naming) (xs : List TypedExpression) (e : Expression) (more : Expressions)
+    (v : TypedValue) (error : TypeError) → value_of n e ≡ Ok v
+    → Fails error (subscript_value n.greatest (first_token e) v)
     → Fails error (subscripts_with n xs (Listed e more))
-subscript_refused n xs e more m error p q =
+subscript_refused n xs e more v error p q =
     let k : TypedExpression → Result (List TypedExpression) Fault = λ x. (all_subscripts n more >>= λ xs. Ok (x ∷ xs)) in
     let g : List TypedExpression → Result (List TypedExpression) Fault = λ ys. Ok (xs ++ ys) in
-    fails_as error _ _ (ap (λ r. r >>= g) (subscripts_step n e more) ∙ ap (λ r. (one_subscript n e r >>= k) >>= g) p)
-    (fails_on error _ g (fails_on error (subscript_meant n.greatest (first_token e) m) k q))
+    fails_as error _ _ (ap (λ r. (r >>= subscript_then n e more) >>= g) p)
+    (fails_on error _ g (fails_on error (subscript_value n.greatest (first_token e) v) k q))
 
 -- arguments
 
@@ -86,37 +68,37 @@ arguments_with n roles gs list = all_arguments n roles list >>= λ hs. Ok (gs ++
 
 arguments_step : (n : Naming) (roles : List Role) (i : ℕ) (e : Expression) (more : Expressions)
     → all_arguments n (drop i roles) (Listed e more)
-    ≡ (meant n (get_or roles i AsArgument) e >>= λ m. (all_arguments n (drop (i + 1) roles) more
-    >>= λ gs. Ok (argument e m ∷ gs)))
+    ≡ (denoted n (get_or roles i AsArgument) e >>= λ d. (all_arguments n (drop (i + 1) roles) more
+    >>= λ gs. Ok (argument e d ∷ gs)))
 arguments_step n roles i e more = rw add-one (step roles i)
   where
     step : (roles : List Role) (i : ℕ) → all_arguments n (drop i roles) (Listed e more)
-        ≡ (meant n (get_or roles i AsArgument) e >>= λ m. (all_arguments n (drop (suc i) roles) more
-        >>= λ gs. Ok (argument e m ∷ gs)))
+        ≡ (denoted n (get_or roles i AsArgument) e >>= λ d. (all_arguments n (drop (suc i) roles) more
+        >>= λ gs. Ok (argument e d ∷ gs)))
     step [] zero = refl
     step [] (suc i) = refl
     step (role ∷ roles) zero = refl
     step (role ∷ roles) (suc i) = step roles i
 
 pub more_arguments : (n : Naming) (roles : List Role) (i : ℕ) (gs : List Argument) (e : Expression)
-    (more : Expressions) (m : Meant) → meant n (get_or roles i AsArgument) e ≡ Ok m
+    (more : Expressions) (d : Denoted) → denoted n (get_or roles i AsArgument) e ≡ Ok d
     → arguments_with n (drop i roles) gs (Listed e more)
-    ≡ arguments_with n (drop (i + 1) roles) (gs ++ argument e m ∷ []) more
-more_arguments n roles i gs e more m p =
-    let k : Meant → Result (List Argument) Fault = λ m. (all_arguments n (drop (i + 1) roles) more >>= λ gs. Ok (argument e m ∷ gs)) in
+    ≡ arguments_with n (drop (i + 1) roles) (gs ++ argument e d ∷ []) more
+more_arguments n roles i gs e more d p =
+    let k : Denoted → Result (List Argument) Fault = λ d. (all_arguments n (drop (i + 1) roles) more >>= λ gs. Ok (argument e d ∷ gs)) in
     let g : List Argument → Result (List Argument) Fault = λ hs. Ok (gs ++ hs) in
     ap (λ r. r >>= g) (arguments_step n roles i e more)
     ∙ ap (λ r. (r >>= k) >>= g) p
-    ∙ one_behind (all_arguments n (drop (i + 1) roles) more) gs (argument e m)
+    ∙ one_behind (all_arguments n (drop (i + 1) roles) more) gs (argument e d)
 
 pub argument_unmeant : (n : Naming) (roles : List Role) (i : ℕ) (gs : List Argument) (e : Expression)
-    (more : Expressions) (error : TypeError) → Fails error (meant n (get_or roles i AsArgument) e)
+    (more : Expressions) (error : TypeError) → Fails error (denoted n (get_or roles i AsArgument) e)
     → Fails error (arguments_with n (drop i roles) gs (Listed e more))
 argument_unmeant n roles i gs e more error p =
-    let k : Meant → Result (List Argument) Fault = λ m. (all_arguments n (drop (i + 1) roles) more >>= λ gs. Ok (argument e m ∷ gs)) in
+    let k : Denoted → Result (List Argument) Fault = λ d. (all_arguments n (drop (i + 1) roles) more >>= λ gs. Ok (argument e d ∷ gs)) in
     let g : List Argument → Result (List Argument) Fault = λ hs. Ok (gs ++ hs) in
     fails_as error _ _ (ap (λ r. r >>= g) (arguments_step n roles i e more))
-    (fails_on error _ g (fails_on error (meant n (get_or roles i AsArgument) e) k p))
+    (fails_on error _ g (fails_on error (denoted n (get_or roles i AsArgument) e) k p))
 
 -- references
 
@@ -174,104 +156,65 @@ reference_unended n role name arguments more s error p q =
     fails_as error _ _ (bind_ok (begun n (n.meaning name.at) (is_call role false more) false name.at arguments) s (λ s. joined n role s more) p
     ∙ joined_ends n role s more) (fails_on error (last_segment n s more) (ended role) q)
 
--- operators
+-- parentheses and operators
 
-abbrev prefix_of : Naming → PrefixOperator → (at : ℕ) → TypedValue → Result Meant Fault
+pub parenthesized_typed : (n : Naming) (role : Role) (at : ℕ) (inner : Expression) (v : TypedValue)
+    → value_of n inner ≡ Ok v → denoted n role (Parenthesized at inner) ≡ Ok (DenotesResult v)
+parenthesized_typed n role at inner v p = ap (λ s. s >>= λ v. Ok (DenotesResult v)) p
+
+pub parenthesized_unmeant : (n : Naming) (role : Role) (at : ℕ) (inner : Expression) (error : TypeError)
+    → Fails error (value_of n inner) → Fails error (denoted n role (Parenthesized at inner))
+parenthesized_unmeant n role at inner error p = fails_on error (value_of n inner) (λ v. Ok (DenotesResult v)) p
+
+abbrev prefix_of : Naming → PrefixOperator → (at : ℕ) → TypedValue → Result Denoted Fault
 prefix_of n operator at v =
-    or_fault WrongOperandType at (prefix_value n.greatest operator v) >>= λ u. Ok (OneValue u)
+    or_fault WrongOperandType at (prefix_value n.greatest operator v) >>= λ u. Ok (DenotesResult u)
 
-pub prefix_typed : (n : Naming) (role : Role) (operator : PrefixOperator) (at : ℕ) (operand : Expression) (m : Meant)
-    (v u : TypedValue) → meant n AsValue operand ≡ Ok m → one_value (first_token operand) m ≡ Ok v
-    → or_fault WrongOperandType at (prefix_value n.greatest operator v) ≡ Ok u
-    → meant n role (Prefix operator at operand) ≡ Ok (OneValue u)
-prefix_typed n role operator at operand m v u p q r =
-    ap (λ s. (s >>= one_value (first_token operand)) >>= prefix_of n operator at) p
-    ∙ ap (λ s. s >>= prefix_of n operator at) q
-    ∙ ap (λ s. s >>= λ u. Ok (OneValue u)) r
+module _ (n : Naming) (role : Role) (operator : PrefixOperator) (at : ℕ) (operand : Expression) where
+  pub prefix_typed : (v u : TypedValue) → value_of n operand ≡ Ok v
+      → or_fault WrongOperandType at (prefix_value n.greatest operator v) ≡ Ok u
+      → denoted n role (Prefix operator at operand) ≡ Ok (DenotesResult u)
+  prefix_typed v u p q = ap (λ s. s >>= prefix_of n operator at) p ∙ ap (λ s. s >>= λ u. Ok (DenotesResult u)) q
 
-pub prefix_unmeant : (n : Naming) (role : Role) (operator : PrefixOperator) (at : ℕ) (operand : Expression)
-    (error : TypeError) → Fails error (meant n AsValue operand)
-    → Fails error (meant n role (Prefix operator at operand))
-prefix_unmeant n role operator at operand error p =
-    fails_on error _ (prefix_of n operator at) (fails_on error (meant n AsValue operand) (one_value (first_token operand)) p)
+  pub prefix_unmeant : (error : TypeError) → Fails error (value_of n operand)
+      → Fails error (denoted n role (Prefix operator at operand))
+  prefix_unmeant error p = fails_on error (value_of n operand) (prefix_of n operator at) p
 
-pub prefix_of_aggregate : (n : Naming) (role : Role) (operator : PrefixOperator) (at : ℕ) (operand : Expression)
-    (m : Meant) (error : TypeError) → meant n AsValue operand ≡ Ok m
-    → Fails error (one_value (first_token operand) m) → Fails error (meant n role (Prefix operator at operand))
-prefix_of_aggregate n role operator at operand m error p q =
-    fails_as error _ _ (ap (λ s. (s >>= one_value (first_token operand)) >>= prefix_of n operator at) p)
-    (fails_on error (one_value (first_token operand) m) (prefix_of n operator at) q)
+  pub prefix_refused : (v : TypedValue) (error : TypeError) → value_of n operand ≡ Ok v
+      → Fails error (or_fault WrongOperandType at (prefix_value n.greatest operator v))
+      → Fails error (denoted n role (Prefix operator at operand))
+  prefix_refused v error p q =
+      fails_as error _ _ (ap (λ s. s >>= prefix_of n operator at) p)
+      (fails_on error (or_fault WrongOperandType at (prefix_value n.greatest operator v)) (λ u. Ok (DenotesResult u)) q)
 
-pub prefix_refused : (n : Naming) (role : Role) (operator : PrefixOperator) (at : ℕ) (operand : Expression)
-    (m : Meant) (v : TypedValue) (error : TypeError) → meant n AsValue operand ≡ Ok m
-    → one_value (first_token operand) m ≡ Ok v
-    → Fails error (or_fault WrongOperandType at (prefix_value n.greatest operator v))
-    → Fails error (meant n role (Prefix operator at operand))
-prefix_refused n role operator at operand m v error p q r =
-    fails_as error _ _ (ap (λ s. (s >>= one_value (first_token operand)) >>= prefix_of n operator at) p
-    ∙ ap (λ s. s >>= prefix_of n operator at) q)
-    (fails_on error (or_fault WrongOperandType at (prefix_value n.greatest operator v)) (λ u. Ok (OneValue u)) r)
-
-abbrev infix_of : Naming → InfixOperator → (at : ℕ) → (v w : TypedValue) → Result Meant Fault
+abbrev infix_of : Naming → InfixOperator → (at : ℕ) → (v w : TypedValue) → Result Denoted Fault
 infix_of n operator at v w =
-    or_fault WrongOperandType at (infix_value n.greatest operator v w) >>= λ u. Ok (OneValue u)
+    or_fault WrongOperandType at (infix_value n.greatest operator v w) >>= λ u. Ok (DenotesResult u)
 
-abbrev right_of : Naming → InfixOperator → (at : ℕ) → (right : Expression) → TypedValue → Result Meant Fault
-right_of n operator at right v =
-    as_value (first_token right) (meant n AsValue right) >>= λ w. infix_of n operator at v w
+abbrev right_of : Naming → InfixOperator → (at : ℕ) → (right : Expression) → TypedValue → Result Denoted Fault
+right_of n operator at right v = value_of n right >>= λ w. infix_of n operator at v w
 
 module _ (n : Naming) (role : Role) (operator : InfixOperator) (at : ℕ) (left right : Expression) where
-  left_typed : (m : Meant) (v : TypedValue) → meant n AsValue left ≡ Ok m → one_value (first_token left) m ≡ Ok v
-      → meant n role (Infix operator at left right) ≡ right_of n operator at right v
-  left_typed m v p q =
-      ap (λ s. (s >>= one_value (first_token left)) >>= right_of n operator at right) p
-      ∙ ap (λ s. s >>= right_of n operator at right) q
-
-  right_typed : (v : TypedValue) (m : Meant) (w : TypedValue) → meant n AsValue right ≡ Ok m
-      → one_value (first_token right) m ≡ Ok w → right_of n operator at right v ≡ infix_of n operator at v w
-  right_typed v m w p q =
-      ap (λ s. (s >>= one_value (first_token right)) >>= infix_of n operator at v) p
-      ∙ ap (λ s. s >>= infix_of n operator at v) q
-
-  pub infix_typed : (l r : Meant) (v w u : TypedValue) → meant n AsValue left ≡ Ok l
-      → one_value (first_token left) l ≡ Ok v → meant n AsValue right ≡ Ok r
-      → one_value (first_token right) r ≡ Ok w
+  pub infix_typed : (v w u : TypedValue) → value_of n left ≡ Ok v → value_of n right ≡ Ok w
       → or_fault WrongOperandType at (infix_value n.greatest operator v w) ≡ Ok u
-      → meant n role (Infix operator at left right) ≡ Ok (OneValue u)
-  infix_typed l r v w u p q p' q' e =
-      left_typed l v p q ∙ right_typed v r w p' q' ∙ ap (λ s. s >>= λ u. Ok (OneValue u)) e
+      → denoted n role (Infix operator at left right) ≡ Ok (DenotesResult u)
+  infix_typed v w u p q e =
+      ap (λ s. s >>= right_of n operator at right) p ∙ ap (λ s. s >>= infix_of n operator at v) q
+      ∙ ap (λ s. s >>= λ u. Ok (DenotesResult u)) e
 
-  pub left_unmeant : (error : TypeError) → Fails error (meant n AsValue left)
-      → Fails error (meant n role (Infix operator at left right))
-  left_unmeant error p =
-      fails_on error _ (right_of n operator at right) (fails_on error (meant n AsValue left) (one_value (first_token left)) p)
+  pub left_unmeant : (error : TypeError) → Fails error (value_of n left)
+      → Fails error (denoted n role (Infix operator at left right))
+  left_unmeant error p = fails_on error (value_of n left) (right_of n operator at right) p
 
-  pub left_aggregate : (l : Meant) (error : TypeError) → meant n AsValue left ≡ Ok l
-      → Fails error (one_value (first_token left) l) → Fails error (meant n role (Infix operator at left right))
-  left_aggregate l error p q =
-      fails_as error _ _ (ap (λ s. (s >>= one_value (first_token left)) >>= right_of n operator at right) p)
-      (fails_on error (one_value (first_token left) l) (right_of n operator at right) q)
+  pub right_unmeant : (v : TypedValue) (error : TypeError) → value_of n left ≡ Ok v
+      → Fails error (value_of n right) → Fails error (denoted n role (Infix operator at left right))
+  right_unmeant v error p q =
+      fails_as error _ _ (ap (λ s. s >>= right_of n operator at right) p)
+      (fails_on error (value_of n right) (infix_of n operator at v) q)
 
-  pub right_unmeant : (l : Meant) (v : TypedValue) (error : TypeError) → meant n AsValue left ≡ Ok l
-      → one_value (first_token left) l ≡ Ok v → Fails error (meant n AsValue right)
-      → Fails error (meant n role (Infix operator at left right))
-  right_unmeant l v error p q r =
-      fails_as error _ _ (left_typed l v p q)
-      (fails_on error _ (infix_of n operator at v) (fails_on error (meant n AsValue right) (one_value (first_token right)) r))
-
-  pub right_aggregate : (l r : Meant) (v : TypedValue) (error : TypeError) → meant n AsValue left ≡ Ok l
-      → one_value (first_token left) l ≡ Ok v → meant n AsValue right ≡ Ok r
-      → Fails error (one_value (first_token right) r) → Fails error (meant n role (Infix operator at left right))
-  right_aggregate l r v error p q p' q' =
-      fails_as error _ _ (left_typed l v p q
-      ∙ ap (λ s. (s >>= one_value (first_token right)) >>= infix_of n operator at v) p')
-      (fails_on error (one_value (first_token right) r) (infix_of n operator at v) q')
-
-  pub infix_refused : (l r : Meant) (v w : TypedValue) (error : TypeError) → meant n AsValue left ≡ Ok l
-      → one_value (first_token left) l ≡ Ok v → meant n AsValue right ≡ Ok r
-      → one_value (first_token right) r ≡ Ok w
+  pub infix_refused : (v w : TypedValue) (error : TypeError) → value_of n left ≡ Ok v → value_of n right ≡ Ok w
       → Fails error (or_fault WrongOperandType at (infix_value n.greatest operator v w))
-      → Fails error (meant n role (Infix operator at left right))
-  infix_refused l r v w error p q p' q' e =
-      fails_as error _ _ (left_typed l v p q ∙ right_typed v r w p' q')
-      (fails_on error (or_fault WrongOperandType at (infix_value n.greatest operator v w)) (λ u. Ok (OneValue u)) e)
+      → Fails error (denoted n role (Infix operator at left right))
+  infix_refused v w error p q e =
+      fails_as error _ _ (ap (λ s. s >>= right_of n operator at right) p ∙ ap (λ s. s >>= infix_of n operator at v) q)
+      (fails_on error (or_fault WrongOperandType at (infix_value n.greatest operator v w)) (λ u. Ok (DenotesResult u)) e)

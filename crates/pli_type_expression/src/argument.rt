@@ -1,15 +1,15 @@
-//! Arguments of built-in functions.
+//! Arguments of functions and procedures.
 ghost use Rattle.std.specs.Prelude.{◌≡◌};
 ghost use Rattle.pli_base.specs.views.SyntaxView.{expression_view};
 ghost use Rattle.pli_type.specs.FunctionCalls.{number_written};
 
-use crate::meaning::Meant;
+use crate::meaning::Denoted;
 use pli_base::syntax::{ConstantValue, Expression};
 
 /// An argument, and the number that it is if it is a decimal constant and nothing else.
 #[derive(Drop)]
-pub(crate) struct Argument<'a> {
-    pub(crate) meant: Meant<'a>,
+pub struct Argument<'a> {
+    pub(crate) denoted: Denoted<'a>,
     pub(crate) written: Option<u32>,
 }
 

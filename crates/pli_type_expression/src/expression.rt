@@ -1,13 +1,13 @@
 //! The walk over expressions and references.
-ghost use Rattle.std.specs.Prelude.{◌≡◌, false, map};
+ghost use Rattle.std.specs.Prelude.{◌≡◌, false, map, []};
 ghost use Rattle.pli_base.specs.Syntax.{Given};
 ghost use Rattle.pli_base.specs.views.SyntaxView as syntax;
 ghost use Rattle.pli_type.specs.Typing as typing;
 ghost use Rattle.pli_type.specs.Unbuilt.{later_expression, later_reference, later_joined, later_arguments, later_list};
 ghost use Rattle.pli_type.specs.views.ValueView.{value_view};
 ghost use Rattle.pli_type_expression.specs.Segments.{next_segment, last_segment, function_typed};
-ghost use Rattle.pli_type_names.specs.UnitNaming.{naming_in};
-ghost use Rattle.pli_type_expression.specs.answers.TypingAnswers.{Fails, Gives};
+ghost use Rattle.pli_type_names.specs.UnitNaming.{compiled_in, naming_in};
+ghost use Rattle.pli_type_expression.specs.answers.TypingAnswers.{Gives};
 ghost use Rattle.pli_type_expression.specs.views.TypingView.{argument_view, denoted_view, meant_view, role_view, segment_view};
 ghost use Rattle.pli_type_tree.specs.views.TypedView.{expression_view};
 
@@ -18,6 +18,7 @@ use crate::function::{function_called, roles_of};
 use crate::meaning::{Denoted, Meant};
 use crate::names::greatest;
 use crate::operator::{infix, prefix};
+use crate::procedure::procedure_called;
 use crate::role::{Role, role_at};
 use crate::segment::{Segment, is_call};
 use crate::subscripts::subscript;
@@ -29,51 +30,79 @@ use pli_type_names::{NamedAs, Naming};
 use pli_type_tree::TypedExpression;
 use std::alloc::{AllocError, Global};
 
-/// One value of an expression: T2 at its first token where it is an aggregate. Its constants are within the language's
-/// limits, and none of its names means a function that is not compiled yet.
-pub fn value_of(
-    alloc: Global,
-    naming: &Naming<'_>,
-    expression: &Expression,
-) -> Result<TypedValue, TypeError>
-    requires { later_expression (naming_in naming.now) (syntax.expression_view expression.now) ≡ false }
-    ensures { Gives value_view result (typing.value_of (naming_in naming.now) (syntax.expression_view expression.now)) }
-{
-    let meant = meant(alloc, naming, Role::Value, expression)?;
-    meant.one_value(expression)
-}
-
-/// What an expression is in its role, or its first fault of types: operands from left to right, then their operator
-/// (own). It calls itself as deep as parentheses and operators nest.
-#[cycle(typed)]
+/// What an expression is in its role, or its first fault of types. Its constants are within the language's limits, and
+/// none of its names means a function that is not compiled yet.
 pub fn meant<'a>(
     alloc: Global,
     naming: &Naming<'a>,
     role: Role,
     expression: &Expression,
 ) -> Result<Meant<'a>, TypeError>
-    requires { later_expression (naming_in naming.now) (syntax.expression_view expression.now) ≡ false }
+    requires { later_expression (compiled_in naming.now) (syntax.expression_view expression.now) ≡ false }
     ensures { Gives meant_view result (typing.meant (naming_in naming.now) (role_view role) (syntax.expression_view expression.now)) }
 {
+    let denoted = denoted(alloc, naming, role, expression)?;
+    Ok(denoted.as_expression())
+}
+
+/// The arguments of a call, from left to right, which may be whole aggregates.
+pub fn arguments<'a>(
+    alloc: Global,
+    naming: &Naming<'a>,
+    list: &[Expression],
+) -> Result<Vec<Argument<'a>>, TypeError>
+    requires { later_list (compiled_in naming.now) (syntax.expressions_view list.now) ≡ false }
+    ensures { Gives (λ v. map argument_view v.items) result
+        (typing.all_arguments (naming_in naming.now) [] (syntax.expressions_view list.now)) }
+{
+    all_arguments(alloc, naming, &[], list)
+}
+
+/// One value of an expression: T2 at its first token where it is an aggregate. Its constants are within the language's
+/// limits, and none of its names means a function that is not compiled yet.
+#[cycle(typed)]
+pub fn value_of(
+    alloc: Global,
+    naming: &Naming<'_>,
+    expression: &Expression,
+) -> Result<TypedValue, TypeError>
+    requires { later_expression (compiled_in naming.now) (syntax.expression_view expression.now) ≡ false }
+    ensures { Gives value_view result (typing.value_of (naming_in naming.now) (syntax.expression_view expression.now)) }
+{
+    let denoted = denoted(alloc, naming, Role::Value, expression)?;
+    denoted.as_expression().one_value(expression)
+}
+
+/// What an expression denotes in its role, or its first fault of types: operands from left to right, then their
+/// operator (own). It calls itself as deep as parentheses and operators nest.
+#[cycle(typed)]
+pub fn denoted<'a>(
+    alloc: Global,
+    naming: &Naming<'a>,
+    role: Role,
+    expression: &Expression,
+) -> Result<Denoted<'a>, TypeError>
+    requires { later_expression (compiled_in naming.now) (syntax.expression_view expression.now) ≡ false }
+    ensures { Gives denoted_view result (typing.denoted (naming_in naming.now) (role_view role) (syntax.expression_view expression.now)) }
+{
     match expression {
-        Expression::Reference(reference) => {
-            let denoted = referred(alloc, naming, role, reference)?;
-            Ok(denoted.as_expression())
-        }
+        Expression::Reference(reference) => referred(alloc, naming, role, reference),
         Expression::Constant { value, .. } => {
             let literal = constant(alloc, value)?;
-            Ok(Meant::Value(literal))
+            Ok(Denoted::Result(literal))
         }
-        Expression::Parenthesized { inner, .. } => meant(alloc, naming, Role::Value, inner),
+        Expression::Parenthesized { inner, .. } => {
+            let value = value_of(alloc, naming, inner)?;
+            Ok(Denoted::Result(value))
+        }
         Expression::Prefix {
             operator,
             at,
             operand,
         } => {
-            let operand_meant = meant(alloc, naming, Role::Value, operand)?;
-            let operand_value = operand_meant.one_value(operand)?;
+            let operand_value = value_of(alloc, naming, operand)?;
             let given = prefix(alloc, greatest(naming), *operator, *at, operand_value)?;
-            Ok(Meant::Value(given))
+            Ok(Denoted::Result(given))
         }
         Expression::Infix {
             operator,
@@ -81,10 +110,8 @@ pub fn meant<'a>(
             left,
             right,
         } => {
-            let left_meant = meant(alloc, naming, Role::Value, left)?;
-            let left_value = left_meant.one_value(left)?;
-            let right_meant = meant(alloc, naming, Role::Value, right)?;
-            let right_value = right_meant.one_value(right)?;
+            let left_value = value_of(alloc, naming, left)?;
+            let right_value = value_of(alloc, naming, right)?;
             let combined = infix(
                 alloc,
                 greatest(naming),
@@ -93,7 +120,7 @@ pub fn meant<'a>(
                 left_value,
                 right_value,
             )?;
-            Ok(Meant::Value(combined))
+            Ok(Denoted::Result(combined))
         }
     }
 }
@@ -107,7 +134,7 @@ pub fn referred<'a>(
     role: Role,
     reference: &Reference,
 ) -> Result<Denoted<'a>, TypeError>
-    requires { later_reference (naming_in naming.now) (syntax.reference_view reference.now) ≡ false }
+    requires { later_reference (compiled_in naming.now) (syntax.reference_view reference.now) ≡ false }
     ensures { Gives denoted_view result (typing.referred (naming_in naming.now) (role_view role) (syntax.reference_view reference.now)) }
 {
     let joined = reference.joined.as_slice();
@@ -125,7 +152,7 @@ fn continued(
     first: Segment,
     joined: &[JoinedPart],
 ) -> Result<Segment, TypeError>
-    requires { later_joined (naming_in naming.now) (syntax.joined_view joined.now) ≡ false }
+    requires { later_joined (compiled_in naming.now) (syntax.joined_view joined.now) ≡ false }
     ensures { Gives (segment_view (naming_in naming.now)) result
         (last_segment (naming_in naming.now) (segment_view (naming_in naming.now) first) (syntax.joined_view joined.now)) }
 {
@@ -144,7 +171,7 @@ fn with_part(
     segment: Segment,
     joined: &JoinedPart,
 ) -> Result<Segment, TypeError>
-    requires { later_arguments (naming_in naming.now) (syntax.arguments_view joined.now.part.arguments) ≡ false }
+    requires { later_arguments (compiled_in naming.now) (syntax.arguments_view joined.now.part.arguments) ≡ false }
     ensures { Gives (segment_view (naming_in naming.now)) result
         (next_segment (naming_in naming.now) (segment_view (naming_in naming.now) segment) joined.now.joining joined.now.part.name
         (syntax.arguments_view joined.now.part.arguments)) }
@@ -162,17 +189,6 @@ fn with_part(
     }
 }
 
-/// Why the unit's own procedure is not called here, which takes nothing and gives nothing: T6 with arguments, else T8.
-fn procedure_fault(at: u32, list: &[Expression]) -> TypeError
-    ensures { Fails result (typing.procedure_called at (syntax.expressions_view list.now)) }
-{
-    if list.is_empty() {
-        fault(Code::NotCallableHere, at)
-    } else {
-        fault(Code::WrongNumberOfArguments, at)
-    }
-}
-
 /// A segment by what its first name means, with the parentheses behind that: subscripts of a variable, else arguments.
 #[cycle(typed)]
 fn begun(
@@ -182,7 +198,7 @@ fn begun(
     located: bool,
     part: &Part,
 ) -> Result<Segment, TypeError>
-    requires { later_arguments (naming_in naming.now) (syntax.arguments_view part.now.arguments) ≡ false }
+    requires { later_arguments (compiled_in naming.now) (syntax.arguments_view part.now.arguments) ≡ false }
     ensures { Gives (segment_view (naming_in naming.now)) result
         (typing.begun (naming_in naming.now) ((naming_in naming.now).meaning part.now.name.at) call located part.now.name.at
         (syntax.arguments_view part.now.arguments)) }
@@ -204,7 +220,7 @@ fn begun_with(
     at: u32,
     list: &[Expression],
 ) -> Result<Segment, TypeError>
-    requires { later_list (naming_in naming.now) (syntax.expressions_view list.now) ≡ false }
+    requires { later_list (compiled_in naming.now) (syntax.expressions_view list.now) ≡ false }
     ensures { Gives (segment_view (naming_in naming.now)) result
         (typing.begun (naming_in naming.now) ((naming_in naming.now).meaning at) call located at (Given (syntax.expressions_view list.now))) }
 {
@@ -225,14 +241,14 @@ fn begun_with(
             all_arguments(alloc, naming, &[], list)?;
             Ok(Segment::named(alloc, located, at))
         }
-        NamedAs::Procedure => {
-            all_arguments(alloc, naming, &[], list)?;
+        NamedAs::Procedure(procedure) => {
+            let arguments = all_arguments(alloc, naming, &[], list)?;
             if call {
-                return Err(procedure_fault(at, list));
+                return procedure_called(alloc, greatest(naming), procedure, at, arguments);
             }
             Ok(Segment::named(alloc, located, at))
         }
-        NamedAs::Label => {
+        NamedAs::Label(_) | NamedAs::Untyped => {
             all_arguments(alloc, naming, &[], list)?;
             Ok(Segment::named(alloc, located, at))
         }
@@ -248,7 +264,7 @@ fn called(
     at: u32,
     list: &[Expression],
 ) -> Result<TypedValue, TypeError>
-    requires { later_list (naming_in naming.now) (syntax.expressions_view list.now) ≡ false }
+    requires { later_list (compiled_in naming.now) (syntax.expressions_view list.now) ≡ false }
     ensures { Gives value_view result (function_typed (naming_in naming.now) function at (syntax.expressions_view list.now)) }
 {
     let Some(roles) = roles_of(function, list.len()) else {
@@ -266,7 +282,7 @@ fn subscripts_in(
     naming: &Naming<'_>,
     part: &Part,
 ) -> Result<Vec<TypedExpression>, TypeError>
-    requires { later_arguments (naming_in naming.now) (syntax.arguments_view part.now.arguments) ≡ false }
+    requires { later_arguments (compiled_in naming.now) (syntax.arguments_view part.now.arguments) ≡ false }
     ensures { Gives (λ v. map expression_view v.items) result
         (typing.subscripts_in (naming_in naming.now) (syntax.arguments_view part.now.arguments)) }
 {
@@ -283,15 +299,15 @@ fn all_subscripts(
     naming: &Naming<'_>,
     list: &[Expression],
 ) -> Result<Vec<TypedExpression>, TypeError>
-    requires { later_list (naming_in naming.now) (syntax.expressions_view list.now) ≡ false }
+    requires { later_list (compiled_in naming.now) (syntax.expressions_view list.now) ≡ false }
     ensures { Gives (λ v. map expression_view v.items) result
         (typing.all_subscripts (naming_in naming.now) (syntax.expressions_view list.now)) }
 {
     let mut subscripts = Vec::new(alloc);
     for expression in list {
-        let one = meant(alloc, naming, Role::Value, expression)?;
-        let value = subscript(greatest(naming), expression, one)?;
-        subscripts.push(value)?;
+        let value = value_of(alloc, naming, expression)?;
+        let one = subscript(greatest(naming), expression, value)?;
+        subscripts.push(one)?;
     }
     Ok(subscripts)
 }
@@ -304,16 +320,16 @@ fn all_arguments<'a>(
     roles: &[Role],
     list: &[Expression],
 ) -> Result<Vec<Argument<'a>>, TypeError>
-    requires { later_list (naming_in naming.now) (syntax.expressions_view list.now) ≡ false }
+    requires { later_list (compiled_in naming.now) (syntax.expressions_view list.now) ≡ false }
     ensures { Gives (λ v. map argument_view v.items) result
         (typing.all_arguments (naming_in naming.now) (map role_view roles.now) (syntax.expressions_view list.now)) }
 {
     let mut arguments = Vec::new(alloc);
     for (place, expression) in list.iter().enumerate() {
         let role = role_at(roles, place);
-        let argument = meant(alloc, naming, role, expression)?;
+        let argument = denoted(alloc, naming, role, expression)?;
         arguments.push(Argument {
-            meant: argument,
+            denoted: argument,
             written: number_written(expression),
         })?;
     }

@@ -6,11 +6,11 @@ ghost use Rattle.pli_type.specs.FunctionCalls as spec;
 ghost use Rattle.pli_type.specs.views.ValueView.{value_view};
 ghost use Rattle.pli_type_expression.specs.Bounded.{is_bound};
 ghost use Rattle.pli_type_expression.specs.answers.TypingAnswers.{Gives};
-ghost use Rattle.pli_type_expression.specs.views.TypingView.{argument_view, meant_view, role_view};
+ghost use Rattle.pli_type_expression.specs.views.TypingView.{argument_view, denoted_view, meant_view, role_view};
 
 use crate::answer::{TypeError, fault};
 use crate::argument::Argument;
-use crate::meaning::Meant;
+use crate::meaning::{Denoted, Meant};
 use crate::role::Role;
 use pli_base::Code;
 use pli_map::{Bounds, Description};
@@ -67,7 +67,7 @@ fn values_in(
 {
     let mut values = Vec::new(alloc);
     for argument in arguments {
-        let Some(value) = value_in(argument.meant) else {
+        let Some(value) = value_in(argument.denoted.as_expression()) else {
             return Ok(None);
         };
         values.push(value)?;
@@ -144,12 +144,13 @@ fn bounds_in(description: &Description, number: u32) -> Option<Bounds>
 }
 
 /// The bounds of the dimension whose number is written, of an array that is meant as a whole.
-fn bounds_of(meant: &Meant<'_>, written: Option<u32>) -> Option<Bounds>
+#[tactic(auto, using(crate::proofs::Calls::bound_of_variable))]
+fn bounds_of(denoted: &Denoted<'_>, written: Option<u32>) -> Option<Bounds>
     ensures { (which : Bounds → ℤ) → option_map (λ b. spec.bound_value (which b)) result
-        ≡ spec.the_bound which (meant_view meant.now) written }
+        ≡ spec.the_bound which (spec.meant_as (denoted_view denoted.now)) written }
 {
-    match (meant, written) {
-        (Meant::Aggregate(referent), Some(number)) => bounds_in(referent.description, number),
+    match (denoted, written) {
+        (Denoted::Variable(referent), Some(number)) => bounds_in(referent.description, number),
         _ => None,
     }
 }
@@ -163,7 +164,7 @@ fn bound_called(function: BuiltInFunction, arguments: &[Argument<'_>]) -> Option
     let [array, number] = arguments else {
         return None;
     };
-    let bounds = bounds_of(&array.meant, number.written)?;
+    let bounds = bounds_of(&array.denoted, number.written)?;
     let bound = if function == BuiltInFunction::LowBound {
         bounds.low
     } else {
@@ -190,7 +191,13 @@ fn divide_called(
     let left = arguments.pop();
     match (left, right, last) {
         (Some(left), Some(right), Some(last)) => {
-            divided(alloc, greatest, left.meant, right.meant, last.written)
+            divided(
+                alloc,
+                greatest,
+                left.denoted.as_expression(),
+                right.denoted.as_expression(),
+                last.written,
+            )
         }
         _ => Ok(None),
     }

@@ -10,6 +10,7 @@ mod meaning;
 mod names;
 mod operator;
 mod permission;
+mod procedure;
 mod role;
 mod segment;
 mod subscripts;
@@ -17,7 +18,9 @@ mod token;
 mod variable;
 
 pub use answer::{TypeError, fault};
-pub use expression::{meant, referred, value_of};
+pub use argument::Argument;
+pub use expression::{arguments, denoted, meant, referred, value_of};
 pub use meaning::{Denoted, Meant, Referent};
+pub use procedure::pass;
 pub use role::Role;
 pub use token::first_token;

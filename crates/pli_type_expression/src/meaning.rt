@@ -1,7 +1,8 @@
 //! What references and expressions are.
 ghost use Rattle.std.specs.Prelude.{◌≡◌};
 ghost use Rattle.pli_base.specs.views.SyntaxView.{expression_view};
-ghost use Rattle.pli_type.specs.Typing.{first_token, meant_as, meant_by, one_value};
+ghost use Rattle.pli_type.specs.FunctionCalls.{meant_as, meant_by};
+ghost use Rattle.pli_type.specs.Typing.{first_token, one_value};
 ghost use Rattle.pli_type.specs.views.ValueView.{value_view};
 ghost use Rattle.pli_type_expression.specs.answers.TypingAnswers.{Gives};
 ghost use Rattle.pli_type_expression.specs.views.TypingView.{denoted_view, meant_view, referent_view};
@@ -30,18 +31,18 @@ pub enum Meant<'a> {
     Aggregate(Referent<'a>),
 }
 
-/// What a reference denotes.
+/// What an expression denotes.
 #[derive(Drop)]
 pub enum Denoted<'a> {
-    /// A variable or a part of one.
+    /// A variable or a part of one, where it is a reference to that.
     Variable(Referent<'a>),
-    /// What a built-in function gives.
+    /// Any other value.
     Result(TypedValue),
 }
 
 impl<'a> Referent<'a> {
     /// What a variable or a part of one is as an expression: a scalar has a value.
-    fn as_expression(self) -> Meant<'a>
+    pub(crate) fn as_expression(self) -> Meant<'a>
         ensures { meant_view result ≡ meant_by (referent_view self.entry) }
     {
         match ExpressionType::of(self.description) {
@@ -55,7 +56,7 @@ impl<'a> Referent<'a> {
 }
 
 impl<'a> Denoted<'a> {
-    /// What a reference is as an expression.
+    /// What it is: one value, or a whole aggregate.
     pub fn as_expression(self) -> Meant<'a>
         ensures { meant_view result ≡ meant_as (denoted_view self.entry) }
     {

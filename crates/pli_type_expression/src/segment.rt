@@ -29,7 +29,7 @@ pub(crate) enum Segment {
         at: u32,
         subscripts: Vec<TypedExpression>,
     },
-    /// What a built-in function gives.
+    /// What a function gives.
     Function(TypedValue),
 }
 
@@ -99,9 +99,10 @@ impl Segment {
                     let referent = variable_meant(alloc, role, located, at, variable, subscripts)?;
                     Ok(Denoted::Variable(referent))
                 }
-                NamedAs::Function(_) | NamedAs::Procedure | NamedAs::Label => {
-                    Err(fault(Code::NotAVariable, at))
-                }
+                NamedAs::Function(_)
+                | NamedAs::Procedure(_)
+                | NamedAs::Label(_)
+                | NamedAs::Untyped => { Err(fault(Code::NotAVariable, at)) }
             },
             Segment::Function(value) => Ok(Denoted::Result(value)),
         }

@@ -84,13 +84,13 @@ pub(crate) fn variable_meant<'a>(
     role: Role,
     located: bool,
     at: u32,
-    variable: &NamedVariable<'a>,
+    variable: NamedVariable<'_, 'a>,
     subscripts: Vec<TypedExpression>,
 ) -> Result<Referent<'a>, TypeError>
-    ensures { (named : names.NamedVariable) → IsVariable variable.now named
+    ensures { (named : names.NamedVariable) → IsVariable variable.entry named
         → Gives referent_view result (spec.variable_meant (role_view role) located at named (map expression_view subscripts.items)) }
 {
-    let Some(whole) = &variable.part else {
+    let Some(whole) = variable.part else {
         return Err(fault(Code::WrongNumberOfSubscripts, at));
     };
     let Some(part) = with_subscripts(alloc, subscripts.len(), whole)? else {

@@ -33,12 +33,12 @@ abbrev pub meant_view : Meant → calls.Meant
 meant_view (meant.Value v) = calls.OneValue (value_view v)
 meant_view (meant.Aggregate r) = calls.WholeAggregate (referent_view r)
 
-abbrev pub denoted_view : Denoted → typing.Denoted
-denoted_view (denoted.Variable r) = typing.DenotesVariable (referent_view r)
-denoted_view (denoted.Result v) = typing.DenotesResult (value_view v)
+abbrev pub denoted_view : Denoted → calls.Denoted
+denoted_view (denoted.Variable r) = calls.DenotesVariable (referent_view r)
+denoted_view (denoted.Result v) = calls.DenotesResult (value_view v)
 
 abbrev pub argument_view : Argument → calls.Argument
-argument_view a = record { meant = meant_view a.meant; written = a.written }
+argument_view a = record { denoted = denoted_view a.denoted; written = a.written }
 
 -- a segment whose first name stands at a token, by what that name means
 abbrev pub of_name : names.NamedAs → (located : Bool) (at : ℕ) → List tree.TypedExpression → typing.Segment

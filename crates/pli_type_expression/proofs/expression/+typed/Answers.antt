@@ -9,25 +9,24 @@ use Rattle.pli_base.specs.declared.syntax.Expression.{Expression}
 use Rattle.pli_base.specs.declared.syntax.Reference.{out-Reference}
 use Rattle.pli_type.specs.ExpressionTypes as types
 use Rattle.pli_type.specs.FunctionCalls as calls
-use Rattle.pli_type.specs.References.{AsLocator}
+use Rattle.pli_type.specs.References.{AsLocator, AsValue}
 use Rattle.pli_type.specs.Unbuilt.{later_expression, later_arguments, later_joined, later_list}
 use Rattle.pli_type.specs.views.ValueView.{value_view}
 use Rattle.pli_type.specs.Typing as typing
-use Rattle.pli_type_names.specs.UnitNaming.{naming_in}
+use Rattle.pli_type_names.specs.UnitNaming.{compiled_in, naming_in}
 use Rattle.pli_type_tree.specs.views.TypedView.{expression_view}
 use Rattle.pli_type_expression.specs.views.TypingView.{argument_view, denoted_view, meant_view, of_name, role_view, segment_view}
 use Rattle.pli_type_expression.proofs.Binds.{fails_as, fails_on, bind_ok}
 use Rattle.pli_type_expression.proofs.Called.{gives_as, call_unmeant, call_typed}
-use Rattle.pli_type_expression.proofs.Meanings.{begun_at_variable, begun_at_function, begun_at_procedure, begun_beside_function, begun_beside_procedure, begun_at_label, begun_alone, procedure_unmeant}
+use Rattle.pli_type_expression.proofs.Meanings.{begun_at_variable, begun_at_function, call_given, begun_beside_function, begun_beside_procedure, begun_at_label, begun_at_untyped, begun_alone, procedure_unmeant}
 use Rattle.pli_type_expression.proofs.Sizes.{item_size, part_size, expression_size, reference_size, arguments_size, list_size, parts_size}
-use Rattle.pli_type_expression.proofs.Walks.{referred_ends, reference_unbegun, reference_unended, prefix_typed, prefix_unmeant, prefix_of_aggregate, prefix_refused, infix_typed, left_unmeant, left_aggregate, right_unmeant, right_aggregate, infix_refused}
+use Rattle.pli_type_expression.proofs.Walks.{referred_ends, reference_unbegun, reference_unended, parenthesized_typed, parenthesized_unmeant, prefix_typed, prefix_unmeant, prefix_refused, infix_typed, left_unmeant, right_unmeant, infix_refused}
 use Rattle.pli_type_expression.specs.Segments.{next_segment, last_segment, function_typed}
-use Rattle.pli_type_expression.specs.Subscripts.{subscript_meant}
 use Rattle.pli_type_expression.specs.declared.argument.Argument.{Argument}
 use Rattle.pli_type_expression.specs.declared.role.Role.TheVariants as roles
 use Rattle.pli_type_tree.specs.declared.expression.TypedExpression.{TypedExpression}
 use Rattle.pli_type_expression.proofs.Built.{item_built, part_built, reference_built, constant_built}
-use Rattle.pli_type_expression.proofs.Loops.{arguments_begin, argument_goes_on, argument_meant_not, arguments_end, subscripts_begin, subscript_goes_on, subscript_meant_not, subscript_no_number, subscripts_end, part_goes_on, part_fails, parts_end}
+use Rattle.pli_type_expression.proofs.Loops.{arguments_begin, argument_goes_on, argument_undenoted, arguments_end, subscripts_begin, subscript_goes_on, subscript_valueless, subscript_no_number, subscripts_end, part_goes_on, part_fails, parts_end}
 use Rattle.pli_type_expression.proofs.expression.+typed.Goals as goal
 
 -- arguments
@@ -45,16 +44,16 @@ all_arguments-offset_bounds-list-place t c = search rules
 pub all_arguments-bounds-list-place : goal.all_arguments-bounds-list-place
 all_arguments-bounds-list-place t c = search rules
 
-pub all_arguments-meant-requires : goal.all_arguments-meant-requires
-all_arguments-meant-requires t c =
-    (omega (arith, c.decreases, item_size c.args.list.now c.loop-place.place c.index-list-place.result (omega arith) c.index-list-place.is), (item_built (naming_in c.args.naming.now) c.args.list.now c.loop-place.place c.index-list-place.result (omega arith) c.index-list-place.is c.loop-place.invariant.built).0)
+pub all_arguments-denoted-requires : goal.all_arguments-denoted-requires
+all_arguments-denoted-requires t c =
+    (omega (arith, c.decreases, item_size c.args.list.now c.loop-place.place c.index-list-place.result (omega arith) c.index-list-place.is), (item_built (compiled_in c.args.naming.now) c.args.list.now c.loop-place.place c.index-list-place.result (omega arith) c.index-list-place.is c.loop-place.invariant.built).0)
 
 pub all_arguments-returns-in_err-argument : goal.all_arguments-returns-in_err-argument
 all_arguments-returns-in_err-argument t c =
     let p = err_from_is_err_and c.from_residual.result c.from_residual.ensures.1 in
     rw (p.1, p.2)
     (fails_as c.in_err-argument.field-0.0 _ _ c.loop-place.invariant.typed
-    (argument_meant_not (naming_in c.args.naming.now) c.args.list.now c.loop-place.place c.index-list-place.result (omega arith) c.index-list-place.is
+    (argument_undenoted (naming_in c.args.naming.now) c.args.list.now c.loop-place.place c.index-list-place.result (omega arith) c.index-list-place.is
     (map role_view c.args.roles.now) c.loop-place.arguments.items (role_view c.role_at-role.result) c.in_err-argument.field-0.0 c.role_at-role.ensures c.in_err-argument.ensures))
 
 pub all_arguments-returns-in_err-push : goal.all_arguments-returns-in_err-push
@@ -68,11 +67,11 @@ pub all_arguments-loop-place-preserved : goal.all_arguments-loop-place-preserved
 all_arguments-loop-place-preserved t c =
     let n = naming_in c.args.naming.now in
     let e = c.index-list-place.result in
-    let m = meant_view c.in_ok-argument.argument in
-    let a : Argument = record { meant = c.in_ok-argument.argument; written = c.number_written.result } in
-    let same : argument_view a ≡ typing.argument (syntax.expression_view e) m = ap (λ w. record { meant = m; written = w }) c.number_written.ensures in
+    let m = denoted_view c.in_ok-argument.argument in
+    let a : Argument = record { denoted = c.in_ok-argument.argument; written = c.number_written.result } in
+    let same : argument_view a ≡ typing.argument (syntax.expression_view e) m = ap (λ w. record { denoted = m; written = w }) c.number_written.ensures in
     record {
-      built = (item_built n c.args.list.now c.loop-place.place e (omega arith) c.index-list-place.is c.loop-place.invariant.built).1;
+      built = (item_built (compiled_in c.args.naming.now) c.args.list.now c.loop-place.place e (omega arith) c.index-list-place.is c.loop-place.invariant.built).1;
       typed = c.loop-place.invariant.typed
           ∙ argument_goes_on n c.args.list.now c.loop-place.place e (omega arith) c.index-list-place.is (map role_view c.args.roles.now) c.loop-place.arguments.items c.push.new.self.items
           (role_view c.role_at-role.result) m a c.role_at-role.ensures c.in_ok-argument.ensures same c.in_ok-push.ensures.items;
@@ -95,17 +94,17 @@ all_subscripts-loop-expression-init t c =
 pub all_subscripts-offset_bounds-list-expression-index : goal.all_subscripts-offset_bounds-list-expression-index
 all_subscripts-offset_bounds-list-expression-index t c = search rules
 
-pub all_subscripts-meant-requires : goal.all_subscripts-meant-requires
-all_subscripts-meant-requires t c =
-    (omega (arith, c.decreases, item_size c.args.list.now c.loop-expression.expression-index c.expression-item.result (omega arith) c.expression-item.is), (item_built (naming_in c.args.naming.now) c.args.list.now c.loop-expression.expression-index c.expression-item.result (omega arith) c.expression-item.is c.loop-expression.invariant.built).0)
+pub all_subscripts-value_of-requires : goal.all_subscripts-value_of-requires
+all_subscripts-value_of-requires t c =
+    (omega (arith, c.decreases, item_size c.args.list.now c.loop-expression.expression-index c.expression-item.result (omega arith) c.expression-item.is), (item_built (compiled_in c.args.naming.now) c.args.list.now c.loop-expression.expression-index c.expression-item.result (omega arith) c.expression-item.is c.loop-expression.invariant.built).0)
 
-pub all_subscripts-returns-in_err-one : goal.all_subscripts-returns-in_err-one
-all_subscripts-returns-in_err-one t c =
+pub all_subscripts-returns-in_err-value : goal.all_subscripts-returns-in_err-value
+all_subscripts-returns-in_err-value t c =
     let p = err_from_is_err_and c.from_residual.result c.from_residual.ensures.1 in
     rw (p.1, p.2)
-    (fails_as c.in_err-one.field-0.0 _ _ c.loop-expression.invariant.typed
-    (subscript_meant_not (naming_in c.args.naming.now) c.args.list.now c.loop-expression.expression-index c.expression-item.result (omega arith) c.expression-item.is
-    c.loop-expression.subscripts.items c.in_err-one.field-0.0 c.in_err-one.ensures))
+    (fails_as c.in_err-value.field-0.0 _ _ c.loop-expression.invariant.typed
+    (subscript_valueless (naming_in c.args.naming.now) c.args.list.now c.loop-expression.expression-index c.expression-item.result (omega arith) c.expression-item.is
+    c.loop-expression.subscripts.items c.in_err-value.field-0.0 c.in_err-value.ensures))
 
 pub all_subscripts-returns-in_err-push : goal.all_subscripts-returns-in_err-push
 all_subscripts-returns-in_err-push t c =
@@ -132,7 +131,7 @@ continued-loop-part-smaller t c = search rules
 
 pub continued-with_part-requires : goal.continued-with_part-requires
 continued-with_part-requires t c =
-    (omega (arith, c.decreases, part_size c.args.joined.now c.loop-part.part-index c.part-item.result (omega arith) c.part-item.is), (part_built (naming_in c.args.naming.now) c.args.joined.now c.loop-part.part-index c.part-item.result (omega arith) c.part-item.is c.loop-part.invariant.built).0)
+    (omega (arith, c.decreases, part_size c.args.joined.now c.loop-part.part-index c.part-item.result (omega arith) c.part-item.is), (part_built (compiled_in c.args.naming.now) c.args.joined.now c.loop-part.part-index c.part-item.result (omega arith) c.part-item.is c.loop-part.invariant.built).0)
 
 pub continued-returns-in_err-segment : goal.continued-returns-in_err-segment
 continued-returns-in_err-segment t c =
@@ -146,7 +145,7 @@ pub continued-loop-part-preserved : goal.continued-loop-part-preserved
 continued-loop-part-preserved t c =
     let n = naming_in c.args.naming.now in
     record {
-      built = (part_built n c.args.joined.now c.loop-part.part-index c.part-item.result (omega arith) c.part-item.is c.loop-part.invariant.built).1;
+      built = (part_built (compiled_in c.args.naming.now) c.args.joined.now c.loop-part.part-index c.part-item.result (omega arith) c.part-item.is c.loop-part.invariant.built).1;
       last = c.loop-part.invariant.last
           ∙ part_goes_on n (segment_view n c.loop-part.segment) c.args.joined.now c.loop-part.part-index c.part-item.result (omega arith) c.part-item.is
           (segment_view n c.in_ok-segment.segment) c.in_ok-segment.ensures;
@@ -158,26 +157,28 @@ continued-returns t c =
     c.loop-part.invariant.last
     ∙ parts_end n (segment_view n c.loop-part.segment) c.args.joined.now c.loop-part.part-index (omega arith)
 
-pub all_subscripts-returns-in_err-value : goal.all_subscripts-returns-in_err-value
-all_subscripts-returns-in_err-value t c =
+pub all_subscripts-returns-in_err-one : goal.all_subscripts-returns-in_err-one
+all_subscripts-returns-in_err-one t c =
     let n = naming_in c.args.naming.now in
     let x = c.expression-item.result in
-    let e = c.in_err-value.field-0.0 in
-    let p = err_from_is_err_and c.from_residual-in_err-value.result c.from_residual-in_err-value.ensures.1 in
+    let e = c.in_err-one.field-0.0 in
+    let v = value_view c.in_ok-value.value in
+    let p = err_from_is_err_and c.from_residual-in_err-one.result c.from_residual-in_err-one.ensures.1 in
     rw (p.1, p.2)
-    (fails_as e _ _ c.loop-expression.invariant.typed (subscript_no_number n c.args.list.now c.loop-expression.expression-index x (omega arith) c.expression-item.is c.loop-expression.subscripts.items (meant_view c.in_ok-one.one) e c.in_ok-one.ensures
-    (fails_as e _ _ (ap (λ g. subscript_meant g (typing.first_token (syntax.expression_view x)) (meant_view c.in_ok-one.one)) (sym c.greatest.ensures)) c.in_err-value.ensures)))
+    (fails_as e _ _ c.loop-expression.invariant.typed (subscript_no_number n c.args.list.now c.loop-expression.expression-index x (omega arith) c.expression-item.is c.loop-expression.subscripts.items v e c.in_ok-value.ensures
+    (fails_as e _ _ (ap (λ g. typing.subscript_value g (typing.first_token (syntax.expression_view x)) v) (sym c.greatest.ensures)) c.in_err-one.ensures)))
 
 pub all_subscripts-loop-expression-preserved : goal.all_subscripts-loop-expression-preserved
 all_subscripts-loop-expression-preserved t c =
     let n = naming_in c.args.naming.now in
     let x = c.expression-item.result in
+    let v = value_view c.in_ok-value.value in
     record {
-      built = (item_built n c.args.list.now c.loop-expression.expression-index x (omega arith) c.expression-item.is c.loop-expression.invariant.built).1;
+      built = (item_built (compiled_in c.args.naming.now) c.args.list.now c.loop-expression.expression-index x (omega arith) c.expression-item.is c.loop-expression.invariant.built).1;
       typed = c.loop-expression.invariant.typed
           ∙ subscript_goes_on n c.args.list.now c.loop-expression.expression-index x (omega arith) c.expression-item.is c.loop-expression.subscripts.items c.push.new.self.items
-          (meant_view c.in_ok-one.one) c.in_ok-value.value c.in_ok-one.ensures
-          (ap (λ g. subscript_meant g (typing.first_token (syntax.expression_view x)) (meant_view c.in_ok-one.one)) (sym c.greatest.ensures) ∙ c.in_ok-value.ensures)
+          v c.in_ok-one.one c.in_ok-value.ensures
+          (ap (λ g. typing.subscript_value g (typing.first_token (syntax.expression_view x)) v) (sym c.greatest.ensures) ∙ c.in_ok-one.ensures)
           c.in_ok-push.ensures.items;
     }
 
@@ -185,7 +186,7 @@ pub begun-begun_with-requires : goal.begun-begun_with-requires
 begun-begun_with-requires t c =
     let n = naming_in c.args.naming.now in (
       omega (arith, c.decreases, ap (λ xs. list_size (syntax.expressions_view xs)) c.as_slice.ensures.value, ap (λ o. arguments_size (syntax.arguments_view o)) c.in-Some.is),
-      ap (λ xs. later_list n (syntax.expressions_view xs)) c.as_slice.ensures.value ∙ sym (ap (λ o. later_arguments n (syntax.arguments_view o)) c.in-Some.is) ∙ c.requires,
+      ap (λ xs. later_list (compiled_in c.args.naming.now) (syntax.expressions_view xs)) c.as_slice.ensures.value ∙ sym (ap (λ o. later_arguments (compiled_in c.args.naming.now) (syntax.arguments_view o)) c.in-Some.is) ∙ c.requires,
     )
 
 pub begun-returns-in-None : goal.begun-returns-in-None
@@ -295,53 +296,36 @@ begun_with-returns-in_ok-all_arguments-in-Function t c =
     ∙ bind_ok (typing.all_arguments n [] list) (map argument_view c.in_ok-all_arguments-in-Function.field-0.items) (λ gs. Ok (of_name w c.args.located c.args.at [])) c.in_ok-all_arguments-in-Function.ensures
     ∙ ap (λ s. Ok s) (sym (c.named.ensures n))
 
-pub begun_with-returns-in_err-all_arguments-in-Label : goal.begun_with-returns-in_err-all_arguments-in-Label
-begun_with-returns-in_err-all_arguments-in-Label t c =
-    let n = naming_in c.args.naming.now in
-    let w = n.meaning c.args.at in
-    let list = syntax.expressions_view c.args.list.now in
-    let e = c.in_err-all_arguments-in-Label.field-0.0 in
-    let p = err_from_is_err_and c.from_residual-in_err-all_arguments-in-Label.result c.from_residual-in_err-all_arguments-in-Label.ensures.1 in
-    rw (p.1, p.2)
-    (fails_as e _ _ (begun_at_label n w c.in-Label.ensures c.args.call c.args.located c.args.at list) (fails_on e (typing.all_arguments n [] list) (λ gs. Ok (of_name w c.args.located c.args.at [])) c.in_err-all_arguments-in-Label.ensures))
-
-pub begun_with-returns-in_ok-all_arguments-in-Label : goal.begun_with-returns-in_ok-all_arguments-in-Label
-begun_with-returns-in_ok-all_arguments-in-Label t c =
-    let n = naming_in c.args.naming.now in
-    let w = n.meaning c.args.at in
-    let list = syntax.expressions_view c.args.list.now in
-    begun_at_label n w c.in-Label.ensures c.args.call c.args.located c.args.at list
-    ∙ bind_ok (typing.all_arguments n [] list) (map argument_view c.in_ok-all_arguments-in-Label.field-0.items) (λ gs. Ok (of_name w c.args.located c.args.at [])) c.in_ok-all_arguments-in-Label.ensures
-    ∙ ap (λ s. Ok s) (sym (c.named-in-Label.ensures n))
-
 pub begun_with-returns-else-call-2 : goal.begun_with-returns-else-call-2
 begun_with-returns-else-call-2 t c =
     let n = naming_in c.args.naming.now in
     let w = n.meaning c.args.at in
     let list = syntax.expressions_view c.args.list.now in
     ap (λ k. typing.begun n w k c.args.located c.args.at (Given list)) c.if-call-2.false
-    ∙ begun_beside_procedure n w c.in-Procedure.ensures c.args.located c.args.at list
-    ∙ bind_ok (typing.all_arguments n [] list) (map argument_view c.in_ok-all_arguments-in-Procedure.field-0.items) (λ gs. Ok (of_name w c.args.located c.args.at [])) c.in_ok-all_arguments-in-Procedure.ensures
+    ∙ begun_beside_procedure n w c.in-Procedure.procedure c.in-Procedure.ensures c.args.located c.args.at list
+    ∙ bind_ok (typing.all_arguments n [] list) (map argument_view c.in_ok-arguments-in-Procedure.arguments.items) (λ gs. Ok (of_name w c.args.located c.args.at [])) c.in_ok-arguments-in-Procedure.ensures
     ∙ ap (λ s. Ok s) (sym (c.named-in-Procedure.ensures n))
 
-pub begun_with-returns-in_err-all_arguments-in-Procedure : goal.begun_with-returns-in_err-all_arguments-in-Procedure
-begun_with-returns-in_err-all_arguments-in-Procedure t c =
+pub begun_with-returns-in_err-arguments-in-Procedure : goal.begun_with-returns-in_err-arguments-in-Procedure
+begun_with-returns-in_err-arguments-in-Procedure t c =
     let n = naming_in c.args.naming.now in
     let w = n.meaning c.args.at in
     let list = syntax.expressions_view c.args.list.now in
-    let e = c.in_err-all_arguments-in-Procedure.field-0.0 in
-    let p = err_from_is_err_and c.from_residual-in_err-all_arguments-in-Procedure.result c.from_residual-in_err-all_arguments-in-Procedure.ensures.1 in
+    let e = c.in_err-arguments-in-Procedure.field-0.0 in
+    let p = err_from_is_err_and c.from_residual-in_err-arguments-in-Procedure.result c.from_residual-in_err-arguments-in-Procedure.ensures.1 in
     rw (p.1, p.2)
-    (procedure_unmeant n w c.in-Procedure.ensures c.args.call c.args.located c.args.at list e c.in_err-all_arguments-in-Procedure.ensures)
+    (procedure_unmeant n w c.in-Procedure.procedure c.in-Procedure.ensures c.args.call c.args.located c.args.at list e c.in_err-arguments-in-Procedure.ensures)
 
 pub begun_with-returns-then-call-2 : goal.begun_with-returns-then-call-2
 begun_with-returns-then-call-2 t c =
     let n = naming_in c.args.naming.now in
     let w = n.meaning c.args.at in
     let list = syntax.expressions_view c.args.list.now in
-    fails_as c.procedure_fault.result _ _ (ap (λ k. typing.begun n w k c.args.located c.args.at (Given list)) c.if-call-2.true
-    ∙ begun_at_procedure n w c.in-Procedure.ensures c.args.located c.args.at list
-    ∙ bind_ok (typing.all_arguments n [] list) (map argument_view c.in_ok-all_arguments-in-Procedure.field-0.items) (λ gs. typing.procedure_called c.args.at list) c.in_ok-all_arguments-in-Procedure.ensures) c.procedure_fault.ensures
+    let gs = map argument_view c.in_ok-arguments-in-Procedure.arguments.items in
+    let result = c.procedure_called.result in
+    gives_as (segment_view n) result _ _ (ap (λ k. typing.begun n w k c.args.located c.args.at (Given list)) c.if-call-2.true)
+    (call_given (segment_view n) result n w c.in-Procedure.procedure c.in-Procedure.ensures c.args.located c.args.at list gs c.in_ok-arguments-in-Procedure.ensures
+    (λ q is. gives_as (segment_view n) result _ _ (ap (λ g. typing.procedure_called g q c.args.at gs) (sym c.greatest.ensures)) (c.procedure_called.ensures n q is)))
 
 pub called-returns-in_err-all_arguments : goal.called-returns-in_err-all_arguments
 called-returns-in_err-all_arguments t c =
@@ -384,7 +368,7 @@ pub subscripts_in-all_subscripts-requires : goal.subscripts_in-all_subscripts-re
 subscripts_in-all_subscripts-requires t c =
     let n = naming_in c.args.naming.now in (
       omega (arith, c.decreases, ap (λ xs. list_size (syntax.expressions_view xs)) c.as_slice.ensures.value, ap (λ o. arguments_size (syntax.arguments_view o)) c.in-Some.is),
-      ap (λ xs. later_list n (syntax.expressions_view xs)) c.as_slice.ensures.value ∙ sym (ap (λ o. later_arguments n (syntax.arguments_view o)) c.in-Some.is) ∙ c.requires,
+      ap (λ xs. later_list (compiled_in c.args.naming.now) (syntax.expressions_view xs)) c.as_slice.ensures.value ∙ sym (ap (λ o. later_arguments (compiled_in c.args.naming.now) (syntax.arguments_view o)) c.in-Some.is) ∙ c.requires,
     )
 
 pub subscripts_in-returns-in-None : goal.subscripts_in-returns-in-None
@@ -463,7 +447,7 @@ referred-begun-requires t c =
     let more = syntax.joined_view x.joined.items in
     let first = syntax.arguments_view x.first.arguments in
     let name = x.first.name in
-    (omega (arith, c.decreases, ap reference_size (reference_out r)), (reference_built n r c.requires).0)
+    (omega (arith, c.decreases, ap reference_size (reference_out r)), (reference_built (compiled_in c.args.naming.now) r c.requires).0)
 
 pub referred-continued-requires : goal.referred-continued-requires
 referred-continued-requires t c =
@@ -475,7 +459,7 @@ referred-continued-requires t c =
     let first = syntax.arguments_view x.first.arguments in
     let name = x.first.name in (
       omega (arith, c.decreases, ap reference_size (reference_out r), ap (λ xs. parts_size (syntax.joined_view xs)) c.as_slice-joined.ensures.value),
-      ap (λ xs. later_joined n (syntax.joined_view xs)) c.as_slice-joined.ensures.value ∙ (reference_built n r c.requires).1,
+      ap (λ xs. later_joined (compiled_in c.args.naming.now) (syntax.joined_view xs)) c.as_slice-joined.ensures.value ∙ (reference_built (compiled_in c.args.naming.now) r c.requires).1,
     )
 
 pub referred-returns-in_err-first : goal.referred-returns-in_err-first
@@ -528,192 +512,182 @@ referred-returns t c =
     (ap (typing.referred n role) (reference_out r) ∙ referred_ends n role name first more s (segment_view n c.in_ok-last.last) (sym (ap begins call) ∙ c.in_ok-first.ensures)
     (sym (ap (λ xs. last_segment n s (syntax.joined_view xs)) c.as_slice-joined.ensures.value) ∙ c.in_ok-last.ensures)) c.ended.ensures
 
-pub meant-referred-requires : goal.meant-referred-requires
-meant-referred-requires t c =
-    let n = naming_in c.args.naming.now in
-    (omega (arith, c.decreases, ap (λ e. expression_size (syntax.expression_view e)) c.in-Reference.is), sym (ap (λ e. later_expression n (syntax.expression_view e)) c.in-Reference.is) ∙ c.requires)
+pub value_of-denoted-requires : goal.value_of-denoted-requires
+value_of-denoted-requires t c = (omega (arith, c.decreases), c.requires)
 
-pub meant-returns-in_err-denoted-in-Reference : goal.meant-returns-in_err-denoted-in-Reference
-meant-returns-in_err-denoted-in-Reference t c =
-    let n = naming_in c.args.naming.now in
-    let role = role_view c.args.role in
-    let e = c.in_err-denoted-in-Reference.field-0.0 in
+pub value_of-returns-in_err-denoted : goal.value_of-returns-in_err-denoted
+value_of-returns-in_err-denoted t c =
+    let e = c.in_err-denoted.field-0.0 in
+    let x = syntax.expression_view c.args.expression.now in
     let p = err_from_is_err_and c.from_residual.result c.from_residual.ensures.1 in
     rw (p.1, p.2)
-    (fails_as e _ _ (ap (λ e. typing.meant n role (syntax.expression_view e)) c.in-Reference.is) (fails_on e (typing.referred n role (syntax.reference_view c.in-Reference.reference)) (λ d. Ok (typing.meant_as d)) c.in_err-denoted-in-Reference.ensures))
+    (fails_on e (typing.denoted (naming_in c.args.naming.now) AsValue x) (λ d. typing.one_value (typing.first_token x) (calls.meant_as d)) c.in_err-denoted.ensures)
 
-pub meant-returns-in_ok-denoted-in-Reference : goal.meant-returns-in_ok-denoted-in-Reference
-meant-returns-in_ok-denoted-in-Reference t c =
+pub value_of-returns : goal.value_of-returns
+value_of-returns t c =
+    let n = naming_in c.args.naming.now in
+    let x = syntax.expression_view c.args.expression.now in
+    gives_as value_view c.one_value.result _ _
+    (bind_ok (typing.denoted n AsValue x) (denoted_view c.in_ok-denoted.denoted) (λ d. typing.one_value (typing.first_token x) (calls.meant_as d)) c.in_ok-denoted.ensures
+    ∙ ap (typing.one_value (typing.first_token x)) (sym c.as_expression.ensures)) c.one_value.ensures
+
+pub denoted-referred-requires : goal.denoted-referred-requires
+denoted-referred-requires t c =
+    (omega (arith, c.decreases, ap (λ e. expression_size (syntax.expression_view e)) c.in-Reference.is), sym (ap (λ e. later_expression (compiled_in c.args.naming.now) (syntax.expression_view e)) c.in-Reference.is) ∙ c.requires)
+
+pub denoted-returns-in-Reference : goal.denoted-returns-in-Reference
+denoted-returns-in-Reference t c =
     let n = naming_in c.args.naming.now in
     let role = role_view c.args.role in
-    ap (λ e. typing.meant n role (syntax.expression_view e)) c.in-Reference.is
-    ∙ bind_ok (typing.referred n role (syntax.reference_view c.in-Reference.reference)) (denoted_view c.in_ok-denoted-in-Reference.denoted) (λ d. Ok (typing.meant_as d)) c.in_ok-denoted-in-Reference.ensures
-    ∙ ap (λ m. Ok m) (sym c.as_expression.ensures)
+    gives_as denoted_view c.referred.result _ _ (ap (λ e. typing.denoted n role (syntax.expression_view e)) c.in-Reference.is) c.referred.ensures
 
-pub meant-constant-requires : goal.meant-constant-requires
-meant-constant-requires t c =
-    let n = naming_in c.args.naming.now in
-    constant_built c.args.naming.now c.in-Constant.value (sym (ap (λ e. later_expression n (syntax.expression_view e)) c.in-Constant.is) ∙ c.requires)
+pub denoted-constant-requires : goal.denoted-constant-requires
+denoted-constant-requires t c =
+    constant_built c.args.naming.now.unit c.in-Constant.value (sym (ap (λ e. later_expression (compiled_in c.args.naming.now) (syntax.expression_view e)) c.in-Constant.is) ∙ c.requires)
 
-pub meant-returns-in_err-literal-in-Constant : goal.meant-returns-in_err-literal-in-Constant
-meant-returns-in_err-literal-in-Constant t c =
-    let p = err_from_is_err_and c.from_residual-in_err-literal-in-Constant.result c.from_residual-in_err-literal-in-Constant.ensures.1 in rw (p.1, p.2) tt
+pub denoted-returns-in_err-literal-in-Constant : goal.denoted-returns-in_err-literal-in-Constant
+denoted-returns-in_err-literal-in-Constant t c =
+    let p = err_from_is_err_and c.from_residual.result c.from_residual.ensures.1 in rw (p.1, p.2) tt
 
-pub meant-returns-in_ok-literal-in-Constant : goal.meant-returns-in_ok-literal-in-Constant
-meant-returns-in_ok-literal-in-Constant t c =
+pub denoted-returns-in_ok-literal-in-Constant : goal.denoted-returns-in_ok-literal-in-Constant
+denoted-returns-in_ok-literal-in-Constant t c =
     let n = naming_in c.args.naming.now in
     let role = role_view c.args.role in
-    ap (λ e. typing.meant n role (syntax.expression_view e)) c.in-Constant.is ∙ ap (λ v. Ok (calls.OneValue v)) (sym c.in_ok-literal-in-Constant.ensures)
+    ap (λ e. typing.denoted n role (syntax.expression_view e)) c.in-Constant.is ∙ ap (λ v. Ok (calls.DenotesResult v)) (sym c.in_ok-literal-in-Constant.ensures)
 
-pub meant-meant-requires : goal.meant-meant-requires
-meant-meant-requires t c =
-    let n = naming_in c.args.naming.now in
+pub denoted-value_of-requires : goal.denoted-value_of-requires
+denoted-value_of-requires t c =
+    let n = compiled_in c.args.naming.now in
     (omega (arith, c.decreases, ap (λ e. expression_size (syntax.expression_view e)) c.in-Parenthesized.is, ap (λ e. expression_size (syntax.expression_view e)) c.deref.ensures), ap (λ e. later_expression n (syntax.expression_view e)) c.deref.ensures ∙ sym (ap (λ e. later_expression n (syntax.expression_view e)) c.in-Parenthesized.is) ∙ c.requires)
 
-pub meant-returns-in-Parenthesized : goal.meant-returns-in-Parenthesized
-meant-returns-in-Parenthesized t c =
+pub denoted-returns-in_err-value-in-Parenthesized : goal.denoted-returns-in_err-value-in-Parenthesized
+denoted-returns-in_err-value-in-Parenthesized t c =
     let n = naming_in c.args.naming.now in
     let role = role_view c.args.role in
-    gives_as meant_view c.meant.result _ _ (ap (λ e. typing.meant n role (syntax.expression_view e)) c.in-Parenthesized.is ∙ sym (ap (λ e. typing.meant n (role_view roles.Value) (syntax.expression_view e)) c.deref.ensures)) c.meant.ensures
+    let b = c.in-Parenthesized in
+    let here = λ (e : Expression). typing.value_of n (syntax.expression_view e) in
+    let e = c.in_err-value-in-Parenthesized.field-0.0 in
+    let p = err_from_is_err_and c.from_residual-in_err-value-in-Parenthesized.result c.from_residual-in_err-value-in-Parenthesized.ensures.1 in
+    rw (p.1, p.2)
+    (fails_as e _ _ (ap (λ e. typing.denoted n role (syntax.expression_view e)) b.is) (parenthesized_unmeant n role b.at (syntax.expression_view b.inner.value) e (fails_as e _ _ (sym (ap here c.deref.ensures)) c.in_err-value-in-Parenthesized.ensures)))
 
-pub meant-meant-requires-in-Prefix : goal.meant-meant-requires-in-Prefix
-meant-meant-requires-in-Prefix t c =
+pub denoted-returns-in_ok-value-in-Parenthesized : goal.denoted-returns-in_ok-value-in-Parenthesized
+denoted-returns-in_ok-value-in-Parenthesized t c =
     let n = naming_in c.args.naming.now in
+    let role = role_view c.args.role in
+    let b = c.in-Parenthesized in
+    let here = λ (e : Expression). typing.value_of n (syntax.expression_view e) in
+    ap (λ e. typing.denoted n role (syntax.expression_view e)) b.is
+    ∙ parenthesized_typed n role b.at (syntax.expression_view b.inner.value) (value_view c.in_ok-value-in-Parenthesized.value) (sym (ap here c.deref.ensures) ∙ c.in_ok-value-in-Parenthesized.ensures)
+
+pub denoted-value_of-requires-in-Prefix : goal.denoted-value_of-requires-in-Prefix
+denoted-value_of-requires-in-Prefix t c =
+    let n = compiled_in c.args.naming.now in
     (omega (arith, c.decreases, ap (λ e. expression_size (syntax.expression_view e)) c.in-Prefix.is, ap (λ e. expression_size (syntax.expression_view e)) c.deref-in-Prefix.ensures), ap (λ e. later_expression n (syntax.expression_view e)) c.deref-in-Prefix.ensures ∙ sym (ap (λ e. later_expression n (syntax.expression_view e)) c.in-Prefix.is) ∙ c.requires)
 
-pub meant-returns-in_err-operand_meant-in-Prefix : goal.meant-returns-in_err-operand_meant-in-Prefix
-meant-returns-in_err-operand_meant-in-Prefix t c =
+pub denoted-returns-in_err-operand_value-in-Prefix : goal.denoted-returns-in_err-operand_value-in-Prefix
+denoted-returns-in_err-operand_value-in-Prefix t c =
     let n = naming_in c.args.naming.now in
     let role = role_view c.args.role in
     let b = c.in-Prefix in
-    let operand = syntax.expression_view b.operand.value in
-    let here = λ (e : Expression). typing.meant n (role_view roles.Value) (syntax.expression_view e) in
-    let e = c.in_err-operand_meant-in-Prefix.field-0.0 in
-    let p = err_from_is_err_and c.from_residual-in_err-operand_meant-in-Prefix.result c.from_residual-in_err-operand_meant-in-Prefix.ensures.1 in
-    rw (p.1, p.2)
-    (fails_as e _ _ (ap (λ e. typing.meant n role (syntax.expression_view e)) c.in-Prefix.is) (prefix_unmeant n role b.operator b.at operand e (fails_as e _ _ (sym (ap here c.deref-in-Prefix.ensures)) c.in_err-operand_meant-in-Prefix.ensures)))
-
-pub meant-returns-in_err-operand_value-in-Prefix : goal.meant-returns-in_err-operand_value-in-Prefix
-meant-returns-in_err-operand_value-in-Prefix t c =
-    let n = naming_in c.args.naming.now in
-    let role = role_view c.args.role in
-    let b = c.in-Prefix in
-    let operand = syntax.expression_view b.operand.value in
-    let here = λ (e : Expression). typing.meant n (role_view roles.Value) (syntax.expression_view e) in
+    let here = λ (e : Expression). typing.value_of n (syntax.expression_view e) in
     let e = c.in_err-operand_value-in-Prefix.field-0.0 in
     let p = err_from_is_err_and c.from_residual-in_err-operand_value-in-Prefix.result c.from_residual-in_err-operand_value-in-Prefix.ensures.1 in
     rw (p.1, p.2)
-    (fails_as e _ _ (ap (λ e. typing.meant n role (syntax.expression_view e)) c.in-Prefix.is) (prefix_of_aggregate n role b.operator b.at operand (meant_view c.in_ok-operand_meant-in-Prefix.operand_meant) e (sym (ap here c.deref-in-Prefix.ensures) ∙ c.in_ok-operand_meant-in-Prefix.ensures) (fails_as e _ _ (sym (ap (λ (e : Expression). typing.one_value (typing.first_token (syntax.expression_view e)) (meant_view c.in_ok-operand_meant-in-Prefix.operand_meant)) c.deref-in-Prefix-2.ensures)) c.in_err-operand_value-in-Prefix.ensures)))
+    (fails_as e _ _ (ap (λ e. typing.denoted n role (syntax.expression_view e)) b.is) (prefix_unmeant n role b.operator b.at (syntax.expression_view b.operand.value) e (fails_as e _ _ (sym (ap here c.deref-in-Prefix.ensures)) c.in_err-operand_value-in-Prefix.ensures)))
 
-pub meant-returns-in_err-given-in-Prefix : goal.meant-returns-in_err-given-in-Prefix
-meant-returns-in_err-given-in-Prefix t c =
+pub denoted-returns-in_err-given-in-Prefix : goal.denoted-returns-in_err-given-in-Prefix
+denoted-returns-in_err-given-in-Prefix t c =
     let n = naming_in c.args.naming.now in
     let role = role_view c.args.role in
     let b = c.in-Prefix in
-    let operand = syntax.expression_view b.operand.value in
-    let here = λ (e : Expression). typing.meant n (role_view roles.Value) (syntax.expression_view e) in
+    let v = value_view c.in_ok-operand_value-in-Prefix.operand_value in
+    let here = λ (e : Expression). typing.value_of n (syntax.expression_view e) in
     let e = c.in_err-given-in-Prefix.field-0.0 in
     let p = err_from_is_err_and c.from_residual-in_err-given-in-Prefix.result c.from_residual-in_err-given-in-Prefix.ensures.1 in
     rw (p.1, p.2)
-    (fails_as e _ _ (ap (λ e. typing.meant n role (syntax.expression_view e)) c.in-Prefix.is) (prefix_refused n role b.operator b.at operand (meant_view c.in_ok-operand_meant-in-Prefix.operand_meant) (value_view c.in_ok-operand_value-in-Prefix.operand_value) e (sym (ap here c.deref-in-Prefix.ensures) ∙ c.in_ok-operand_meant-in-Prefix.ensures) (sym (ap (λ (e : Expression). typing.one_value (typing.first_token (syntax.expression_view e)) (meant_view c.in_ok-operand_meant-in-Prefix.operand_meant)) c.deref-in-Prefix-2.ensures) ∙ c.in_ok-operand_value-in-Prefix.ensures) (fails_as e _ _ (ap (λ g. typing.or_fault WrongOperandType b.at (types.prefix_value g b.operator (value_view c.in_ok-operand_value-in-Prefix.operand_value))) (sym c.greatest.ensures)) c.in_err-given-in-Prefix.ensures)))
+    (fails_as e _ _ (ap (λ e. typing.denoted n role (syntax.expression_view e)) b.is) (prefix_refused n role b.operator b.at (syntax.expression_view b.operand.value) v e (sym (ap here c.deref-in-Prefix.ensures) ∙ c.in_ok-operand_value-in-Prefix.ensures)
+    (fails_as e _ _ (ap (λ g. typing.or_fault WrongOperandType b.at (types.prefix_value g b.operator v)) (sym c.greatest.ensures)) c.in_err-given-in-Prefix.ensures)))
 
-pub meant-returns-in_ok-given-in-Prefix : goal.meant-returns-in_ok-given-in-Prefix
-meant-returns-in_ok-given-in-Prefix t c =
+pub denoted-returns-in_ok-given-in-Prefix : goal.denoted-returns-in_ok-given-in-Prefix
+denoted-returns-in_ok-given-in-Prefix t c =
     let n = naming_in c.args.naming.now in
     let role = role_view c.args.role in
     let b = c.in-Prefix in
-    let operand = syntax.expression_view b.operand.value in
-    let here = λ (e : Expression). typing.meant n (role_view roles.Value) (syntax.expression_view e) in
-    ap (λ e. typing.meant n role (syntax.expression_view e)) c.in-Prefix.is
-    ∙ prefix_typed n role b.operator b.at operand (meant_view c.in_ok-operand_meant-in-Prefix.operand_meant) (value_view c.in_ok-operand_value-in-Prefix.operand_value) (value_view c.in_ok-given-in-Prefix.given) (sym (ap here c.deref-in-Prefix.ensures) ∙ c.in_ok-operand_meant-in-Prefix.ensures) (sym (ap (λ (e : Expression). typing.one_value (typing.first_token (syntax.expression_view e)) (meant_view c.in_ok-operand_meant-in-Prefix.operand_meant)) c.deref-in-Prefix-2.ensures) ∙ c.in_ok-operand_value-in-Prefix.ensures) (ap (λ g. typing.or_fault WrongOperandType b.at (types.prefix_value g b.operator (value_view c.in_ok-operand_value-in-Prefix.operand_value))) (sym c.greatest.ensures) ∙ c.in_ok-given-in-Prefix.ensures)
+    let v = value_view c.in_ok-operand_value-in-Prefix.operand_value in
+    let here = λ (e : Expression). typing.value_of n (syntax.expression_view e) in
+    ap (λ e. typing.denoted n role (syntax.expression_view e)) b.is
+    ∙ prefix_typed n role b.operator b.at (syntax.expression_view b.operand.value) v (value_view c.in_ok-given-in-Prefix.given) (sym (ap here c.deref-in-Prefix.ensures) ∙ c.in_ok-operand_value-in-Prefix.ensures)
+    (ap (λ g. typing.or_fault WrongOperandType b.at (types.prefix_value g b.operator v)) (sym c.greatest.ensures) ∙ c.in_ok-given-in-Prefix.ensures)
 
-pub meant-meant-requires-in-Infix : goal.meant-meant-requires-in-Infix
-meant-meant-requires-in-Infix t c =
-    let n = naming_in c.args.naming.now in
+pub denoted-value_of-requires-in-Infix : goal.denoted-value_of-requires-in-Infix
+denoted-value_of-requires-in-Infix t c =
+    let n = compiled_in c.args.naming.now in
     (omega (arith, c.decreases, ap (λ e. expression_size (syntax.expression_view e)) c.in-Infix.is, ap (λ e. expression_size (syntax.expression_view e)) c.deref-in-Infix.ensures), ap (λ e. later_expression n (syntax.expression_view e)) c.deref-in-Infix.ensures ∙ (or_parts (later_expression n (syntax.expression_view c.in-Infix.left.value)) (later_expression n (syntax.expression_view c.in-Infix.right.value)) (sym (ap (λ e. later_expression n (syntax.expression_view e)) c.in-Infix.is) ∙ c.requires)).0)
 
-pub meant-meant-requires-in-Infix-2 : goal.meant-meant-requires-in-Infix-2
-meant-meant-requires-in-Infix-2 t c =
-    let n = naming_in c.args.naming.now in
-    (omega (arith, c.decreases, ap (λ e. expression_size (syntax.expression_view e)) c.in-Infix.is, ap (λ e. expression_size (syntax.expression_view e)) c.deref-in-Infix-3.ensures), ap (λ e. later_expression n (syntax.expression_view e)) c.deref-in-Infix-3.ensures ∙ (or_parts (later_expression n (syntax.expression_view c.in-Infix.left.value)) (later_expression n (syntax.expression_view c.in-Infix.right.value)) (sym (ap (λ e. later_expression n (syntax.expression_view e)) c.in-Infix.is) ∙ c.requires)).1)
+pub denoted-value_of-requires-in-Infix-2 : goal.denoted-value_of-requires-in-Infix-2
+denoted-value_of-requires-in-Infix-2 t c =
+    let n = compiled_in c.args.naming.now in
+    (omega (arith, c.decreases, ap (λ e. expression_size (syntax.expression_view e)) c.in-Infix.is, ap (λ e. expression_size (syntax.expression_view e)) c.deref-in-Infix-2.ensures), ap (λ e. later_expression n (syntax.expression_view e)) c.deref-in-Infix-2.ensures ∙ (or_parts (later_expression n (syntax.expression_view c.in-Infix.left.value)) (later_expression n (syntax.expression_view c.in-Infix.right.value)) (sym (ap (λ e. later_expression n (syntax.expression_view e)) c.in-Infix.is) ∙ c.requires)).1)
 
-pub meant-returns-in_err-left_meant-in-Infix : goal.meant-returns-in_err-left_meant-in-Infix
-meant-returns-in_err-left_meant-in-Infix t c =
+pub denoted-returns-in_err-left_value-in-Infix : goal.denoted-returns-in_err-left_value-in-Infix
+denoted-returns-in_err-left_value-in-Infix t c =
     let n = naming_in c.args.naming.now in
     let role = role_view c.args.role in
     let b = c.in-Infix in
     let left = syntax.expression_view b.left.value in
     let right = syntax.expression_view b.right.value in
-    let here = λ (e : Expression). typing.meant n (role_view roles.Value) (syntax.expression_view e) in
-    let e = c.in_err-left_meant-in-Infix.field-0.0 in
-    let p = err_from_is_err_and c.from_residual-in_err-left_meant-in-Infix.result c.from_residual-in_err-left_meant-in-Infix.ensures.1 in
-    rw (p.1, p.2)
-    (fails_as e _ _ (ap (λ e. typing.meant n role (syntax.expression_view e)) c.in-Infix.is)
-    (left_unmeant n role b.operator b.at left right e (fails_as e _ _ (sym (ap here c.deref-in-Infix.ensures)) c.in_err-left_meant-in-Infix.ensures)))
-
-pub meant-returns-in_err-left_value-in-Infix : goal.meant-returns-in_err-left_value-in-Infix
-meant-returns-in_err-left_value-in-Infix t c =
-    let n = naming_in c.args.naming.now in
-    let role = role_view c.args.role in
-    let b = c.in-Infix in
-    let left = syntax.expression_view b.left.value in
-    let right = syntax.expression_view b.right.value in
-    let here = λ (e : Expression). typing.meant n (role_view roles.Value) (syntax.expression_view e) in
+    let here = λ (e : Expression). typing.value_of n (syntax.expression_view e) in
     let e = c.in_err-left_value-in-Infix.field-0.0 in
     let p = err_from_is_err_and c.from_residual-in_err-left_value-in-Infix.result c.from_residual-in_err-left_value-in-Infix.ensures.1 in
     rw (p.1, p.2)
-    (fails_as e _ _ (ap (λ e. typing.meant n role (syntax.expression_view e)) c.in-Infix.is)
-    (left_aggregate n role b.operator b.at left right (meant_view c.in_ok-left_meant-in-Infix.left_meant) e (sym (ap here c.deref-in-Infix.ensures) ∙ c.in_ok-left_meant-in-Infix.ensures) (fails_as e _ _ (sym (ap (λ (e : Expression). typing.one_value (typing.first_token (syntax.expression_view e)) (meant_view c.in_ok-left_meant-in-Infix.left_meant)) c.deref-in-Infix-2.ensures)) c.in_err-left_value-in-Infix.ensures)))
+    (fails_as e _ _ (ap (λ e. typing.denoted n role (syntax.expression_view e)) b.is)
+    (left_unmeant n role b.operator b.at left right e (fails_as e _ _ (sym (ap here c.deref-in-Infix.ensures)) c.in_err-left_value-in-Infix.ensures)))
 
-pub meant-returns-in_err-right_meant-in-Infix : goal.meant-returns-in_err-right_meant-in-Infix
-meant-returns-in_err-right_meant-in-Infix t c =
+pub denoted-returns-in_err-right_value-in-Infix : goal.denoted-returns-in_err-right_value-in-Infix
+denoted-returns-in_err-right_value-in-Infix t c =
     let n = naming_in c.args.naming.now in
     let role = role_view c.args.role in
     let b = c.in-Infix in
     let left = syntax.expression_view b.left.value in
     let right = syntax.expression_view b.right.value in
-    let here = λ (e : Expression). typing.meant n (role_view roles.Value) (syntax.expression_view e) in
-    let e = c.in_err-right_meant-in-Infix.field-0.0 in
-    let p = err_from_is_err_and c.from_residual-in_err-right_meant-in-Infix.result c.from_residual-in_err-right_meant-in-Infix.ensures.1 in
-    rw (p.1, p.2)
-    (fails_as e _ _ (ap (λ e. typing.meant n role (syntax.expression_view e)) c.in-Infix.is)
-    (right_unmeant n role b.operator b.at left right (meant_view c.in_ok-left_meant-in-Infix.left_meant) (value_view c.in_ok-left_value-in-Infix.left_value) e (sym (ap here c.deref-in-Infix.ensures) ∙ c.in_ok-left_meant-in-Infix.ensures) (sym (ap (λ (e : Expression). typing.one_value (typing.first_token (syntax.expression_view e)) (meant_view c.in_ok-left_meant-in-Infix.left_meant)) c.deref-in-Infix-2.ensures) ∙ c.in_ok-left_value-in-Infix.ensures) (fails_as e _ _ (sym (ap here c.deref-in-Infix-3.ensures)) c.in_err-right_meant-in-Infix.ensures)))
-
-pub meant-returns-in_err-right_value-in-Infix : goal.meant-returns-in_err-right_value-in-Infix
-meant-returns-in_err-right_value-in-Infix t c =
-    let n = naming_in c.args.naming.now in
-    let role = role_view c.args.role in
-    let b = c.in-Infix in
-    let left = syntax.expression_view b.left.value in
-    let right = syntax.expression_view b.right.value in
-    let here = λ (e : Expression). typing.meant n (role_view roles.Value) (syntax.expression_view e) in
+    let here = λ (e : Expression). typing.value_of n (syntax.expression_view e) in
+    let v = value_view c.in_ok-left_value-in-Infix.left_value in
     let e = c.in_err-right_value-in-Infix.field-0.0 in
     let p = err_from_is_err_and c.from_residual-in_err-right_value-in-Infix.result c.from_residual-in_err-right_value-in-Infix.ensures.1 in
     rw (p.1, p.2)
-    (fails_as e _ _ (ap (λ e. typing.meant n role (syntax.expression_view e)) c.in-Infix.is)
-    (right_aggregate n role b.operator b.at left right (meant_view c.in_ok-left_meant-in-Infix.left_meant) (meant_view c.in_ok-right_meant-in-Infix.right_meant) (value_view c.in_ok-left_value-in-Infix.left_value) e (sym (ap here c.deref-in-Infix.ensures) ∙ c.in_ok-left_meant-in-Infix.ensures) (sym (ap (λ (e : Expression). typing.one_value (typing.first_token (syntax.expression_view e)) (meant_view c.in_ok-left_meant-in-Infix.left_meant)) c.deref-in-Infix-2.ensures) ∙ c.in_ok-left_value-in-Infix.ensures) (sym (ap here c.deref-in-Infix-3.ensures) ∙ c.in_ok-right_meant-in-Infix.ensures) (fails_as e _ _ (sym (ap (λ (e : Expression). typing.one_value (typing.first_token (syntax.expression_view e)) (meant_view c.in_ok-right_meant-in-Infix.right_meant)) c.deref-in-Infix-4.ensures)) c.in_err-right_value-in-Infix.ensures)))
+    (fails_as e _ _ (ap (λ e. typing.denoted n role (syntax.expression_view e)) b.is)
+    (right_unmeant n role b.operator b.at left right v e (sym (ap here c.deref-in-Infix.ensures) ∙ c.in_ok-left_value-in-Infix.ensures) (fails_as e _ _ (sym (ap here c.deref-in-Infix-2.ensures)) c.in_err-right_value-in-Infix.ensures)))
 
-pub meant-returns-in_err-combined-in-Infix : goal.meant-returns-in_err-combined-in-Infix
-meant-returns-in_err-combined-in-Infix t c =
+pub denoted-returns-in_err-combined-in-Infix : goal.denoted-returns-in_err-combined-in-Infix
+denoted-returns-in_err-combined-in-Infix t c =
     let n = naming_in c.args.naming.now in
     let role = role_view c.args.role in
     let b = c.in-Infix in
     let left = syntax.expression_view b.left.value in
     let right = syntax.expression_view b.right.value in
-    let here = λ (e : Expression). typing.meant n (role_view roles.Value) (syntax.expression_view e) in
+    let here = λ (e : Expression). typing.value_of n (syntax.expression_view e) in
+    let v = value_view c.in_ok-left_value-in-Infix.left_value in
+    let w = value_view c.in_ok-right_value-in-Infix.right_value in
     let e = c.in_err-combined-in-Infix.field-0.0 in
     let p = err_from_is_err_and c.from_residual-in_err-combined-in-Infix.result c.from_residual-in_err-combined-in-Infix.ensures.1 in
     rw (p.1, p.2)
-    (fails_as e _ _ (ap (λ e. typing.meant n role (syntax.expression_view e)) c.in-Infix.is)
-    (infix_refused n role b.operator b.at left right (meant_view c.in_ok-left_meant-in-Infix.left_meant) (meant_view c.in_ok-right_meant-in-Infix.right_meant) (value_view c.in_ok-left_value-in-Infix.left_value) (value_view c.in_ok-right_value-in-Infix.right_value) e (sym (ap here c.deref-in-Infix.ensures) ∙ c.in_ok-left_meant-in-Infix.ensures) (sym (ap (λ (e : Expression). typing.one_value (typing.first_token (syntax.expression_view e)) (meant_view c.in_ok-left_meant-in-Infix.left_meant)) c.deref-in-Infix-2.ensures) ∙ c.in_ok-left_value-in-Infix.ensures) (sym (ap here c.deref-in-Infix-3.ensures) ∙ c.in_ok-right_meant-in-Infix.ensures) (sym (ap (λ (e : Expression). typing.one_value (typing.first_token (syntax.expression_view e)) (meant_view c.in_ok-right_meant-in-Infix.right_meant)) c.deref-in-Infix-4.ensures) ∙ c.in_ok-right_value-in-Infix.ensures) (fails_as e _ _ (ap (λ g. typing.or_fault WrongOperandType b.at (types.infix_value g b.operator (value_view c.in_ok-left_value-in-Infix.left_value) (value_view c.in_ok-right_value-in-Infix.right_value))) (sym c.greatest-in-Infix.ensures)) c.in_err-combined-in-Infix.ensures)))
+    (fails_as e _ _ (ap (λ e. typing.denoted n role (syntax.expression_view e)) b.is)
+    (infix_refused n role b.operator b.at left right v w e (sym (ap here c.deref-in-Infix.ensures) ∙ c.in_ok-left_value-in-Infix.ensures)
+    (sym (ap here c.deref-in-Infix-2.ensures) ∙ c.in_ok-right_value-in-Infix.ensures)
+    (fails_as e _ _ (ap (λ g. typing.or_fault WrongOperandType b.at (types.infix_value g b.operator v w)) (sym c.greatest-in-Infix.ensures)) c.in_err-combined-in-Infix.ensures)))
 
-pub meant-returns-in_ok-combined-in-Infix : goal.meant-returns-in_ok-combined-in-Infix
-meant-returns-in_ok-combined-in-Infix t c =
+pub denoted-returns-in_ok-combined-in-Infix : goal.denoted-returns-in_ok-combined-in-Infix
+denoted-returns-in_ok-combined-in-Infix t c =
     let n = naming_in c.args.naming.now in
     let role = role_view c.args.role in
     let b = c.in-Infix in
     let left = syntax.expression_view b.left.value in
     let right = syntax.expression_view b.right.value in
-    let here = λ (e : Expression). typing.meant n (role_view roles.Value) (syntax.expression_view e) in
-    ap (λ e. typing.meant n role (syntax.expression_view e)) c.in-Infix.is
-    ∙ infix_typed n role b.operator b.at left right (meant_view c.in_ok-left_meant-in-Infix.left_meant) (meant_view c.in_ok-right_meant-in-Infix.right_meant) (value_view c.in_ok-left_value-in-Infix.left_value) (value_view c.in_ok-right_value-in-Infix.right_value) (value_view c.in_ok-combined-in-Infix.combined) (sym (ap here c.deref-in-Infix.ensures) ∙ c.in_ok-left_meant-in-Infix.ensures) (sym (ap (λ (e : Expression). typing.one_value (typing.first_token (syntax.expression_view e)) (meant_view c.in_ok-left_meant-in-Infix.left_meant)) c.deref-in-Infix-2.ensures) ∙ c.in_ok-left_value-in-Infix.ensures) (sym (ap here c.deref-in-Infix-3.ensures) ∙ c.in_ok-right_meant-in-Infix.ensures) (sym (ap (λ (e : Expression). typing.one_value (typing.first_token (syntax.expression_view e)) (meant_view c.in_ok-right_meant-in-Infix.right_meant)) c.deref-in-Infix-4.ensures) ∙ c.in_ok-right_value-in-Infix.ensures) (ap (λ g. typing.or_fault WrongOperandType b.at (types.infix_value g b.operator (value_view c.in_ok-left_value-in-Infix.left_value) (value_view c.in_ok-right_value-in-Infix.right_value))) (sym c.greatest-in-Infix.ensures) ∙ c.in_ok-combined-in-Infix.ensures)
+    let here = λ (e : Expression). typing.value_of n (syntax.expression_view e) in
+    let v = value_view c.in_ok-left_value-in-Infix.left_value in
+    let w = value_view c.in_ok-right_value-in-Infix.right_value in
+    ap (λ e. typing.denoted n role (syntax.expression_view e)) b.is
+    ∙ infix_typed n role b.operator b.at left right v w (value_view c.in_ok-combined-in-Infix.combined) (sym (ap here c.deref-in-Infix.ensures) ∙ c.in_ok-left_value-in-Infix.ensures)
+    (sym (ap here c.deref-in-Infix-2.ensures) ∙ c.in_ok-right_value-in-Infix.ensures)
+    (ap (λ g. typing.or_fault WrongOperandType b.at (types.infix_value g b.operator v w)) (sym c.greatest-in-Infix.ensures) ∙ c.in_ok-combined-in-Infix.ensures)

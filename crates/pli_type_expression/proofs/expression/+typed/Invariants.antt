@@ -2,7 +2,7 @@ use Rattle.std.proofs.Common.{◌≡◌, ◌+◌, false, drop, map}
 use Rattle.pli_base.specs.views.SyntaxView.{expression_view, expressions_view, joined_view, reference_view, arguments_view}
 use Rattle.pli_type.specs.Typing.{all_subscripts, all_arguments}
 use Rattle.pli_type.specs.Unbuilt.{later_list, later_joined}
-use Rattle.pli_type_names.specs.UnitNaming.{naming_in}
+use Rattle.pli_type_names.specs.UnitNaming.{compiled_in, naming_in}
 use Rattle.pli_type_tree.specs.views.TypedView as typed
 use Rattle.pli_type_expression.specs.Segments.{last_segment}
 use Rattle.pli_type_expression.specs.views.TypingView.{argument_view, role_view, segment_view}
@@ -15,7 +15,7 @@ abbrev pub invariant-continued-loop-part : goal.invariant-continued-loop-part
 invariant-continued-loop-part l =
     let n = naming_in l.naming in
     record {
-      built : later_joined n (joined_view (drop l.part-index l.joined)) ≡ false;
+      built : later_joined (compiled_in l.naming) (joined_view (drop l.part-index l.joined)) ≡ false;
       last : last_segment n (segment_view n l.fn.first) (joined_view l.joined)
           ≡ last_segment n (segment_view n l.segment) (joined_view (drop l.part-index l.joined));
     }
@@ -25,7 +25,7 @@ abbrev pub invariant-all_subscripts-loop-expression : goal.invariant-all_subscri
 invariant-all_subscripts-loop-expression l =
     let n = naming_in l.naming in
     record {
-      built : later_list n (expressions_view (drop l.expression-index l.list)) ≡ false;
+      built : later_list (compiled_in l.naming) (expressions_view (drop l.expression-index l.list)) ≡ false;
       typed : all_subscripts n (expressions_view l.list)
           ≡ subscripts_with n (map typed.expression_view l.subscripts.items) (expressions_view (drop l.expression-index l.list));
     }
@@ -35,15 +35,18 @@ abbrev pub invariant-all_arguments-loop-place : goal.invariant-all_arguments-loo
 invariant-all_arguments-loop-place l =
     let n = naming_in l.naming in
     record {
-      built : later_list n (expressions_view (drop l.place l.list)) ≡ false;
+      built : later_list (compiled_in l.naming) (expressions_view (drop l.place l.list)) ≡ false;
       typed : all_arguments n (map role_view l.roles) (expressions_view l.list)
           ≡ arguments_with n (drop l.place (map role_view l.roles)) (map argument_view l.arguments.items) (expressions_view (drop l.place l.list));
     }
 
 -- each call is for something smaller, or for the same with less left to do
 
-abbrev pub decreases-meant : goal.decreases-meant
-decreases-meant l = expression_size (expression_view l.expression.now)
+abbrev pub decreases-value_of : goal.decreases-value_of
+decreases-value_of l = expression_size (expression_view l.expression.now) + 1
+
+abbrev pub decreases-denoted : goal.decreases-denoted
+decreases-denoted l = expression_size (expression_view l.expression.now)
 
 abbrev pub decreases-referred : goal.decreases-referred
 decreases-referred l = reference_size (reference_view l.reference.now)

@@ -1,0 +1,153 @@
+//! Calls of procedures and of functions of the program.
+ghost use Rattle.std.specs.Prelude.{◌≡◌, length, map, option_map, None, IfOk};
+ghost use Rattle.pli_map.specs.views.DescriptionView.{description_view};
+ghost use Rattle.pli_type.specs.FunctionCalls.{meant_as};
+ghost use Rattle.pli_type.specs.Names as names;
+ghost use Rattle.pli_type.specs.ProcedureCalls as spec;
+ghost use Rattle.pli_type.specs.Typing as typing;
+ghost use Rattle.pli_type.specs.views.ValueView.{value_view};
+ghost use Rattle.pli_type_expression.specs.answers.TypingAnswers.{Gives};
+ghost use Rattle.pli_type_expression.specs.views.TypingView.{argument_view, denoted_view, meant_view, segment_view};
+ghost use Rattle.pli_type_names.specs.Meant.{IsProcedure};
+ghost use Rattle.pli_type_tree.specs.TypedTree as tree;
+ghost use Rattle.pli_type_tree.specs.views.TypedView.{argument_before, arguments_view};
+
+use crate::answer::{TypeError, fault};
+use crate::argument::Argument;
+use crate::meaning::{Denoted, Meant};
+use crate::segment::Segment;
+use pli_base::Code;
+use pli_map::Description;
+use pli_type::{ExpressionType, TypedValue, converted};
+use pli_type_names::NamedProcedure;
+use pli_type_tree::{TypedArgument, TypedExpression};
+use std::alloc::{AllocError, Global};
+
+/// A value as a dummy argument of the parameter's description, to which it is converted; none where it does not suit.
+fn dummy(
+    alloc: Global,
+    greatest: u8,
+    description: &Description,
+    meant: Meant<'_>,
+) -> Result<Option<TypedArgument>, AllocError>
+    ensures { IfOk result (λ passed. (more : tree.TypedArguments) → option_map (λ a. argument_before a more) passed
+        ≡ spec.passed (description_view description.now) None
+        (spec.passed_value greatest (description_view description.now) (meant_view meant.entry)) more) }
+{
+    let Meant::Value(value) = meant else {
+        return Ok(None);
+    };
+    match converted(alloc, greatest, description, value)? {
+        Some(value) => Ok(Some(TypedArgument::ByDummy {
+            description: description.copy(alloc)?,
+            value,
+        })),
+        None => Ok(None),
+    }
+}
+
+/// What denotes a variable of the parameter's very description is handed over as its place, anything else as a dummy
+/// argument; none where it does not suit (X3.74).
+fn passed(
+    alloc: Global,
+    greatest: u8,
+    description: &Description,
+    denoted: Denoted<'_>,
+) -> Result<Option<TypedArgument>, AllocError>
+    ensures { IfOk result (λ passed. (more : tree.TypedArguments) → option_map (λ a. argument_before a more) passed
+        ≡ spec.passed (description_view description.now)
+        (spec.passed_place (description_view description.now) (denoted_view denoted.entry))
+        (spec.passed_value greatest (description_view description.now) (meant_as (denoted_view denoted.entry))) more) }
+{
+    match denoted {
+        Denoted::Variable(referent) => {
+            if *referent.description == *description {
+                return Ok(Some(TypedArgument::ByPlace(referent.reference)));
+            }
+            dummy(alloc, greatest, description, referent.as_expression())
+        }
+        Denoted::Result(value) => dummy(alloc, greatest, description, Meant::Value(value)),
+    }
+}
+
+/// As many arguments as parameters; none where one does not suit its parameter.
+fn all_passed(
+    alloc: Global,
+    greatest: u8,
+    parameters: &[&Description],
+    arguments: Vec<Argument<'_>>,
+) -> Result<Option<Vec<TypedArgument>>, AllocError>
+    requires { length arguments.items ≡ length parameters.now }
+    ensures { IfOk result (λ all. option_map (λ v. arguments_view v.items) all
+        ≡ spec.all_passed greatest (map (λ d. description_view d.now) parameters.now) (map argument_view arguments.entry.items)) }
+{
+    let mut made = Vec::new(alloc);
+    for (description, argument) in parameters.iter().zip(arguments) {
+        let Some(one) = passed(alloc, greatest, description, argument.denoted)? else {
+            return Ok(None);
+        };
+        made.push(one)?;
+    }
+    Ok(Some(made))
+}
+
+/// The arguments of a call as the procedure takes them: at the called name T6 where their number is wrong, T7 where one
+/// does not suit its parameter (X3.74).
+pub fn pass(
+    alloc: Global,
+    greatest: u8,
+    procedure: NamedProcedure<'_, '_>,
+    at: u32,
+    arguments: Vec<Argument<'_>>,
+) -> Result<Vec<TypedArgument>, TypeError>
+    ensures { (named : names.NamedProcedure) → IsProcedure procedure.entry named → Gives (λ v. arguments_view v.items) result
+        (spec.arguments_passed greatest named at (map argument_view arguments.entry.items)) }
+{
+    if arguments.len() != procedure.parameters.len() {
+        return Err(fault(Code::WrongNumberOfArguments, at));
+    }
+    match all_passed(alloc, greatest, procedure.parameters, arguments)? {
+        Some(passed) => Ok(passed),
+        None => Err(fault(Code::WrongArgument, at)),
+    }
+}
+
+/// What a function gives: T8 at the called name of what is none.
+#[tactic(auto, using(pli_type_tree::specs::laws::TypedTreeLaws::called_made))]
+fn result_of(
+    at: u32,
+    block: u32,
+    arguments: Vec<TypedArgument>,
+    returned: Option<&Description>,
+) -> Result<TypedValue, TypeError>
+    ensures { Gives value_view result (spec.result_of at block (arguments_view arguments.items)
+        (spec.type_returned (option_map (λ d. description_view d.now) returned.entry))) }
+{
+    let Some(description) = returned else {
+        return Err(fault(Code::NotCallableHere, at));
+    };
+    match ExpressionType::of(description) {
+        Some(kind) => Ok(TypedValue {
+            expression: TypedExpression::Called { block, arguments },
+            kind,
+        }),
+        None => Err(fault(Code::NotCallableHere, at)),
+    }
+}
+
+/// A call of a function of the program: T6, T7 or T8 at its name, in this order (own).
+pub(crate) fn procedure_called(
+    alloc: Global,
+    greatest: u8,
+    procedure: NamedProcedure<'_, '_>,
+    at: u32,
+    arguments: Vec<Argument<'_>>,
+) -> Result<Segment, TypeError>
+    ensures { (n : names.Naming) → (named : names.NamedProcedure) → IsProcedure procedure.entry named
+        → Gives (segment_view n) result
+        (typing.procedure_called greatest named at (map argument_view arguments.entry.items)) }
+{
+    let passed = pass(alloc, greatest, procedure, at, arguments)?;
+    let value = result_of(at, procedure.block, passed, procedure.returned)?;
+    Ok(Segment::Function(value))
+}
