@@ -112,15 +112,18 @@ pub enum Instruction {
     Index,
     Rest,
     Substring,
+    /// Takes a step, a limit and a number, and gives a bit, which is one unless the number has passed the limit.
+    Within,
     /// Takes characters or bits and prints them.
     Put,
     /// Ends the line.
     Skip,
-    /// Takes a value and keeps it as a temporary.
+    /// Takes a value and keeps it as a temporary. Those of a block are numbered from 0.
     SetTemporary {
-        number: u16,
+        number: u64,
     },
+    /// The value that is kept as a temporary.
     TakeTemporary {
-        number: u16,
+        number: u64,
     },
 }
