@@ -3,11 +3,14 @@ use Rattle.std.proofs.Common.{◌≡◌, ℕ, zero, suc, ◌≤◌, ◌<◌, nat
 use Rattle.std.specs.List.{AllByRecursion}
 use Rattle.pli_machine_step.specs.Program as op
 use Rattle.pli_type_tree.specs.TypedTree.{TypedExpression, TypedStatement, Statement, TypedStatements, NoStatement, StatementThen, NoElse, Else}
-use Rattle.pli_type_tree.specs.TypedTree.{Form, Null, Assign, AssignAggregate, Put, If, Begin, Group, While, Call, Goto, Return, ReturnValue, Stop}
+use Rattle.pli_type_tree.specs.TypedTree.{Form, Null, Assign, AssignAggregate, Put, If, Begin, Group, While, Iterate, Call, Goto, Return, ReturnValue, Stop}
+use Rattle.pli_type_tree.specs.Iterations.{is_iterated}
+use Rattle.pli_gen_tree.specs.TreeTranslation.{start_code, tests_code, advances_code, back_code, turn_place, list_place}
 use Rattle.pli_gen_tree.specs.TreeTranslation.{BlockTree, behind, value_code, statement_code, form_code, list_code, end_code, block_code, blocks_code}
 use Rattle.pli_gen_tree.specs.answers.Pieces.{simple_code, entries_of, step_place, Fits}
 use Rattle.pli_gen_tree.specs.views.NamingView.{naming_view, naming_code}
 use Rattle.pli_gen_tree.specs.declared.naming.NamingInstruction.{NamingInstruction}
+use Rattle.pli_gen_tree.proofs.IterationCode.{start_simple, advances_simple, tests_fit, back_fits, tests_length, iterate_ends}
 use Rattle.pli_gen_tree.proofs.JumpLemmas.{behind_is}
 use Rattle.pli_gen_tree.proofs.SimpleCode.{all_both, value_simple, form_simple, simple_fits, behind_both}
 
@@ -72,6 +75,28 @@ mutual
       all_both (Fits n) front back
       (tt, test_part test out (op.Step number ∷ code) (suc p) n last (omega (arith, g, last)) (tt, list_fits statements q n (omega (arith, last))))
       (omega (arith, k, g, last), tt)
+  form_fits number (Iterate i statements) p n h =
+      let turn = turn_place i p in
+      let q = list_place i p in
+      let code = list_code statements q in
+      let between = advances_code i.range i in
+      let back = back_code (is_iterated i.range) number between turn in
+      let out = behind back (behind code q) in
+      let start = start_code i in
+      let tests = tests_code i out in
+      let e = iterate_ends number i (list_code statements) p in
+      let last : out ≤ n = omega (arith, e, h) in
+      let a : turn ≤ behind (tests_code i 0) turn = behind_grows (tests_code i 0) turn in
+      let b : q ≤ behind code q = behind_grows code q in
+      let c : behind code q ≤ out = behind_grows back (behind code q) in
+      let d = tests_length i out 0 turn in
+      all_both (Fits n) (start ++ tests) (op.Step number ∷ (code ++ back))
+      (all_both (Fits n) start tests (simple_fits start n (start_simple i n (count_within start p n (omega (arith, a, b, c, last)))))
+      (tests_fit i out n last (count_within tests turn n (omega (arith, d, b, c, last))))) (
+        tt,
+        all_both (Fits n) code back (list_fits statements q n (omega (arith, c, last)))
+            (back_fits (is_iterated i.range) number between turn n (omega (arith, a, b, c, last)) (advances_simple i.range i n) (count_within back (behind code q) n last)),
+      )
   form_fits number Null p n h = tt
   form_fits number (Assign target value) p n h = form_fits_alone (Assign target value) p n h
   form_fits number (AssignAggregate target source) p n h = form_fits_alone (AssignAggregate target source) p n h

@@ -27,22 +27,22 @@ map_set f [] i y = refl
 map_set f (x ∷ xs) zero y = refl
 map_set f (x ∷ xs) (suc i) y = ap (λ zs. f x ∷ zs) (map_set f xs i y)
 
-length_set : {X : Type 0} (xs : List X) (i : ℕ) (y : X) → length (slice_set xs i y) ≡ length xs
+pub length_set : {X : Type 0} (xs : List X) (i : ℕ) (y : X) → length (slice_set xs i y) ≡ length xs
 length_set [] i y = refl
 length_set (x ∷ xs) zero y = refl
 length_set (x ∷ xs) (suc i) y = ap suc (length_set xs i y)
 
 -- an instruction in the midst of code is changed
-put_in : (code : List NamingInstruction) (place : ℕ) (i : NamingInstruction) (front rest : List op.Instruction) (x : op.Instruction)
+pub put_in : (code : List NamingInstruction) (place : ℕ) (i : NamingInstruction) (front rest : List op.Instruction) (x : op.Instruction)
     → naming_code code ≡ front ++ x ∷ rest → place ≡ length front → naming_code (slice_set code place i) ≡ front ++ naming_view i ∷ rest
 put_in code place i front rest x is at =
     map_set naming_view code place i ∙ ap (λ xs. slice_set xs place (naming_view i)) is ∙ ap (λ k. slice_set (front ++ x ∷ rest) k (naming_view i)) at ∙ set_between front rest x (naming_view i)
 
-count : (code : List NamingInstruction) → length code ≡ length (naming_code code)
+pub count : (code : List NamingInstruction) → length code ≡ length (naming_code code)
 count code = sym (length-map code naming_view)
 
 -- code behind a part, and behind an instruction more
-longer : (old new : List NamingInstruction) (part : List op.Instruction) → naming_code new ≡ naming_code old ++ part → length new ≡ behind part (length old)
+pub longer : (old new : List NamingInstruction) (part : List op.Instruction) → naming_code new ≡ naming_code old ++ part → length new ≡ behind part (length old)
 longer old new part is =
     let a = count new in
     let b = count old in
@@ -50,10 +50,10 @@ longer old new part is =
     let d = behind_is part (length old) in
     omega (arith, a, b, c, d)
 
-one_longer : (old new : List NamingInstruction) (i : NamingInstruction) → new ≡ old ++ i ∷ [] → length new ≡ suc (length old)
+pub one_longer : (old new : List NamingInstruction) (i : NamingInstruction) → new ≡ old ++ i ∷ [] → length new ≡ suc (length old)
 one_longer old new i is = let e : length new ≡ length old + 1 = ap length is ∙ length-append old (i ∷ []) in omega (arith, e)
 
-pushed : (old new : List NamingInstruction) (i : NamingInstruction) → new ≡ old ++ i ∷ [] → naming_code new ≡ naming_code old ++ naming_view i ∷ []
+pub pushed : (old new : List NamingInstruction) (i : NamingInstruction) → new ≡ old ++ i ∷ [] → naming_code new ≡ naming_code old ++ naming_view i ∷ []
 pushed old new i is = ap naming_code is ∙ map-append naming_view old (i ∷ [])
 
 -- an IF without an ELSE part

@@ -1,6 +1,8 @@
 pub mod BlockLemmas
 pub mod CodeFits
 pub mod EmitLemmas
+pub mod IterationCode
+pub mod IterationLemmas
 pub mod JumpLemmas
 pub mod KeyLemmas
 pub mod LimitLemmas

@@ -5,7 +5,7 @@ use Rattle.std.proofs.lemmas.List.{length-append}
 use Rattle.pli_machine_step.specs.Program as op
 use Rattle.pli_type_tree.specs.TypedTree.{Root, InSlot, OfProgram, TypedExpression, Literal, Held, Calculated, Called, TypedReference, Whole, Part}
 use Rattle.pli_type_tree.specs.TypedTree.{Operands, NoOperand, OperandThen, Subscripts, NoSubscript, SubscriptThen, TypedArguments, NoArgument, ByPlace, ByDummy}
-use Rattle.pli_type_tree.specs.TypedTree.{Form, Null, Assign, AssignAggregate, Put, If, Begin, Group, While, Call, Goto, Return, ReturnValue, Stop}
+use Rattle.pli_type_tree.specs.TypedTree.{Form, Null, Assign, AssignAggregate, Put, If, Begin, Group, While, Iterate, Call, Goto, Return, ReturnValue, Stop}
 use Rattle.pli_gen_tree.specs.TreeTranslation.{argument_count, root_code, value_code, place_code, operands_code, subscripts_code, arguments_code, skip_code, items_code, behind}
 use Rattle.pli_gen_tree.specs.answers.Pieces.{simple_code, step_place, Fits}
 
@@ -31,7 +31,7 @@ front_within xs ys n h = let e = length-append xs ys in omega (arith, e, h)
 pub back_within : {X : Type 0} (xs ys : List X) (n : ℕ) → length (xs ++ ys) ≤ n → length ys ≤ n
 back_within xs ys n h = let e = length-append xs ys in omega (arith, e, h)
 
-rest_within : {X : Type 0} (x : X) (xs : List X) (n : ℕ) → length (x ∷ xs) ≤ n → length xs ≤ n
+pub rest_within : {X : Type 0} (x : X) (xs : List X) (n : ℕ) → length (x ∷ xs) ≤ n → length xs ≤ n
 rest_within x xs n h = omega (arith, h)
 
 root_simple : (r : Root) (n : ℕ) → AllSimple n (root_code r)
@@ -145,6 +145,7 @@ form_simple Null n h = tt
 form_simple (If condition consequence alternative) n h = tt
 form_simple (Group statements) n h = tt
 form_simple (While condition statements) n h = tt
+form_simple (Iterate iteration statements) n h = tt
 
 -- such code fits
 one_fits : (i : op.Instruction) (n : ℕ) → Simple n i → Fits n i
@@ -163,7 +164,7 @@ none_begins [] n p m d h = refl
 none_begins (op.Step s ∷ is) n p m d h = absurd h.0
 none_begins (i ∷ is) n p m d h = none_begins is n (suc p) m d h.1
 
-abbrev short : {X : Type 0} (xs : List X) → length xs ≤ length xs
+abbrev pub short : {X : Type 0} (xs : List X) → length xs ≤ length xs
 short xs = omega arith
 
 pub none_in_value : (e : TypedExpression) (p m d : ℕ) → step_place (value_code e) p m d ≡ d

@@ -3,12 +3,13 @@ use Rattle.std.proofs.Common.{◌≡◌, ℕ, suc, ◌+◌, ◌<◌, nat_eq, Boo
 use Rattle.std.proofs.lemmas.List.{at_drop_more}
 use Rattle.pli_machine_step.specs.Program as op
 use Rattle.pli_type_tree.specs.TypedTree.{TypedExpression, TypedStatement, Statement, TypedStatements, NoStatement, StatementThen, NoElse, Else}
-use Rattle.pli_type_tree.specs.TypedTree.{Form, Null, Assign, AssignAggregate, Put, If, Begin, Group, While, Call, Goto, Return, ReturnValue, Stop}
+use Rattle.pli_type_tree.specs.TypedTree.{Form, Null, Assign, AssignAggregate, Put, If, Begin, Group, While, Iterate, Call, Goto, Return, ReturnValue, Stop}
 use Rattle.pli_gen_tree.specs.TreeTranslation.{BlockTree, behind, value_code, statement_code, form_code, list_code, end_code, block_code, blocks_code}
-use Rattle.pli_gen_tree.specs.TreeTranslation.{places_in, places_in_form, places_among, places_of, statement_place}
+use Rattle.pli_gen_tree.specs.TreeTranslation.{places_in, places_in_form, places_among, places_of, statement_place, list_place}
 use Rattle.pli_gen_tree.specs.answers.Pieces.{step_place}
 use Rattle.pli_gen_tree.specs.views.NamingView.{naming_view, naming_code}
 use Rattle.pli_gen_tree.specs.declared.naming.NamingInstruction.{NamingInstruction}
+use Rattle.pli_gen_tree.proofs.IterationCode.{iterate_passed}
 use Rattle.pli_gen_tree.proofs.SimpleCode.{none_in_value, none_in_form, step_place_behind, behind_both}
 
 -- one instruction more
@@ -87,6 +88,8 @@ mutual
   form_begins number (While condition statements) p m d e =
       let q = suc (suc (behind (value_code condition) (suc p))) in
       turn_passed number p _ m d condition (list_code statements q) e ∙ list_begins statements q m d
+  form_begins number (Iterate iteration statements) p m d e =
+      iterate_passed number iteration (list_code statements) p m d e ∙ list_begins statements (list_place iteration p) m d
   form_begins number Null p m d e = none_in_form Null p m d
   form_begins number (Assign target value) p m d e = none_in_form (Assign target value) p m d
   form_begins number (AssignAggregate target source) p m d e = none_in_form (AssignAggregate target source) p m d

@@ -87,6 +87,7 @@ module _ (tables : Tables) (statics : List Template) (bs : List BlockTree) (code
   operation_there calculate.Index h = refl
   operation_there calculate.Rest h = refl
   operation_there calculate.Substring h = refl
+  operation_there calculate.Within h = refl
 
   -- behind the last entry there is none
   none_behind : {X : Type 0} (xs : List X) → slice_get xs (length xs) ≡ None

@@ -123,6 +123,7 @@ module _ (tables : Tables) where
   operation_code calculate.Index = coded.Index
   operation_code calculate.Rest = coded.Rest
   operation_code calculate.Substring = coded.Substring
+  operation_code calculate.Within = coded.Within
 
   -- what names no entry names one that its table has not
   abbrev pub instruction_code : op.Instruction → Instruction

@@ -1,7 +1,7 @@
 -- Translation: the code of each form of typed tree (own). A jump names the place of an instruction, counted
 -- from 0 in its unit, so the code of a statement depends on the place at which it begins. A GOTO first names
 -- its label's statement; where that begins is known when all code of the unit is.
-use Rattle.std.specs.Prelude.{ℕ, suc, nat_eq, Bool, true, false, Option, Some, None, List, [], ◌∷◌, ◌++◌}
+use Rattle.std.specs.Prelude.{ℕ, suc, ◌+◌, nat_eq, Bool, true, false, Option, Some, None, List, [], ◌∷◌, ◌++◌}
 use Rattle.std.specs.Prelude.{map, length, if◌then◌else◌}
 use Rattle.std.specs.List.{filter, flat_map, range_with_len}
 use Rattle.pli_code.specs.declared.ending.RunError.TheVariants.{NoReturnedValue}
@@ -10,12 +10,15 @@ use Rattle.pli_machine_step.specs.Program.{Subscript, Constant, Load, Store, Cop
 use Rattle.pli_machine_step.specs.Program.{Raise}
 use Rattle.pli_machine_step.specs.Program.{BlockKind, Procedure, BeginBlock, Block, UnitCode}
 use Rattle.pli_machine_step.specs.Program as op
+use Rattle.pli_operation.specs.Operations.{Operation, Add, Within}
+use Rattle.pli_type_tree.specs.Iterations.{kept_by, limit_number, step_number, is_iterated}
 use Rattle.pli_type_tree.specs.Templates.{variable_of}
 use Rattle.pli_type_tree.specs.TypedTree.{Root, InSlot, OfProgram, TypedExpression, Literal, Held, Calculated}
 use Rattle.pli_type_tree.specs.TypedTree.{Called, TypedReference, Whole, Part, Operands, NoOperand}
 use Rattle.pli_type_tree.specs.TypedTree.{OperandThen, Subscripts, NoSubscript, SubscriptThen, TypedArguments}
 use Rattle.pli_type_tree.specs.TypedTree.{NoArgument, ByPlace, ByDummy, BlockHead, TypedStatement, Statement}
 use Rattle.pli_type_tree.specs.TypedTree.{Form, Null, Assign, AssignAggregate, Put, If, Begin, Group, While}
+use Rattle.pli_type_tree.specs.TypedTree.{Iterate, TypedRange, Once, ToBy, ByTo, Repeated, Iteration}
 use Rattle.pli_type_tree.specs.TypedTree.{Call, Goto, Return, ReturnValue, Stop, OtherWise, NoElse, Else}
 use Rattle.pli_type_tree.specs.TypedTree.{TypedStatements, NoStatement, StatementThen, TypedProcedure}
 use Rattle.pli_type_tree.specs.TypedTree.{TypedUnit}
@@ -111,6 +114,85 @@ turns_code number test list p =
     let code = list q in
     Line number ∷ test ++ JumpUnless (suc (behind code q)) ∷ Step number ∷ code ++ Jump p ∷ []
 
+-- iterations
+
+-- values, each kept in the next temporary
+abbrev pub keeps_code : (temporary : ℕ) → List TypedExpression → List Instruction
+keeps_code temporary [] = []
+keeps_code temporary (e ∷ es) = value_code e ++ op.SetTemporary temporary ∷ keeps_code (suc temporary) es
+
+-- one operation after the other
+abbrev pub conversion_code : List Operation → List Instruction
+conversion_code [] = []
+conversion_code (operation ∷ more) = Operate operation ∷ conversion_code more
+
+-- the control variable gets a value, converted to it
+abbrev pub sets_code : Iteration → (value : List Instruction) → List Instruction
+sets_code i value = place_code i.control ++ (value ++ (conversion_code i.conversion ++ Store ∷ []))
+
+-- what is done before the first turn: the start, TO and BY are kept, and the variable gets the start
+abbrev pub start_code : Iteration → List Instruction
+start_code i =
+    keeps_code i.temporary (i.start ∷ kept_by i.range) ++ sets_code i (op.TakeTemporary i.temporary ∷ [])
+
+-- the variable is tested against the limit with the step, if there is a limit
+abbrev pub test_against : Iteration → (limit : Option ℕ) → (step : ℕ) → Option (List Instruction)
+test_against i None step = None
+test_against i (Some limit) step =
+    Some
+    (place_code i.control
+    ++ Load ∷ op.TakeTemporary (i.temporary + limit) ∷ op.TakeTemporary (i.temporary + step)
+    ∷ Operate Within ∷ [])
+
+abbrev pub limit_test : Iteration → Option (List Instruction)
+limit_test i = test_against i (limit_number i.range) (step_number i.range)
+
+abbrev pub while_test : Option TypedExpression → Option (List Instruction)
+while_test None = None
+while_test (Some e) = Some (value_code e)
+
+-- a test, if there is one, and a jump to a place unless it holds
+abbrev pub guarded : (test : Option (List Instruction)) → (target : ℕ) → List Instruction
+guarded None target = []
+guarded (Some test) target = test ++ JumpUnless target ∷ []
+
+-- the tests before a turn: the limit, then WHILE
+abbrev pub tests_code : Iteration → (target : ℕ) → List Instruction
+tests_code i target = guarded (limit_test i) target ++ guarded (while_test i.condition) target
+
+-- what comes between two turns: the variable gets a step more, or the value of REPEAT, which is converted
+abbrev pub counted_code : Iteration → (step : ℕ) → List Instruction
+counted_code i step =
+    sets_code i
+    (place_code i.control ++ Load ∷ op.TakeTemporary (i.temporary + step) ∷ Operate Add ∷ [])
+
+abbrev pub advances_code : TypedRange → Iteration → List Instruction
+advances_code Once i = []
+advances_code (ToBy to by) i = counted_code i 2
+advances_code (ByTo by to) i = counted_code i 1
+advances_code (Repeated next) i = place_code i.control ++ (value_code next ++ Store ∷ [])
+
+-- and the jump back to the tests; nothing of it where there is one turn
+abbrev pub back_code : (iterated : Bool) (number : ℕ) (between : List Instruction) (turn : ℕ)
+    → List Instruction
+back_code true number between turn = Line number ∷ between ++ Jump turn ∷ []
+back_code false number between turn = []
+
+-- where the tests of an iteration stand, and its list
+abbrev pub turn_place : Iteration → (at : ℕ) → ℕ
+turn_place i p = behind (start_code i) p
+
+abbrev pub list_place : Iteration → (at : ℕ) → ℕ
+list_place i p = suc (behind (tests_code i 0) (turn_place i p))
+
+-- the start, the tests, a step, the list, what comes between two turns, and the jump back
+abbrev pub iterate_code : (number : ℕ) → Iteration → (list : ℕ → List Instruction) → ℕ → List Instruction
+iterate_code number i list p =
+    let q = list_place i p in
+    let code = list q in
+    let back = back_code (is_iterated i.range) number (advances_code i.range i) (turn_place i p) in
+    start_code i ++ tests_code i (behind back (behind code q)) ++ Step number ∷ (code ++ back)
+
 abbrev mutual
   -- a statement begins with its step
   pub statement_code : TypedStatement → (at : ℕ) → List Instruction
@@ -127,6 +209,7 @@ abbrev mutual
   form_code number (Group statements) p = list_code statements p
   form_code number (While condition statements) p =
       turns_code number (value_code condition) (list_code statements) p
+  form_code number (Iterate iteration statements) p = iterate_code number iteration (list_code statements) p
   form_code number (Call block arguments) p = call_code block arguments
   form_code number (Goto outward label) p = op.Goto outward label ∷ []
   form_code number (Return outward) p = op.Return outward ∷ []
@@ -158,6 +241,7 @@ abbrev mutual
   places_in_form (Group statements) p = places_among statements p
   places_in_form (While condition statements) p =
       places_among statements (suc (suc (behind (value_code condition) (suc p))))
+  places_in_form (Iterate iteration statements) p = places_among statements (list_place iteration p)
   places_in_form form p = []
 
   pub places_in_else : OtherWise → (at : ℕ) → List (ℕ × ℕ)
@@ -217,6 +301,7 @@ abbrev mutual
       begin_block parent head statements ∷ blocks_among head.number statements
   blocks_of_form parent (Group statements) = blocks_among parent statements
   blocks_of_form parent (While condition statements) = blocks_among parent statements
+  blocks_of_form parent (Iterate iteration statements) = blocks_among parent statements
   blocks_of_form parent form = []
 
   pub blocks_of_else : (parent : ℕ) → OtherWise → List BlockTree

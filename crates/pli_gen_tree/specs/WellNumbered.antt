@@ -1,10 +1,12 @@
--- What is asked of a unit for its code to stand: how blocks and statements are numbered, and how deep loops
--- nest.
-use Rattle.std.specs.Prelude.{◌≡◌, ℕ, ◌≤◌, ◌-◌, nat_eq, false, Some, List, [], ◌∷◌, ◌++◌, slice_get}
+-- What is asked of a unit for its code to stand: how blocks, statements and temporaries are numbered, and how
+-- deep loops nest.
+use Rattle.std.specs.Prelude.{◌≡◌, ℕ, ◌+◌, ◌≤◌, ◌-◌, nat_eq, Bool, true, false, Some, List, [], ◌∷◌, ◌++◌}
+use Rattle.std.specs.Prelude.{slice_get}
 use Rattle.std.specs.List.{flat_map, list_any, AllByRecursion}
-use Rattle.pli_type_tree.specs.TypedTree.{TypedStatement, Statement, Form, If, Group, While, OtherWise}
-use Rattle.pli_type_tree.specs.TypedTree.{NoElse, Else, TypedStatements, NoStatement, StatementThen}
-use Rattle.pli_type_tree.specs.TypedTree.{TypedUnit}
+use Rattle.pli_type_tree.specs.Iterations.{temporaries_of, is_iterated}
+use Rattle.pli_type_tree.specs.TypedTree.{TypedStatement, Statement, Form, If, Group, While, Iterate}
+use Rattle.pli_type_tree.specs.TypedTree.{Iteration, OtherWise, NoElse, Else, TypedStatements, NoStatement}
+use Rattle.pli_type_tree.specs.TypedTree.{StatementThen, TypedUnit}
 use Rattle.pli_gen_tree.specs.TreeTranslation.{BlockTree, blocks_of_procedure, blocks_of}
 
 -- no number stands twice in a list
@@ -22,6 +24,7 @@ abbrev mutual
       numbers_in consequence ++ numbers_in_else alternative
   numbers_in_form (Group statements) = numbers_among statements
   numbers_in_form (While condition statements) = numbers_among statements
+  numbers_in_form (Iterate iteration statements) = numbers_among statements
   numbers_in_form form = []
 
   pub numbers_in_else : OtherWise → List ℕ
@@ -38,6 +41,10 @@ numbers_of bs = flat_map (λ b. numbers_among b.statements) bs
 
 -- where an activation may make so many backward jumps without a step, the loops of its block nest less deep
 -- than that: in a loop there is one less for the loops inside it, and each needs two
+abbrev pub HasTurns : (iterated : Bool) (jumps : ℕ) (inside : ℕ → Type 0) → Type 0
+HasTurns true n inside = (2 ≤ n) × inside (n - 1)
+HasTurns false n inside = inside n
+
 abbrev mutual
   pub HasRoom : (jumps : ℕ) → TypedStatement → Type 0
   HasRoom n (Statement number form) = HasRoomForm n form
@@ -46,6 +53,8 @@ abbrev mutual
   HasRoomForm n (If condition consequence alternative) = HasRoom n consequence × HasRoomElse n alternative
   HasRoomForm n (Group statements) = HaveRoom n statements
   HasRoomForm n (While condition statements) = (2 ≤ n) × HaveRoom (n - 1) statements
+  HasRoomForm n (Iterate iteration statements) =
+      HasTurns (is_iterated iteration.range) n (λ n. HaveRoom n statements)
   HasRoomForm n form = Unit {0}
 
   pub HasRoomElse : (jumps : ℕ) → OtherWise → Type 0
@@ -56,10 +65,40 @@ abbrev mutual
   HaveRoom n NoStatement = Unit {0}
   HaveRoom n (StatementThen first more) = HasRoom n first × HaveRoom n more
 
--- the blocks of a unit are numbered from 0, each once; its statements have different numbers; and loops nest
--- less than 64 deep in each block
+-- the temporary behind those of an iteration
+abbrev pub next_temporary : Iteration → ℕ
+next_temporary i = i.temporary + temporaries_of i.range
+
+-- where so many of a block's temporaries are in use, iterations have others, and the block has them; in the
+-- list of an iteration its own are in use
+abbrev mutual
+  pub KeepsApart : (used size : ℕ) → TypedStatement → Type 0
+  KeepsApart used size (Statement number form) = KeepsApartForm used size form
+
+  pub KeepsApartForm : (used size : ℕ) → Form → Type 0
+  KeepsApartForm used size (If condition consequence alternative) =
+      KeepsApart used size consequence × KeepsApartElse used size alternative
+  KeepsApartForm used size (Group statements) = KeepApart used size statements
+  KeepsApartForm used size (While condition statements) = KeepApart used size statements
+  KeepsApartForm used size (Iterate iteration statements) =
+      (used ≤ iteration.temporary) × (next_temporary iteration ≤ size)
+      × KeepApart (next_temporary iteration) size statements
+  KeepsApartForm used size form = Unit {0}
+
+  pub KeepsApartElse : (used size : ℕ) → OtherWise → Type 0
+  KeepsApartElse used size NoElse = Unit {0}
+  KeepsApartElse used size (Else statement) = KeepsApart used size statement
+
+  pub KeepApart : (used size : ℕ) → TypedStatements → Type 0
+  KeepApart used size NoStatement = Unit {0}
+  KeepApart used size (StatementThen first more) = KeepsApart used size first × KeepApart used size more
+
+-- the blocks of a unit are numbered from 0, each once; its statements have different numbers; loops nest less
+-- than 64 deep in each block; and an iteration's temporaries are apart from those of the ones around it
 pub record IsWellNumbered (t : TypedUnit) : Type 0 where
   pub blocks : AllByRecursion (λ b. slice_get (blocks_of t) b.head.number ≡ Some b)
       (flat_map blocks_of_procedure t.procedures)
   pub statements : AreDistinct (numbers_of (blocks_of t))
   pub loops : AllByRecursion (λ b. HaveRoom 64 b.statements) (flat_map blocks_of_procedure t.procedures)
+  pub temporaries : AllByRecursion (λ b. KeepApart 0 b.head.temporaries b.statements)
+      (flat_map blocks_of_procedure t.procedures)

@@ -85,6 +85,9 @@ fn collect_of_form<'a>(
         }
         Form::Group(statements) => collect_among(parent, statements.as_slice(), blocks)?,
         Form::While { statements, .. } => collect_among(parent, statements.as_slice(), blocks)?,
+        Form::Iterate { statements, .. } => {
+            collect_among(parent, statements.as_slice(), blocks)?;
+        }
         Form::Null
         | Form::Assign { .. }
         | Form::AssignAggregate { .. }

@@ -46,6 +46,7 @@ fn encode_operation<'a>(numbers: Numbers<'_, 'a>, operation: &'a Operation) -> I
         Operation::Index => Instruction::Index,
         Operation::Rest => Instruction::Rest,
         Operation::Substring => Instruction::Substring,
+        Operation::Within => Instruction::Within,
     }
 }
 
@@ -107,6 +108,13 @@ fn encode_instruction<'a>(
             }),
         },
         NamingInstruction::Operate(operation) => encode_operation(numbers, operation),
+        NamingInstruction::SetTemporary { number } => Instruction::SetTemporary { number },
+        NamingInstruction::TakeTemporary { number } => Instruction::TakeTemporary { number },
+        NamingInstruction::One => Instruction::Constant {
+            value: numbers.value(numbers.one.value),
+        },
+        NamingInstruction::Add => Instruction::Add,
+        NamingInstruction::Within => Instruction::Within,
         NamingInstruction::Put => Instruction::Put,
         NamingInstruction::Skip => Instruction::Skip,
     }

@@ -8,10 +8,12 @@ ghost use Rattle.pli_gen_tree.specs.declared.generating.GenerateError.TheVariant
 use crate::block::blocks_by_number;
 use crate::layout::emit_blocks;
 use crate::limits::is_too_long;
+use crate::one::One;
 use crate::table::tables_of;
 use crate::unit::encode_unit;
 use pli_type_tree::TypedUnit;
 use pli_unit_code::Code;
+use pli_value::Value;
 use std::alloc::{AllocError, Global};
 use thiserror::Error;
 
@@ -35,8 +37,9 @@ impl From<AllocError> for GenerateError {
     }
 }
 
-/// The code of a typed unit, unless it is too long (G1) or memory runs out.
-pub fn generate(alloc: Global, unit: &TypedUnit) -> Result<Code, GenerateError>
+/// The code of a typed unit, with the number 1 as a value that it may name, unless it is too long (G1) or memory runs
+/// out.
+fn code_with<'a>(alloc: Global, one: One<'a>, unit: &'a TypedUnit) -> Result<Code, GenerateError>
     ensures { Generates result (code_of (unit_view unit.now)) }
 {
     let sources = blocks_by_number(alloc, unit.procedures.as_slice())?;
@@ -46,10 +49,27 @@ pub fn generate(alloc: Global, unit: &TypedUnit) -> Result<Code, GenerateError>
     emit_blocks(blocks, &mut emitted, &mut entries)?;
     let code = emitted.as_slice();
     let statics = unit.statics.as_slice();
-    let tables = tables_of(alloc, statics, blocks, code)?;
+    let tables = tables_of(alloc, statics, blocks, one, code)?;
     if is_too_long(statics, blocks, &tables, code) {
         return Err(GenerateError::TooLong);
     }
-    let whole = encode_unit(alloc, &tables, statics, blocks, entries.as_slice(), code)?;
+    let whole = encode_unit(
+        alloc,
+        &tables,
+        one,
+        statics,
+        blocks,
+        entries.as_slice(),
+        code,
+    )?;
     Ok(whole)
+}
+
+/// The code of a typed unit, unless it is too long (G1) or memory runs out.
+pub fn generate(alloc: Global, unit: &TypedUnit) -> Result<Code, GenerateError>
+    ensures { Generates result (code_of (unit_view unit.now)) }
+{
+    let step = Value::Number(1);
+    let one = One { value: &step };
+    code_with(alloc, one, unit)
 }

@@ -58,6 +58,19 @@ pub enum NamingInstruction<'a> {
     CopyParts,
     MakeDummy(&'a Description),
     Operate(&'a Operation),
+    /// Takes a value and keeps it as a temporary.
+    SetTemporary {
+        number: u64,
+    },
+    TakeTemporary {
+        number: u64,
+    },
+    /// The constant 1: the step of a group where BY is absent.
+    One,
+    /// The control variable of a group and its step.
+    Add,
+    /// Whether the control variable of a group has not passed its limit.
+    Within,
     Put,
     Skip,
 }

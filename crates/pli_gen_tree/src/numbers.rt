@@ -8,16 +8,18 @@ ghost use Rattle.pli_gen_tree.specs.views.KeyView.{templated};
 ghost use Rattle.pli_gen_tree.specs.views.TableView.{tables_view};
 
 use crate::key::{DescriptionKey, TemplateKey, ValueKey};
+use crate::one::One;
 use crate::table::Tables;
 use pli_map::Description;
 use pli_value::Value;
 use std::collections::HashMap;
 
-/// The tables of a unit, of at most 65,535 entries each, and the places at which its statements begin.
+/// The tables of a unit, of at most 65,535 entries each, the places at which its statements begin, and the number 1.
 #[derive(Clone, Copy)]
 pub(crate) struct Numbers<'t, 'a> {
     pub tables: &'t Tables<'a>,
     pub places: &'t HashMap<u32, usize>,
+    pub one: One<'a>,
     ghost few_descriptions: { length tables.now.descriptions.keys ≤ 65535 },
     ghost few_templates: { length tables.now.templates.keys ≤ 65535 },
     ghost few_values: { length tables.now.values.keys ≤ 65535 },

@@ -69,7 +69,8 @@ pub(crate) fn emit_simple<'a>(
             code.push(NamingInstruction::ReturnValue { outward: *outward })?;
         }
         Form::Stop => code.push(NamingInstruction::Stop)?,
-        Form::Null | Form::If { .. } | Form::Group(_) | Form::While { .. } => {}
+        Form::Null | Form::If { .. } | Form::Group(_) | Form::While { .. } | Form::Iterate { .. } =>
+            {}
     }
     Ok(())
 }

@@ -1,67 +1,16 @@
 //! The code of statements.
-ghost use Rattle.std.specs.Prelude.{◌≡◌, ◌++◌, ◌∷◌, ◌+◌, [], length, slice_set, IfOk, OnOk};
+ghost use Rattle.std.specs.Prelude.{◌≡◌, ◌++◌, length, OnOk};
 ghost use Rattle.pli_type_tree.specs.views.TypedView.{form_view, statement_view, statements_view};
 ghost use Rattle.pli_gen_tree.specs.TreeTranslation.{statement_code, form_code, list_code};
-ghost use Rattle.pli_gen_tree.specs.declared.naming.NamingInstruction.TheVariants as naming;
 ghost use Rattle.pli_gen_tree.specs.views.NamingView.{naming_code};
 
 use crate::expression::emit_value;
+use crate::iteration::{emit_back, emit_start, emit_tests, land_tests};
+use crate::jump::{land_over, land_test, open_test, pass_over};
 use crate::naming::NamingInstruction;
 use crate::simple::emit_simple;
 use pli_type_tree::{Form, TypedStatement};
 use std::alloc::AllocError;
-
-/// Puts an instruction in the place of another, if there is one.
-fn replace<'a>(
-    code: &mut Vec<NamingInstruction<'a>>,
-    place: usize,
-    instruction: NamingInstruction<'a>,
-)
-    ensures { code.new.items ≡ slice_set code.old.items place instruction.entry }
-{
-    if place < code.len() {
-        code[place] = instruction;
-    }
-}
-
-/// Appends a jump whose target is not known yet, and says where it stands.
-fn open_test(code: &mut Vec<NamingInstruction<'_>>) -> Result<usize, AllocError>
-    ensures pushed { OnOk result (code.new.items ≡ code.old.items ++ naming.JumpUnless 0 ∷ []) }
-    ensures place { IfOk result (λ place. place ≡ length code.old.items) }
-{
-    let place = code.len();
-    code.push(NamingInstruction::JumpUnless { target: 0 })?;
-    Ok(place)
-}
-
-/// The target of such a jump is the place behind the code so far.
-fn land_test(code: &mut Vec<NamingInstruction<'_>>, test: usize)
-    ensures { code.new.items ≡ slice_set code.old.items test (naming.JumpUnless (length code.old.items)) }
-{
-    let target = code.len();
-    replace(code, test, NamingInstruction::JumpUnless { target });
-}
-
-/// Appends a jump past what an ELSE part does, and the test leads behind it.
-fn pass_over(code: &mut Vec<NamingInstruction<'_>>, test: usize) -> Result<usize, AllocError>
-    ensures passed { OnOk result
-        (code.new.items
-        ≡ slice_set (code.old.items ++ naming.Jump 0 ∷ []) test (naming.JumpUnless (length (code.old.items ++ naming.Jump 0 ∷ [])))) }
-    ensures place { IfOk result (λ place. place ≡ length code.old.items) }
-{
-    let place = code.len();
-    code.push(NamingInstruction::Jump { target: 0 })?;
-    land_test(code, test);
-    Ok(place)
-}
-
-/// The target of such a jump is the place behind the code so far.
-fn land_over(code: &mut Vec<NamingInstruction<'_>>, over: usize)
-    ensures { code.new.items ≡ slice_set code.old.items over (naming.Jump (length code.old.items)) }
-{
-    let target = code.len();
-    replace(code, over, NamingInstruction::Jump { target });
-}
 
 /// Appends the code of statements.
 #[cycle(emit)]
@@ -137,6 +86,17 @@ fn emit_form<'a>(
             emit_list(statements.as_slice(), code)?;
             code.push(NamingInstruction::Jump { target: turn })?;
             land_test(code, test);
+        }
+        Form::Iterate {
+            iteration,
+            statements,
+        } => {
+            emit_start(iteration, code)?;
+            let turn = emit_tests(iteration, code)?;
+            code.push(NamingInstruction::Step { statement: number })?;
+            emit_list(statements.as_slice(), code)?;
+            emit_back(number, iteration, turn.place, code)?;
+            land_tests(code, turn);
         }
         Form::Null
         | Form::Assign { .. }

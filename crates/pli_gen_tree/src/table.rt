@@ -15,6 +15,7 @@ ghost use Rattle.pli_gen_tree.specs.views.TableView.{tables_view};
 use crate::block::BlockSource;
 use crate::key::{DescriptionKey, TemplateKey, ValueKey};
 use crate::naming::NamingInstruction;
+use crate::one::One;
 use indexmap::IndexSet;
 use pli_map::Description;
 use pli_operation::Operation;
@@ -143,6 +144,7 @@ fn number_block_variables<'a>(
 /// Puts what an instruction names at the end of tables that lack it.
 fn number_named<'a>(
     tables: &mut Tables<'a>,
+    one: One<'a>,
     instruction: NamingInstruction<'a>,
 ) -> Result<(), AllocError>
     ensures descriptions { OnOk result
@@ -173,6 +175,9 @@ fn number_named<'a>(
         NamingInstruction::Constant(value) => {
             number_value(&mut tables.values, value)?;
         }
+        NamingInstruction::One => {
+            number_value(&mut tables.values, one.value)?;
+        }
         _ => {}
     }
     Ok(())
@@ -181,6 +186,7 @@ fn number_named<'a>(
 /// Puts what code names at the end of tables that lack it.
 fn number_code<'a>(
     tables: &mut Tables<'a>,
+    one: One<'a>,
     code: &[NamingInstruction<'a>],
 ) -> Result<(), AllocError>
     ensures descriptions { OnOk result
@@ -194,7 +200,7 @@ fn number_code<'a>(
         ≡ numbered same_value (tables_view tables.old).values (flat_map values_named (naming_code code.now))) }
 {
     for instruction in code {
-        number_named(tables, *instruction)?;
+        number_named(tables, one, *instruction)?;
     }
     Ok(())
 }
@@ -204,6 +210,7 @@ pub(crate) fn tables_of<'a>(
     alloc: Global,
     statics: &'a [VariableGroup],
     blocks: &[BlockSource<'a>],
+    one: One<'a>,
     code: &[NamingInstruction<'a>],
 ) -> Result<Tables<'a>, AllocError>
     ensures { IfOk result (λ tables. tables_view tables
@@ -216,6 +223,6 @@ pub(crate) fn tables_of<'a>(
     };
     number_variables(&mut tables, statics)?;
     number_block_variables(&mut tables, blocks)?;
-    number_code(&mut tables, code)?;
+    number_code(&mut tables, one, code)?;
     Ok(tables)
 }

@@ -15,6 +15,7 @@ use crate::encode::encode_code;
 use crate::entries::{copy_descriptions, copy_values, encode_templates, encode_variables};
 use crate::naming::NamingInstruction;
 use crate::numbers::Numbers;
+use crate::one::One;
 use crate::places::step_places;
 use crate::table::Tables;
 use pli_type_tree::VariableGroup;
@@ -68,6 +69,7 @@ fn encode_blocks<'a>(
 pub(crate) fn encode_unit<'a>(
     alloc: Global,
     tables: &Tables<'a>,
+    one: One<'a>,
     statics: &'a [VariableGroup],
     blocks: &[BlockSource<'a>],
     entries: &[usize],
@@ -85,6 +87,7 @@ pub(crate) fn encode_unit<'a>(
     let numbers = Numbers {
         tables,
         places: &places,
+        one,
     };
     Ok(Code {
         descriptions: copy_descriptions(alloc, tables)?,

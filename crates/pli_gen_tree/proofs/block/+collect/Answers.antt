@@ -1,7 +1,7 @@
 use Rattle.std.proofs.Common.{◌++◌, ◌∷◌, [], List, append_assoc, ap, ◌∙◌, sym}
 use Rattle.std.proofs.lemmas.List.{map-append}
 use Rattle.pli_type_tree.specs.views.TypedView.{form_view, head_view, statements_view}
-use Rattle.pli_type_tree.specs.laws.TypedTreeLaws.{begin_made, group_made, while_made}
+use Rattle.pli_type_tree.specs.laws.TypedTreeLaws.{begin_made, group_made, while_made, iterate_made}
 use Rattle.pli_type_tree.specs.declared.statement.TypedStatement.{TypedStatement}
 use Rattle.pli_gen_tree.specs.TreeTranslation.{BlockTree, blocks_of_form, blocks_among, begin_block}
 use Rattle.pli_gen_tree.specs.views.BlockView.{block_tree, block_trees}
@@ -32,3 +32,9 @@ collect_of_form-returns-in_ok-collect_among-in-While t c =
     let old = block_trees c.args.blocks.now.items in
     c.in_ok-collect_among-in-While.ensures ∙ ap (λ ss. old ++ blocks_among c.args.parent (statements_view ss)) c.as_slice-in-While.ensures.value
     ∙ sym (ap (λ f. old ++ blocks_of_form c.args.parent f) (ap form_view c.in-While.is ∙ while_made c.in-While.condition c.in-While.statements))
+
+pub collect_of_form-returns-in_ok-collect_among-in-Iterate : goal.collect_of_form-returns-in_ok-collect_among-in-Iterate
+collect_of_form-returns-in_ok-collect_among-in-Iterate t c =
+    let old = block_trees c.args.blocks.now.items in
+    c.in_ok-collect_among-in-Iterate.ensures ∙ ap (λ ss. old ++ blocks_among c.args.parent (statements_view ss)) c.as_slice-in-Iterate.ensures.value
+    ∙ sym (ap (λ f. old ++ blocks_of_form c.args.parent f) (ap form_view c.in-Iterate.is ∙ iterate_made c.in-Iterate.iteration c.in-Iterate.statements))

@@ -1,10 +1,13 @@
-use Rattle.std.proofs.Common.{◌≡◌, ◌++◌, ◌∷◌, [], get_or, length, slice_set, refl, arith, ap, ◌∙◌, sym}
+use Rattle.std.proofs.Common.{◌≡◌, ◌++◌, subst, ◌∷◌, [], get_or, length, slice_set, refl, arith, ap, ◌∙◌, sym}
 use Rattle.pli_type_tree.specs.TypedTree as plain
-use Rattle.pli_type_tree.specs.views.TypedView.{expression_view, form_view, statement_view, statements_view}
-use Rattle.pli_type_tree.specs.laws.TypedTreeLaws.{boxed_view, if_made, group_made, while_made}
-use Rattle.pli_gen_tree.specs.TreeTranslation.{value_code, statement_code, form_code, list_code}
+use Rattle.pli_type_tree.specs.views.TypedView.{expression_view, iteration_view, form_view, statement_view, statements_view}
+use Rattle.pli_type_tree.specs.laws.TypedTreeLaws.{boxed_view, if_made, group_made, while_made, iterate_made}
+use Rattle.pli_type_tree.specs.Iterations.{is_iterated}
+use Rattle.pli_gen_tree.specs.TreeTranslation.{value_code, start_code, tests_code, advances_code, back_code, statement_code, form_code, list_code}
+use Rattle.pli_gen_tree.specs.answers.Pieces.{IsTurn}
 use Rattle.pli_gen_tree.specs.views.NamingView.{naming_code}
 use Rattle.pli_gen_tree.specs.declared.naming.NamingInstruction.TheVariants as naming
+use Rattle.pli_gen_tree.proofs.IterationLemmas.{iterate_landed}
 use Rattle.pli_gen_tree.proofs.JumpLemmas.{more_statements, one_way_made, two_ways_made, turns_made}
 use Rattle.pli_gen_tree.proofs.statement.+emit.Goals as goal
 
@@ -80,3 +83,27 @@ emit_form-returns-in_ok-push-in-While-3 t c =
     (c.in_ok-push-in-While-3.ensures.items ∙ ap (λ n. done ++ naming.Jump n ∷ []) (c.len-turn.ensures ∙ c.args.code.now.ok.0))
     (c.land_test-in-While.ensures ∙ ap (λ k. slice_set back k (naming.JumpUnless (length back))) c.in_ok-test-in-While.ensures.place)
     ∙ sym (ap (λ f. naming_code old ++ form_code c.args.number f (length old)) (ap form_view b.is ∙ while_made b.condition b.statements))
+
+pub emit_form-returns-in_ok-emit_back-in-Iterate : goal.emit_form-returns-in_ok-emit_back-in-Iterate
+emit_form-returns-in_ok-emit_back-in-Iterate t c =
+    let b = c.in-Iterate in
+    let i = iteration_view b.iteration.value in
+    let old = c.args.code.now.items in
+    let number = c.args.number in
+    let started = c.emit_start.new.code.items in
+    let tested = c.emit_tests.new.code.items in
+    let stepping = c.push-in-Iterate.new.self.items in
+    let done = c.emit_list-in-Iterate.new.code.items in
+    let back = c.emit_back.new.code.items in
+    let turn = c.in_ok-turn-in-Iterate.turn in
+    let list = statements_view b.statements.items in
+    iterate_landed old started tested stepping done back _ number i (list_code list) turn
+    (c.in_ok-emit_start-in-Iterate.ensures ∙ ap (λ x. naming_code old ++ start_code (iteration_view x)) c.deref-in-Iterate.ensures)
+    (c.in_ok-turn-in-Iterate.ensures.code ∙ ap (λ x. naming_code started ++ tests_code (iteration_view x) 0) c.deref-in-Iterate-2.ensures)
+    (subst (λ x. IsTurn (iteration_view x) (length started) turn) c.deref-in-Iterate-2.ensures c.in_ok-turn-in-Iterate.ensures.turn)
+    c.in_ok-push-in-Iterate.ensures.items
+    (c.in_ok-emit_list-in-Iterate.ensures ∙ ap (λ ss. naming_code stepping ++ list_code (statements_view ss) (length stepping)) c.as_slice-in-Iterate.ensures.value)
+    (c.in_ok-emit_back-in-Iterate.ensures
+    ∙ ap (λ x. naming_code done ++ back_code (is_iterated (iteration_view x).range) number (advances_code (iteration_view x).range (iteration_view x)) turn.place) c.deref-in-Iterate-3.ensures)
+    c.land_tests.ensures
+    ∙ sym (ap (λ f. naming_code old ++ form_code number f (length old)) (ap form_view b.is ∙ iterate_made b.iteration b.statements))

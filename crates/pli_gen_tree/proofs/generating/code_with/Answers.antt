@@ -9,7 +9,7 @@ use Rattle.pli_gen_tree.specs.views.BlockView.{block_trees}
 use Rattle.pli_gen_tree.specs.views.NamingView.{naming_code}
 use Rattle.pli_gen_tree.specs.views.TableView.{tables_view}
 use Rattle.pli_gen_tree.proofs.UnitLemmas.{have_descriptions, unit_is, limits_are}
-use Rattle.pli_gen_tree.proofs.generating.generate.Goals as goal
+use Rattle.pli_gen_tree.proofs.generating.code_with.Goals as goal
 
 pub is_too_long-requires : goal.is_too_long-requires
 is_too_long-requires c =
