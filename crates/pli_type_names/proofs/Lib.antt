@@ -1,5 +1,8 @@
+pub mod Answered
+pub mod Blocks
 pub mod Lists
 pub mod Names
+pub mod Outward
 pub mod Owns
 pub mod Plain
 pub mod Strides

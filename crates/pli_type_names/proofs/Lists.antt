@@ -1,4 +1,4 @@
--- Symbols with their numbers.
+-- Lists with numbers, and lists that are made item by item.
 use Rattle.std.proofs.Common.{◌≡◌, ℕ, zero, suc, ◌+◌, ◌<◌, Some, None, List, [], ◌∷◌, ◌++◌, take, drop, length, map, option_map, slice_get, get_or}
 use Rattle.std.proofs.Common.{refl, ap, sym, ◌∙◌, arith}
 use Rattle.std.specs.Option.{unwrap_or}
@@ -10,14 +10,22 @@ use Rattle.pli_resolve.specs.views.SymbolView.{symbol_view}
 use Rattle.pli_type_names.proofs.Strides.{one_more}
 use Rattle.pli_type_names.specs.Numbered.{each_from}
 
--- what the symbol of a number gives
-pub each_get : {A : Type 0} (f : ℕ → Symbol → A) (ss : List Symbol) (from i number : ℕ) (d : A) → from + i ≡ number
-    → get_or (each_from f from ss) i d ≡ unwrap_or (option_map (f number) (slice_get ss i)) d
+-- what the item of a number gives
+pub each_get : {A B : Type 0} (f : ℕ → B → A) (xs : List B) (from i number : ℕ) (d : A) → from + i ≡ number
+    → get_or (each_from f from xs) i d ≡ unwrap_or (option_map (f number) (slice_get xs i)) d
 each_get f [] from i number d e = refl
-each_get f (s ∷ ss) from zero number d e =
+each_get f (x ∷ xs) from zero number d e =
     let same : from ≡ number = omega (arith, e) in
-    ap (λ n. f n s) same
-each_get f (s ∷ ss) from (suc i) number d e = each_get f ss (from + 1) i number d (omega (arith, e))
+    ap (λ n. f n x) same
+each_get f (x ∷ xs) from (suc i) number d e = each_get f xs (from + 1) i number d (omega (arith, e))
+
+pub each_at : {A B : Type 0} (f : ℕ → B → A) (xs : List B) (from i number : ℕ) → from + i ≡ number
+    → slice_get (each_from f from xs) i ≡ option_map (f number) (slice_get xs i)
+each_at f [] from i number e = refl
+each_at f (x ∷ xs) from zero number e =
+    let same : from ≡ number = omega (arith, e) in
+    ap (λ n. Some (f n x)) same
+each_at f (x ∷ xs) from (suc i) number e = each_at f xs (from + 1) i number (omega (arith, e))
 
 -- a list of which nothing stands at a number is what stands before it
 pub take_whole : {A : Type 0} (xs : List A) (n : ℕ) → slice_get xs n ≡ None → take n xs ≡ xs
@@ -36,12 +44,16 @@ take_one_more xs n x e =
     let next : n + 1 ≡ suc n = omega arith in
     ap (λ k. take k xs) next ∙ take_next xs n x e
 
+-- one item more
+pub made_more : {A B : Type 0} (view : B → A) (all : List A) (n : ℕ) (made : List B) (x : B) → map view made ≡ take n all
+    → slice_get all n ≡ Some (view x) → map view (made ++ x ∷ []) ≡ take (n + 1) all
+made_more view all n made x e found =
+    map-append view made (x ∷ []) ∙ ap (λ xs. xs ++ view x ∷ []) e ∙ sym (take_one_more all n (view x) found)
+
 -- one symbol more of the program
 pub symbols_more : (all : List Symbol) (n : ℕ) (made : List program.Symbol) (s : program.Symbol) → map symbol_view made ≡ take n all
     → Some (symbol_view s) ≡ slice_get all n → map symbol_view (made ++ s ∷ []) ≡ take (n + 1) all
-symbols_more all n made s e found =
-    map-append symbol_view made (s ∷ []) ∙ ap (λ xs. xs ++ symbol_view s ∷ []) e
-    ∙ sym (take_one_more all n (symbol_view s) (sym found))
+symbols_more all n made s e found = made_more symbol_view all n made s e (sym found)
 
 -- what one symbol more gives stands behind what those before it give
 pub numbered_more : {A B : Type 0} (view : B → A) (f : ℕ → Symbol → A) (ss : List program.Symbol) (n : ℕ) (d : program.Symbol) (made : List B)
@@ -56,3 +68,18 @@ numbered_more view f ss n d made x all h is e =
     ∙ ap (λ y. map view made ++ (y ∷ rest)) is
     ∙ ap (λ ys. map view made ++ ys) (sym step)
     ∙ e
+
+-- the same of what numbers give
+pub mapped_more : {A B C : Type 0} (view : B → A) (f : C → A) (cs : List C) (n : ℕ) (d : C) (made : List B) (x : B) (all : List A)
+    → n < length cs → view x ≡ f (get_or cs n d) → map view made ++ map f (drop n cs) ≡ all
+    → map view (made ++ x ∷ []) ++ map f (drop (n + 1) cs) ≡ all
+mapped_more view f cs n d made x all h is e =
+    let rest = map f (drop (n + 1) cs) in
+    one_more view made x rest
+    ∙ ap (λ y. map view made ++ (y ∷ rest)) is
+    ∙ ap (λ ys. map view made ++ ys) (sym (at_drop_more (map f) cs n d h))
+    ∙ e
+
+pub none_mapped : {A B : Type 0} (f : A → B) (xs : List A) → length xs ≡ 0 → map f xs ≡ []
+none_mapped f [] e = refl
+none_mapped f (x ∷ xs) e = absurd (omega (arith, e))

@@ -1,85 +1,151 @@
--- What names mean, by the variables of their own.
-use Rattle.std.proofs.Common.{◌≡◌, ℕ, Bool, false, Option, Some, None, List, [], option_map, slice_get, get_or}
-use Rattle.std.proofs.Common.{refl, ap, sym, ◌∙◌, eq-eqb, arith}
-use Rattle.std.specs.Option.{unwrap_or}
-use Rattle.std.proofs.lemmas.Bool.{ne_eqb}
+-- What names mean, by what is kept of symbols and blocks.
+use Rattle.std.proofs.Common.{◌≡◌, ℕ, Bool, true, false, ◌&&◌, Option, Some, None, List, [], option_map, slice_get, get_or}
+use Rattle.std.proofs.Common.{refl, ap, sym, ◌∙◌, arith}
+use Rattle.std.specs.Option.{unwrap_or, option_and_then}
 use Rattle.std.specs.Prelude.{if◌then◌else◌}
 use Rattle.pli_map.specs.Description.{Description}
-use Rattle.pli_base.specs.declared.statement.Procedure as tree
-use Rattle.pli_base.specs.views.StatementView.{unit_view}
-use Rattle.pli_resolve.specs.ResolvedUnits.{meaning_at, resolved_unit_of}
+use Rattle.pli_resolve.specs.ResolvedUnits.{ResolvedUnit, ResolvedBlock}
 use Rattle.pli_resolve.specs.Symbols.{Symbol, SymbolKind, Variable, Member, Label, Procedure, Entry, BuiltIn}
 use Rattle.pli_resolve.specs.declared.built_in.BuiltInFunction.{BuiltInFunction}
-use Rattle.pli_resolve.specs.declared.symbol.NameMeaning.TheVariants as meanings
+use Rattle.pli_resolve.specs.declared.symbol.StorageClass.{StorageClass}
+use Rattle.pli_resolve.specs.declared.symbol.StorageClass.TheVariants as classes
 use Rattle.pli_resolve.specs.declared.symbol.SymbolKey.{SymbolKey}
 use Rattle.pli_type.specs.Names as plain
-use Rattle.pli_type.specs.Names.{AVariable, AFunction, AProcedure, ALabel}
-use Rattle.pli_type.specs.NamedUnits.{declared_as, named_as, own_symbols, root_of, symbol_meant, variable_at, variable_from}
-use Rattle.pli_type.specs.References.{StridedPart}
-use Rattle.pli_type_names.specs.Meant.{IsMeantAs}
-use Rattle.pli_type_names.specs.OwnVariables.{OwnVariable, begun, own_at, own_variables}
-use Rattle.pli_type_names.specs.Seen.{Seen, SeenVariable, SeenFunction, SeenLabel, seen, seen_symbols, on_way, kind_meant}
-use Rattle.pli_type_names.specs.UnitNaming.{naming_in, symbols_in}
+use Rattle.pli_type.specs.Names.{AVariable, AFunction, AProcedure, ALabel, Untyped}
+use Rattle.pli_type.specs.NamedUnits.{block_symbols, declared_as, gives_stored, is_automatic, is_parameter, is_procedure, is_reached, is_static, is_stored}
+use Rattle.pli_type.specs.NamedUnits.{named_procedure, outward_to, in_slot, parameter_numbers, procedure_named, returned_of, root_of, stands_around, such_before, such_in}
+use Rattle.pli_type.specs.NamedUnits.{symbol_meant, variable_at, variable_from}
+use Rattle.pli_type.specs.References.{StridedPart, part_on}
+use Rattle.pli_type_names.specs.BlockEntries.{BlockEntry, entry_at}
+use Rattle.pli_type_names.specs.BlockFacts.{BlockFacts, facts_of}
+use Rattle.pli_type_names.specs.Meant.{IsMeantAs, is_way}
+use Rattle.pli_type_names.specs.OwnVariables.{OwnVariable, begun, own_at, own_variables, place_at}
+use Rattle.pli_type_names.specs.Seen.{Seen, SeenVariable, SeenFunction, SeenProcedure, SeenLabel, SeenUntyped, seen}
+use Rattle.pli_type_names.specs.Seen.{Kept, KeptNothing, kept_seen, kept_symbols, kind_kept, on_way, procedure_seen, root_from, variable_seen}
 use Rattle.pli_type_names.specs.declared.naming.NamedAs.{NamedAs}
 use Rattle.pli_type_names.specs.declared.naming.NamedAs.TheVariants as answers
-use Rattle.pli_type_names.specs.views.MeaningView.{answer_view}
+use Rattle.pli_type_names.specs.declared.place.Place.{Place}
+use Rattle.pli_type_names.specs.declared.place.Place.TheVariants.{InBlock, BeforeProgram}
+use Rattle.pli_type_names.specs.views.MeaningView.{answer_view, procedure_view}
 use Rattle.pli_type_names.proofs.Lists.{each_get}
 use Rattle.pli_type_tree.specs.TypedTree.{Root}
 
--- ---- by the variables of their own
+-- ---- where variables begin
 
-abbrev own_there : (all : List Symbol) → (number : ℕ) → Option Symbol → Option OwnVariable
-own_there all number o = unwrap_or (option_map (λ (s : Symbol). own_at all number s.kind) o) None
+if_placed : (from : Place → Option Root) (b : Bool) (p : Place)
+    → (if b then from p else None) ≡ option_and_then from (if b then Some p else None)
+if_placed from true p = refl
+if_placed from false p = refl
 
-own_get : (all : List Symbol) (n : ℕ) → get_or (own_variables all) n None ≡ own_there all n (slice_get all n)
-own_get all n = each_get (λ m s. own_at all m s.kind) all 0 n n None (omega arith)
+root_is : (r : ResolvedUnit) (blocks : List ℕ) (key : SymbolKey) (class : StorageClass) (d : Description)
+    → root_of 31 r blocks key class d ≡ option_and_then (root_from blocks key.block) (place_at (facts_of r key.block) key.number class d)
+root_is r blocks key classes.Automatic d =
+    if_placed (root_from blocks key.block) (is_stored 31 d) _
+root_is r blocks key (classes.Parameter slot) d =
+    if_placed (root_from blocks key.block) (is_stored 31 d && is_parameter (parameter_numbers r key.block) slot key.number) (InBlock slot)
+root_is r blocks key classes.Static d =
+    if_placed (root_from blocks key.block) (is_stored 31 d) _
+root_is r blocks key classes.Controlled d = refl
+root_is r blocks key (classes.Based locator) d = refl
 
-way_from : (o : Option Root) (d : Description) (path : List ℕ) → on_way (begun o d) path ≡ variable_from o d path
-way_from None d path = refl
-way_from (Some root) d path = refl
+-- ---- variables and members
 
-way_of_kind : (all : List Symbol) (root : ℕ) (path : List ℕ) (s : Symbol) (k : SymbolKind)
-    → on_way (own_at all root k) path ≡ variable_at 31 all root path (Some (record { identifier = s.identifier; kind = k }))
-way_of_kind all root path s (Variable d class scope initial area) = way_from (root_of 31 all root class d) d path
-way_of_kind all root path s (Member r p initial area) = refl
-way_of_kind all root path s (Label statement) = refl
-way_of_kind all root path s (Procedure block returned area) = refl
-way_of_kind all root path s (Entry parameters returned) = refl
-way_of_kind all root path s BuiltIn = refl
+from_root : (o : Option Root) (d : Description) (path : List ℕ)
+    → variable_seen o (is_way path) (part_on (record { offset = 0; description = d; strides = [] }) path) ≡ seen (variable_from o d path)
+from_root None d path = refl
+from_root (Some root) d path = refl
 
-way_there : (all : List Symbol) (root : ℕ) (path : List ℕ) (o : Option Symbol)
-    → on_way (own_there all root o) path ≡ variable_at 31 all root path o
-way_there all root path None = refl
-way_there all root path (Some s) = way_of_kind all root path s s.kind
+module _ (blocks : List ℕ) (entries : List BlockEntry) where
+  way_seen : (block : ℕ) (o : Option Place) (d : Description) (path : List ℕ)
+      → kept_seen blocks entries block (on_way (begun o d) path) ≡ seen (variable_from (option_and_then (root_from blocks block) o) d path)
+  way_seen block None d path = refl
+  way_seen block (Some p) d path = from_root (root_from blocks block p) d path
 
--- what a symbol means, by the variables of their own
-meant_by : (all : List Symbol) (n : ℕ) (s : Symbol) (k : SymbolKind) → slice_get all n ≡ Some s → s.kind ≡ k
-    → kind_meant (own_variables all) n k ≡ symbol_meant 31 all n k
-meant_by all n s (Variable d class scope initial area) e is =
-    ap (λ o. on_way o []) (own_get all n ∙ ap (own_there all n) e ∙ ap (own_at all n) is)
-    ∙ way_from (root_of 31 all n class d) d []
-meant_by all n s (Member root path initial area) e is =
-    ap (λ o. on_way o path) (own_get all root) ∙ way_there all root path (slice_get all root)
-meant_by all n s (Label statement) e is = refl
-meant_by all n s (Procedure block returned area) e is = refl
-meant_by all n s (Entry parameters returned) e is = refl
-meant_by all n s BuiltIn e is = refl
+  way_of_class : (r : ResolvedUnit) (key : SymbolKey) (path : List ℕ) (class : StorageClass) (d : Description)
+      → kept_seen blocks entries key.block (on_way (begun (place_at (facts_of r key.block) key.number class d) d) path)
+      ≡ seen (variable_from (root_of 31 r blocks key class d) d path)
+  way_of_class r key path class d =
+      way_seen key.block (place_at (facts_of r key.block) key.number class d) d path
+      ∙ ap (λ o. seen (variable_from o d path)) (sym (root_is r blocks key class d))
 
-pub meant_is : (all : List Symbol) (n : ℕ) (s : Symbol) → slice_get all n ≡ Some s
-    → kind_meant (own_variables all) n s.kind ≡ symbol_meant 31 all n s.kind
-meant_is all n s e = meant_by all n s s.kind e refl
+  way_of_kind : (r : ResolvedUnit) (key : SymbolKey) (path : List ℕ) (s : Symbol) (k : SymbolKind)
+      → kept_seen blocks entries key.block (on_way (own_at (facts_of r key.block) key.number k) path)
+      ≡ seen (variable_at 31 r blocks key path (Some (record { identifier = s.identifier; kind = k })))
+  way_of_kind r key path s (Variable d class scope initial area) = way_of_class r key path class d
+  way_of_kind r key path s (Member root p initial area) = refl
+  way_of_kind r key path s (Label statement) = refl
+  way_of_kind r key path s (Procedure block returned area) = refl
+  way_of_kind r key path s (Entry parameters returned) = refl
+  way_of_kind r key path s BuiltIn = refl
 
--- ---- by the meanings of all symbols
+  abbrev own_there : BlockFacts → (number : ℕ) → Option Symbol → Option OwnVariable
+  own_there f number o = unwrap_or (option_map (λ (s : Symbol). own_at f number s.kind) o) None
 
-seen_there : (all : List Symbol) (n : ℕ) (o : Option Symbol) → slice_get all n ≡ o
-    → unwrap_or (option_map (λ (s : Symbol). seen (symbol_meant 31 all n s.kind)) o) SeenLabel ≡ seen (declared_as 31 all n)
-seen_there all n None e = rw e refl
-seen_there all n (Some s) e = rw e refl
+  own_get : (f : BlockFacts) (n : ℕ) → get_or (own_variables f) n None ≡ own_there f n (slice_get f.symbols n)
+  own_get f n = each_get (λ m s. own_at f m s.kind) f.symbols 0 n n None (omega arith)
 
-pub declared_seen : (all : List Symbol) (n : ℕ) → get_or (seen_symbols all) n SeenLabel ≡ seen (declared_as 31 all n)
-declared_seen all n =
-    each_get (λ m s. seen (symbol_meant 31 all m s.kind)) all 0 n n SeenLabel (omega arith)
-    ∙ seen_there all n (slice_get all n) refl
+  way_there : (r : ResolvedUnit) (key : SymbolKey) (path : List ℕ) (o : Option Symbol)
+      → kept_seen blocks entries key.block (on_way (own_there (facts_of r key.block) key.number o) path) ≡ seen (variable_at 31 r blocks key path o)
+  way_there r key path None = refl
+  way_there r key path (Some s) = way_of_kind r key path s s.kind
+
+-- ---- procedures
+
+if_named : (named gives around : Bool) (p : plain.NamedProcedure)
+    → (if (named && gives) && around then SeenProcedure p else SeenUntyped) ≡ seen (if (named && around) && gives then AProcedure p else Untyped)
+if_named true true true p = refl
+if_named true true false p = refl
+if_named true false true p = refl
+if_named true false false p = refl
+if_named false gives around p = refl
+
+procedure_there : (r : ResolvedUnit) (blocks : List ℕ) (block : ℕ) (o : Option ResolvedBlock)
+    → procedure_seen blocks (option_map (entry_at r block) o) block
+    ≡ seen (if is_reached blocks o && gives_stored 31 (returned_of r block) then AProcedure (named_procedure r block) else Untyped)
+procedure_there r blocks block None = refl
+procedure_there r blocks block (Some b) =
+    if_named (is_procedure b.kind) (gives_stored 31 (returned_of r block)) (stands_around blocks b.outer) (named_procedure r block)
+
+-- ---- symbols
+
+-- what is found once for the blocks of a unit
+abbrev pub AreAll : ResolvedUnit → List BlockEntry → Type 0
+AreAll r entries = (number : ℕ) → slice_get entries number ≡ option_map (entry_at r number) (slice_get r.blocks number)
+
+module _ (r : ResolvedUnit) (blocks : List ℕ) (entries : List BlockEntry) where
+  kind_seen : (key : SymbolKey) (s : Symbol) (k : SymbolKind) → AreAll r entries
+      → slice_get (block_symbols r key.block) key.number ≡ Some s → s.kind ≡ k
+      → kept_seen blocks entries key.block (kind_kept (own_variables (facts_of r key.block)) key.number k) ≡ seen (symbol_meant 31 r blocks key k)
+  kind_seen key s (Variable d class scope initial area) all e is =
+      let f = facts_of r key.block in
+      ap (λ o. kept_seen blocks entries key.block (on_way o []))
+      (own_get blocks entries f key.number ∙ ap (own_there blocks entries f key.number) e ∙ ap (own_at f key.number) is)
+      ∙ way_of_class blocks entries r key [] class d
+  kind_seen key s (Member root path initial area) all e is =
+      let f = facts_of r key.block in
+      ap (λ o. kept_seen blocks entries key.block (on_way o path)) (own_get blocks entries f root)
+      ∙ way_there blocks entries r (record { block = key.block; number = root }) path (slice_get (block_symbols r key.block) root)
+  kind_seen key s (Label statement) all e is = refl
+  kind_seen key s (Procedure block returned area) all e is =
+      ap (λ o. procedure_seen blocks o block) (all block) ∙ procedure_there r blocks block (slice_get r.blocks block)
+  kind_seen key s (Entry parameters returned) all e is = refl
+  kind_seen key s BuiltIn all e is = refl
+
+  abbrev kept_there : SymbolKey → Option Symbol → Kept
+  kept_there key o = unwrap_or (option_map (λ (s : Symbol). kind_kept (own_variables (facts_of r key.block)) key.number s.kind) o) KeptNothing
+
+  symbol_there : (key : SymbolKey) (o : Option Symbol) → AreAll r entries → slice_get (block_symbols r key.block) key.number ≡ o
+      → kept_seen blocks entries key.block (kept_there key o) ≡ seen (declared_as 31 r blocks key)
+  symbol_there key None all e = rw e refl
+  symbol_there key (Some s) all e = rw e (kind_seen key s s.kind all e refl)
+
+  pub declared_seen : (key : SymbolKey) (kept : Kept) → AreAll r entries
+      → kept ≡ get_or (kept_symbols (facts_of r key.block)) key.number KeptNothing
+      → kept_seen blocks entries key.block kept ≡ seen (declared_as 31 r blocks key)
+  declared_seen key kept all is =
+      ap (kept_seen blocks entries key.block)
+      (is ∙ each_get (λ m s. kind_kept (own_variables (facts_of r key.block)) m s.kind) (block_symbols r key.block) 0 key.number key.number KeptNothing (omega arith))
+      ∙ symbol_there key (slice_get (block_symbols r key.block) key.number) all refl
 
 -- ---- what an answer says
 
@@ -99,57 +165,39 @@ abbrev function_in : BuiltInFunction → Seen → BuiltInFunction
 function_in d (SeenFunction function) = function
 function_in d other = d
 
+abbrev procedure_of : plain.NamedProcedure → Seen → plain.NamedProcedure
+procedure_of d (SeenProcedure procedure) = procedure
+procedure_of d other = d
+
+abbrev label_in : Seen → ℕ
+label_in (SeenLabel statement) = statement
+label_in other = 0
+
 pub is_meant : (a : NamedAs) (m : plain.NamedAs) → answer_view a ≡ seen m → IsMeantAs a m
 is_meant (answers.Variable v) (AVariable w) e = (ap (root_in w.root) e, ap is_member_in e, ap part_in e)
 is_meant (answers.Variable v) (AFunction g) e = absurd (cc)
-is_meant (answers.Variable v) AProcedure e = absurd (cc)
-is_meant (answers.Variable v) ALabel e = absurd (cc)
+is_meant (answers.Variable v) (AProcedure q) e = absurd (cc)
+is_meant (answers.Variable v) (ALabel t) e = absurd (cc)
+is_meant (answers.Variable v) Untyped e = absurd (cc)
 is_meant (answers.Function f) (AVariable w) e = absurd (cc)
 is_meant (answers.Function f) (AFunction g) e = ap (function_in f) e
-is_meant (answers.Function f) AProcedure e = absurd (cc)
-is_meant (answers.Function f) ALabel e = absurd (cc)
-is_meant answers.Procedure (AVariable w) e = absurd (cc)
-is_meant answers.Procedure (AFunction g) e = absurd (cc)
-is_meant answers.Procedure AProcedure e = tt
-is_meant answers.Procedure ALabel e = absurd (cc)
-is_meant answers.Label (AVariable w) e = absurd (cc)
-is_meant answers.Label (AFunction g) e = absurd (cc)
-is_meant answers.Label AProcedure e = absurd (cc)
-is_meant answers.Label ALabel e = tt
-
--- ---- what the name at a token means
-
-pub label_meant : (u : tree.Procedure) (at : ℕ) → None ≡ meaning_at (resolved_unit_of (unit_view u)) at
-    → IsMeantAs answers.Label ((naming_in u).meaning at)
-unfolding naming_in
-label_meant u at e =
-    let r = resolved_unit_of (unit_view u) in
-    is_meant answers.Label (named_as 31 r (meaning_at r at)) (ap (λ o. seen (named_as 31 r o)) e)
-
-pub function_meant : (u : tree.Procedure) (at : ℕ) (f : BuiltInFunction)
-    → Some (meanings.BuiltIn f) ≡ meaning_at (resolved_unit_of (unit_view u)) at → IsMeantAs (answers.Function f) ((naming_in u).meaning at)
-unfolding naming_in
-function_meant u at f e =
-    let r = resolved_unit_of (unit_view u) in
-    is_meant (answers.Function f) (named_as 31 r (meaning_at r at)) (ap (λ o. seen (named_as 31 r o)) e)
-
-pub inside_meant : (u : tree.Procedure) (at : ℕ) (key : SymbolKey) (a : NamedAs)
-    → Some (meanings.Symbol key) ≡ meaning_at (resolved_unit_of (unit_view u)) at → key.block ≡ 0
-    → answer_view a ≡ seen (declared_as 31 (symbols_in u) key.number) → IsMeantAs a ((naming_in u).meaning at)
-unfolding naming_in symbols_in
-inside_meant u at key a e here is =
-    let r = resolved_unit_of (unit_view u) in
-    is_meant a (named_as 31 r (meaning_at r at))
-    (is
-    ∙ sym (ap (λ b. seen (if b then declared_as 31 (own_symbols r) key.number else AProcedure)) (eq-eqb key.block 0 here))
-    ∙ ap (λ o. seen (named_as 31 r o)) e)
-
-pub outside_meant : (u : tree.Procedure) (at : ℕ) (key : SymbolKey)
-    → Some (meanings.Symbol key) ≡ meaning_at (resolved_unit_of (unit_view u)) at → (key.block ≡ 0 → ⊥)
-    → IsMeantAs answers.Procedure ((naming_in u).meaning at)
-unfolding naming_in
-outside_meant u at key e there =
-    let r = resolved_unit_of (unit_view u) in
-    is_meant answers.Procedure (named_as 31 r (meaning_at r at))
-    (sym (ap (λ b. seen (if b then declared_as 31 (own_symbols r) key.number else AProcedure)) (ne_eqb key.block 0 there))
-    ∙ ap (λ o. seen (named_as 31 r o)) e)
+is_meant (answers.Function f) (AProcedure q) e = absurd (cc)
+is_meant (answers.Function f) (ALabel t) e = absurd (cc)
+is_meant (answers.Function f) Untyped e = absurd (cc)
+is_meant (answers.Procedure p) (AVariable w) e = absurd (cc)
+is_meant (answers.Procedure p) (AFunction g) e = absurd (cc)
+is_meant (answers.Procedure p) (AProcedure q) e =
+    let same : procedure_view p ≡ q = ap (procedure_of q) e in
+    record { block = ap (λ x. x.block) same; parameters = ap (λ x. x.parameters) same; returned = ap (λ x. x.returned) same }
+is_meant (answers.Procedure p) (ALabel t) e = absurd (cc)
+is_meant (answers.Procedure p) Untyped e = absurd (cc)
+is_meant (answers.Label s) (AVariable w) e = absurd (cc)
+is_meant (answers.Label s) (AFunction g) e = absurd (cc)
+is_meant (answers.Label s) (AProcedure q) e = absurd (cc)
+is_meant (answers.Label s) (ALabel t) e = ap label_in e
+is_meant (answers.Label s) Untyped e = absurd (cc)
+is_meant answers.Untyped (AVariable w) e = absurd (cc)
+is_meant answers.Untyped (AFunction g) e = absurd (cc)
+is_meant answers.Untyped (AProcedure q) e = absurd (cc)
+is_meant answers.Untyped (ALabel t) e = absurd (cc)
+is_meant answers.Untyped Untyped e = tt

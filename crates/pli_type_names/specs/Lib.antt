@@ -1,3 +1,5 @@
+pub mod BlockEntries
+pub mod BlockFacts
 pub mod Meant
 pub mod Numbered
 pub mod OwnVariables

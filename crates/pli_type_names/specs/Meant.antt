@@ -1,10 +1,12 @@
 -- What the answers about names say.
-use Rattle.std.specs.Prelude.{◌≡◌, ℕ, Bool, true, false, List, [], ◌∷◌, option_map}
+use Rattle.std.specs.Prelude.{◌≡◌, ℕ, Bool, true, false, List, [], ◌∷◌, map, option_map}
+use Rattle.pli_map.specs.views.DescriptionView.{description_view}
 use Rattle.pli_type.specs.Names as plain
 use Rattle.pli_type.specs.References.{part_of}
 use Rattle.pli_type_tree.specs.views.TypedView.{root_view}
 use Rattle.pli_type_names.specs.declared.naming.NamedAs.{NamedAs}
 use Rattle.pli_type_names.specs.declared.naming.NamedAs.TheVariants as answers
+use Rattle.pli_type_names.specs.declared.naming.NamedProcedure.{NamedProcedure}
 use Rattle.pli_type_names.specs.declared.naming.NamedVariable.{NamedVariable}
 use Rattle.pli_type_names.specs.views.NameView.{part_view}
 
@@ -18,12 +20,19 @@ abbrev pub IsVariable : NamedVariable → plain.NamedVariable → Type 0
 IsVariable v w =
     (root_view v.root ≡ w.root)
     × (v.is_member ≡ is_way w.path)
-    × (option_map part_view v.part ≡ part_of w)
+    × (option_map part_view v.part.now ≡ part_of w)
+
+-- a procedure: its block, its parameters, and what it gives
+pub record IsProcedure (p : NamedProcedure) (q : plain.NamedProcedure) : Type 0 where
+  pub block : p.block ≡ q.block
+  pub parameters : map (λ d. description_view d.now) p.parameters.now ≡ q.parameters
+  pub returned : option_map (λ d. description_view d.now) p.returned ≡ q.returned
 
 -- a name means this
 abbrev pub IsMeantAs : NamedAs → plain.NamedAs → Type 0
-IsMeantAs (answers.Variable v) (plain.AVariable w) = IsVariable v.now w
+IsMeantAs (answers.Variable v) (plain.AVariable w) = IsVariable v w
 IsMeantAs (answers.Function f) (plain.AFunction g) = f ≡ g
-IsMeantAs answers.Procedure plain.AProcedure = Unit {0}
-IsMeantAs answers.Label plain.ALabel = Unit {0}
+IsMeantAs (answers.Procedure p) (plain.AProcedure q) = IsProcedure p q
+IsMeantAs (answers.Label s) (plain.ALabel t) = s ≡ t
+IsMeantAs answers.Untyped plain.Untyped = Unit {0}
 IsMeantAs answer meant = ⊥

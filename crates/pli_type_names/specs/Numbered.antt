@@ -1,8 +1,7 @@
--- Symbols with their numbers.
+-- Lists with numbers.
 use Rattle.std.specs.Prelude.{ℕ, ◌+◌, List, [], ◌∷◌}
-use Rattle.pli_resolve.specs.Symbols.{Symbol}
 
--- what each symbol gives with its number, the first of which has this one
-abbrev pub each_from : {A : Type 0} → (ℕ → Symbol → A) → (number : ℕ) → List Symbol → List A
+-- what each item gives with its number, the first of which has this one
+abbrev pub each_from : {A B : Type 0} → (ℕ → B → A) → (number : ℕ) → List B → List A
 each_from f number [] = []
-each_from f number (s ∷ ss) = f number s ∷ each_from f (number + 1) ss
+each_from f number (x ∷ xs) = f number x ∷ each_from f (number + 1) xs

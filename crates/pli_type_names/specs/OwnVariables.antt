@@ -1,61 +1,70 @@
 -- The variables of their own among the symbols of a block: where each begins.
-use Rattle.std.specs.Prelude.{ℕ, Option, Some, None, List, if◌then◌else◌}
+use Rattle.std.specs.Prelude.{ℕ, ◌+◌, ◌&&◌, Option, Some, None, List, length, if◌then◌else◌}
 use Rattle.pli_map.specs.Description.{Description}
-use Rattle.pli_resolve.specs.Symbols.{Symbol, SymbolKind, Variable}
+use Rattle.pli_resolve.specs.Symbols.{SymbolKind, Variable}
 use Rattle.pli_resolve.specs.declared.symbol.StorageClass.{StorageClass}
 use Rattle.pli_resolve.specs.declared.symbol.StorageClass.TheVariants as classes
-use Rattle.pli_type.specs.NamedUnits.{is_stored, root_of}
+use Rattle.pli_type.specs.NamedUnits.{is_automatic, is_parameter, is_static, is_stored, such_before}
+use Rattle.pli_type_names.specs.BlockFacts.{BlockFacts}
 use Rattle.pli_type_names.specs.Numbered.{each_from}
-use Rattle.pli_type_tree.specs.TypedTree.{Root, InSlot, OfProgram}
+use Rattle.pli_type_names.specs.declared.place.Place.{Place}
+use Rattle.pli_type_names.specs.declared.place.Place.TheVariants.{InBlock, BeforeProgram}
 
--- where it begins, and the description of the whole variable
+-- where it begins, seen from its own block, and the description of the whole variable
 pub record OwnVariable : Type 0 where
-  pub root : Root
+  pub begins : Place
   pub whole : Description
 
 -- one that begins here, or nowhere
-abbrev pub begun : Option Root → Description → Option OwnVariable
+abbrev pub begun : Option Place → Description → Option OwnVariable
 begun None description = None
-begun (Some root) description = Some (record { root = root; whole = description })
+begun (Some place) description = Some (record { begins = place; whole = description })
+
+-- where a variable of a block begins: parameters have slots of their own, AUTOMATIC variables those behind
+-- them, and STATIC variables the numbers behind those of the blocks before
+abbrev pub place_at : BlockFacts → (number : ℕ) → StorageClass → Description → Option Place
+place_at f number classes.Automatic d =
+    if is_stored 31 d
+    then Some (InBlock (length f.parameters + such_before (is_automatic 31) f.symbols number)) else None
+place_at f number (classes.Parameter slot) d =
+    if is_stored 31 d && is_parameter f.parameters slot number then Some (InBlock slot) else None
+place_at f number classes.Static d =
+    if is_stored 31 d
+    then Some (BeforeProgram (f.statics + such_before (is_static 31) f.symbols number)) else None
+place_at f number class d = None
 
 -- the variable that is the symbol of this number, if it is one that is compiled; a member is none of its own
-abbrev pub own_at : (all : List Symbol) → (number : ℕ) → SymbolKind → Option OwnVariable
-own_at all number (Variable description class scope initial area) =
-    begun (root_of 31 all number class description) description
-own_at all number other = None
+abbrev pub own_at : BlockFacts → (number : ℕ) → SymbolKind → Option OwnVariable
+own_at f number (Variable description class scope initial area) =
+    begun (place_at f number class description) description
+own_at f number other = None
 
 -- for each symbol the variable that it is
-abbrev pub own_variables : List Symbol → List (Option OwnVariable)
-own_variables symbols = each_from (λ number s. own_at symbols number s.kind) 0 symbols
+abbrev pub own_variables : BlockFacts → List (Option OwnVariable)
+own_variables f = each_from (λ number s. own_at f number s.kind) 0 f.symbols
 
 -- counting
 
--- where one of this class begins that has so many AUTOMATIC and so many STATIC variables before it
-abbrev pub root_of_class : (slots statics : ℕ) → StorageClass → Option Root
-root_of_class slots statics classes.Automatic = Some (InSlot 0 slots)
-root_of_class slots statics classes.Static = Some (OfProgram statics)
-root_of_class slots statics class = None
+-- where one of this class begins, which has this number, where so many slots and numbers are taken
+abbrev pub place_behind : (parameters : List ℕ) → (slots statics number : ℕ) → StorageClass → Option Place
+place_behind parameters slots statics number classes.Automatic = Some (InBlock slots)
+place_behind parameters slots statics number (classes.Parameter slot) =
+    if is_parameter parameters slot number then Some (InBlock slot) else None
+place_behind parameters slots statics number classes.Static = Some (BeforeProgram statics)
+place_behind parameters slots statics number class = None
 
--- the variable that a symbol is, with so many before it
-abbrev pub own_behind : (slots statics : ℕ) → SymbolKind → Option OwnVariable
-own_behind slots statics (Variable description class scope initial area) =
-    if is_stored 31 description then begun (root_of_class slots statics class) description else None
-own_behind slots statics other = None
+-- the variable that a symbol is, where so many are taken
+abbrev pub own_behind : (parameters : List ℕ) → (slots statics number : ℕ) → SymbolKind → Option OwnVariable
+own_behind parameters slots statics number (Variable description class scope initial area) =
+    if is_stored 31 description
+    then begun (place_behind parameters slots statics number class) description else None
+own_behind parameters slots statics number other = None
 
--- how many slots a variable takes
-abbrev pub slots_of : Option OwnVariable → ℕ
-slots_of None = 0
-slots_of (Some v) = in_slot (v.root)
-  where
-    in_slot : Root → ℕ
-    in_slot (InSlot outward slot) = 1
-    in_slot (OfProgram number) = 0
+-- how many slots behind the parameters, and how many numbers, a variable of this class takes
+abbrev pub slots_of : StorageClass → ℕ
+slots_of classes.Automatic = 1
+slots_of class = 0
 
--- how many variables that are made before the program begins it is
-abbrev pub statics_of : Option OwnVariable → ℕ
-statics_of None = 0
-statics_of (Some v) = of_program (v.root)
-  where
-    of_program : Root → ℕ
-    of_program (InSlot outward slot) = 0
-    of_program (OfProgram number) = 1
+abbrev pub statics_of : StorageClass → ℕ
+statics_of classes.Static = 1
+statics_of class = 0

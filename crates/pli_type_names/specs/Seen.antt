@@ -1,44 +1,91 @@
 -- What names mean, with the part of the variable that is named.
-use Rattle.std.specs.Prelude.{ℕ, Bool, Option, Some, None, List, [], get_or}
-use Rattle.pli_resolve.specs.Symbols.{Symbol, SymbolKind, Variable, Member, Label, Procedure, Entry, BuiltIn}
+use Rattle.std.specs.Prelude.{ℕ, Bool, ◌&&◌, Option, Some, None, List, [], get_or, slice_get, if◌then◌else◌}
+use Rattle.pli_map.specs.Description.{Description}
+use Rattle.pli_resolve.specs.Symbols.{SymbolKind, Variable, Member, Label, Procedure, Entry, BuiltIn}
 use Rattle.pli_resolve.specs.declared.built_in.BuiltInFunction.{BuiltInFunction}
-use Rattle.pli_type.specs.Names.{NamedAs, AVariable, AFunction, AProcedure, ALabel}
-use Rattle.pli_type.specs.NamedUnits.{symbol_meant}
-use Rattle.pli_type.specs.References.{StridedPart, part_of}
+use Rattle.pli_type.specs.Names.{NamedAs, NamedProcedure, AVariable, AFunction, AProcedure, ALabel, Untyped}
+use Rattle.pli_type.specs.NamedUnits.{in_slot, outward_to, stands_around}
+use Rattle.pli_type.specs.References.{StridedPart, part_of, part_on}
+use Rattle.pli_type_names.specs.BlockEntries.{BlockEntry}
+use Rattle.pli_type_names.specs.BlockFacts.{BlockFacts}
 use Rattle.pli_type_names.specs.Meant.{is_way}
 use Rattle.pli_type_names.specs.Numbered.{each_from}
-use Rattle.pli_type_names.specs.OwnVariables.{OwnVariable}
-use Rattle.pli_type_tree.specs.TypedTree.{Root}
+use Rattle.pli_type_names.specs.OwnVariables.{OwnVariable, own_variables}
+use Rattle.pli_type_names.specs.declared.place.Place.{Place}
+use Rattle.pli_type_names.specs.declared.place.Place.TheVariants.{InBlock, BeforeProgram}
+use Rattle.pli_type_tree.specs.TypedTree.{Root, OfProgram}
+
+-- where a name is used
 
 -- a variable: where it begins, whether members stand on the way, and the part that they lead to
 pub data Seen : Type 0 where
   SeenVariable : (root : Root) (is_member : Bool) (part : Option StridedPart) → Seen
   SeenFunction : (function : BuiltInFunction) → Seen
-  SeenProcedure SeenLabel : Seen
+  SeenProcedure : (procedure : NamedProcedure) → Seen
+  SeenLabel : (statement : ℕ) → Seen
+  SeenUntyped : Seen
 
 abbrev pub seen : NamedAs → Seen
 seen (AVariable v) = SeenVariable v.root (is_way v.path) (part_of v)
 seen (AFunction function) = SeenFunction function
-seen AProcedure = SeenProcedure
-seen ALabel = SeenLabel
+seen (AProcedure procedure) = SeenProcedure procedure
+seen (ALabel statement) = SeenLabel statement
+seen Untyped = SeenUntyped
 
--- what each symbol means
-abbrev pub seen_symbols : List Symbol → List Seen
-seen_symbols symbols = each_from (λ number s. seen (symbol_meant 31 symbols number s.kind)) 0 symbols
+-- wherever a name is used
 
--- by the variables of their own
+-- a variable, by where it begins in its own block; a procedure, by its block; a label; or what has no type
+pub data Kept : Type 0 where
+  KeptVariable : (begins : Place) (is_member : Bool) (part : Option StridedPart) → Kept
+  KeptProcedure : (block : ℕ) → Kept
+  KeptLabel : (statement : ℕ) → Kept
+  KeptNothing : Kept
 
 -- the part of a variable of its own on a way
-abbrev pub on_way : Option OwnVariable → (path : List ℕ) → NamedAs
-on_way None path = ALabel
-on_way (Some v) path = AVariable (record { root = v.root; whole = v.whole; path = path })
+abbrev pub on_way : Option OwnVariable → (path : List ℕ) → Kept
+on_way None path = KeptNothing
+on_way (Some v) path =
+    KeptVariable v.begins (is_way path)
+    (part_on (record { offset = 0; description = v.whole; strides = [] }) path)
 
--- the symbol of this number
-abbrev pub kind_meant : List (Option OwnVariable) → (number : ℕ) → SymbolKind → NamedAs
-kind_meant variables number (Variable description class scope initial area) =
+-- the symbol of this number, by the variables of their own
+abbrev pub kind_kept : List (Option OwnVariable) → (number : ℕ) → SymbolKind → Kept
+kind_kept variables number (Variable description class scope initial area) =
     on_way (get_or variables number None) []
-kind_meant variables number (Member root path initial area) = on_way (get_or variables root None) path
-kind_meant variables number (Label statement) = ALabel
-kind_meant variables number (Procedure block returned area) = AProcedure
-kind_meant variables number (Entry parameters returned) = AProcedure
-kind_meant variables number BuiltIn = ALabel
+kind_kept variables number (Member root path initial area) = on_way (get_or variables root None) path
+kind_kept variables number (Label statement) = KeptLabel statement
+kind_kept variables number (Procedure block returned area) = KeptProcedure block
+kind_kept variables number (Entry parameters returned) = KeptNothing
+kind_kept variables number BuiltIn = KeptNothing
+
+-- each symbol of a block
+abbrev pub kept_symbols : BlockFacts → List Kept
+kept_symbols f = each_from (λ number s. kind_kept (own_variables f) number s.kind) 0 f.symbols
+
+-- from there to here
+
+-- where a variable of a block begins where these blocks stand around
+abbrev pub root_from : (blocks : List ℕ) → (block : ℕ) → Place → Option Root
+root_from blocks block (InBlock slot) = in_slot (outward_to blocks block) slot
+root_from blocks block (BeforeProgram number) = Some (OfProgram number)
+
+abbrev pub variable_seen : Option Root → (is_member : Bool) → (part : Option StridedPart) → Seen
+variable_seen None is_member part = SeenUntyped
+variable_seen (Some root) is_member part = SeenVariable root is_member part
+
+-- a procedure, by what is found for its block
+abbrev pub procedure_seen : (blocks : List ℕ) → Option BlockEntry → (block : ℕ) → Seen
+procedure_seen blocks None block = SeenUntyped
+procedure_seen blocks (Some e) block =
+    if e.is_named && stands_around blocks e.outer
+    then SeenProcedure (record { block = block; parameters = e.parameters; returned = e.returned })
+    else SeenUntyped
+
+-- a symbol of a block
+abbrev pub kept_seen : (blocks : List ℕ) → List BlockEntry → (block : ℕ) → Kept → Seen
+kept_seen blocks entries block (KeptVariable begins is_member part) =
+    variable_seen (root_from blocks block begins) is_member part
+kept_seen blocks entries block (KeptProcedure procedure) =
+    procedure_seen blocks (slice_get entries procedure) procedure
+kept_seen blocks entries block (KeptLabel statement) = SeenLabel statement
+kept_seen blocks entries block KeptNothing = SeenUntyped

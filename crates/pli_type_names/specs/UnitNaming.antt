@@ -1,16 +1,46 @@
--- What the names of a unit mean, and its own symbols, by its tree.
-use Rattle.std.specs.Prelude.{List}
+-- What the names of a unit mean, its procedures and its symbols, by its tree.
+use Rattle.std.specs.Prelude.{ℕ, List, ◌∷◌, drop, refl}
+use Rattle.std.specs.Coded.{Coded, code_by, coded×, coded_list, coded_ℕ}
+use Rattle.pli_base.specs.contracts.statement.Body.TheKnot.{coded-Procedure}
 use Rattle.pli_base.specs.declared.statement.Procedure.{Procedure}
 use Rattle.pli_base.specs.views.StatementView.{unit_view}
 use Rattle.pli_resolve.specs.ResolvedUnits.{resolved_unit_of}
 use Rattle.pli_resolve.specs.Symbols.{Symbol}
-use Rattle.pli_type.specs.NamedUnits.{named_unit, own_symbols}
-use Rattle.pli_type.specs.Names.{Naming}
+use Rattle.pli_type.specs.NamedUnits.{block_symbols, named_procedure, named_unit}
+use Rattle.pli_type.specs.Names.{Naming, Compiled, NamedProcedure}
+
+-- a unit, and the blocks around, the innermost first
+pub record Names : Type 0 where
+  pub unit : Procedure
+  pub blocks : List ℕ
+
+abbrev pub names_code : Coded Names
+names_code =
+    code_by (Procedure × List ℕ) (coded× coded-Procedure (coded_list coded_ℕ)) (λ n. (n.unit, n.blocks))
+    (λ p. record { unit = p.0; blocks = p.1 }) (λ _. refl)
+
+-- inside one more block, and outside of the innermost
+abbrev pub inside : Names → (block : ℕ) → Names
+inside n block = record { unit = n.unit; blocks = block ∷ n.blocks }
+
+abbrev pub outside : Names → Names
+outside n = record { unit = n.unit; blocks = drop 1 n.blocks }
 
 -- numbers have at most 31 binary digits
-unfoldable pub naming_in : Procedure → Naming
-naming_in u = (named_unit 31 (resolved_unit_of (unit_view u))).naming
+unfoldable pub naming_in : Names → Naming
+naming_in n = (named_unit 31 (resolved_unit_of (unit_view n.unit))).naming n.blocks
 
--- the symbols of the external procedure's block
-unfoldable pub symbols_in : Procedure → List Symbol
-symbols_in u = own_symbols (resolved_unit_of (unit_view u))
+-- what is compiled is the same in all blocks
+unfoldable pub unit_compiled : Procedure → Compiled
+unit_compiled u = (named_unit 31 (resolved_unit_of (unit_view u))).compiled
+
+abbrev pub compiled_in : Names → Compiled
+compiled_in n = unit_compiled n.unit
+
+-- what the parameters of a block are, and what it gives
+unfoldable pub procedure_in : Procedure → (block : ℕ) → NamedProcedure
+procedure_in u block = named_procedure (resolved_unit_of (unit_view u)) block
+
+-- the symbols of a block
+unfoldable pub symbols_in : Procedure → (block : ℕ) → List Symbol
+symbols_in u block = block_symbols (resolved_unit_of (unit_view u)) block

@@ -1,3 +1,4 @@
+pub mod EntryView
 pub mod MeaningView
 pub mod NameView
 pub mod VariableView

@@ -1,15 +1,20 @@
 //! What the names of a resolved unit mean where types are asked for, and what its variables are made from.
 #![tactic(auto)]
 
+mod around;
 mod descriptions;
+mod entries;
 mod meanings;
 mod naming;
 mod own_variable;
 mod own_variables;
+mod parameters;
 mod part;
+mod place;
+mod seen;
 mod unit_symbols;
 
 pub use descriptions::{GREATEST, is_plain, is_stored};
-pub use naming::{NamedAs, NamedVariable, Naming, name_unit};
+pub use naming::{NamedAs, NamedProcedure, NamedVariable, Naming, name_unit};
 pub use part::StridedPart;
 pub use unit_symbols::symbols;

@@ -1,36 +1,35 @@
-//! What the symbols of a block mean.
-ghost use Rattle.std.specs.Prelude.{◌≡◌, IfOk, None, map, option_map, get_or};
+//! What the symbols of blocks mean, wherever their names are used.
+ghost use Rattle.std.specs.Prelude.{◌≡◌, ◌+◌, IfOk, None, length, map, option_map, get_or};
 ghost use Rattle.pli_resolve.specs.views.SymbolView.{symbol_view, symbol_kind_view};
-ghost use Rattle.pli_type_names.specs.Seen.{SeenLabel, kind_meant, on_way, seen, seen_symbols};
-ghost use Rattle.pli_type_names.specs.views.MeaningView.{answer_view, meant_view};
+ghost use Rattle.pli_type.specs.NamedUnits.{is_static, such_before};
+ghost use Rattle.pli_type_names.specs.Seen.{kept_symbols, kind_kept, on_way};
+ghost use Rattle.pli_type_names.specs.views.MeaningView.{AreMeanings, meant_view};
 ghost use Rattle.pli_type_names.specs.views.VariableView.{own_view};
 
-use crate::naming::{NamedAs, NamedVariable};
 use crate::own_variable::OwnVariable;
 use crate::own_variables::own_variables;
+use crate::parameters::parameter_numbers;
 use crate::part::StridedPart;
-use pli_resolve::{Symbol, SymbolKind};
+use crate::place::Place;
+use crate::unit_symbols::symbols;
+use pli_resolve::{ResolvedUnit, Symbol, SymbolKind};
 use std::alloc::{AllocError, Global};
 
-/// What a symbol means where its name is used.
+/// What a symbol means, wherever its name is used.
 #[derive(Drop)]
 pub(crate) enum Meant<'a> {
-    Variable(NamedVariable<'a>),
-    Procedure,
-    Label,
-}
-
-impl<'a> Meant<'a> {
-    /// The same as an answer.
-    pub(crate) fn answer(&self) -> NamedAs<'_, 'a>
-        ensures { answer_view result ≡ meant_view self.now }
-    {
-        match self {
-            Meant::Variable(variable) => NamedAs::Variable(variable),
-            Meant::Procedure => NamedAs::Procedure,
-            Meant::Label => NamedAs::Label,
-        }
-    }
+    Variable {
+        begins: Place,
+        /// Whether it is a member, and not a variable of its own.
+        is_member: bool,
+        /// Which part of the variable it is; none where the way leads nowhere.
+        part: Option<StridedPart<'a>>,
+    },
+    /// The procedure that is the block of this number.
+    Procedure(u32),
+    /// The label of the statement of this number.
+    Label(u32),
+    Untyped,
 }
 
 /// The part of a variable of its own on this way.
@@ -39,17 +38,17 @@ fn meant_on_way<'a>(
     variable: Option<OwnVariable<'a>>,
     path: &[usize],
 ) -> Result<Meant<'a>, AllocError>
-    ensures { IfOk result (λ meant. meant_view meant ≡ seen (on_way (option_map own_view variable.entry) path.now)) }
+    ensures { IfOk result (λ meant. meant_view meant ≡ on_way (option_map own_view variable.entry) path.now) }
 {
     let Some(variable) = variable else {
-        return Ok(Meant::Label);
+        return Ok(Meant::Untyped);
     };
     let part = StridedPart::whole(alloc, variable.description).into_part(path)?;
-    Ok(Meant::Variable(NamedVariable {
-        root: variable.root,
+    Ok(Meant::Variable {
+        begins: variable.begins,
         is_member: !path.is_empty(),
         part,
-    }))
+    })
 }
 
 /// The variable that is the symbol of this number, if it is one.
@@ -62,46 +61,68 @@ fn variable_at<'a>(variables: &[Option<OwnVariable<'a>>], number: usize) -> Opti
     *variable
 }
 
-/// What the symbol of this number means.
+/// What the symbol of this number means. Want of memory where it is the procedure of a block whose number is more than
+/// 4,294,967,295.
 fn symbol_meaning<'a>(
     alloc: Global,
     variables: &[Option<OwnVariable<'a>>],
     number: usize,
     kind: SymbolKind<'_>,
 ) -> Result<Meant<'a>, AllocError>
-    ensures { IfOk result (λ meant. meant_view meant ≡ seen (kind_meant (map (option_map own_view) variables.now) number (symbol_kind_view kind.entry))) }
+    ensures { IfOk result (λ meant. meant_view meant ≡ kind_kept (map (option_map own_view) variables.now) number (symbol_kind_view kind.entry)) }
 {
     match kind {
         SymbolKind::Variable { .. } => meant_on_way(alloc, variable_at(variables, number), &[]),
         SymbolKind::Member { root, path, .. } => {
             meant_on_way(alloc, variable_at(variables, root), path)
         }
-        SymbolKind::Procedure { .. } | SymbolKind::Entry { .. } => Ok(Meant::Procedure),
-        SymbolKind::Label { .. } | SymbolKind::BuiltIn => Ok(Meant::Label),
+        SymbolKind::Procedure { block, .. } => {
+            let Ok(block) = u32::try_from(block) else {
+                return Err(AllocError);
+            };
+            Ok(Meant::Procedure(block))
+        }
+        SymbolKind::Label { statement } => Ok(Meant::Label(statement)),
+        SymbolKind::Entry { .. } | SymbolKind::BuiltIn => Ok(Meant::Untyped),
     }
 }
 
-/// The meaning of this number as an answer; a label where there is none.
-pub(crate) fn answer_at<'n, 'a>(meanings: &'n [Meant<'a>], number: usize) -> NamedAs<'n, 'a>
-    ensures { answer_view result ≡ get_or (map meant_view meanings.now) number SeenLabel }
-{
-    let Some(meant) = meanings.get(number) else {
-        return NamedAs::Label;
-    };
-    meant.answer()
-}
-
-/// What each symbol means.
-pub(crate) fn symbol_meanings<'a>(
+/// What each symbol of a block means, where the blocks before have so many STATIC variables.
+fn symbol_meanings<'a>(
     alloc: Global,
     symbols: &[Symbol<'a>],
+    parameters: &[usize],
+    statics: &mut u32,
 ) -> Result<Vec<Meant<'a>>, AllocError>
-    ensures { IfOk result (λ meanings. map meant_view meanings.items ≡ seen_symbols (map symbol_view symbols.now)) }
+    ensures meanings { IfOk result (λ meanings. map meant_view meanings.items
+        ≡ kept_symbols (record { parameters = parameters.now; statics = statics.old; symbols = map symbol_view symbols.now })) }
+    ensures counted { IfOk result (λ _. statics.new
+        ≡ statics.old + such_before (is_static 31) (map symbol_view symbols.now) (length symbols.now)) }
 {
-    let variables = own_variables(alloc, symbols)?;
+    let variables = own_variables(alloc, symbols, parameters, statics)?;
     let mut meanings = Vec::new(alloc);
     for (number, symbol) in symbols.iter().enumerate() {
         meanings.push(symbol_meaning(alloc, &variables, number, symbol.kind)?)?;
     }
     Ok(meanings)
+}
+
+/// What the symbols of each block of a unit mean, and of the outermost one, under the block's number.
+pub(crate) fn unit_meanings<'r>(
+    alloc: Global,
+    resolved: &'r ResolvedUnit<'r>,
+) -> Result<Vec<Vec<Meant<'r>>>, AllocError>
+    ensures { IfOk result (λ made. AreMeanings made.items resolved.now) }
+{
+    let Some(blocks) = resolved.block_count().checked_add(1) else {
+        return Err(AllocError);
+    };
+    let mut made = Vec::new(alloc);
+    let mut statics = 0;
+    for block in 0..blocks {
+        let symbols = symbols(alloc, resolved, block)?;
+        let parameters = parameter_numbers(resolved, block);
+        made.push(symbol_meanings(alloc, &symbols, parameters, &mut statics)?)?;
+    }
+    Ok(made)
 }

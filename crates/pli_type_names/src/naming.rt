@@ -1,74 +1,111 @@
 //! What names mean where types are asked for.
-ghost use Rattle.std.specs.Prelude.{◌≡◌, IfOk};
+ghost use Rattle.std.specs.Prelude.{◌≡◌, [], IfOk, OnErr, OnOk};
 ghost use Rattle.pli_type.specs.NamedUnits.{declared_as};
-ghost use Rattle.pli_type_names.specs.Meant.{IsMeantAs};
+ghost use Rattle.pli_base.specs.views.StatementView.{unit_view};
+ghost use Rattle.pli_resolve.specs.ResolvedUnits.{resolved_unit_of};
+ghost use Rattle.pli_type_names.specs.Meant.{IsMeantAs, IsProcedure};
 ghost use Rattle.pli_type_names.specs.Seen.{seen};
-ghost use Rattle.pli_type_names.specs.UnitNaming.{naming_in, symbols_in};
+ghost use Rattle.pli_type_names.specs.UnitNaming.{compiled_in, inside, naming_in, outside, procedure_in};
 ghost use Rattle.pli_type_names.specs.views.MeaningView.{answer_view};
 
 use crate::descriptions::GREATEST;
-use crate::meanings::{Meant, answer_at, symbol_meanings};
+use crate::entries::{BlockEntry, block_entries, parameters_at, returned_at};
+use crate::meanings::{Meant, unit_meanings};
 use crate::part::StridedPart;
-use crate::unit_symbols::symbols;
+use crate::seen::symbol_seen;
 use pli_base::statement::Procedure;
-use pli_resolve::{BuiltInFunction, NameMeaning, ResolvedUnit};
+use pli_map::Description;
+use pli_resolve::{BuiltInFunction, NameMeaning, ResolvedUnit, SymbolKey};
+use pli_type::is_later_function;
 use pli_type_tree::Root;
 use std::alloc::{AllocError, Global};
 use std::marker::Model;
 
+/// How many blocks may stand around; a text has far fewer.
+const DEEPEST: usize = 4_294_967_295;
+
 /// A variable of its own, or a member of one.
-#[derive(Drop)]
-pub struct NamedVariable<'a> {
-    /// Where the variable begins.
+#[derive(Clone, Copy)]
+pub struct NamedVariable<'n, 'a> {
+    /// Where the variable begins, from where the name is used.
     pub root: Root,
     /// Whether it is a member, and not a variable of its own.
     pub is_member: bool,
     /// Which part of the variable it is; none where the way leads nowhere.
-    pub part: Option<StridedPart<'a>>,
+    pub part: &'n Option<StridedPart<'a>>,
+}
+
+/// A procedure.
+#[derive(Clone, Copy)]
+pub struct NamedProcedure<'n, 'a> {
+    /// The number of its block.
+    pub block: u32,
+    /// What its parameters are, each under its slot.
+    pub parameters: &'n [&'a Description],
+    /// What it gives, if it is a function.
+    pub returned: Option<&'a Description>,
 }
 
 /// What a name means where it is used.
 #[derive(Clone, Copy)]
 pub enum NamedAs<'n, 'a> {
-    Variable(&'n NamedVariable<'a>),
+    Variable(NamedVariable<'n, 'a>),
     Function(BuiltInFunction),
-    Procedure,
-    Label,
+    Procedure(NamedProcedure<'n, 'a>),
+    /// The label of the statement of this number.
+    Label(u32),
+    /// What has no type.
+    Untyped,
 }
 
-/// What the names of a unit mean. Contracts see the tree of the unit.
+/// What the names of a unit mean where some of its blocks stand around. Contracts see the tree of the unit and the
+/// numbers of the blocks around, the innermost first.
 #[derive(Drop)]
 pub struct Naming<'a> {
     resolved: &'a ResolvedUnit<'a>,
-    /// What each symbol of the external procedure's block means.
-    meanings: Vec<Meant<'a>>,
+    /// What each symbol of each block means, under the block's number.
+    meanings: Vec<Vec<Meant<'a>>>,
+    /// What is found once for each block, under its number.
+    entries: Vec<BlockEntry<'a>>,
+    /// The parameters of what is no block.
+    no_parameters: Vec<&'a Description>,
+    /// The blocks around, the innermost last.
+    around: Vec<usize>,
 }
 
 impl<'a> Model for Naming<'a> {
-    ghost use Rattle.pli_base.specs.declared.statement.Procedure.{Procedure};
-    ghost use Rattle.pli_base.specs.contracts.statement.Body.TheKnot.{coded-Procedure};
+    ghost use Rattle.std.specs.Prelude.{◌≡◌, ◌≤◌, length, reverse};
+    ghost use Rattle.pli_type_names.specs.UnitNaming.{Names, names_code};
 
-    ghost Value = { Procedure };
+    ghost Value = { Names };
 
-    ghost coded = { coded-Procedure };
+    ghost coded = { names_code };
 
+    ghost use Rattle.pli_type_names.specs.views.EntryView.{AreEntries};
     ghost use Rattle.pli_type_names.specs.views.MeaningView.{AreMeanings};
 
-    ghost view = { λ n. n.resolved.now };
+    ghost view = { λ n. record { unit = n.resolved.now; blocks = reverse n.around.items } };
 
-    ghost invariant = { λ n. AreMeanings n.meanings.items n.resolved.now };
+    ghost invariant = { λ n. AreMeanings n.meanings.items n.resolved.now × AreEntries n.entries.items n.resolved.now
+        × (length n.no_parameters.items ≡ 0) × (length n.around.items ≤ 4294967295) };
 }
 
-/// What the names of a resolved unit mean.
+/// What the names of a resolved unit mean, outside of all its blocks. Takes time for the unit's symbols.
 pub fn name_unit<'a>(
     alloc: Global,
     resolved: &'a ResolvedUnit<'a>,
 ) -> Result<Naming<'a>, AllocError>
-    ensures { IfOk result (λ naming. naming ≡ resolved.now) }
+    ensures { IfOk result (λ naming. naming ≡ record { unit = resolved.now; blocks = [] }) }
 {
-    let symbols = symbols(alloc, resolved)?;
-    let meanings = symbol_meanings(alloc, &symbols)?;
-    Ok(Naming { resolved, meanings })
+    let meanings = unit_meanings(alloc, resolved)?;
+    let entries = block_entries(alloc, resolved)?;
+    Ok(Naming {
+        resolved,
+        meanings,
+        entries,
+        no_parameters: Vec::new(alloc),
+        around: Vec::new(alloc),
+    })
 }
 
 impl<'a> Naming<'a> {
@@ -81,33 +118,70 @@ impl<'a> Naming<'a> {
 
     /// The tree of the unit.
     pub fn unit(&self) -> &'a Procedure
-        ensures { result.now ≡ self.now }
+        ensures { result.now ≡ self.now.unit }
     {
         self.resolved.unit()
     }
 
-    /// What the symbol of this number in the external procedure's block means.
-    fn declared(&self, number: usize) -> NamedAs<'_, 'a>
-        ensures { answer_view result ≡ seen (declared_as 31 (symbols_in self.now) number) }
+    /// Goes into the block of this number, which stands around from then on. Want of memory leaves the blocks as they
+    /// are.
+    pub fn enter(&mut self, block: u32) -> Result<(), AllocError>
+        ensures entered { OnOk result (self.new ≡ inside self.old block) }
+        ensures kept { OnErr result (self.new ≡ self.old) }
     {
-        answer_at(&self.meanings, number)
+        if self.around.len() >= DEEPEST {
+            return Err(AllocError);
+        }
+        self.around.push(block as usize)?;
+        Ok(())
     }
 
-    /// What the name at a token means where it is used: the first name of each reference between arrows. Tokens are
-    /// counted from 0; what names nothing that has a type is a label.
+    /// Leaves the innermost block.
+    pub fn leave(&mut self)
+        ensures { self.new ≡ outside self.old }
+    {
+        let _block = self.around.pop();
+    }
+
+    /// The block of this number as a procedure: what its parameters are, and what it gives; nothing of what is no
+    /// procedure.
+    pub fn procedure(&self, block: u32) -> NamedProcedure<'_, 'a>
+        ensures { IsProcedure result (procedure_in self.now.unit block) }
+    {
+        NamedProcedure {
+            block,
+            parameters: parameters_at(&self.entries, &self.no_parameters, block as usize),
+            returned: returned_at(&self.entries, block as usize),
+        }
+    }
+
+    /// Whether the name at a token means a built-in function that is not compiled yet. Tokens are counted from 0.
+    #[tactic(auto, unfolding(crate::specs::UnitNaming::unit_compiled))]
+    pub fn is_later(&self, at: u32) -> bool
+        ensures { result ≡ (compiled_in self.now).is_later at }
+    {
+        match self.resolved.meaning_at(at) {
+            Some(NameMeaning::BuiltIn(function)) => is_later_function(function),
+            Some(NameMeaning::Symbol(_)) | None => false,
+        }
+    }
+
+    /// What the symbol under a key means here.
+    fn declared(&self, key: SymbolKey) -> NamedAs<'_, 'a>
+        ensures { answer_view result ≡ seen (declared_as 31 (resolved_unit_of (unit_view self.now.unit)) self.now.blocks key) }
+    {
+        symbol_seen(&self.around, &self.entries, &self.meanings, key)
+    }
+
+    /// What the name at a token means here: the first name of each reference between arrows, the name in CALL, and the
+    /// label in GOTO. Tokens are counted from 0.
     pub fn meaning(&self, at: u32) -> NamedAs<'_, 'a>
         ensures { IsMeantAs result ((naming_in self.now).meaning at) }
     {
         match self.resolved.meaning_at(at) {
-            None => NamedAs::Label,
+            None => NamedAs::Untyped,
             Some(NameMeaning::BuiltIn(function)) => NamedAs::Function(function),
-            Some(NameMeaning::Symbol(key)) => {
-                if key.block == 0 {
-                    self.declared(key.number)
-                } else {
-                    NamedAs::Procedure
-                }
-            }
+            Some(NameMeaning::Symbol(key)) => self.declared(key),
         }
     }
 }

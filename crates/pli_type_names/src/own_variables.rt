@@ -1,66 +1,101 @@
 //! The variables of their own among the symbols of a block, and where each begins.
-ghost use Rattle.std.specs.Prelude.{◌≡◌, ◌+◌, IfOk, map, option_map};
+ghost use Rattle.std.specs.Prelude.{◌≡◌, ◌+◌, IfOk, length, map, option_map};
 ghost use Rattle.pli_resolve.specs.views.SymbolView.{symbol_view, symbol_kind_view};
+ghost use Rattle.pli_type.specs.NamedUnits as units;
+ghost use Rattle.pli_type.specs.NamedUnits.{is_automatic, is_static, one_such, such_before};
 ghost use Rattle.pli_type_names.specs.OwnVariables as spec;
-ghost use Rattle.pli_type_names.specs.OwnVariables.{own_behind, slots_of, statics_of};
+ghost use Rattle.pli_type_names.specs.OwnVariables.{own_behind, place_behind, slots_of, statics_of};
 ghost use Rattle.pli_type_names.specs.views.VariableView.{own_view};
-ghost use Rattle.pli_type_tree.specs.views.TypedView.{root_view};
 
 use crate::descriptions::is_stored;
 use crate::own_variable::OwnVariable;
+use crate::place::Place;
 use pli_resolve::{StorageClass, Symbol, SymbolKind};
-use pli_type_tree::Root;
 use std::alloc::{AllocError, Global};
 
-/// How many variables there are so far: AUTOMATIC ones, and STATIC ones.
+/// The first slot of a block's activation that is free, and the first number among STATIC variables.
 #[derive(Clone, Copy)]
-struct Counts {
-    slots: u32,
-    statics: u32,
+struct Free {
+    slot: u32,
+    number: u32,
 }
 
-impl Counts {
-    /// With one more variable. Want of memory where there are more than 4,294,967,295 of a class.
-    fn with(self, variable: Option<OwnVariable<'_>>) -> Result<Counts, AllocError>
-        ensures slots { IfOk result (λ counts. counts.slots ≡ self.slots + slots_of (option_map own_view variable.entry)) }
-        ensures statics { IfOk result (λ counts. counts.statics ≡ self.statics + statics_of (option_map own_view variable.entry)) }
-    {
-        let Some(variable) = variable else {
-            return Ok(self);
-        };
-        match variable.root {
-            Root::InSlot { .. } => Ok(Counts {
-                slots: self.slots.checked_add(1).ok_or(AllocError)?,
-                statics: self.statics,
-            }),
-            Root::OfProgram { .. } => Ok(Counts {
-                slots: self.slots,
-                statics: self.statics.checked_add(1).ok_or(AllocError)?,
-            }),
-        }
+/// Takes a number. Want of memory where there are more than 4,294,967,295.
+fn take(free: &mut u32) -> Result<u32, AllocError>
+    ensures taken { IfOk result (λ taken. taken ≡ free.old) }
+    ensures left { IfOk result (λ _. free.new ≡ free.old + 1) }
+{
+    let taken = *free;
+    *free = taken.checked_add(1).ok_or(AllocError)?;
+    Ok(taken)
+}
+
+/// Whether the parameter in a slot is the symbol of this number.
+fn is_parameter(parameters: &[usize], slot: usize, number: usize) -> bool
+    ensures { result ≡ units.is_parameter parameters.now slot number }
+{
+    let Some(parameter) = parameters.get(slot) else {
+        return false;
+    };
+    *parameter == number
+}
+
+/// The slot of a parameter that is the symbol of this number. Want of memory where it is more than 4,294,967,295.
+fn parameter_place(
+    parameters: &[usize],
+    slot: usize,
+    number: usize,
+) -> Result<Option<Place>, AllocError>
+    ensures { IfOk result (λ place. place ≡ place_behind parameters.now 0 0 number (StorageClass.Parameter slot)) }
+{
+    if !is_parameter(parameters, slot, number) {
+        return Ok(None);
     }
+    let Ok(slot) = u32::try_from(slot) else {
+        return Err(AllocError);
+    };
+    Ok(Some(Place::InBlock { slot }))
 }
 
-/// Where a variable of this class begins that has so many before it, if it is of a class that is compiled: AUTOMATIC
-/// ones in slots, STATIC ones before the program begins.
-fn root_of_class(class: StorageClass, before: Counts) -> Option<Root>
-    ensures { option_map root_view result ≡ spec.root_of_class before.slots before.statics class }
+/// Where a variable of this class and number begins, if it is of a class that is compiled: parameters and AUTOMATIC
+/// variables in slots, STATIC ones before the program begins.
+fn place(
+    class: StorageClass,
+    number: usize,
+    parameters: &[usize],
+    free: &mut Free,
+) -> Result<Option<Place>, AllocError>
+    ensures begins { IfOk result (λ place. place ≡ place_behind parameters.now free.old.slot free.old.number number class) }
+    ensures slots { IfOk result (λ _. free.new.slot ≡ free.old.slot + slots_of class) }
+    ensures statics { IfOk result (λ _. free.new.number ≡ free.old.number + statics_of class) }
 {
     match class {
-        StorageClass::Automatic => Some(Root::InSlot {
-            outward: 0,
-            slot: before.slots,
-        }),
-        StorageClass::Static => Some(Root::OfProgram {
-            number: before.statics,
-        }),
-        StorageClass::Parameter(_) | StorageClass::Controlled | StorageClass::Based(_) => None,
+        StorageClass::Automatic => {
+            let slot = take(&mut free.slot)?;
+            Ok(Some(Place::InBlock { slot }))
+        }
+        StorageClass::Static => {
+            let number = take(&mut free.number)?;
+            Ok(Some(Place::BeforeProgram { number }))
+        }
+        StorageClass::Parameter(slot) => parameter_place(parameters, slot, number),
+        StorageClass::Controlled | StorageClass::Based(_) => Ok(None),
     }
 }
 
-/// The variable that a symbol is, with so many before it, if it is one that is compiled.
-fn own_variable<'a>(kind: SymbolKind<'a>, before: Counts) -> Option<OwnVariable<'a>>
-    ensures { option_map own_view result ≡ own_behind before.slots before.statics (symbol_kind_view kind.entry) }
+/// The variable that the symbol of this number is, if it is one that is compiled.
+fn own_variable<'a>(
+    kind: SymbolKind<'a>,
+    number: usize,
+    parameters: &[usize],
+    free: &mut Free,
+) -> Result<Option<OwnVariable<'a>>, AllocError>
+    ensures variable { IfOk result (λ variable. option_map own_view variable
+        ≡ own_behind parameters.now free.old.slot free.old.number number (symbol_kind_view kind.entry)) }
+    ensures slots { IfOk result (λ _. free.new.slot
+        ≡ free.old.slot + one_such (is_automatic 31) (symbol_kind_view kind.entry)) }
+    ensures statics { IfOk result (λ _. free.new.number
+        ≡ free.old.number + one_such (is_static 31) (symbol_kind_view kind.entry)) }
 {
     let SymbolKind::Variable {
         description,
@@ -68,31 +103,45 @@ fn own_variable<'a>(kind: SymbolKind<'a>, before: Counts) -> Option<OwnVariable<
         ..
     } = kind
     else {
-        return None;
+        return Ok(None);
     };
     if !is_stored(description) {
-        return None;
+        return Ok(None);
     }
-    let root = root_of_class(class, before)?;
-    Some(OwnVariable { root, description })
+    let Some(begins) = place(class, number, parameters, free)? else {
+        return Ok(None);
+    };
+    Ok(Some(OwnVariable {
+        begins,
+        description,
+    }))
 }
 
-/// For each symbol the variable that it is, if it is one of its own that is compiled.
+/// For each symbol of a block the variable that it is, if it is one of its own that is compiled. STATIC ones have the
+/// numbers behind those of the blocks before, of which there are so many.
 pub(crate) fn own_variables<'a>(
     alloc: Global,
     symbols: &[Symbol<'a>],
+    parameters: &[usize],
+    statics: &mut u32,
 ) -> Result<Vec<Option<OwnVariable<'a>>>, AllocError>
-    ensures { IfOk result (λ variables. map (option_map own_view) variables.items ≡ spec.own_variables (map symbol_view symbols.now)) }
+    ensures variables { IfOk result (λ variables. map (option_map own_view) variables.items
+        ≡ spec.own_variables (record { parameters = parameters.now; statics = statics.old; symbols = map symbol_view symbols.now })) }
+    ensures counted { IfOk result (λ _. statics.new
+        ≡ statics.old + such_before (is_static 31) (map symbol_view symbols.now) (length symbols.now)) }
 {
-    let mut variables = Vec::new(alloc);
-    let mut counts = Counts {
-        slots: 0,
-        statics: 0,
+    let Ok(slot) = u32::try_from(parameters.len()) else {
+        return Err(AllocError);
     };
-    for symbol in symbols {
-        let variable = own_variable(symbol.kind, counts);
-        counts = counts.with(variable)?;
+    let mut free = Free {
+        slot,
+        number: *statics,
+    };
+    let mut variables = Vec::new(alloc);
+    for (number, symbol) in symbols.iter().enumerate() {
+        let variable = own_variable(symbol.kind, number, parameters, &mut free)?;
         variables.push(variable)?;
     }
+    *statics = free.number;
     Ok(variables)
 }

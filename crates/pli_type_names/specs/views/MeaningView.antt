@@ -1,31 +1,48 @@
 -- What meanings of names say, apart from where they lie in memory.
-use Rattle.std.specs.Prelude.{◌≡◌, List, map, option_map}
+use Rattle.std.specs.Prelude.{◌≡◌, ℕ, List, [], Vec, get_or, map, option_map}
+use Rattle.std.specs.Global.{Global}
 use Rattle.pli_base.specs.declared.statement.Procedure.{Procedure}
-use Rattle.pli_type_names.specs.Seen.{Seen, SeenVariable, SeenFunction, SeenProcedure, SeenLabel}
-use Rattle.pli_type_names.specs.Seen.{seen_symbols}
-use Rattle.pli_type_names.specs.UnitNaming.{symbols_in}
+use Rattle.pli_base.specs.views.StatementView.{unit_view}
+use Rattle.pli_map.specs.views.DescriptionView.{description_view}
+use Rattle.pli_resolve.specs.ResolvedUnits.{resolved_unit_of}
+use Rattle.pli_type.specs.Names as plain
+use Rattle.pli_type_names.specs.BlockFacts.{facts_of}
+use Rattle.pli_type_names.specs.Seen.{Seen, SeenVariable, SeenFunction, SeenProcedure, SeenLabel, SeenUntyped}
+use Rattle.pli_type_names.specs.Seen.{Kept, KeptVariable, KeptProcedure, KeptLabel, KeptNothing, kept_symbols}
 use Rattle.pli_type_names.specs.declared.meanings.Meant.{Meant}
 use Rattle.pli_type_names.specs.declared.meanings.Meant.TheVariants as meanings
 use Rattle.pli_type_names.specs.declared.naming.NamedAs.{NamedAs}
 use Rattle.pli_type_names.specs.declared.naming.NamedAs.TheVariants as answers
-use Rattle.pli_type_names.specs.declared.naming.NamedVariable.{NamedVariable}
+use Rattle.pli_type_names.specs.declared.naming.NamedProcedure.{NamedProcedure}
 use Rattle.pli_type_names.specs.views.NameView.{part_view}
 use Rattle.pli_type_tree.specs.views.TypedView.{root_view}
 
-abbrev pub variable_view : NamedVariable → Seen
-variable_view v = SeenVariable (root_view v.root) v.is_member (option_map part_view v.part)
-
-abbrev pub meant_view : Meant → Seen
-meant_view (meanings.Variable v) = variable_view v
-meant_view meanings.Procedure = SeenProcedure
-meant_view meanings.Label = SeenLabel
+abbrev pub procedure_view : NamedProcedure → plain.NamedProcedure
+procedure_view p = record {
+  block = p.block;
+  parameters = map (λ d. description_view d.now) p.parameters.now;
+  returned = option_map (λ d. description_view d.now) p.returned;
+}
 
 abbrev pub answer_view : NamedAs → Seen
-answer_view (answers.Variable v) = variable_view v.now
+answer_view (answers.Variable v) =
+    SeenVariable (root_view v.root) v.is_member (option_map part_view v.part.now)
 answer_view (answers.Function f) = SeenFunction f
-answer_view answers.Procedure = SeenProcedure
-answer_view answers.Label = SeenLabel
+answer_view (answers.Procedure p) = SeenProcedure (procedure_view p)
+answer_view (answers.Label statement) = SeenLabel statement
+answer_view answers.Untyped = SeenUntyped
 
--- what the symbols of a unit's own block mean
-abbrev pub AreMeanings : List Meant → Procedure → Type 0
-AreMeanings meanings unit = map meant_view meanings ≡ seen_symbols (symbols_in unit)
+abbrev pub meant_view : Meant → Kept
+meant_view (meanings.Variable begins is_member part) =
+    KeptVariable begins is_member (option_map part_view part)
+meant_view (meanings.Procedure block) = KeptProcedure block
+meant_view (meanings.Label statement) = KeptLabel statement
+meant_view meanings.Untyped = KeptNothing
+
+abbrev pub row_view : Vec Meant Global → List Kept
+row_view v = map meant_view v.items
+
+-- under each block's number what its symbols mean
+pub record AreMeanings (rows : List (Vec Meant Global)) (u : Procedure) : Type 0 where
+  pub found : (block : ℕ) → get_or (map row_view rows) block []
+      ≡ kept_symbols (facts_of (resolved_unit_of (unit_view u)) block)

@@ -2,7 +2,6 @@
 use Rattle.pli_map.specs.views.DescriptionView.{description_view}
 use Rattle.pli_type_names.specs.OwnVariables as plain
 use Rattle.pli_type_names.specs.declared.own_variable.OwnVariable.{OwnVariable}
-use Rattle.pli_type_tree.specs.views.TypedView.{root_view}
 
 abbrev pub own_view : OwnVariable → plain.OwnVariable
-own_view v = record { root = root_view v.root; whole = description_view v.description.now }
+own_view v = record { begins = v.begins; whole = description_view v.description.now }

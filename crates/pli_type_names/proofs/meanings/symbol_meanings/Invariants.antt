@@ -1,15 +1,16 @@
-use Rattle.std.proofs.Common.{◌≡◌, ◌++◌, drop, map}
+use Rattle.std.proofs.Common.{◌≡◌, ◌++◌, drop, map, option_map}
 use Rattle.pli_resolve.specs.views.SymbolView.{symbol_view}
-use Rattle.pli_type.specs.NamedUnits.{symbol_meant}
+use Rattle.pli_type_names.specs.BlockFacts.{BlockFacts}
 use Rattle.pli_type_names.specs.Numbered.{each_from}
-use Rattle.pli_type_names.specs.Seen.{seen, seen_symbols}
+use Rattle.pli_type_names.specs.OwnVariables.{own_variables}
+use Rattle.pli_type_names.specs.Seen.{kept_symbols, kind_kept}
 use Rattle.pli_type_names.specs.views.MeaningView.{meant_view}
 use Rattle.pli_type_names.proofs.meanings.symbol_meanings.Given as goal
 
 -- the meanings so far, with those of the symbols that are left
 abbrev pub invariant-loop-number : goal.invariant-loop-number
 invariant-loop-number l =
+    let f : BlockFacts = record { parameters = l.parameters; statics = l.fn.statics; symbols = map symbol_view l.symbols } in
     map meant_view l.meanings.items
-    ++ each_from (λ number s. seen (symbol_meant 31 (map symbol_view l.symbols) number s.kind)) l.number
-    (map symbol_view (drop l.number l.symbols))
-    ≡ seen_symbols (map symbol_view l.symbols)
+    ++ each_from (λ number s. kind_kept (own_variables f) number s.kind) l.number (map symbol_view (drop l.number l.symbols))
+    ≡ kept_symbols f

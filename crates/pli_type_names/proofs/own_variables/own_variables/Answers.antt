@@ -1,42 +1,52 @@
-use Rattle.std.proofs.Common.{◌+◌, ◌++◌, ℕ, Option, drop, get_or, map, option_map, ap, sym, ◌∙◌}
+use Rattle.std.proofs.Common.{◌≡◌, ◌+◌, ◌++◌, ℕ, Option, drop, get_or, length, map, option_map, ap, sym, ◌∙◌, arith}
 use Rattle.pli_resolve.specs.Symbols as plain
 use Rattle.pli_resolve.specs.views.SymbolView.{symbol_view, symbol_kind_view}
-use Rattle.pli_type.specs.NamedUnits.{is_automatic, is_static, such_before}
+use Rattle.pli_type.specs.NamedUnits.{is_automatic, is_static, one_such, such_before}
+use Rattle.pli_type_names.specs.BlockFacts.{BlockFacts}
 use Rattle.pli_type_names.specs.Numbered.{each_from}
 use Rattle.pli_type_names.specs.OwnVariables as spec
 use Rattle.pli_type_names.specs.views.VariableView.{own_view}
 use Rattle.pli_type_names.proofs.Lists.{numbered_more}
-use Rattle.pli_type_names.proofs.Owns.{none_before, own_is, slots_before, statics_before}
+use Rattle.pli_type_names.proofs.Owns.{none_before, own_is, before_more}
 use Rattle.pli_type_names.proofs.own_variables.own_variables.Goals as goal
 
-pub loop-symbol-init : goal.loop-symbol-init
-loop-symbol-init c =
+pub loop-number-init : goal.loop-number-init
+loop-number-init c =
     let all = map symbol_view c.args.symbols.now in
+    let f : BlockFacts = record { parameters = c.args.parameters.now; statics = c.args.statics.now; symbols = all } in
+    let counted = c.in-Ok.ensures in
     record {
-      slots = sym (none_before (is_automatic 31) all);
-      statics = sym (none_before (is_static 31) all);
-      variables = ap (λ xs. map (option_map own_view) xs ++ spec.own_variables all) c.new-variables.ensures.items;
+      slots = omega (arith, counted.1, none_before (is_automatic 31) all);
+      statics = omega (arith, none_before (is_static 31) all);
+      variables = ap (λ xs. map (option_map own_view) xs ++ spec.own_variables f) c.new-variables.ensures.items;
     }
 
-pub loop-symbol-preserved : goal.loop-symbol-preserved
-loop-symbol-preserved c =
-    let l = c.loop-symbol in
+pub loop-number-preserved : goal.loop-number-preserved
+loop-number-preserved c =
+    let l = c.loop-number in
     let ss = c.args.symbols.now in
     let all = map symbol_view ss in
-    let n = l.symbol-index in
-    let a = l.counts.slots in
-    let b = l.counts.statics in
-    let s = c.symbol-item.result in
-    let f : ℕ → plain.Symbol → Option spec.OwnVariable = λ number x. spec.own_at all number x.kind in
-    let is = c.own_variable-variable.ensures ∙ ap (λ x. spec.own_behind a b (symbol_kind_view x.kind)) c.symbol-item.is in
+    let facts : BlockFacts = record { parameters = c.args.parameters.now; statics = c.args.statics.now; symbols = all } in
+    let n = l.number in
+    let a = l.free.slot in
+    let b = l.free.number in
+    let s = c.index-symbols-number.result in
+    let kind = symbol_kind_view s.kind in
+    let f : ℕ → plain.Symbol → Option spec.OwnVariable = λ number x. spec.own_at facts number x.kind in
+    let same : kind ≡ symbol_kind_view (get_or ss n s).kind = ap (λ x. symbol_kind_view x.kind) c.index-symbols-number.is in
+    let slots : c.own_variable.new.free.slot ≡ a + one_such (is_automatic 31) (symbol_kind_view (get_or ss n s).kind) =
+    c.in_ok-variable.ensures.slots ∙ ap (λ k. a + one_such (is_automatic 31) k) same in
+    let statics : c.own_variable.new.free.number ≡ b + one_such (is_static 31) (symbol_kind_view (get_or ss n s).kind) =
+    c.in_ok-variable.ensures.statics ∙ ap (λ k. b + one_such (is_static 31) k) same in
+    let more_slots = before_more (is_automatic 31) ss n s c.loop-number-test.true in
+    let more_statics = before_more (is_static 31) ss n s c.loop-number-test.true in
+    let is = c.in_ok-variable.ensures.variable ∙ ap (λ k. spec.own_behind c.args.parameters.now a b n k) same in
     record {
-      slots = c.in_ok-counts.ensures.slots ∙ ap (λ k. k + spec.slots_of (option_map own_view c.own_variable-variable.result)) l.invariant.slots
-          ∙ ap (λ o. such_before (is_automatic 31) all n + spec.slots_of o) is ∙ sym (slots_before ss n a b s c.loop-symbol-test.true);
-      statics = c.in_ok-counts.ensures.statics ∙ ap (λ k. k + spec.statics_of (option_map own_view c.own_variable-variable.result)) l.invariant.statics
-          ∙ ap (λ o. such_before (is_static 31) all n + spec.statics_of o) is ∙ sym (statics_before ss n a b s c.loop-symbol-test.true);
+      slots = omega (arith, slots, more_slots, l.invariant.slots);
+      statics = omega (arith, statics, more_statics, l.invariant.statics);
       variables = ap (λ xs. map (option_map own_view) xs ++ each_from f (n + 1) (map symbol_view (drop (n + 1) ss))) c.in_ok-push.ensures.items
-          ∙ numbered_more (option_map own_view) f ss n s l.variables.items c.own_variable-variable.result (spec.own_variables all)
-          c.loop-symbol-test.true
-          (is ∙ own_is all n a b (symbol_kind_view (get_or ss n s).kind) l.invariant.slots l.invariant.statics)
+          ∙ numbered_more (option_map own_view) f ss n s l.variables.items c.in_ok-variable.variable (spec.own_variables facts)
+          c.loop-number-test.true
+          (is ∙ own_is facts n a b (symbol_kind_view (get_or ss n s).kind) l.invariant.slots l.invariant.statics)
           l.invariant.variables;
     }

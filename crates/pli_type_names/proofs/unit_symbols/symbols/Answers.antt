@@ -13,4 +13,4 @@ loop-number-preserved c =
     let pushed : is_ok c.push.result ≡ true = c.is_err.ensures.negation ∙ ap not c.if-is_err.false in
     let items : c.push.new.self.items ≡ made ++ s ∷ [] = c.push.ensures.items ∙ ap (λ b. if b then made ++ s ∷ [] else made) pushed in
     ap (map symbol_view) items
-    ∙ symbols_more (symbols_in c.args.unit.now) c.loop-number.number made s c.loop-number.invariant c.in-Some.ensures
+    ∙ symbols_more (symbols_in c.args.unit.now c.args.block) c.loop-number.number made s c.loop-number.invariant c.in-Some.ensures

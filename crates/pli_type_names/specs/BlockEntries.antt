@@ -1,0 +1,48 @@
+-- What is found once for each block of a unit, for the procedures among them.
+use Rattle.std.specs.Prelude.{ℕ, Bool, ◌&&◌, Option, None, Some, List, [], slice_get, if◌then◌else◌}
+use Rattle.pli_map.specs.Description as described
+use Rattle.pli_map.specs.Description.{Description}
+use Rattle.pli_resolve.specs.ResolvedUnits.{ResolvedUnit, ResolvedBlock}
+use Rattle.pli_resolve.specs.Symbols.{SymbolKind, Variable, Procedure}
+use Rattle.pli_resolve.specs.declared.symbol.SymbolKey.{SymbolKey}
+use Rattle.pli_type.specs.NamedUnits.{gives_stored, is_internal, is_procedure, of_block}
+use Rattle.pli_type.specs.NamedUnits.{parameters_of, returned_of}
+
+-- whether it is a procedure whose value, if it gives one, a variable could hold; the block round it; what its
+-- parameters are, and what it gives
+pub record BlockEntry : Type 0 where
+  pub is_named : Bool
+  pub outer : Option ℕ
+  pub parameters : List Description
+  pub returned : Option Description
+
+abbrev pub entry_at : ResolvedUnit → (number : ℕ) → ResolvedBlock → BlockEntry
+entry_at r number b = record {
+  is_named = is_procedure b.kind && gives_stored 31 (returned_of r number);
+  outer = b.outer;
+  parameters = parameters_of r number;
+  returned = returned_of r number;
+}
+
+-- the symbol of a procedure's name, where it is one inside the external procedure
+abbrev pub name_of : ResolvedUnit → (block : ℕ) → Option SymbolKey
+name_of r block =
+    of_block (λ b. if is_internal block b.kind then b.name else None) None (slice_get r.blocks block)
+
+-- what a variable of its own is, and what a procedure gives
+abbrev pub description_of : SymbolKind → Description
+description_of (Variable description class scope initial area) = description
+description_of other = described.Pointer
+
+abbrev pub returned_with : SymbolKind → Option Description
+returned_with (Procedure block returned area) = returned
+returned_with other = None
+
+-- the parts of an entry that may not be there
+abbrev pub parameters_in : Option BlockEntry → List Description
+parameters_in None = []
+parameters_in (Some e) = e.parameters
+
+abbrev pub returned_in : Option BlockEntry → Option Description
+returned_in None = None
+returned_in (Some e) = e.returned

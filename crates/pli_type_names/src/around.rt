@@ -1,0 +1,46 @@
+//! The blocks around, the innermost last.
+ghost use Rattle.std.specs.Prelude.{◌≡◌, ◌≤◌, length, option_map, reverse};
+ghost use Rattle.pli_type.specs.NamedUnits.{outward_to, stands_around};
+ghost use Rattle.pli_type_names.specs.Seen.{root_from};
+ghost use Rattle.pli_type_tree.specs.views.TypedView.{root_view};
+
+use crate::place::Place;
+use pli_type_tree::Root;
+
+/// How many static links outward a block is, if it stands around.
+fn outward_to(around: &[usize], block: usize) -> Option<u32>
+    requires { length around.now ≤ 4294967295 }
+    ensures { result ≡ outward_to (reverse around.now) block }
+{
+    for outward in 0..around.len() {
+        if around[around.len() - 1 - outward] == block {
+            return Some(outward as u32);
+        }
+    }
+    None
+}
+
+/// Whether a block's outer block stands around, or it has none.
+pub(crate) fn stands_around(around: &[usize], outer: Option<usize>) -> bool
+    requires { length around.now ≤ 4294967295 }
+    ensures { result ≡ stands_around (reverse around.now) outer }
+{
+    match outer {
+        None => true,
+        Some(outer) => outward_to(around, outer).is_some(),
+    }
+}
+
+/// Where a variable of a block begins, if the block stands around or it is one that is made before the program begins.
+pub(crate) fn root_from(around: &[usize], block: usize, begins: Place) -> Option<Root>
+    requires { length around.now ≤ 4294967295 }
+    ensures { option_map root_view result ≡ root_from (reverse around.now) block begins }
+{
+    match begins {
+        Place::InBlock { slot } => {
+            let outward = outward_to(around, block)?;
+            Some(Root::InSlot { outward, slot })
+        }
+        Place::BeforeProgram { number } => Some(Root::OfProgram { number }),
+    }
+}

@@ -1,0 +1,101 @@
+//! What is found once for each block of a unit, for the procedures among them.
+ghost use Rattle.std.specs.Prelude.{◌≡◌, IfOk, length, map, option_map, slice_get};
+ghost use Rattle.pli_base.specs.views.StatementView.{unit_view};
+ghost use Rattle.pli_map.specs.views.DescriptionView.{description_view};
+ghost use Rattle.pli_resolve.specs.ResolvedUnits.{resolved_unit_of};
+ghost use Rattle.pli_resolve.specs.views.UnitView.{resolved_block_view};
+ghost use Rattle.pli_type.specs.NamedUnits as units;
+ghost use Rattle.pli_type_names.specs.BlockEntries.{entry_at, parameters_in, returned_in};
+ghost use Rattle.pli_type_names.specs.views.EntryView.{AreEntries, entry_view};
+
+use crate::descriptions::is_stored;
+use crate::parameters::{parameters_of, returned_of};
+use pli_map::Description;
+use pli_resolve::{ResolvedBlock, ResolvedBlockKind, ResolvedUnit};
+use std::alloc::{AllocError, Global};
+
+/// What is found once for a block.
+#[derive(Drop)]
+pub(crate) struct BlockEntry<'a> {
+    /// Whether it is a procedure whose value, if it gives one, a variable could hold.
+    pub is_named: bool,
+    /// The block that it stands in.
+    pub outer: Option<usize>,
+    /// What its parameters are.
+    pub parameters: Vec<&'a Description>,
+    /// What it gives, if it is that of a function.
+    pub returned: Option<&'a Description>,
+}
+
+/// Whether a variable could hold what a procedure gives, if it gives anything.
+fn gives_stored(returned: Option<&Description>) -> bool
+    ensures { result ≡ units.gives_stored 31 (option_map (λ d. description_view d.now) returned.entry) }
+{
+    match returned {
+        None => true,
+        Some(returned) => is_stored(returned),
+    }
+}
+
+/// What is found for the block of this number.
+fn block_entry<'r>(
+    alloc: Global,
+    resolved: &'r ResolvedUnit<'r>,
+    number: usize,
+    block: ResolvedBlock<'r>,
+) -> Result<BlockEntry<'r>, AllocError>
+    ensures { IfOk result (λ entry. entry_view entry
+        ≡ entry_at (resolved_unit_of (unit_view resolved.now)) number (resolved_block_view block.entry)) }
+{
+    let parameters = parameters_of(alloc, resolved, number)?;
+    let returned = returned_of(resolved, number);
+    let is_procedure = matches!(block.kind, ResolvedBlockKind::Procedure);
+    Ok(BlockEntry {
+        is_named: is_procedure && gives_stored(returned),
+        outer: block.outer,
+        parameters,
+        returned,
+    })
+}
+
+/// What is found for each block of a unit, under its number.
+pub(crate) fn block_entries<'r>(
+    alloc: Global,
+    resolved: &'r ResolvedUnit<'r>,
+) -> Result<Vec<BlockEntry<'r>>, AllocError>
+    ensures { IfOk result (λ made. AreEntries made.items resolved.now) }
+{
+    let mut made = Vec::new(alloc);
+    for number in 0..usize::MAX {
+        let Some(block) = resolved.block(number) else {
+            return Ok(made);
+        };
+        made.push(block_entry(alloc, resolved, number, block)?)?;
+    }
+    Err(AllocError)
+}
+
+/// What the parameters of the block of this number are; none where there is no such block.
+pub(crate) fn parameters_at<'n, 'a>(
+    entries: &'n [BlockEntry<'a>],
+    none: &'n [&'a Description],
+    block: usize,
+) -> &'n [&'a Description]
+    requires { length none.now ≡ 0 }
+    ensures { map (λ d. description_view d.now) result.now ≡ parameters_in (slice_get (map entry_view entries.now) block) }
+{
+    let Some(entry) = entries.get(block) else {
+        return none;
+    };
+    &entry.parameters
+}
+
+/// What the block of this number gives, if there is one and it is that of a function.
+pub(crate) fn returned_at<'a>(entries: &[BlockEntry<'a>], block: usize) -> Option<&'a Description>
+    ensures { option_map (λ d. description_view d.now) result ≡ returned_in (slice_get (map entry_view entries.now) block) }
+{
+    let Some(entry) = entries.get(block) else {
+        return None;
+    };
+    entry.returned
+}

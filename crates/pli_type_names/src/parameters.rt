@@ -1,0 +1,115 @@
+//! The parameters of blocks, and what they give.
+ghost use Rattle.std.specs.Prelude.{◌≡◌, IfOk, IfSome, map, option_map};
+ghost use Rattle.pli_base.specs.views.StatementView.{unit_view};
+ghost use Rattle.pli_map.specs.views.DescriptionView.{description_view};
+ghost use Rattle.pli_resolve.specs.ResolvedUnits.{resolved_unit_of, symbol_at};
+ghost use Rattle.pli_resolve.specs.views.SymbolView.{symbol_kind_view};
+ghost use Rattle.pli_type.specs.NamedUnits as units;
+ghost use Rattle.pli_type_names.specs.BlockEntries as spec;
+ghost use Rattle.pli_type.specs.NamedUnits.{description_in, parameters_of, returned_of};
+
+use pli_map::Description;
+use pli_resolve::{ResolvedBlockKind, ResolvedUnit, SymbolKey, SymbolKind};
+use std::alloc::{AllocError, Global};
+
+/// Whether a block is a procedure inside the external procedure.
+fn is_internal(number: usize, kind: ResolvedBlockKind) -> bool
+    ensures { result ≡ units.is_internal number kind }
+{
+    number > 0 && matches!(kind, ResolvedBlockKind::Procedure)
+}
+
+/// The numbers of the parameters of a block among its symbols, each under its slot. The external procedure has none so
+/// far (own).
+pub(crate) fn parameter_numbers<'r>(resolved: &'r ResolvedUnit<'r>, number: usize) -> &'r [usize]
+    ensures { result.now ≡ units.parameter_numbers (resolved_unit_of (unit_view resolved.now)) number }
+{
+    let Some(block) = resolved.block(number) else {
+        return &[];
+    };
+    if !is_internal(number, block.kind) {
+        return &[];
+    }
+    block.parameters
+}
+
+/// What a variable of its own is.
+fn variable_description<'r>(kind: SymbolKind<'r>) -> Option<&'r Description>
+    ensures { IfSome result (λ d. description_view d.now ≡ spec.description_of (symbol_kind_view kind.entry)) }
+{
+    let SymbolKind::Variable { description, .. } = kind else {
+        return None;
+    };
+    Some(description)
+}
+
+/// What the parameter is that is the symbol under a key; none where the symbol is no variable.
+fn parameter_at<'r>(resolved: &'r ResolvedUnit<'r>, key: SymbolKey) -> Option<&'r Description>
+    ensures { IfSome result (λ d. description_view d.now
+        ≡ description_in (symbol_at (resolved_unit_of (unit_view resolved.now)) key)) }
+{
+    let Some(symbol) = resolved.symbol(key) else {
+        return None;
+    };
+    variable_description(symbol.kind)
+}
+
+/// What the parameters of a block are. Want of memory where one is no variable; each of a unit without faults is one.
+pub(crate) fn parameters_of<'r>(
+    alloc: Global,
+    resolved: &'r ResolvedUnit<'r>,
+    block: usize,
+) -> Result<Vec<&'r Description>, AllocError>
+    ensures { IfOk result (λ made. map (λ d. description_view d.now) made.items
+        ≡ parameters_of (resolved_unit_of (unit_view resolved.now)) block) }
+{
+    let mut made = Vec::new(alloc);
+    let numbers = parameter_numbers(resolved, block);
+    for number in numbers {
+        let key = SymbolKey {
+            block,
+            number: *number,
+        };
+        let Some(description) = parameter_at(resolved, key) else {
+            return Err(AllocError);
+        };
+        made.push(description)?;
+    }
+    Ok(made)
+}
+
+/// What a procedure gives.
+fn returned_by<'r>(kind: SymbolKind<'r>) -> Option<&'r Description>
+    ensures { option_map (λ d. description_view d.now) result ≡ spec.returned_with (symbol_kind_view kind.entry) }
+{
+    let SymbolKind::Procedure { returned, .. } = kind else {
+        return None;
+    };
+    returned
+}
+
+/// The symbol of a function's name, if a block is one inside the external procedure.
+fn name_of(resolved: &ResolvedUnit<'_>, number: usize) -> Option<SymbolKey>
+    ensures { result ≡ spec.name_of (resolved_unit_of (unit_view resolved.now)) number }
+{
+    let block = resolved.block(number)?;
+    if !is_internal(number, block.kind) {
+        return None;
+    }
+    block.name
+}
+
+/// What a block gives, if it is that of a function. The external procedure gives nothing so far (own).
+pub(crate) fn returned_of<'r>(
+    resolved: &'r ResolvedUnit<'r>,
+    number: usize,
+) -> Option<&'r Description>
+    ensures { option_map (λ d. description_view d.now) result
+        ≡ returned_of (resolved_unit_of (unit_view resolved.now)) number }
+{
+    let key = name_of(resolved, number)?;
+    let Some(symbol) = resolved.symbol(key) else {
+        return None;
+    };
+    returned_by(symbol.kind)
+}

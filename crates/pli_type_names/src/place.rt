@@ -1,0 +1,10 @@
+//! Where variables begin.
+
+/// Where a variable begins, seen from its own block.
+#[derive(Clone, Copy)]
+pub(crate) enum Place {
+    /// In a slot of the block's activation, counted from 0: parameters first, and then AUTOMATIC variables.
+    InBlock { slot: u32 },
+    /// Under this number among the STATIC variables of the unit, which are made before the program begins.
+    BeforeProgram { number: u32 },
+}
