@@ -13,7 +13,7 @@ use Rattle.pli_map.specs.Values.{holds, first_values, first_values_of}
 use Rattle.pli_resolve.specs.Symbols.{Symbol, SymbolKind, Variable, Member, Label, Procedure, Entry, BuiltIn}
 use Rattle.pli_resolve.specs.declared.symbol.StorageClass.{StorageClass}
 use Rattle.pli_type.specs.InitialScalars.{NumberedScalar, counted_from, scalars_on, scalars_in_member, as_held, each_with, values_written, InitialItem, initial_scalars, template_of}
-use Rattle.pli_type.specs.NamedUnits.{is_plain, all_plain, member_items, template_at, templates_from}
+use Rattle.pli_type.specs.NamedUnits.{is_plain, all_plain, member_items, template_at, templates_from, templates_of}
 use Rattle.pli_type_tree.specs.Templates.{InitialScalar, Template, with_initial, variable_of}
 use Rattle.pli_type_tree.specs.WellTyped.{scalars_of, scalars_of_members, AreHeld, AreMade}
 use Rattle.pli_value.specs.Numbers.{has_digits}
@@ -236,3 +236,16 @@ module _ (n : ℕ) (is_such : StorageClass → Description → Bool) (plain : (c
   pub all_made : (number : ℕ) (ss : List Symbol) → AreMade (map variable_of (templates_from is_such all number ss))
   all_made number [] = tt
   all_made number (s ∷ ss) = symbol_made number s.kind (templates_from is_such all (suc number) ss) (all_made (suc number) ss)
+
+made_both : (ts us : List Template) → AreMade (map variable_of ts) → AreMade (map variable_of us) → AreMade (map variable_of (ts ++ us))
+made_both [] us h g = g
+made_both (t ∷ ts) us h g = (h.0, made_both ts us h.1 g)
+
+-- of several blocks
+pub made_behind : (n : ℕ) (is_such : StorageClass → Description → Bool)
+    → ((class : StorageClass) (d : Description) → is_such class d ≡ true → is_plain n d ≡ true) → (blocks : List (List Symbol))
+    → AreMade (map variable_of (flat_map (templates_of is_such) blocks))
+made_behind n is_such plain [] = tt
+made_behind n is_such plain (ss ∷ more) =
+    made_both (templates_of is_such ss) (flat_map (templates_of is_such) more) (all_made n is_such plain ss 0 ss)
+    (made_behind n is_such plain more)

@@ -1,5 +1,6 @@
 pub mod InitialHeld
 pub mod NameFactsHold
+pub mod NamesMean
 pub mod NumberingHolds
 pub mod PartsLead
 pub mod PartsOfNames

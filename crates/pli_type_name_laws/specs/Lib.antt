@@ -1,2 +1,4 @@
 pub mod NameFacts
 pub mod Numbering
+pub mod SourceBlocks
+pub mod UnitBlocks

@@ -7,12 +7,14 @@ ghost use Rattle.pli_resolve.specs.ResolvedUnits.{ResolvedUnit};
 ghost use Rattle.pli_type.specs.NamedUnits.{named_unit};
 ghost use Rattle.pli_type_name_laws.specs.NameFacts.{NameFacts};
 ghost use Rattle.pli_type_name_laws.specs.Numbering.{AreNumbered};
+ghost use Rattle.pli_type_name_laws.specs.UnitBlocks.{BlocksAreOfTree};
 
-/// A law: a name that means a variable means one of the unit, which begins where its root says and has the type that
-/// is said; each of its parts is where its offset and its subscripts say, wherever these are within their bounds;
-/// and each variable begins with values that its scalars hold.
+/// A law: where the blocks of a unit are those of its tree, a name that means a variable means one of the blocks around
+/// or of the program, which begins where its root says and has the type that is said; each of its parts is where its
+/// offset and its subscripts say, wherever these are within their bounds; a name that means a procedure means one of
+/// the tree, directly in a block around; and each variable begins with values that its scalars hold.
 pub fn names_mean_variables()
-    ensures { (r : ResolvedUnit) → NameFacts (named_unit 31 r) }
+    ensures { (r : ResolvedUnit) → BlocksAreOfTree r → NameFacts (named_unit 31 r) }
 {}
 
 /// A law: the statements of a unit that is read are numbered in the order of the text.

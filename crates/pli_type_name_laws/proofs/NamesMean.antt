@@ -1,0 +1,207 @@
+-- What a name that means a variable or a procedure says.
+use Rattle.std.specs.Prelude.{◌≡◌, ℕ, zero, suc, Bool, true, false, ◌&&◌, Option, Some, None, option_map, List, [], ◌∷◌, map, slice_get}
+use Rattle.std.specs.Prelude.{if◌then◌else◌, refl}
+use Rattle.std.proofs.Common.{sym, ◌∙◌, ap, subst}
+use Rattle.std.proofs.lemmas.Bool.{and_parts}
+use Rattle.std.proofs.lemmas.Option.{same_Some, none-some}
+use Rattle.pli_map.specs.Description.{Description}
+use Rattle.pli_resolve.specs.ResolvedUnits.{ResolvedUnit, ResolvedBlock, symbol_at}
+use Rattle.pli_resolve.specs.Symbols.{Symbol, SymbolKind, Variable, Member, Label, Procedure, Entry, BuiltIn}
+use Rattle.pli_resolve.specs.declared.block_numbers.ResolvedBlockKind.{ResolvedBlockKind}
+use Rattle.pli_resolve.specs.declared.block_numbers.ResolvedBlockKind.TheVariants as kinds
+use Rattle.pli_resolve.specs.declared.symbol.NameMeaning.{NameMeaning}
+use Rattle.pli_resolve.specs.declared.symbol.NameMeaning.TheVariants as meanings
+use Rattle.pli_resolve.specs.declared.symbol.StorageClass.{StorageClass}
+use Rattle.pli_resolve.specs.declared.symbol.SymbolKey.{SymbolKey}
+use Rattle.pli_type.specs.NamedUnits.{is_stored, block_symbols, outward_to, root_of, variable_from, variable_at, is_procedure}
+use Rattle.pli_type.specs.NamedUnits.{stands_around, is_reached, gives_stored, returned_of, named_procedure, procedure_named}
+use Rattle.pli_type.specs.NamedUnits.{symbol_meant, declared_as, named_as}
+use Rattle.pli_type.specs.Names.{NamedVariable, NamedProcedure, NamedAs, AVariable, AFunction, AProcedure, ALabel, Untyped}
+use Rattle.pli_type_tree.specs.TypedTree.{Root}
+use Rattle.pli_type_name_laws.specs.NameFacts.{StandsAround}
+use Rattle.pli_type_name_laws.specs.SourceBlocks.{SourceBlock}
+use Rattle.pli_type_name_laws.specs.UnitBlocks.{in_unit, in_tree}
+use Rattle.pli_type_name_laws.proofs.RootsStand.{IsOf, Standing, root_begins}
+
+not_true : false ≡ true → ⊥
+not_true e = absurd (cc)
+
+same_variable : (v w : NamedVariable) → AVariable v ≡ AVariable w → v ≡ w
+same_variable v w e = cc
+
+same_procedure : (p q : NamedProcedure) → AProcedure p ≡ AProcedure q → p ≡ q
+same_procedure p q e = cc
+
+module _ (n : ℕ) (r : ResolvedUnit) (blocks : List ℕ) where
+  -- ---- variables
+
+  module _ (v : NamedVariable) where
+    abbrev pub Begins : Type 0
+    Begins = Standing n r blocks v.root v.whole × (is_stored n v.whole ≡ true)
+
+    untyped : Untyped ≡ AVariable v → ⊥
+    untyped e = absurd (cc)
+
+    no_variable : (p : NamedProcedure) → AProcedure p ≡ AVariable v → ⊥
+    no_variable p e = absurd (cc)
+
+    no_label : (statement : ℕ) → ALabel statement ≡ AVariable v → ⊥
+    no_label statement e = absurd (cc)
+
+    from_root : (key : SymbolKey) (class : StorageClass) (d : Description) (path : List ℕ) (s : Symbol)
+        → slice_get (block_symbols r key.block) key.number ≡ Some s → IsOf class d s.kind → (o : Option Root)
+        → root_of n r blocks key class d ≡ o → variable_from o d path ≡ AVariable v → Begins
+    from_root key class d path s there of None is e = absurd (untyped e)
+    from_root key class d path s there of (Some root) is e =
+        subst (λ (w : NamedVariable). Standing n r blocks w.root w.whole × (is_stored n w.whole ≡ true))
+        (same_variable (record { root = root; whole = d; path = path }) v e)
+        (root_begins n r blocks key d root s there class of is)
+
+    of_variable : (key : SymbolKey) (path : List ℕ) (s : Symbol) (kind : SymbolKind)
+        → slice_get (block_symbols r key.block) key.number ≡ Some s → s.kind ≡ kind
+        → variable_at n r blocks key path (Some (record { identifier = s.identifier; kind = kind })) ≡ AVariable v → Begins
+    of_variable key path s (Variable d class scope initial area) there is e =
+        from_root key class d path s there (subst (IsOf class d) (sym is) (refl, refl)) _ refl e
+    of_variable key path s (Member root p initial area) there is e = absurd (untyped e)
+    of_variable key path s (Label statement) there is e = absurd (untyped e)
+    of_variable key path s (Procedure block returned area) there is e = absurd (untyped e)
+    of_variable key path s (Entry parameters returned) there is e = absurd (untyped e)
+    of_variable key path s BuiltIn there is e = absurd (untyped e)
+
+    of_member : (key : SymbolKey) (path : List ℕ) (o : Option Symbol) → slice_get (block_symbols r key.block) key.number ≡ o
+        → variable_at n r blocks key path o ≡ AVariable v → Begins
+    of_member key path None there e = absurd (untyped e)
+    of_member key path (Some s) there e = of_variable key path s s.kind there refl e
+
+    named_or_not : (b : Bool) (p : NamedProcedure) → (if b then AProcedure p else Untyped) ≡ AVariable v → ⊥
+    named_or_not true p e = no_variable p e
+    named_or_not false p e = untyped e
+
+    of_symbol : (key : SymbolKey) (s : Symbol) (kind : SymbolKind) → slice_get (block_symbols r key.block) key.number ≡ Some s
+        → s.kind ≡ kind → symbol_meant n r blocks key kind ≡ AVariable v → Begins
+    of_symbol key s (Variable d class scope initial area) there is e =
+        from_root key class d [] s there (subst (IsOf class d) (sym is) (refl, refl)) _ refl e
+    of_symbol key s (Member root path initial area) there is e =
+        of_member (record { block = key.block; number = root }) path _ refl e
+    of_symbol key s (Label statement) there is e = absurd (no_label statement e)
+    of_symbol key s (Procedure block returned area) there is e = absurd (named_or_not _ (named_procedure r block) e)
+    of_symbol key s (Entry parameters returned) there is e = absurd (untyped e)
+    of_symbol key s BuiltIn there is e = absurd (untyped e)
+
+    of_declared : (key : SymbolKey) (o : Option Symbol) → symbol_at r key ≡ o → declared_as n r blocks key ≡ AVariable v → Begins
+    of_declared key None there e = absurd (untyped (sym (none_there there) ∙ e))
+      where
+        none_there : symbol_at r key ≡ None → declared_as n r blocks key ≡ Untyped
+        none_there e = rw e refl
+    of_declared key (Some s) there e = of_symbol key s s.kind there refl (sym (one_there there) ∙ e)
+      where
+        one_there : symbol_at r key ≡ Some s → declared_as n r blocks key ≡ symbol_meant n r blocks key s.kind
+        one_there e = rw e refl
+
+    pub variable_begins : (o : Option NameMeaning) → named_as n r blocks o ≡ AVariable v → Begins
+    variable_begins None e = absurd (untyped e)
+    variable_begins (Some (meanings.BuiltIn function)) e = absurd (cc)
+    variable_begins (Some (meanings.Symbol key)) e = of_declared key _ refl e
+
+  -- ---- procedures
+
+  module _ (p : NamedProcedure) where
+    -- it is the procedure of a block that is reached, and gives what could be stored
+    pub record IsNamed : Type 0 where
+      pub is : p ≡ named_procedure r p.block
+      pub reached : is_reached blocks (slice_get r.blocks p.block) ≡ true
+      pub stored : gives_stored n p.returned ≡ true
+
+    nothing : Untyped ≡ AProcedure p → ⊥
+    nothing e = absurd (cc)
+
+    from_variable : (o : Option Root) (d : Description) (path : List ℕ) → variable_from o d path ≡ AProcedure p → ⊥
+    from_variable None d path e = nothing e
+    from_variable (Some root) d path e = absurd (cc)
+
+    member_means : (key : SymbolKey) (path : List ℕ) (o : Option Symbol) → variable_at n r blocks key path o ≡ AProcedure p → ⊥
+    member_means key path None e = nothing e
+    member_means key path (Some s) e = by s.kind refl e
+      where
+        by : (kind : SymbolKind) → s.kind ≡ kind
+            → variable_at n r blocks key path (Some (record { identifier = s.identifier; kind = kind })) ≡ AProcedure p → ⊥
+        by (Variable d class scope initial area) is e = from_variable (root_of n r blocks key class d) d path e
+        by (Member root p initial area) is e = nothing e
+        by (Label statement) is e = nothing e
+        by (Procedure block returned area) is e = nothing e
+        by (Entry parameters returned) is e = nothing e
+        by BuiltIn is e = nothing e
+
+    of_block : (block : ℕ) (b : Bool) → (is_reached blocks (slice_get r.blocks block) && gives_stored n (returned_of r block)) ≡ b
+        → (if b then AProcedure (named_procedure r block) else Untyped) ≡ AProcedure p → IsNamed
+    of_block block true h e =
+        let same : named_procedure r block ≡ p = same_procedure (named_procedure r block) p e in
+        let number : block ≡ p.block = ap (λ (q : NamedProcedure). q.block) same in
+        let parts : (is_reached blocks (slice_get r.blocks block) ≡ true) × (gives_stored n (returned_of r block) ≡ true) =
+        and_parts _ _ h in
+        record {
+          is = sym same ∙ ap (named_procedure r) number;
+          reached = ap (λ k. is_reached blocks (slice_get r.blocks k)) (sym number) ∙ parts.0;
+          stored = ap (λ (q : NamedProcedure). gives_stored n q.returned) (sym same) ∙ parts.1;
+        }
+    of_block block false h e = absurd (nothing e)
+
+    symbol_named : (key : SymbolKey) (kind : SymbolKind) → symbol_meant n r blocks key kind ≡ AProcedure p → IsNamed
+    symbol_named key (Variable d class scope initial area) e = absurd (from_variable (root_of n r blocks key class d) d [] e)
+    symbol_named key (Member root path initial area) e =
+        absurd (member_means (record { block = key.block; number = root }) path (slice_get (block_symbols r key.block) root) e)
+    symbol_named key (Label statement) e = absurd (cc)
+    symbol_named key (Procedure block returned area) e = of_block block _ refl e
+    symbol_named key (Entry parameters returned) e = absurd (nothing e)
+    symbol_named key BuiltIn e = absurd (nothing e)
+
+    declared_named : (key : SymbolKey) (o : Option Symbol) → symbol_at r key ≡ o → declared_as n r blocks key ≡ AProcedure p → IsNamed
+    declared_named key None there e = absurd (nothing (sym (none_there there) ∙ e))
+      where
+        none_there : symbol_at r key ≡ None → declared_as n r blocks key ≡ Untyped
+        none_there e = rw e refl
+    declared_named key (Some s) there e = symbol_named key s.kind (sym (one_there there) ∙ e)
+      where
+        one_there : symbol_at r key ≡ Some s → declared_as n r blocks key ≡ symbol_meant n r blocks key s.kind
+        one_there e = rw e refl
+
+    pub procedure_named_so : (o : Option NameMeaning) → named_as n r blocks o ≡ AProcedure p → IsNamed
+    procedure_named_so None e = absurd (nothing e)
+    procedure_named_so (Some (meanings.BuiltIn function)) e = absurd (cc)
+    procedure_named_so (Some (meanings.Symbol key)) e = declared_named key _ refl e
+
+-- ---- blocks that are reached
+
+pub is_a_procedure : (kind : ResolvedBlockKind) → is_procedure kind ≡ true → kind ≡ kinds.Procedure
+is_a_procedure kinds.Procedure e = refl
+is_a_procedure kinds.Begin e = absurd (not_true e)
+is_a_procedure kinds.OnUnit e = absurd (not_true e)
+
+pub around : (blocks : List ℕ) (number : Option ℕ) → stands_around blocks number ≡ true → StandsAround blocks number
+around blocks None e = tt
+around blocks (Some number) e = by (outward_to blocks number) refl
+  where
+    none : outward_to blocks number ≡ None → stands_around blocks (Some number) ≡ false
+    none is = rw is refl
+
+    by : (o : Option ℕ) → outward_to blocks number ≡ o → StandsAround blocks (Some number)
+    by (Some outward) is = (outward, is)
+    by None is = absurd (not_true (sym (none is) ∙ e))
+
+heads : {A : Type 0} (x y : A) (xs ys : List A) → x ∷ xs ≡ y ∷ ys → x ≡ y
+heads x y xs ys e = cc
+
+tails : {A : Type 0} (x y : A) (xs ys : List A) → x ∷ xs ≡ y ∷ ys → xs ≡ ys
+tails x y xs ys e = cc
+
+no_more : {A : Type 0} (x : A) (xs : List A) → x ∷ xs ≡ [] → ⊥
+no_more x xs e = absurd (cc)
+
+pub same_place : (bs : List ResolvedBlock) (cs : List SourceBlock) (number : ℕ) (b : ResolvedBlock) → map in_unit bs ≡ map in_tree cs
+    → slice_get bs number ≡ Some b → (c : SourceBlock) × (slice_get cs number ≡ Some c) × (in_unit b ≡ in_tree c)
+same_place [] cs number b same e = absurd (none-some b e)
+same_place (x ∷ bs) [] number b same e = absurd (no_more (in_unit x) (map in_unit bs) same)
+same_place (x ∷ bs) (c ∷ cs) zero b same e =
+    (c, refl, ap in_unit (sym (same_Some x b e)) ∙ heads (in_unit x) (in_tree c) (map in_unit bs) (map in_tree cs) same)
+same_place (x ∷ bs) (c ∷ cs) (suc number) b same e =
+    same_place bs cs number b (tails (in_unit x) (in_tree c) (map in_unit bs) (map in_tree cs) same) e

@@ -1,0 +1,97 @@
+-- The blocks of a source tree, as its statements know them: which lists they stand in, and which labels these
+-- have.
+use Rattle.std.specs.Prelude.{ℕ, suc, ◌+◌, Option, Some, None, option_and_then}
+use Rattle.std.specs.Prelude.{List, [], ◌∷◌, ◌++◌, map, slice_get}
+use Rattle.pli_base.specs.Statements as tree
+use Rattle.pli_base.specs.Statements.{Statement, Numbered, Body, Statements, Ended, Before, Alternative}
+use Rattle.pli_base.specs.Statements.{NoElse, Else, ExternalProcedure}
+use Rattle.pli_map.specs.Description.{Description}
+use Rattle.pli_resolve.specs.declared.block_numbers.ResolvedBlockKind.{ResolvedBlockKind}
+use Rattle.pli_resolve.specs.declared.block_numbers.ResolvedBlockKind.TheVariants as kinds
+use Rattle.pli_type.specs.Names.{NamedUnit}
+use Rattle.pli_type.specs.StatementTyping.{Enclosing, enclosing, labels_of, with_labels}
+use Rattle.pli_type.specs.TreeBlocks as blocks
+use Rattle.pli_type_tree.specs.WellTyped.{BlockAround, Signature}
+
+-- a block: its PROCEDURE, BEGIN or ON; the blocks around it, the innermost first, each with the labels of its
+-- lists in which the block stands; and the labels of its own list
+pub record SourceBlock : Type 0 where
+  pub kind : ResolvedBlockKind
+  pub statement : ℕ
+  pub around : List Enclosing
+  pub labels : List ℕ
+
+-- an ON-unit has no list
+abbrev pub of_unit : (number : ℕ) → Enclosing
+of_unit number = record { number = number; labels = [] }
+
+-- the blocks that begin in a statement, in the order of the text; the first of them has the next number
+abbrev mutual
+  pub begun_in : (around : List Enclosing) → (next : ℕ) → Statement → List SourceBlock
+  begun_in around x (Numbered number label at body) = begun_by around x number body
+
+  pub begun_by : (around : List Enclosing) → (next number : ℕ) → Body → List SourceBlock
+  begun_by around x number (tree.Procedure heading statements end) =
+      record { kind = kinds.Procedure; statement = number; around = around; labels = labels_of statements }
+      ∷ begun_among (enclosing x statements ∷ around) (suc x) statements
+  begun_by around x number (tree.Begin statements end) =
+      record { kind = kinds.Begin; statement = number; around = around; labels = labels_of statements }
+      ∷ begun_among (enclosing x statements ∷ around) (suc x) statements
+  begun_by around x number (tree.Do control statements end) =
+      begun_among (with_labels (labels_of statements) around) x statements
+  begun_by around x number (tree.If condition consequence alternative) =
+      begun_in around x consequence ++ begun_behind around (x + blocks.blocks_in consequence) alternative
+  begun_by around x number (tree.On condition unit) =
+      record { kind = kinds.OnUnit; statement = number; around = around; labels = [] }
+      ∷ begun_in (of_unit x ∷ around) (suc x) unit
+  begun_by around x number body = []
+
+  pub begun_among : (around : List Enclosing) → (next : ℕ) → Statements → List SourceBlock
+  begun_among around x Ended = []
+  begun_among around x (Before first more) =
+      begun_in around x first ++ begun_among around (x + blocks.blocks_in first) more
+
+  pub begun_behind : (around : List Enclosing) → (next : ℕ) → Alternative → List SourceBlock
+  begun_behind around x NoElse = []
+  begun_behind around x (Else statement) = begun_in around x statement
+
+-- the blocks of a unit, each under its number
+abbrev pub unit_blocks : ExternalProcedure → List SourceBlock
+unit_blocks u =
+    record {
+      kind = kinds.Procedure;
+      statement = u.heading.number;
+      around = [];
+      labels = labels_of u.statements;
+    } ∷ begun_among (enclosing 0 u.statements ∷ []) 1 u.statements
+
+-- the number of the innermost block
+abbrev pub innermost : List Enclosing → Option ℕ
+innermost [] = None
+innermost (b ∷ bs) = Some b.number
+
+-- the slots of a block: its parameters, and its AUTOMATIC variables behind them
+abbrev pub slots_in : NamedUnit → (block : ℕ) → List Description
+slots_in u block = u.parameters block ++ map (λ t. t.description) (u.automatic block)
+
+-- blocks around as typed trees know them
+abbrev pub known_blocks : NamedUnit → List Enclosing → List BlockAround
+known_blocks u [] = []
+known_blocks u (b ∷ bs) =
+    record { number = b.number; slots = slots_in u b.number; labels = b.labels } ∷ known_blocks u bs
+
+-- a procedure of a unit, by its block
+abbrev pub signature_of : NamedUnit → (number : ℕ) → SourceBlock → Option Signature
+signature_of u number b = of_kind b.kind
+  where
+    of_kind : ResolvedBlockKind → Option Signature
+    of_kind kinds.Procedure = Some (record {
+      parent = innermost b.around;
+      around = known_blocks u b.around;
+      parameters = u.parameters number;
+      value = u.returned number;
+    })
+    of_kind other = None
+
+abbrev pub signatures : NamedUnit → (number : ℕ) → Option Signature
+signatures u number = option_and_then (signature_of u number) (slice_get (unit_blocks u.tree) number)

@@ -1,0 +1,15 @@
+-- The blocks of a resolved unit are those of its tree.
+use Rattle.std.specs.Prelude.{◌≡◌, ℕ, Option, List, map}
+use Rattle.pli_resolve.specs.ResolvedUnits.{ResolvedUnit, ResolvedBlock}
+use Rattle.pli_resolve.specs.declared.block_numbers.ResolvedBlockKind.{ResolvedBlockKind}
+use Rattle.pli_type_name_laws.specs.SourceBlocks.{SourceBlock, unit_blocks, innermost}
+
+abbrev pub in_unit : ResolvedBlock → ResolvedBlockKind × Option ℕ
+in_unit b = (b.kind, b.outer)
+
+abbrev pub in_tree : SourceBlock → ResolvedBlockKind × Option ℕ
+in_tree b = (b.kind, innermost b.around)
+
+-- each block has the kind, and stands in the block, that the tree gives it
+abbrev pub BlocksAreOfTree : ResolvedUnit → Type 0
+BlocksAreOfTree r = map in_unit r.blocks ≡ map in_tree (unit_blocks r.tree)
