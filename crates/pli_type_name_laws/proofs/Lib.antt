@@ -1,6 +1,7 @@
 pub mod InitialHeld
 pub mod NameFactsHold
 pub mod NamesMean
+pub mod NestingHolds
 pub mod NumberingHolds
 pub mod PartsLead
 pub mod PartsOfNames

@@ -1,4 +1,5 @@
 pub mod NameFacts
+pub mod Nesting
 pub mod Numbering
 pub mod SourceBlocks
 pub mod UnitBlocks

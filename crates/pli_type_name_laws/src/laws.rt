@@ -1,11 +1,14 @@
 //! Laws of what names mean where types are asked for, and of the numbers of statements.
-ghost use Rattle.std.specs.Prelude.{◌≡◌, ℕ, Ok};
+ghost use Rattle.std.specs.Prelude.{◌≡◌, ℕ, true, Ok};
 ghost use Rattle.pli_base.specs.Statements.{ExternalProcedure};
 ghost use Rattle.pli_base.specs.Words.{Tokens};
+ghost use Rattle.pli_parse_expression.specs.Expressions.{Deeper};
+ghost use Rattle.pli_parse_expression.specs.Operators.{nesting_limit};
 ghost use Rattle.pli_parse_statement.specs.StatementReading.{unit_of};
 ghost use Rattle.pli_resolve.specs.ResolvedUnits.{ResolvedUnit};
 ghost use Rattle.pli_type.specs.NamedUnits.{named_unit};
 ghost use Rattle.pli_type_name_laws.specs.NameFacts.{NameFacts};
+ghost use Rattle.pli_type_name_laws.specs.Nesting.{ListNests};
 ghost use Rattle.pli_type_name_laws.specs.Numbering.{AreNumbered};
 ghost use Rattle.pli_type_name_laws.specs.UnitBlocks.{BlocksAreOfTree};
 
@@ -21,4 +24,10 @@ pub fn names_mean_variables()
 #[tactic(auto, using(crate::proofs::NumberingHolds::units_are_numbered))]
 pub fn statements_are_numbered()
     ensures { (texts : Tokens) (u : ExternalProcedure) → unit_of texts ≡ Ok u → (from : ℕ) × AreNumbered from u.statements }
+{}
+
+/// A law: the statements of a unit that is read nest within the limit, and a procedure stands directly in the list of a
+/// block.
+pub fn statements_nest()
+    ensures { (texts : Tokens) (u : ExternalProcedure) → unit_of texts ≡ Ok u → Deeper (λ m. ListNests true m u.statements) nesting_limit }
 {}
