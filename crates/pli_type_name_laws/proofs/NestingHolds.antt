@@ -1,6 +1,6 @@
 -- The statements of a unit that is read nest within the limit, and procedures stand directly in blocks.
-use Rattle.std.specs.Prelude.{◌≡◌, ℕ, zero, suc, ◌+◌, Bool, true, false, Option, Ok, length}
-use Rattle.pli_base.specs.Statements.{Statement, Numbered, Body, Procedure, Begin, Do, If, On, Statements, Ended}
+use Rattle.std.specs.Prelude.{◌≡◌, ℕ, zero, suc, ◌+◌, Bool, true, false, IsTrue, Option, Ok, length, refl}
+use Rattle.pli_base.specs.Statements.{Statement, Numbered, Body, Procedure, Begin, Do, If, On, Heading, Statements, Ended}
 use Rattle.pli_base.specs.Statements.{Before, Alternative, NoElse, Else, ExternalProcedure, count}
 use Rattle.pli_base.specs.Words.{Tokens}
 use Rattle.pli_base.specs.declared.syntax.Identifier.{Identifier}
@@ -23,13 +23,12 @@ abbrev is_direct : Standing → Bool
 is_direct InBlock = true
 is_direct other = false
 
-directly : (standing : Standing) (label : Option Identifier) (levels : ℕ) (heading : _) (statements : Statements) (end : ℕ)
-    → StandsIn standing label (Procedure heading statements end) → Deeper (λ m. ListNests true m statements) levels
-    → BodyNests (is_direct standing) levels (Procedure heading statements end)
-directly InBlock label levels heading statements end s h = h
-directly InGroup label levels heading statements end s h = absurd s
-directly AsClause label levels heading statements end s h = absurd s
-directly AsUnit label levels heading statements end s h = absurd (s.1)
+directly : (standing : Standing) (label : Option Identifier) (heading : Heading) (statements : Statements) (end : ℕ)
+    → StandsIn standing label (Procedure heading statements end) → IsTrue (is_direct standing)
+directly InBlock label heading statements end s = refl
+directly InGroup label heading statements end s = absurd s
+directly AsClause label heading statements end s = absurd s
+directly AsUnit label heading statements end s = absurd (s.1)
 
 mutual
   nests : (c : Context) (levels p k : ℕ) (ts : Tokens) (s : Statement) → SpellsStatement c levels p k ts s
@@ -39,8 +38,10 @@ mutual
   body_nests : (c : Context) (levels : ℕ) (label : Option Identifier) (p k : ℕ) (ts : Tokens) (b : Body)
       → StandsIn c.standing label b → SpellsBody c levels label p k ts b → BodyNests (is_direct c.standing) levels b
   body_nests c levels label p k ts (Procedure heading statements end) s h =
-      directly c.standing label levels heading statements end s
-      (deeper _ (λ m. ListNests true m statements) levels (λ m g. list_nests a_procedure m _ (k + 1) _ statements g) h.4.6)
+      (
+        directly c.standing label heading statements end s,
+        deeper _ (λ m. ListNests true m statements) levels (λ m g. list_nests a_procedure m _ (k + 1) _ statements g) h.4.6,
+      )
   body_nests c levels label p k ts (Begin statements end) s h =
       deeper _ (λ m. ListNests true m statements) levels
       (λ m g. list_nests (standing InBlock c) m _ (k + 1) _ statements g) h.4.3

@@ -1,5 +1,5 @@
 -- How deep statements nest, and where procedures stand.
-use Rattle.std.specs.Prelude.{ℕ, Bool, true, false}
+use Rattle.std.specs.Prelude.{ℕ, Bool, true, false, IsTrue}
 use Rattle.pli_base.specs.Statements.{Statement, Numbered, Body, Procedure, Begin, Do, If, On, Statements}
 use Rattle.pli_base.specs.Statements.{Ended, Before, Alternative, NoElse, Else}
 use Rattle.pli_parse_expression.specs.Expressions.{Deeper}
@@ -11,8 +11,8 @@ abbrev mutual
   NestsWithin direct n (Numbered number label at body) = BodyNests direct n body
 
   pub BodyNests : (direct : Bool) → (levels : ℕ) → Body → Type 0
-  BodyNests true n (Procedure heading statements end) = Deeper (λ m. ListNests true m statements) n
-  BodyNests false n (Procedure heading statements end) = ⊥
+  BodyNests direct n (Procedure heading statements end) =
+      IsTrue direct × Deeper (λ m. ListNests true m statements) n
   BodyNests direct n (Begin statements end) = Deeper (λ m. ListNests true m statements) n
   BodyNests direct n (Do control statements end) = Deeper (λ m. ListNests false m statements) n
   BodyNests direct n (If condition consequence alternative) =
