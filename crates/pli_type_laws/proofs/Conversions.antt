@@ -18,7 +18,7 @@ abbrev pub OnGiven : {A : Type 0} → (A → Type 0) → Option A → Type 0
 OnGiven P (Some x) = P x
 OnGiven P None = Unit {0}
 
-within_self : (t : ValueType) → IsWithin t t
+pub within_self : (t : ValueType) → IsWithin t t
 within_self (Numbers p) = omega arith
 within_self (Strings OfCharacters a b) = (omega arith, omega arith)
 within_self (Strings OfBits a b) = (omega arith, omega arith)

@@ -1,6 +1,5 @@
 -- Expressions and references give what their types say: by induction on the source tree.
 use Rattle.std.specs.Prelude.{◌≡◌, ℕ, Bool, true, false, ◌||◌, Option, Some, None, option_map, List, [], ◌∷◌, Result, refl}
-use Rattle.std.proofs.Common.{arith, sym}
 use Rattle.std.proofs.lemmas.Bool.{not-false, true≢false}
 use Rattle.pli_base.specs.Syntax.{Expression, Referred, Constant, Parenthesized, Prefix, Infix, Reference, Named}
 use Rattle.pli_base.specs.Syntax.{JoinedParts, Alone, Joined, Arguments, Absent, Given, Expressions, Empty, Listed}
@@ -8,25 +7,27 @@ use Rattle.pli_base.specs.declared.code.Code.{Code}
 use Rattle.pli_base.specs.declared.code.Code.TheVariants.{WrongOperandType}
 use Rattle.pli_base.specs.declared.token.Fault.{Fault}
 use Rattle.pli_base.specs.declared.syntax.Joining.TheVariants.{Member, Located}
-use Rattle.pli_map.specs.Description.{Description, FixedBinary, Character, Varying, Bit, Pointer, Offset, Area, Array, Structure}
-use Rattle.pli_type.specs.ExpressionTypes.{TypedValue, precision_of, prefix_value, infix_value}
-use Rattle.pli_type.specs.FunctionCalls.{Meant, OneValue, WholeAggregate, roles_of, function_called}
-use Rattle.pli_type.specs.Names.{NamedAs, AVariable, AFunction, AProcedure, ALabel, Naming}
+use Rattle.pli_type.specs.ExpressionTypes.{TypedValue, precision_of, constant, prefix_value, infix_value}
+use Rattle.pli_type.specs.FunctionCalls.{Denoted, DenotesVariable, DenotesResult, Meant, OneValue, WholeAggregate, meant_as, Argument}
+use Rattle.pli_type.specs.FunctionCalls.{roles_of, function_called}
+use Rattle.pli_type.specs.Names.{NamedAs, AVariable, AFunction, AProcedure, ALabel, Untyped, NamedProcedure, Naming, Compiled}
+use Rattle.pli_type.specs.ProcedureCalls.{arguments_passed, result_of, type_returned}
 use Rattle.pli_type.specs.References.{Role, AsValue, AsArgument, AsLocator, variable_meant}
-use Rattle.pli_type.specs.Typing.{first_token, how_many, or_fault, Denoted, DenotesVariable, DenotesResult, meant_by, meant_as, one_value}
+use Rattle.pli_type.specs.Typing.{first_token, how_many, or_fault, one_value}
 use Rattle.pli_type.specs.Typing.{subscript_value, Segment, OfVariable, OfFunction, OfNoVariable, is_call, with_more, ended, procedure_called, roles_or_none}
-use Rattle.pli_type.specs.Typing.{as_value, meant, referred, joined, begun, subscripts_in, all_subscripts, all_arguments, value_of}
+use Rattle.pli_type.specs.Typing.{as_value, denoted, meant, referred, joined, begun, subscripts_in, all_subscripts, all_arguments, value_of}
 use Rattle.pli_type.specs.Unbuilt.{later_expression, later_reference, later_joined, later_arguments, later_list}
+use Rattle.pli_type_laws.proofs.Calls.{IsCallable, arguments_fit, result_typed}
 use Rattle.pli_type_laws.proofs.Conversions.{OnGiven}
 use Rattle.pli_type_laws.proofs.Constants.{constant_typed}
-use Rattle.pli_type_laws.proofs.Functions.{OnRead, IsReferent, IsMeant, AreArguments, calls_have_type}
+use Rattle.pli_type_laws.proofs.Denotations.{OnRead, IsReferent, IsMeant, IsDenoted, AreArguments, denoted_meant}
+use Rattle.pli_type_laws.proofs.Functions.{calls_have_type}
 use Rattle.pli_type_laws.proofs.Operators.{HasValue, has_precision, prefix_has_type, infix_has_type}
 use Rattle.pli_type_laws.proofs.References.{read_then, IsKnown, AreIndices, more_indices, variable_typed}
 use Rattle.pli_type_laws.specs.ExpressionTyping.{IsNumber}
-use Rattle.pli_type_tree.specs.TypedTree.{TypedExpression, TypedReference}
+use Rattle.pli_type_tree.specs.TypedTree.{TypedExpression, TypedArguments}
 use Rattle.pli_type_tree.specs.ValueTypes.{Numbers}
-use Rattle.pli_type_tree.specs.WellTyped.{TypingContext, IsTyped}
-use Rattle.std.proofs.lemmas.Bool.{and_parts, leb-true}
+use Rattle.pli_type_tree.specs.WellTyped.{TypingContext, IsTyped, ArePassed}
 
 pub or_parts : (a b : Bool) → (a || b) ≡ false → (a ≡ false) × (b ≡ false)
 or_parts true b e = absurd (true≢false e)
@@ -35,11 +36,8 @@ or_parts false b e = (refl, e)
 -- what a name means is known
 abbrev pub IsMeaning : TypingContext → NamedAs → Type 0
 IsMeaning s (AVariable v) = IsKnown s v
+IsMeaning s (AProcedure p) = IsCallable s p
 IsMeaning s other = Unit {0}
-
-abbrev pub IsDenoted : TypingContext → Denoted → Type 0
-IsDenoted s (DenotesVariable r) = IsReferent s r
-IsDenoted s (DenotesResult v) = HasValue s v
 
 abbrev pub IsSegment : TypingContext → Segment → Type 0
 IsSegment s (OfVariable located at v xs) = IsKnown s v × AreIndices s xs
@@ -52,23 +50,6 @@ read_option P code at (Some x) h = h
 read_option P code at None h = tt
 
 module _ (s : TypingContext) where
-  -- what a variable holds
-  held_typed : (r : TypedReference) (d : Description) → IsReferent s (record { reference = r; description = d })
-      → IsMeant s (meant_by (record { reference = r; description = d }))
-  held_typed r (FixedBinary p) h = (p, (FixedBinary p, h.0, refl), (omega arith, leb-true p 31 h.1, leb-true p 31 h.1))
-  held_typed r (Character k) h = (k, k, (Character k, h.0, refl), leb-true k 32767 ((and_parts _ _ h.1).1))
-  held_typed r (Varying k) h = (0, k, (Varying k, h.0, refl), leb-true k 32767 ((and_parts _ _ h.1).1))
-  held_typed r (Bit k) h = (k, k, (Bit k, h.0, refl), leb-true k 32767 ((and_parts _ _ h.1).1))
-  held_typed r Pointer h = absurd (true≢false (sym h.1))
-  held_typed r Offset h = absurd (true≢false (sym h.1))
-  held_typed r (Area k) h = absurd (true≢false (sym h.1))
-  held_typed r (Array bounds element) h = h
-  held_typed r (Structure _) h = h
-
-  pub denoted_meant : (d : Denoted) → IsDenoted s d → IsMeant s (meant_as d)
-  denoted_meant (DenotesVariable r) h = held_typed r.reference r.description h
-  denoted_meant (DenotesResult v) h = h
-
   one_meant : (at : ℕ) (m : Meant) → IsMeant s m → OnRead (HasValue s) (one_value at m)
   one_meant at (OneValue v) h = h
   one_meant at (WholeAggregate r) h = tt
@@ -92,61 +73,70 @@ module _ (s : TypingContext) where
   ended_typed role (OfFunction v) h = h
   ended_typed role (OfNoVariable at) h = tt
 
-  no_procedure : (at : ℕ) (list : Expressions) → OnRead (IsSegment s) (procedure_called at list)
-  no_procedure at Empty = tt
-  no_procedure at (Listed first more) = tt
+  procedure_typed : (p : NamedProcedure) → IsCallable s p → (at : ℕ) (gs : List Argument) → AreArguments s gs
+      → OnRead (IsSegment s) (procedure_called 31 p at gs)
+  procedure_typed p callable at gs h =
+      read_then (λ xs. ArePassed 31 s xs p.parameters) (IsSegment s) (arguments_passed 31 p at gs) _
+      (arguments_fit s p at gs h)
+      (λ xs fit. read_then (HasValue s) (IsSegment s) (result_of at p.block xs (type_returned p.returned)) _
+      (result_typed s p callable xs fit at) (λ v k. k))
 
-module _ (meaning : ℕ → NamedAs) (s : TypingContext) (known : (at : ℕ) → IsMeaning s (meaning at)) where
+module _ (is_later : ℕ → Bool) (meaning : ℕ → NamedAs) (s : TypingContext) (known : (at : ℕ) → IsMeaning s (meaning at)) where
   abbrev pub N : Naming
   N = record { greatest = 31; meaning = meaning }
 
-  pub value_read : (at : ℕ) (r : Result Meant Fault) → OnRead (IsMeant s) r → OnRead (HasValue s) (as_value at r)
-  value_read at r h = read_then (IsMeant s) (HasValue s) r (one_value at) h (one_meant s at)
+  abbrev pub C : Compiled
+  C = record { greatest = 31; is_later = is_later }
+
+  pub value_read : (at : ℕ) (r : Result Denoted Fault) → OnRead (IsDenoted s) r → OnRead (HasValue s) (as_value at r)
+  value_read at r h =
+      read_then (IsDenoted s) (HasValue s) r (λ d. one_value at (meant_as d)) h
+      (λ d k. one_meant s at (meant_as d) (denoted_meant s d k))
 
   mutual
-    pub meant_typed : (role : Role) (e : Expression) → later_expression N e ≡ false
-        → OnRead (IsMeant s) (meant N role e)
-    meant_typed role (Referred reference) l =
-        read_then (IsDenoted s) (IsMeant s) (referred N role reference) _ (referred_typed role reference l)
-        (denoted_meant s)
-    meant_typed role (Constant at value) l = constant_typed s value (not-false _ l)
-    meant_typed role (Parenthesized at inner) l = meant_typed AsValue inner l
-    meant_typed role (Prefix operator at operand) l =
-        read_then (HasValue s) (IsMeant s) (as_value (first_token operand) (meant N AsValue operand)) _
-        (value_read (first_token operand) (meant N AsValue operand) (meant_typed AsValue operand l))
-        (λ v h. read_then (HasValue s) (IsMeant s) (or_fault WrongOperandType at (prefix_value 31 operator v)) _
+    pub denoted_typed : (role : Role) (e : Expression) → later_expression C e ≡ false
+        → OnRead (IsDenoted s) (denoted N role e)
+    denoted_typed role (Referred reference) l = referred_typed role reference l
+    denoted_typed role (Constant at value) l = constant_typed s value (not-false _ l)
+    denoted_typed role (Parenthesized at inner) l =
+        read_then (HasValue s) (IsDenoted s) (as_value (first_token inner) (denoted N AsValue inner)) _
+        (value_read (first_token inner) (denoted N AsValue inner) (denoted_typed AsValue inner l)) (λ v h. h)
+    denoted_typed role (Prefix operator at operand) l =
+        read_then (HasValue s) (IsDenoted s) (as_value (first_token operand) (denoted N AsValue operand)) _
+        (value_read (first_token operand) (denoted N AsValue operand) (denoted_typed AsValue operand l))
+        (λ v h. read_then (HasValue s) (IsDenoted s) (or_fault WrongOperandType at (prefix_value 31 operator v)) _
         (read_option (HasValue s) WrongOperandType at (prefix_value 31 operator v) (prefix_has_type s operator v h))
         (λ u g. g))
-    meant_typed role (Infix operator at left right) l =
-        let parts : (later_expression N left ≡ false) × (later_expression N right ≡ false) = or_parts _ _ l in
-        read_then (HasValue s) (IsMeant s) (as_value (first_token left) (meant N AsValue left)) _
-        (value_read (first_token left) (meant N AsValue left) (meant_typed AsValue left parts.0))
-        (λ v h. read_then (HasValue s) (IsMeant s) (as_value (first_token right) (meant N AsValue right)) _
-        (value_read (first_token right) (meant N AsValue right) (meant_typed AsValue right parts.1))
-        (λ w k. read_then (HasValue s) (IsMeant s) (or_fault WrongOperandType at (infix_value 31 operator v w)) _
+    denoted_typed role (Infix operator at left right) l =
+        let parts : (later_expression C left ≡ false) × (later_expression C right ≡ false) = or_parts _ _ l in
+        read_then (HasValue s) (IsDenoted s) (as_value (first_token left) (denoted N AsValue left)) _
+        (value_read (first_token left) (denoted N AsValue left) (denoted_typed AsValue left parts.0))
+        (λ v h. read_then (HasValue s) (IsDenoted s) (as_value (first_token right) (denoted N AsValue right)) _
+        (value_read (first_token right) (denoted N AsValue right) (denoted_typed AsValue right parts.1))
+        (λ w k. read_then (HasValue s) (IsDenoted s) (or_fault WrongOperandType at (infix_value 31 operator v w)) _
         (read_option (HasValue s) WrongOperandType at (infix_value 31 operator v w)
         (infix_has_type s operator v w h k)) (λ u g. g)))
 
-    pub referred_typed : (role : Role) (r : Reference) → later_reference N r ≡ false
+    pub referred_typed : (role : Role) (r : Reference) → later_reference C r ≡ false
         → OnRead (IsDenoted s) (referred N role r)
     referred_typed role (Named name arguments more) l =
-        let parts : (_ ≡ false) × (later_joined N more ≡ false) = or_parts _ _ l in
+        let parts : (_ ≡ false) × (later_joined C more ≡ false) = or_parts _ _ l in
         read_then (IsSegment s) (IsDenoted s)
         (begun N (meaning name.at) (is_call role false more) false name.at arguments) _
         (begun_typed (meaning name.at) (known name.at) (is_call role false more) false name.at arguments
         ((or_parts _ _ parts.0).1))
         (λ g h. joined_typed role g h more parts.1)
 
-    joined_typed : (role : Role) (g : Segment) → IsSegment s g → (more : JoinedParts) → later_joined N more ≡ false
+    joined_typed : (role : Role) (g : Segment) → IsSegment s g → (more : JoinedParts) → later_joined C more ≡ false
         → OnRead (IsDenoted s) (joined N role g more)
     joined_typed role g h Alone l = ended_typed s role g h
     joined_typed role g h (Joined Member name arguments more) l =
-        let parts : (_ ≡ false) × (later_joined N more ≡ false) = or_parts _ _ l in
+        let parts : (_ ≡ false) × (later_joined C more ≡ false) = or_parts _ _ l in
         read_then (AreIndices s) (IsDenoted s) (subscripts_in N arguments) _
         (subscripts_typed arguments ((or_parts _ _ parts.0).1))
         (λ xs k. joined_typed role (with_more g xs) (more_segment s g xs h k) more parts.1)
     joined_typed role g h (Joined Located name arguments more) l =
-        let parts : (_ ≡ false) × (later_joined N more ≡ false) = or_parts _ _ l in
+        let parts : (_ ≡ false) × (later_joined C more ≡ false) = or_parts _ _ l in
         read_then (IsDenoted s) (IsDenoted s) (ended AsLocator g) _ (ended_typed s AsLocator g h)
         (λ locator k. read_then (IsSegment s) (IsDenoted s)
         (begun N (meaning name.at) (is_call role true more) true name.at arguments) _
@@ -155,63 +145,70 @@ module _ (meaning : ℕ → NamedAs) (s : TypingContext) (known : (at : ℕ) →
         (λ t u. joined_typed role t u more parts.1))
 
     begun_typed : (a : NamedAs) → IsMeaning s a → (call located : Bool) (at : ℕ) (arguments : Arguments)
-        → later_arguments N arguments ≡ false → OnRead (IsSegment s) (begun N a call located at arguments)
+        → later_arguments C arguments ≡ false → OnRead (IsSegment s) (begun N a call located at arguments)
     begun_typed (AVariable v) k call located at (Given list) l =
         read_then (AreIndices s) (IsSegment s) (all_subscripts N list) _ (indices_typed list l) (λ xs h. (k, h))
     begun_typed (AVariable v) k call located at Absent l = (k, tt)
     begun_typed (AFunction function) k true located at (Given list) l =
         read_then (AreArguments s) (IsSegment s)
         (all_arguments N (roles_or_none (roles_of function (how_many list))) list) _
-        (arguments_typed (roles_or_none (roles_of function (how_many list))) list l)
+        (list_typed (roles_or_none (roles_of function (how_many list))) list l)
         (λ gs h. read_then (HasValue s) (IsSegment s)
         (function_called 31 function at (roles_of function (how_many list)) gs) _
         (calls_have_type s function at (roles_of function (how_many list)) gs h) (λ v g. g))
     begun_typed (AFunction function) k false located at (Given list) l =
-        read_then (AreArguments s) (IsSegment s) (all_arguments N [] list) _ (arguments_typed [] list l) (λ gs h. tt)
+        read_then (AreArguments s) (IsSegment s) (all_arguments N [] list) _ (list_typed [] list l) (λ gs h. tt)
     begun_typed (AFunction function) k true located at Absent l = tt
     begun_typed (AFunction function) k false located at Absent l = tt
-    begun_typed AProcedure k true located at (Given list) l =
-        read_then (AreArguments s) (IsSegment s) (all_arguments N [] list) _ (arguments_typed [] list l)
-        (λ gs h. no_procedure s at list)
-    begun_typed AProcedure k false located at (Given list) l =
-        read_then (AreArguments s) (IsSegment s) (all_arguments N [] list) _ (arguments_typed [] list l) (λ gs h. tt)
-    begun_typed AProcedure k true located at Absent l = tt
-    begun_typed AProcedure k false located at Absent l = tt
-    begun_typed ALabel k call located at (Given list) l =
-        read_then (AreArguments s) (IsSegment s) (all_arguments N [] list) _ (arguments_typed [] list l) (λ gs h. tt)
-    begun_typed ALabel k call located at Absent l = tt
+    begun_typed (AProcedure p) k true located at (Given list) l =
+        read_then (AreArguments s) (IsSegment s) (all_arguments N [] list) _ (list_typed [] list l)
+        (λ gs h. procedure_typed s p k at gs h)
+    begun_typed (AProcedure p) k false located at (Given list) l =
+        read_then (AreArguments s) (IsSegment s) (all_arguments N [] list) _ (list_typed [] list l) (λ gs h. tt)
+    begun_typed (AProcedure p) k true located at Absent l = tt
+    begun_typed (AProcedure p) k false located at Absent l = tt
+    begun_typed (ALabel statement) k call located at (Given list) l =
+        read_then (AreArguments s) (IsSegment s) (all_arguments N [] list) _ (list_typed [] list l) (λ gs h. tt)
+    begun_typed (ALabel statement) k call located at Absent l = tt
+    begun_typed Untyped k call located at (Given list) l =
+        read_then (AreArguments s) (IsSegment s) (all_arguments N [] list) _ (list_typed [] list l) (λ gs h. tt)
+    begun_typed Untyped k call located at Absent l = tt
 
-    subscripts_typed : (arguments : Arguments) → later_arguments N arguments ≡ false
+    subscripts_typed : (arguments : Arguments) → later_arguments C arguments ≡ false
         → OnRead (AreIndices s) (subscripts_in N arguments)
     subscripts_typed Absent l = tt
     subscripts_typed (Given list) l = indices_typed list l
 
-    indices_typed : (list : Expressions) → later_list N list ≡ false → OnRead (AreIndices s) (all_subscripts N list)
+    indices_typed : (list : Expressions) → later_list C list ≡ false → OnRead (AreIndices s) (all_subscripts N list)
     indices_typed Empty l = tt
     indices_typed (Listed first more) l =
-        let parts : (later_expression N first ≡ false) × (later_list N more ≡ false) = or_parts _ _ l in
-        read_then (HasValue s) (AreIndices s) (as_value (first_token first) (meant N AsValue first)) _
-        (value_read (first_token first) (meant N AsValue first) (meant_typed AsValue first parts.0))
+        let parts : (later_expression C first ≡ false) × (later_list C more ≡ false) = or_parts _ _ l in
+        read_then (HasValue s) (AreIndices s) (as_value (first_token first) (denoted N AsValue first)) _
+        (value_read (first_token first) (denoted N AsValue first) (denoted_typed AsValue first parts.0))
         (λ v h. read_then (λ x. (p : ℕ) × IsTyped 31 s x (Numbers p)) (AreIndices s)
         (subscript_value 31 (first_token first) v) _
         (subscript_typed s (first_token first) v (precision_of 31 v.kind) (has_precision s v.expression v.kind h))
         (λ x k. read_then (AreIndices s) (AreIndices s) (all_subscripts N more) _ (indices_typed more parts.1)
         (λ xs j. (k, j))))
 
-    arguments_typed : (roles : List Role) (list : Expressions) → later_list N list ≡ false
+    pub list_typed : (roles : List Role) (list : Expressions) → later_list C list ≡ false
         → OnRead (AreArguments s) (all_arguments N roles list)
-    arguments_typed [] Empty l = tt
-    arguments_typed (role ∷ roles) Empty l = tt
-    arguments_typed [] (Listed first more) l =
-        let parts : (later_expression N first ≡ false) × (later_list N more ≡ false) = or_parts _ _ l in
-        read_then (IsMeant s) (AreArguments s) (meant N AsArgument first) _ (meant_typed AsArgument first parts.0)
+    list_typed [] Empty l = tt
+    list_typed (role ∷ roles) Empty l = tt
+    list_typed [] (Listed first more) l =
+        let parts : (later_expression C first ≡ false) × (later_list C more ≡ false) = or_parts _ _ l in
+        read_then (IsDenoted s) (AreArguments s) (denoted N AsArgument first) _ (denoted_typed AsArgument first parts.0)
         (λ m h. read_then (AreArguments s) (AreArguments s) (all_arguments N [] more) _
-        (arguments_typed [] more parts.1) (λ gs k. (h, k)))
-    arguments_typed (role ∷ roles) (Listed first more) l =
-        let parts : (later_expression N first ≡ false) × (later_list N more ≡ false) = or_parts _ _ l in
-        read_then (IsMeant s) (AreArguments s) (meant N role first) _ (meant_typed role first parts.0)
+        (list_typed [] more parts.1) (λ gs k. (h, k)))
+    list_typed (role ∷ roles) (Listed first more) l =
+        let parts : (later_expression C first ≡ false) × (later_list C more ≡ false) = or_parts _ _ l in
+        read_then (IsDenoted s) (AreArguments s) (denoted N role first) _ (denoted_typed role first parts.0)
         (λ m h. read_then (AreArguments s) (AreArguments s) (all_arguments N roles more) _
-        (arguments_typed roles more parts.1) (λ gs k. (h, k)))
+        (list_typed roles more parts.1) (λ gs k. (h, k)))
 
-  pub value_typed : (e : Expression) → later_expression N e ≡ false → OnRead (HasValue s) (value_of N e)
-  value_typed e l = value_read (first_token e) (meant N AsValue e) (meant_typed AsValue e l)
+  pub meant_typed : (role : Role) (e : Expression) → later_expression C e ≡ false → OnRead (IsMeant s) (meant N role e)
+  meant_typed role e l =
+      read_then (IsDenoted s) (IsMeant s) (denoted N role e) _ (denoted_typed role e l) (denoted_meant s)
+
+  pub value_typed : (e : Expression) → later_expression C e ≡ false → OnRead (HasValue s) (value_of N e)
+  value_typed e l = value_read (first_token e) (denoted N AsValue e) (denoted_typed AsValue e l)

@@ -10,7 +10,7 @@ use Rattle.pli_operation.specs.Operations.{Operation, Absolute, Sign, LengthOf, 
 use Rattle.pli_resolve.specs.declared.built_in.BuiltInFunction.{BuiltInFunction}
 use Rattle.pli_resolve.specs.declared.built_in.BuiltInFunction.TheVariants as functions
 use Rattle.pli_type.specs.ExpressionTypes.{TypedValue, precision_of, precisions, all_operands}
-use Rattle.pli_type.specs.FunctionCalls.{Meant, OneValue, WholeAggregate, Argument, calculation, of_values, string_kind, with_number, of_one_kind}
+use Rattle.pli_type.specs.FunctionCalls.{Meant, OneValue, WholeAggregate, meant_as, Argument, calculation, of_values, string_kind, with_number, of_one_kind}
 use Rattle.pli_type.specs.FunctionCalls.{a_count, number_type, bound_value, bound_in, the_bound, value_in, values_in}
 use Rattle.pli_type.specs.FunctionCalls.{divided, of_arguments, or_bad_argument, function_called}
 use Rattle.pli_type.specs.NamedUnits.{is_plain, are_bounds}
@@ -18,28 +18,12 @@ use Rattle.pli_type.specs.References.{Role, Referent}
 use Rattle.pli_type.specs.declared.expression_type.ExpressionType.{ExpressionType}
 use Rattle.pli_type.specs.declared.expression_type.ExpressionType.TheVariants as types
 use Rattle.pli_type_laws.proofs.Conversions.{OnGiven}
+use Rattle.pli_type_laws.proofs.Denotations.{OnRead, IsMeant, AreArguments, denoted_meant}
 use Rattle.pli_type_laws.proofs.Operators.{HasValue, has_precision, have_precisions, of_one, of_two, AreNumbers}
 use Rattle.pli_type_laws.specs.ExpressionTyping.{HasType, IsNumber}
 use Rattle.pli_type_tree.specs.TypedTree.{TypedExpression, Calculated}
 use Rattle.pli_type_tree.specs.ValueTypes.{ValueType, Numbers, OfCharacters, OfBits, Operates}
 use Rattle.pli_type_tree.specs.WellTyped.{TypingContext, IsTyped, IsPlaced}
-
--- what was read, if there is no fault
-abbrev pub OnRead : {A : Type 0} → (A → Type 0) → Result A Fault → Type 0
-OnRead P (Ok x) = P x
-OnRead P (Err f) = Unit {0}
-
--- a part is placed, and plain
-abbrev pub IsReferent : TypingContext → Referent → Type 0
-IsReferent s r = IsPlaced 31 s r.reference r.description × IsTrue (is_plain 31 r.description)
-
-abbrev pub IsMeant : TypingContext → Meant → Type 0
-IsMeant s (OneValue v) = HasValue s v
-IsMeant s (WholeAggregate r) = IsReferent s r
-
-abbrev pub AreArguments : TypingContext → List Argument → Type 0
-AreArguments s [] = Unit {0}
-AreArguments s (g ∷ gs) = IsMeant s g.meant × AreArguments s gs
 
 abbrev pub AreValues : TypingContext → List TypedValue → Type 0
 AreValues s [] = Unit {0}
@@ -263,7 +247,8 @@ module _ (s : TypingContext) where
   all_values_in : (gs : List Argument) → AreArguments s gs → OnGiven (AreValues s) (values_in gs)
   all_values_in [] h = tt
   all_values_in (g ∷ gs) h =
-      first_and_others (value_in g.meant) (values_in gs) (one_value_in g.meant h.0) (all_values_in gs h.1)
+      first_and_others (value_in (meant_as g.denoted)) (values_in gs)
+      (one_value_in (meant_as g.denoted) (denoted_meant s g.denoted h.0)) (all_values_in gs h.1)
 
   given_values : (function : BuiltInFunction) (o : Option (List TypedValue)) → OnGiven (AreValues s) o
       → OnGiven (HasValue s) (option_and_then (of_values 31 function) o)
@@ -276,9 +261,13 @@ module _ (s : TypingContext) where
 
   arguments_give : (function : BuiltInFunction) (gs : List Argument) → AreArguments s gs
       → OnGiven (HasValue s) (of_arguments 31 function gs)
-  arguments_give functions.Divide (x ∷ y ∷ p ∷ []) h = division x.meant y.meant p.written h.0 h.1.0
-  arguments_give functions.LowBound (a ∷ n ∷ []) h = bound_of (λ b. b.low) lows_small a.meant n.written h.0
-  arguments_give functions.HighBound (a ∷ n ∷ []) h = bound_of (λ b. b.high) highs_small a.meant n.written h.0
+  arguments_give functions.Divide (x ∷ y ∷ p ∷ []) h =
+      division (meant_as x.denoted) (meant_as y.denoted) p.written (denoted_meant s x.denoted h.0)
+      (denoted_meant s y.denoted h.1.0)
+  arguments_give functions.LowBound (a ∷ n ∷ []) h =
+      bound_of (λ b. b.low) lows_small (meant_as a.denoted) n.written (denoted_meant s a.denoted h.0)
+  arguments_give functions.HighBound (a ∷ n ∷ []) h =
+      bound_of (λ b. b.high) highs_small (meant_as a.denoted) n.written (denoted_meant s a.denoted h.0)
   arguments_give function gs h = by_values function gs h
 
   or_bad : (at : ℕ) (o : Option TypedValue) → OnGiven (HasValue s) o → OnRead (HasValue s) (or_bad_argument at o)

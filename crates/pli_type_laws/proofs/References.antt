@@ -8,7 +8,7 @@ use Rattle.pli_type.specs.NamedUnits.{is_plain}
 use Rattle.pli_type.specs.Names.{NamedVariable}
 use Rattle.pli_type.specs.References.{Role, wants_scalar, StridedPart, part_of, with_subscripts, subscripts_at, reference_to, Referent}
 use Rattle.pli_type.specs.References.{permitted, settled, variable_meant}
-use Rattle.pli_type_laws.proofs.Functions.{OnRead, IsReferent}
+use Rattle.pli_type_laws.proofs.Denotations.{OnRead, IsReferent}
 use Rattle.pli_type_tree.specs.TypedTree.{Stride, TypedExpression}
 use Rattle.pli_type_tree.specs.ValueTypes.{Numbers}
 use Rattle.pli_type_tree.specs.WellTyped.{TypingContext, IsTyped, IsPlaced, AreSubscripts, LeadTo, root_of}

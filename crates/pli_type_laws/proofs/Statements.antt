@@ -1,59 +1,45 @@
--- Statements are typed as the meaning of typed trees asks.
-use Rattle.std.specs.Prelude.{◌≡◌, ℕ, Bool, true, false, Option, Some, None, List, [], ◌∷◌, Result, Ok, Err, refl, if◌then◌else◌}
-use Rattle.std.specs.List.{list_any}
-use Rattle.std.proofs.Common.{sym, subst}
+-- Statements are typed as the meaning of typed trees asks, and each procedure as its signature says.
+use Rattle.std.specs.Prelude.{◌≡◌, ℕ, suc, ◌+◌, Bool, true, false, ◌||◌, IsTrue, Option, Some, None, List, [], ◌∷◌, ◌++◌, length, map}
+use Rattle.std.specs.Prelude.{slice_get, Result, Ok, Err, refl, if◌then◌else◌}
+use Rattle.std.proofs.Common.{sym, ap, ◌∙◌, subst, eq-eqb}
 use Rattle.pli_base.specs.Statements as tree
-use Rattle.pli_base.specs.Statements.{Statement, Numbered, Body, Statements, Ended, Before, Alternative}
-use Rattle.pli_base.specs.Syntax.{Expression, Reference}
-use Rattle.pli_base.specs.declared.code.Code.TheVariants.{WrongOperandType, CannotAssign, CannotPrint}
+use Rattle.pli_base.specs.Statements.{ExternalProcedure, Statement, Numbered, Body, Statements, Ended, Before, Alternative}
+use Rattle.pli_base.specs.Syntax.{Expression}
 use Rattle.pli_base.specs.declared.token.Fault.{Fault}
 use Rattle.pli_map.specs.Description.{Description}
-use Rattle.pli_map.specs.Same.{same}
-use Rattle.pli_map.specs.laws.SameLaws.{same_decides}
-use Rattle.pli_map.specs.Scalars.{is_scalar}
-use Rattle.pli_type.specs.ExpressionTypes.{converted, printed}
-use Rattle.pli_type.specs.FunctionCalls.{Meant, OneValue, WholeAggregate}
-use Rattle.pli_type.specs.Names.{NamedAs, Naming}
-use Rattle.pli_type.specs.References.{AsArgument, AsTarget, Referent}
-use Rattle.pli_type.specs.StatementTyping.{aggregate_assigned, scalar_assigned, assigned, assignment, truth_of, condition, item, items}
-use Rattle.pli_type.specs.StatementTyping.{of_own, together, made, listed, statement_typed, body_typed, alternative_typed, statements_typed}
-use Rattle.pli_type.specs.Typing.{first_token, or_fault, Denoted, DenotesVariable, DenotesResult, meant, referred, value_of}
-use Rattle.pli_type.specs.Unbuilt.{later_expression, later_reference, or_else, token_if, later_statement, later_body, later_alternative, later_statements}
-use Rattle.pli_type.specs.declared.expression_type.ExpressionType.{ExpressionType}
-use Rattle.pli_type.specs.declared.expression_type.ExpressionType.TheVariants as types
-use Rattle.pli_type_laws.proofs.Conversions.{OnGiven, IsItem, conversion_held, printing_held}
-use Rattle.pli_type_laws.proofs.Expressions.{IsMeaning, IsDenoted, N, or_parts, read_option, meant_typed, referred_typed, value_typed}
-use Rattle.pli_type_laws.proofs.Functions.{OnRead, IsReferent, IsMeant}
-use Rattle.pli_type_laws.proofs.Operators.{HasValue}
-use Rattle.pli_type_laws.proofs.References.{read_then}
-use Rattle.pli_type_laws.specs.ExpressionTyping.{HasType}
+use Rattle.pli_meaning_typed.specs.TypedPrograms.{HasEnd, IsTypedProcedure, context_in, descriptions}
+use Rattle.pli_resolve.specs.declared.block_numbers.ResolvedBlockKind.TheVariants as kinds
+use Rattle.pli_type.specs.Names.{NamedUnit, NamedAs, Compiled, Naming}
+use Rattle.pli_type.specs.StatementTyping as source
+use Rattle.pli_type.specs.StatementTyping.{Enclosing, enclosing, Surroundings, naming_at, block_at, leaves_nothing, assignment, items}
+use Rattle.pli_type.specs.StatementTyping.{condition, iteration, call_typed, goto_typed, return_typed, WithProcedures, of_own, together}
+use Rattle.pli_type.specs.StatementTyping.{made, head_of, function_end, procedure_of, as_procedure, put_before, inside, behind_limits}
+use Rattle.pli_type.specs.StatementTyping.{statement_typed, body_typed, alternative_typed, statements_typed}
+use Rattle.pli_type.specs.TreeBlocks as blocks
+use Rattle.pli_type.specs.TreeBlocks.{Next, behind}
+use Rattle.pli_type.specs.Unbuilt.{later_expression, later_part, later_control, later_option, or_else, token_if, later_statement}
+use Rattle.pli_type.specs.Unbuilt.{later_body, later_alternative, later_statements}
+use Rattle.pli_type_laws.proofs.BlocksKnown.{Within, within_self, within_both, within_behind, begun_count, Sits, sits_parts}
+use Rattle.pli_type_laws.proofs.BlocksKnown.{AreHome, home_labels, StandsDirectly}
+use Rattle.pli_type_laws.proofs.Contexts.{Knows, around_self, group_known, label_known, known_as, own_signature, signature_there}
+use Rattle.pli_type_laws.proofs.Denotations.{OnRead}
+use Rattle.pli_type_laws.proofs.Expressions.{IsMeaning, or_parts}
+use Rattle.pli_type_laws.proofs.Forms.{condition_typed, items_typed, assignment_typed, call_is_typed, return_is_typed, goto_is_typed}
+use Rattle.pli_type_laws.proofs.Forms.{iteration_typed}
+use Rattle.pli_type_laws.proofs.TypedParts.{OnTyped, typed_map, Has, has_front, has_back, Covers, covers_more, IsOurs, ours_both}
+use Rattle.pli_type_laws.proofs.TypedParts.{Typed, typed_made, typed_own, typed_with, typed_both, with_list}
+use Rattle.pli_type_laws.specs.TypedUnits.{unit_with}
+use Rattle.pli_type_name_laws.specs.NameFacts.{NameFacts}
+use Rattle.pli_type_name_laws.specs.SourceBlocks.{SourceBlock, unit_blocks, innermost, known_blocks, signatures, begun_in, begun_by}
+use Rattle.pli_type_name_laws.specs.SourceBlocks.{begun_among, begun_behind, slots_in}
+use Rattle.pli_type_tree.specs.Templates.{Template}
 use Rattle.pli_type_tree.specs.TypedTree as typed
-use Rattle.pli_type_tree.specs.TypedTree.{TypedExpression, TypedReference, Form, TypedStatement, TypedStatements, NoStatement}
-use Rattle.pli_type_tree.specs.TypedTree.{StatementThen, OtherWise, NoElse, Else}
-use Rattle.pli_type_tree.specs.ValueTypes.{StringKind, OfBits}
-use Rattle.pli_type_tree.specs.WellTyped.{TypingContext, IsPlaced, IsValueFor, IsString, AreItems, IsTypedStatement, IsTypedForm, IsTypedElse, AreTypedStatements}
-
--- what is given, if there are no faults
-abbrev pub OnTyped : {A : Type 0} → (A → Type 0) → Result A (List Fault) → Type 0
-OnTyped P (Ok x) = P x
-OnTyped P (Err fs) = Unit {0}
-
-typed_made : {A B : Type 0} (P : A → Type 0) (Q : B → Type 0) (f : A → B) (r : Result A (List Fault))
-    → ((x : A) → P x → Q (f x)) → OnTyped P r → OnTyped Q (made f r)
-typed_made P Q f (Ok x) g p = g x p
-typed_made P Q f (Err fs) g p = tt
-
-typed_own : {A : Type 0} (P : A → Type 0) (r : Result A Fault) → OnRead P r → OnTyped P (of_own r)
-typed_own P (Ok x) h = h
-typed_own P (Err f) h = tt
-
-typed_both : {A B C : Type 0} (P : A → Type 0) (Q : B → Type 0) (R : C → Type 0) (f : A → B → C)
-    (r : Result A (List Fault)) (q : Result B (List Fault)) → ((x : A) (y : B) → P x → Q y → R (f x y))
-    → OnTyped P r → OnTyped Q q → OnTyped R (together f r q)
-typed_both P Q R f (Ok x) (Ok y) g a b = g x y a b
-typed_both P Q R f (Ok x) (Err gs) g a b = tt
-typed_both P Q R f (Err fs) (Ok y) g a b = tt
-typed_both P Q R f (Err fs) (Err gs) g a b = tt
+use Rattle.pli_type_tree.specs.TypedTree.{Form, TypedStatement, TypedStatements, NoStatement, StatementThen, OtherWise, NoElse, Else}
+use Rattle.pli_type_tree.specs.TypedTree.{TypedProcedure}
+use Rattle.pli_type_tree.specs.ValueTypes.{OfBits}
+use Rattle.pli_type_tree.specs.WellTyped as trees
+use Rattle.pli_type_tree.specs.WellTyped.{TypingContext, AreAround, IsString, IsIteration, AreItems, IsTypedStatement, IsTypedForm}
+use Rattle.pli_type_tree.specs.WellTyped.{IsTypedElse, AreTypedStatements}
 
 -- what is compiled
 some_none : {A : Type 0} {x : A} → Some x ≡ None → ⊥
@@ -67,152 +53,324 @@ pub no_either : (o p : Option ℕ) → or_else o p ≡ None → (o ≡ None) × 
 no_either (Some at) p e = absurd (some_none e)
 no_either None p e = (refl, e)
 
-module _ (s : TypingContext) where
-  truth_typed : (e : TypedExpression) (kind : ExpressionType) → HasType s e kind
-      → OnGiven (IsString 31 s OfBits) (truth_of (record { expression = e; kind = kind }))
-  truth_typed e types.Bits h = (h.0, h.1, h.2)
-  truth_typed e (types.FixedDecimal d) h = tt
-  truth_typed e (types.FixedBinary p) h = tt
-  truth_typed e types.Characters h = tt
-  truth_typed e types.Pointer h = tt
-  truth_typed e types.Offset h = tt
-  truth_typed e types.Area h = tt
+-- ---- labels of typed lists
 
-  abbrev IsPrinted : TypedExpression → Type 0
-  IsPrinted x = (kind : StringKind) × IsString 31 s kind x
+unlabelled : (b : Bool) (number : ℕ) (ls : List ℕ) (r : Result (WithProcedures Form) (List Fault))
+    (q : Result (WithProcedures TypedStatements) (List Fault)) → OnTyped (λ y. Within ls (trees.labels_of y.part)) q
+    → OnTyped (λ y. Within ls (trees.labels_of y.part)) (together (put_before b) (made (typed.Statement number) r) q)
+unlabelled true number ls (Ok x) (Ok y) h = h
+unlabelled false number ls (Ok x) (Ok y) h = within_behind ls (number ∷ []) (trees.labels_of y.part) h
+unlabelled b number ls (Ok x) (Err fs) h = tt
+unlabelled b number ls (Err fs) (Ok y) h = tt
+unlabelled b number ls (Err fs) (Err gs) h = tt
 
-  printed_typed : (o : Option TypedExpression) → OnGiven (IsItem s) o → OnGiven IsPrinted o
-  printed_typed (Some x) h = (h.0, (h.1.0, h.1.1, h.1.2))
-  printed_typed None h = tt
+labelled : (b : Bool) (number : ℕ) (ls : List ℕ) (r : Result (WithProcedures Form) (List Fault))
+    (q : Result (WithProcedures TypedStatements) (List Fault)) → OnTyped (λ y. Within ls (trees.labels_of y.part)) q
+    → OnTyped (λ y. Within ((if b then [] else number ∷ []) ++ ls) (trees.labels_of y.part))
+    (together (put_before b) (made (typed.Statement number) r) q)
+labelled true number ls (Ok x) (Ok y) h = h
+labelled false number ls (Ok x) (Ok y) h =
+    within_both (number ∷ []) ls (number ∷ []) (trees.labels_of y.part) (within_self (number ∷ [])) h
+labelled b number ls (Ok x) (Err fs) h = tt
+labelled b number ls (Err fs) (Ok y) h = tt
+labelled b number ls (Err fs) (Err gs) h = tt
 
-  aggregate_typed : (equals : ℕ) (target : Referent) → IsReferent s target → (m : Meant) → IsMeant s m
-      → OnRead (IsTypedForm 31 s) (aggregate_assigned equals target m)
-  aggregate_typed equals target h (OneValue v) k = tt
-  aggregate_typed equals target h (WholeAggregate source) k = by (same target.description source.description) refl
-    where
-      by : (b : Bool) → same target.description source.description ≡ b
-          → OnRead (IsTypedForm 31 s)
-          (if b then Ok (typed.AssignAggregate target.reference source.reference)
-          else Err (record { code = CannotAssign; at = equals }))
-      by true e = (
-        target.description,
-        h.0,
-        subst (IsPlaced 31 s source.reference)
-            (sym ((same_decides target.description source.description).0 e)) k.0,
+pub labels_kept : (u : NamedUnit) (s : Surroundings) (x : Next) (ss : Statements)
+    → OnTyped (λ y. Within (source.labels_of ss) (trees.labels_of y.part)) (statements_typed u s x ss)
+labels_kept u s x Ended = within_self []
+labels_kept u s x (Before (Numbered number None at body) more) =
+    unlabelled (leaves_nothing body) number (source.labels_of more) (body_typed u s x number at body)
+    (statements_typed u s (behind x (Numbered number None at body)) more)
+    (labels_kept u s (behind x (Numbered number None at body)) more)
+labels_kept u s x (Before (Numbered number (Some label) at body) more) =
+    labelled (leaves_nothing body) number (source.labels_of more) (body_typed u s x number at body)
+    (statements_typed u s (behind x (Numbered number (Some label) at body)) more)
+    (labels_kept u s (behind x (Numbered number (Some label) at body)) more)
+
+-- ---- where statements stand
+
+abbrev pub IsInside : List Enclosing → Type 0
+IsInside [] = ⊥
+IsInside (b ∷ bs) = Unit {0}
+
+inside_group : (labels : List ℕ) (bs : List Enclosing) → IsInside bs → IsInside (source.with_labels labels bs)
+inside_group labels [] h = h
+inside_group labels (b ∷ bs) h = tt
+
+parent_is : (bs : List Enclosing) (begins : ℕ) (value : Option Description) → IsInside bs
+    → Some (block_at (record { blocks = bs; begins = begins; value = value })) ≡ innermost bs
+parent_is [] begins value h = absurd h
+parent_is (b ∷ bs) begins value h = refl
+
+has_end : (end : ℕ) (o : Option Description) → HasEnd (function_end o end) o
+has_end end None = tt
+has_end end (Some d) = tt
+
+put_typed : (t : TypingContext) (b : Bool) (x : TypedStatement) (y : TypedStatements) → IsTypedStatement 31 t x
+    → AreTypedStatements 31 t y → AreTypedStatements 31 t (put_before b x y)
+put_typed t true x y h k = k
+put_typed t false x y h k = (h, k)
+
+begin_no_procedure : kinds.Begin ≡ kinds.Procedure → ⊥
+begin_no_procedure e = absurd (cc)
+
+module _ (program : ExternalProcedure) (is_later : ℕ → Bool) (meaning : List ℕ → ℕ → NamedAs) (parameters : ℕ → List Description)
+    (returned : ℕ → Option Description) (automatic : ℕ → List Template) (statics : List Template) where
+  abbrev pub U : NamedUnit
+  U = unit_with program is_later meaning parameters returned automatic statics
+
+  abbrev L : Compiled
+  L = record { greatest = 31; is_later = is_later }
+
+  abbrev All : List SourceBlock
+  All = unit_blocks program
+
+  abbrev numbers : Surroundings → List ℕ
+  numbers s = map (λ b. b.number) s.blocks
+
+  module _ (facts : NameFacts U)
+      (direct : (number : ℕ) (b : SourceBlock) → slice_get All number ≡ Some b → b.kind ≡ kinds.Procedure → StandsDirectly All b.around) where
+    module _ (s : Surroundings) (home : AreHome All s.blocks) (t : TypingContext) (knows : Knows U t s) where
+      known : (at : ℕ) → IsMeaning t (meaning (numbers s) at)
+      known at = known_as U facts direct t s knows home at (meaning (numbers s) at) refl
+
+      -- a group of these statements
+      grouped : (ss : Statements) (list : TypedStatements) → Within (source.labels_of ss) (trees.labels_of list)
+          → Knows U (trees.in_group list t) (source.in_group ss s)
+      grouped ss list f = record {
+        statics = knows.statics;
+        procedures = knows.procedures;
+        blocks = group_known U (source.labels_of ss) (trees.labels_of list) s.blocks t.blocks f knows.blocks;
+        begins = knows.begins;
+        value = knows.value;
+      }
+
+      module _ (number statement : ℕ) (ss : Statements) (b : SourceBlock) (there : slice_get All number ≡ Some b) where
+        begun : b.kind ≡ kinds.Begin → (list : TypedStatements) → Within (source.labels_of ss) (trees.labels_of list)
+            → Knows U (trees.in_begin (head_of U number statement ss) list t) (source.in_begin number ss s)
+        begun kind list f = record {
+          statics = knows.statics;
+          procedures = knows.procedures;
+          blocks = (
+            refl,
+            ap (λ ds. ds ++ map (λ v. v.description) (automatic number)) (sym (facts.blocks.begins number b there kind)),
+            f,
+            knows.blocks,
+          );
+          begins = ap suc knows.begins;
+          value = knows.value;
+        }
+
+    -- a procedure's own statements
+    module _ (s : Surroundings) (number statement end : ℕ) (ss : Statements) (b : SourceBlock)
+        (there : slice_get All number ≡ Some b) (kind : b.kind ≡ kinds.Procedure) (same : b.around ≡ s.blocks) where
+      abbrev Made : TypedStatements → TypedProcedure
+      Made list = procedure_of U (Some (block_at s)) number statement end ss list
+
+      abbrev Within_it : TypedStatements → TypingContext
+      Within_it list = context_in (descriptions statics) (signatures U) (own_signature U number b) (Made list)
+
+      entered : (list : TypedStatements) → Within (source.labels_of ss) (trees.labels_of list)
+          → Knows U (Within_it list) (source.in_procedure number (returned number) ss s)
+      entered list f = record {
+        statics = refl;
+        procedures = refl;
+        blocks = (
+          refl,
+          refl,
+          f,
+          subst (λ bs. AreAround (known_blocks U b.around) (known_blocks U bs)) same (around_self (known_blocks U b.around)),
+        );
+        begins = refl;
+        value = refl;
+      }
+
+      is_ours : IsInside s.blocks → (list : TypedStatements) → AreTypedStatements 31 (Within_it list) list → IsOurs U (Made list)
+      is_ours within list h = (
+        own_signature U number b,
+        signature_there U number b there kind,
+        record {
+          parent = parent_is s.blocks s.begins s.value within ∙ ap innermost (sym same);
+          parameters = refl;
+          end = has_end end (returned number);
+          made = facts.automatic number;
+          statements = h;
+        },
       )
-      by false e = tt
 
-module _ (meaning : ℕ → NamedAs) (s : TypingContext) (known : (at : ℕ) → IsMeaning s (meaning at)) where
-  abbrev M : Naming
-  M = N meaning s known
+      procedure_typed : IsInside s.blocks → (t : TypingContext) (bs : List SourceBlock)
+          (r : Result (WithProcedures TypedStatements) (List Fault))
+          → OnTyped (Typed U (λ list. AreTypedStatements 31 (Within_it list) list) (suc number) bs) r
+          → OnTyped (Typed U (IsTypedForm 31 t) number (b ∷ bs)) (as_procedure Made r)
+      procedure_typed within t bs (Ok y) h = (
+        tt,
+        ours_both U y.procedures (Made y.part ∷ []) h.1 (is_ours within y.part h.0, tt),
+        (
+          λ e. has_back number y.procedures (Made y.part ∷ []) (ap (λ b. b || false) (eq-eqb number number refl)),
+          covers_more y.procedures (y.procedures ++ Made y.part ∷ []) (suc number) bs
+              (λ i a. has_front i y.procedures (Made y.part ∷ []) a) h.2,
+        ),
+      )
+      procedure_typed within t bs (Err fs) h = tt
 
-  condition_typed : (e : Expression) → later_expression M e ≡ false
-      → OnRead (IsString 31 s OfBits) (condition M e)
-  condition_typed e l =
-      read_then (HasValue s) (IsString 31 s OfBits) (value_of M e) _ (value_typed meaning s known e l)
-      (λ v h. read_option (IsString 31 s OfBits) WrongOperandType (first_token e) (truth_of v)
-      (truth_typed s v.expression v.kind h))
+    begin_typed : (s : Surroundings) (x : Next) (number : ℕ) (ss : Statements) (t : TypingContext) (bs : List SourceBlock)
+        → slice_get All x.block ≡ Some (record { kind = kinds.Begin; statement = number; around = s.blocks; labels = source.labels_of ss })
+        → (r : Result (WithProcedures TypedStatements) (List Fault))
+        → OnTyped (Typed U (λ list. AreTypedStatements 31 (trees.in_begin (head_of U x.block number ss) list t) list) (suc x.block) bs) r
+        → OnTyped (Typed U (IsTypedForm 31 t) x.block
+        (record { kind = kinds.Begin; statement = number; around = s.blocks; labels = source.labels_of ss } ∷ bs))
+        (made (typed.Begin (head_of U x.block number ss)) r)
+    begin_typed s x number ss t bs there (Ok y) h =
+        ((facts.automatic x.block, h.0), h.1, ((λ e. absurd (begin_no_procedure e)), h.2))
+    begin_typed s x number ss t bs there (Err fs) h = tt
 
-  item_typed : (e : Expression) → later_expression M e ≡ false → OnRead (IsPrinted s) (item M e)
-  item_typed e l =
-      read_then (HasValue s) (IsPrinted s) (value_of M e) _ (value_typed meaning s known e l)
-      (λ v h. read_option (IsPrinted s) CannotPrint (first_token e) (printed v)
-      (printed_typed s (printed v) (printing_held s v h)))
+    group_typed : (s : Surroundings) (home : AreHome All s.blocks) (t : TypingContext) (knows : Knows U t s) (x : Next)
+        (ss : Statements) (bs : List SourceBlock)
+        → ((t : TypingContext) → Knows U t (source.in_group ss s)
+        → OnTyped (Typed U (AreTypedStatements 31 t) x.block bs) (statements_typed U (source.in_group ss s) x ss))
+        → OnTyped (Typed U (λ list. AreTypedStatements 31 (trees.in_group list t) list) x.block bs)
+        (statements_typed U (source.in_group ss s) x ss)
+    group_typed s home t knows x ss bs h =
+        with_list U (statements_typed U (source.in_group ss s) x ss) (λ list. trees.in_group list t)
+        (λ t. Knows U t (source.in_group ss s)) x.block bs h
+        (typed_map _ _ (statements_typed U (source.in_group ss s) x ss) (λ y f. grouped s home t knows ss y.part f)
+        (labels_kept U (source.in_group ss s) x ss))
 
-  items_typed : (es : List Expression) → list_any (later_expression M) es ≡ false
-      → OnRead (AreItems 31 s) (items M es)
-  items_typed [] l = tt
-  items_typed (e ∷ es) l =
-      let parts : (later_expression M e ≡ false) × (list_any (later_expression M) es ≡ false) = or_parts _ _ l in
-      read_then (IsPrinted s) (AreItems 31 s) (item M e) _ (item_typed e parts.0)
-      (λ x h. read_then (AreItems 31 s) (AreItems 31 s) (items M es) _ (items_typed es parts.1) (λ xs k. (h, k)))
+    module _ (main : Bool) where
+      mutual
+        statement_is_typed : (s : Surroundings) (x : Next) (st : Statement) → later_statement L main st ≡ None
+            → AreHome All s.blocks → IsInside s.blocks → Sits All x.block (begun_in s.blocks x.block st)
+            → (t : TypingContext) → Knows U t s
+            → OnTyped (Typed U (IsTypedStatement 31 t) x.block (begun_in s.blocks x.block st)) (statement_typed U s x st)
+        statement_is_typed s x (Numbered number None at body) l home within sits t knows =
+            typed_made U (IsTypedForm 31 t) (IsTypedStatement 31 t) (typed.Statement number) x.block _
+            (body_typed U s x number at body) (λ f h. h) (body_is_typed s x number at at body l home within sits t knows)
+        statement_is_typed s x (Numbered number (Some label) at body) l home within sits t knows =
+            typed_made U (IsTypedForm 31 t) (IsTypedStatement 31 t) (typed.Statement number) x.block _
+            (body_typed U s x number at body) (λ f h. h) (body_is_typed s x number label.at at body l home within sits t knows)
 
-  scalar_typed : (equals : ℕ) (r : TypedReference) (d : Description) → IsPlaced 31 s r d → (e : Expression)
-      → later_expression M e ≡ false → OnRead (IsTypedForm 31 s) (scalar_assigned M equals r d e)
-  scalar_typed equals r d placed e l =
-      read_then (HasValue s) (IsTypedForm 31 s) (value_of M e) _ (value_typed meaning s known e l)
-      (λ v h. read_then (IsValueFor 31 s d) (IsTypedForm 31 s) (or_fault CannotAssign equals (converted 31 d v)) _
-      (read_option (IsValueFor 31 s d) CannotAssign equals (converted 31 d v) (conversion_held s d v h))
-      (λ x k. (d, placed, k)))
+        body_is_typed : (s : Surroundings) (x : Next) (number first at : ℕ) (body : Body) → later_body L main first body ≡ None
+            → AreHome All s.blocks → IsInside s.blocks → Sits All x.block (begun_by s.blocks x.block number body)
+            → (t : TypingContext) → Knows U t s
+            → OnTyped (Typed U (IsTypedForm 31 t) x.block (begun_by s.blocks x.block number body)) (body_typed U s x number at body)
+        body_is_typed s x number first at tree.Null l home within sits t knows = (tt, tt, tt)
+        body_is_typed s x number first at (tree.Assign target equals value) l home within sits t knows =
+            let parts : (_ ≡ false) × (later_expression L value ≡ false) = or_parts _ _ (no_token _ first l) in
+            typed_own U (IsTypedForm 31 t) x.block (assignment (naming_at U s) at target equals value)
+            (assignment_typed is_later (meaning (numbers s)) t (known s home t knows) at target equals value parts.0 parts.1)
+        body_is_typed s x number first at (tree.Declare declared) l home within sits t knows = (tt, tt, tt)
+        body_is_typed s x number first at (tree.Procedure heading ss end) l home within sits t knows =
+            procedure_typed s x.block number end ss _ sits.0 refl refl within t _
+            (statements_typed U (source.in_procedure x.block (returned x.block) ss s) (inside x) ss)
+            (with_list U (statements_typed U (source.in_procedure x.block (returned x.block) ss s) (inside x) ss)
+            (Within_it s x.block number end ss _ sits.0 refl refl)
+            (λ t. Knows U t (source.in_procedure x.block (returned x.block) ss s)) (suc x.block) _
+            (list_is_typed (source.in_procedure x.block (returned x.block) ss s) (inside x) ss ((no_either _ _ l).1)
+            ((_, sits.0, refl, within_self (source.labels_of ss)), home) tt sits.1)
+            (typed_map _ _ (statements_typed U (source.in_procedure x.block (returned x.block) ss s) (inside x) ss)
+            (λ y f. entered s x.block number end ss _ sits.0 refl refl y.part f)
+            (labels_kept U (source.in_procedure x.block (returned x.block) ss s) (inside x) ss)))
+        body_is_typed s x number first at (tree.Begin ss end) l home within sits t knows =
+            begin_typed s x number ss t _ sits.0 (statements_typed U (source.in_begin x.block ss s) (inside x) ss)
+            (with_list U (statements_typed U (source.in_begin x.block ss s) (inside x) ss)
+            (λ list. trees.in_begin (head_of U x.block number ss) list t) (λ t. Knows U t (source.in_begin x.block ss s)) (suc x.block) _
+            (list_is_typed (source.in_begin x.block ss s) (inside x) ss l
+            ((_, sits.0, refl, within_self (source.labels_of ss)), home) tt sits.1)
+            (typed_map _ _ (statements_typed U (source.in_begin x.block ss s) (inside x) ss)
+            (λ y f. begun s home t knows x.block number ss _ sits.0 refl y.part f)
+            (labels_kept U (source.in_begin x.block ss s) (inside x) ss)))
+        body_is_typed s x number first at (tree.Do None ss end) l home within sits t knows =
+            typed_made U (λ list. AreTypedStatements 31 (trees.in_group list t) list) (IsTypedForm 31 t) typed.Group x.block _
+            (statements_typed U (source.in_group ss s) x ss) (λ list h. h)
+            (group_typed s home t knows x ss _
+            (list_is_typed (source.in_group ss s) x ss ((no_either (token_if false first) (later_statements L main ss) l).1) (home_labels All (source.labels_of ss) s.blocks home)
+            (inside_group (source.labels_of ss) s.blocks within) sits))
+        body_is_typed s x number first at (tree.Do (Some (tree.While tested)) ss end) l home within sits t knows =
+            let parts : (token_if (later_expression L tested) first ≡ None) × (later_statements L main ss ≡ None) = no_either _ _ l in
+            typed_with U (IsString 31 t OfBits) (λ list. AreTypedStatements 31 (trees.in_group list t) list) (IsTypedForm 31 t)
+            typed.While x.block _ (condition (naming_at U s) tested) (statements_typed U (source.in_group ss s) x ss)
+            (λ c list h k. (h, k))
+            (condition_typed is_later (meaning (numbers s)) t (known s home t knows) tested (no_token _ first parts.0))
+            (group_typed s home t knows x ss _
+            (list_is_typed (source.in_group ss s) x ss parts.1 (home_labels All (source.labels_of ss) s.blocks home)
+            (inside_group (source.labels_of ss) s.blocks within) sits))
+        body_is_typed s x number first at (tree.Do (Some (tree.Iterate variable equals start range tested)) ss end) l home within sits
+            t knows =
+            let parts : (token_if (later_control L (tree.Iterate variable equals start range tested)) first ≡ None)
+            × (later_statements L main ss ≡ None) = no_either _ _ l in
+            typed_with U (IsIteration 31 t) (λ list. AreTypedStatements 31 (trees.in_group list t) list) (IsTypedForm 31 t)
+            typed.Iterate x.block _ (iteration (naming_at U s) x.temporary variable equals start range tested)
+            (statements_typed U (source.in_group ss s) (behind_limits range x) ss) (λ c list h k. (h, k))
+            (iteration_typed is_later (meaning (numbers s)) t (known s home t knows) x.temporary variable equals start range tested
+            (no_token _ first parts.0))
+            (group_typed s home t knows (behind_limits range x) ss _
+            (list_is_typed (source.in_group ss s) (behind_limits range x) ss parts.1
+            (home_labels All (source.labels_of ss) s.blocks home) (inside_group (source.labels_of ss) s.blocks within) sits))
+        body_is_typed s x number first at (tree.If tested consequence alternative) l home within sits t knows =
+            let parts : (token_if (later_expression L tested) first ≡ None)
+            × (or_else (later_statement L main consequence) (later_alternative L main alternative) ≡ None) = no_either _ _ l in
+            let inner : (later_statement L main consequence ≡ None) × (later_alternative L main alternative ≡ None) =
+            no_either _ _ parts.1 in
+            let places : Sits All x.block (begun_in s.blocks x.block consequence)
+            × Sits All (x.block + blocks.blocks_in consequence)
+            (begun_behind s.blocks (x.block + blocks.blocks_in consequence) alternative) =
+            sits_parts All x.block (blocks.blocks_in consequence) _ _ (begun_count s.blocks x.block consequence) sits in
+            typed_with U (IsString 31 t OfBits) (λ b. IsTypedStatement 31 t b.0 × IsTypedElse 31 t b.1) (IsTypedForm 31 t)
+            (λ c b. typed.If c b.0 b.1) x.block _ (condition (naming_at U s) tested)
+            (together (λ y z. (y, z)) (statement_typed U s x consequence) (alternative_typed U s (behind x consequence) alternative))
+            (λ c b h k. (h, k.0, k.1))
+            (condition_typed is_later (meaning (numbers s)) t (known s home t knows) tested (no_token _ first parts.0))
+            (typed_both U (IsTypedStatement 31 t) (IsTypedElse 31 t) (λ b. IsTypedStatement 31 t b.0 × IsTypedElse 31 t b.1)
+            (λ y z. (y, z)) x.block (blocks.blocks_in consequence) _ _ (statement_typed U s x consequence)
+            (alternative_typed U s (behind x consequence) alternative) (begun_count s.blocks x.block consequence)
+            (λ y z h k. (h, k)) (statement_is_typed s x consequence inner.0 home within places.0 t knows)
+            (alternative_is_typed s (behind x consequence) alternative inner.1 home within places.1 t knows))
+        body_is_typed s x number first at tree.Stop l home within sits t knows = (tt, tt, tt)
+        body_is_typed s x number first at (tree.Call name arguments) l home within sits t knows =
+            typed_own U (IsTypedForm 31 t) x.block (call_typed (naming_at U s) name arguments)
+            (call_is_typed is_later (meaning (numbers s)) t (known s home t knows) name arguments (no_token _ first l))
+        body_is_typed s x number first at (tree.Goto label) l home within sits t knows =
+            typed_own U (IsTypedForm 31 t) x.block (goto_typed (naming_at U s) s label)
+            (goto_is_typed is_later (meaning (numbers s)) t (known s home t knows) s
+            (λ n outward e. label_known U s.blocks t.blocks n outward knows.blocks e) label)
+        body_is_typed s x number first at (tree.Return value) l home within sits t knows =
+            typed_own U (IsTypedForm 31 t) x.block (return_typed (naming_at U s) s at value)
+            (return_is_typed is_later (meaning (numbers s)) t (known s home t knows) s knows.begins knows.value at value
+            (no_token _ first l))
+        body_is_typed s x number first at (tree.Put skip list) l home within sits t knows =
+            typed_made U (AreItems 31 t) (IsTypedForm 31 t) (typed.Put skip) x.block [] (of_own (items (naming_at U s) list))
+            (λ xs h. h)
+            (typed_own U (AreItems 31 t) x.block (items (naming_at U s) list)
+            (items_typed is_later (meaning (numbers s)) t (known s home t knows) list (no_token _ first l)))
+        body_is_typed s x number first at other l home within sits t knows = absurd (some_none l)
 
-  choice : (b : Bool) (r q : Result Form Fault) → OnRead (IsTypedForm 31 s) r → OnRead (IsTypedForm 31 s) q
-      → OnRead (IsTypedForm 31 s) (if b then r else q)
-  choice true r q a b = a
-  choice false r q a b = b
+        alternative_is_typed : (s : Surroundings) (x : Next) (a : Alternative) → later_alternative L main a ≡ None
+            → AreHome All s.blocks → IsInside s.blocks → Sits All x.block (begun_behind s.blocks x.block a)
+            → (t : TypingContext) → Knows U t s
+            → OnTyped (Typed U (IsTypedElse 31 t) x.block (begun_behind s.blocks x.block a)) (alternative_typed U s x a)
+        alternative_is_typed s x tree.NoElse l home within sits t knows = (tt, tt, tt)
+        alternative_is_typed s x (tree.Else st) l home within sits t knows =
+            typed_made U (IsTypedStatement 31 t) (IsTypedElse 31 t) Else x.block _ (statement_typed U s x st) (λ y h. h)
+            (statement_is_typed s x st l home within sits t knows)
 
-  assigned_typed : (at equals : ℕ) (d : Denoted) → IsDenoted s d → (e : Expression) → later_expression M e ≡ false
-      → OnRead (IsTypedForm 31 s) (assigned M at equals d e)
-  assigned_typed at equals (DenotesVariable target) h e l =
-      choice (is_scalar target.description) _ _
-      (scalar_typed equals target.reference target.description h.0 e l)
-      (read_then (IsMeant s) (IsTypedForm 31 s) (meant M AsArgument e) (aggregate_assigned equals target)
-      (meant_typed meaning s known AsArgument e l) (aggregate_typed s equals target h))
-  assigned_typed at equals (DenotesResult v) h e l = tt
-
-  assignment_typed : (at : ℕ) (target : Reference) (equals : ℕ) (e : Expression) → later_reference M target ≡ false
-      → later_expression M e ≡ false → OnRead (IsTypedForm 31 s) (assignment M at target equals e)
-  assignment_typed at target equals e l m =
-      read_then (IsDenoted s) (IsTypedForm 31 s) (referred M AsTarget target) _
-      (referred_typed meaning s known AsTarget target l) (λ d h. assigned_typed at equals d h e m)
-
-  listed_typed : (stated : Statement) (first : Result TypedStatement (List Fault))
-      (more : Result TypedStatements (List Fault)) → OnTyped (IsTypedStatement 31 s) first
-      → OnTyped (AreTypedStatements 31 s) more → OnTyped (AreTypedStatements 31 s) (listed stated first more)
-  listed_typed (Numbered number label at (tree.Declare items)) first more a b = b
-  listed_typed (Numbered number label at body) first more a b =
-      typed_both (IsTypedStatement 31 s) (AreTypedStatements 31 s) (AreTypedStatements 31 s) StatementThen first more
-      (λ x y h k. (h, k)) a b
-
-  module _ (main : Bool) where
-    mutual
-      statement_is_typed : (stated : Statement) → later_statement M main stated ≡ None
-          → OnTyped (IsTypedStatement 31 s) (statement_typed M stated)
-      statement_is_typed (Numbered number (Some label) at body) l = absurd (some_none l)
-      statement_is_typed (Numbered number None at body) l =
-          typed_made (IsTypedForm 31 s) (IsTypedStatement 31 s) (typed.Statement number) (body_typed M at body)
-          (λ f h. h) (body_is_typed at body l)
-
-      body_is_typed : (at : ℕ) (body : Body) → later_body M main at body ≡ None
-          → OnTyped (IsTypedForm 31 s) (body_typed M at body)
-      body_is_typed at tree.Null l = tt
-      body_is_typed at (tree.Assign target equals value) l =
-          let parts : (later_reference M target ≡ false) × (later_expression M value ≡ false) =
-          or_parts _ _ (no_token _ at l) in
-          typed_own (IsTypedForm 31 s) (assignment M at target equals value)
-          (assignment_typed at target equals value parts.0 parts.1)
-      body_is_typed at (tree.Declare items) l = tt
-      body_is_typed at (tree.If tested consequence alternative) l =
-          let parts : (token_if (later_expression M tested) at ≡ None)
-          × (or_else (later_statement M main consequence) (later_alternative M main alternative) ≡ None) =
-          no_either _ _ l in
-          let inner : (later_statement M main consequence ≡ None) × (later_alternative M main alternative ≡ None) =
-          no_either _ _ parts.1 in
-          let both : Result (TypedStatement × OtherWise) (List Fault) =
-          together (λ x y. (x, y)) (statement_typed M consequence) (alternative_typed M alternative) in
-          typed_both (IsString 31 s OfBits) (λ b. IsTypedStatement 31 s b.0 × IsTypedElse 31 s b.1) (IsTypedForm 31 s)
-          (λ x b. typed.If x b.0 b.1) (of_own (condition M tested)) both (λ x b h k. (h, k.0, k.1))
-          (typed_own (IsString 31 s OfBits) (condition M tested) (condition_typed tested (no_token _ at parts.0)))
-          (typed_both (IsTypedStatement 31 s) (IsTypedElse 31 s)
-          (λ b. IsTypedStatement 31 s b.0 × IsTypedElse 31 s b.1) (λ x y. (x, y)) (statement_typed M consequence)
-          (alternative_typed M alternative) (λ x y h k. (h, k)) (statement_is_typed consequence inner.0)
-          (alternative_is_typed alternative inner.1))
-      body_is_typed at (tree.Put skip list) l =
-          typed_made (AreItems 31 s) (IsTypedForm 31 s) (typed.Put skip) (of_own (items M list)) (λ xs h. h)
-          (typed_own (AreItems 31 s) (items M list) (items_typed list (no_token _ at l)))
-      body_is_typed at other l = absurd (some_none l)
-
-      alternative_is_typed : (a : Alternative) → later_alternative M main a ≡ None
-          → OnTyped (IsTypedElse 31 s) (alternative_typed M a)
-      alternative_is_typed tree.NoElse l = tt
-      alternative_is_typed (tree.Else stated) l =
-          typed_made (IsTypedStatement 31 s) (IsTypedElse 31 s) Else (statement_typed M stated) (λ x h. h)
-          (statement_is_typed stated l)
-
-    pub list_is_typed : (ss : Statements) → later_statements M main ss ≡ None
-        → OnTyped (AreTypedStatements 31 s) (statements_typed M ss)
-    list_is_typed Ended l = tt
-    list_is_typed (Before first more) l =
-        let parts : (later_statement M main first ≡ None) × (later_statements M main more ≡ None) =
-        no_either _ _ l in
-        listed_typed first (statement_typed M first) (statements_typed M more) (statement_is_typed first parts.0)
-        (list_is_typed more parts.1)
+        pub list_is_typed : (s : Surroundings) (x : Next) (ss : Statements) → later_statements L main ss ≡ None
+            → AreHome All s.blocks → IsInside s.blocks → Sits All x.block (begun_among s.blocks x.block ss)
+            → (t : TypingContext) → Knows U t s
+            → OnTyped (Typed U (AreTypedStatements 31 t) x.block (begun_among s.blocks x.block ss)) (statements_typed U s x ss)
+        list_is_typed s x Ended l home within sits t knows = (tt, tt, tt)
+        list_is_typed s x (Before (Numbered number label at body) more) l home within sits t knows =
+            let parts : (later_statement L main (Numbered number label at body) ≡ None) × (later_statements L main more ≡ None) =
+            no_either _ _ l in
+            let places : Sits All x.block (begun_in s.blocks x.block (Numbered number label at body))
+            × Sits All (x.block + blocks.blocks_in (Numbered number label at body))
+            (begun_among s.blocks (x.block + blocks.blocks_in (Numbered number label at body)) more) =
+            sits_parts All x.block (blocks.blocks_in (Numbered number label at body)) _ _
+            (begun_count s.blocks x.block (Numbered number label at body)) sits in
+            typed_both U (IsTypedStatement 31 t) (AreTypedStatements 31 t) (AreTypedStatements 31 t)
+            (put_before (leaves_nothing body)) x.block (blocks.blocks_in (Numbered number label at body)) _ _
+            (statement_typed U s x (Numbered number label at body))
+            (statements_typed U s (behind x (Numbered number label at body)) more)
+            (begun_count s.blocks x.block (Numbered number label at body))
+            (λ y z h k. put_typed t (leaves_nothing body) y z h k)
+            (statement_is_typed s x (Numbered number label at body) parts.0 home within places.0 t knows)
+            (list_is_typed s (behind x (Numbered number label at body)) more parts.1 home within places.1 t knows)

@@ -1,114 +1,210 @@
 -- Units are well typed.
-use Rattle.std.specs.Prelude.{◌≡◌, ℕ, zero, suc, Option, Some, None, List, [], ◌∷◌, Result, Ok, Err, refl}
-use Rattle.std.proofs.Common.{sym, subst}
+use Rattle.std.specs.Prelude.{◌≡◌, ℕ, zero, suc, ◌+◌, Option, Some, None, option_and_then, List, [], ◌∷◌, ◌++◌, length, map, slice_get}
+use Rattle.std.specs.Prelude.{Result, Ok, Err, refl, Bool, true}
+use Rattle.std.proofs.Common.{arith, sym, ap, ◌∙◌, subst}
+use Rattle.std.proofs.lemmas.Option.{same_Some, none-some}
 use Rattle.pli_base.specs.Statements.{ExternalProcedure}
 use Rattle.pli_base.specs.declared.token.Fault.{Fault}
-use Rattle.pli_meaning_typed.specs.TypedPrograms.{IsTypedProcedure, descriptions}
+use Rattle.pli_map.specs.Description.{Description}
 use Rattle.pli_meaning_tree.specs.TreeMeaning.{procedure_in}
-use Rattle.pli_type.specs.Checked.{NamedUnit, checked, unless_unbuilt, unit_of, procedure_of}
-use Rattle.pli_type.specs.Names.{NamedAs, AVariable, AFunction, AProcedure, ALabel}
-use Rattle.pli_type.specs.StatementTyping.{made, statements_typed}
+use Rattle.pli_meaning_typed.specs.TypedPrograms.{HasEnd, IsTypedProcedure, context_in, descriptions}
+use Rattle.pli_parse_expression.specs.Expressions.{Deeper}
+use Rattle.pli_parse_expression.specs.Operators.{nesting_limit}
+use Rattle.pli_resolve.specs.declared.block_numbers.ResolvedBlockKind.{ResolvedBlockKind}
+use Rattle.pli_resolve.specs.declared.block_numbers.ResolvedBlockKind.TheVariants as kinds
+use Rattle.pli_type.specs.Checked.{in_unit, first_inside, external_of, unit_of, typed_as, checked, unless_unbuilt}
+use Rattle.pli_type.specs.Names.{NamedUnit, NamedAs, Compiled}
+use Rattle.pli_type.specs.StatementTyping as source
+use Rattle.pli_type.specs.StatementTyping.{Enclosing, enclosing, WithProcedures, statements_typed}
 use Rattle.pli_type.specs.Unbuilt.{first_unbuilt, later_heading, later_statements, is_main}
-use Rattle.pli_type_laws.proofs.Expressions.{IsMeaning}
-use Rattle.pli_type_laws.proofs.Statements.{OnTyped, no_either, list_is_typed}
-use Rattle.pli_type_laws.specs.TypedUnits.{IsTypedMain}
-use Rattle.pli_type_name_laws.specs.NameFacts.{context_of, VariableFacts, NameFacts}
+use Rattle.pli_type_laws.proofs.BlocksKnown.{Within, within_self, Sits, sits_all, AreHome, StandsDirectly, AreDirect, direct_among, direct_at}
+use Rattle.pli_type_laws.proofs.Contexts.{Knows, own_signature}
+use Rattle.pli_type_laws.proofs.Statements.{no_either, list_is_typed, labels_kept}
+use Rattle.pli_type_laws.proofs.TypedParts.{OnTyped, typed_map, Has, has_back, Covers, covers_more, covered, found_among, IsOurs}
+use Rattle.pli_type_laws.proofs.TypedParts.{AreOurs, ours_found, Typed, with_list}
+use Rattle.pli_type_laws.specs.TypedUnits.{IsTypedMain, TypedUnitsAreTyped, unit_with}
+use Rattle.pli_type_name_laws.specs.NameFacts.{NameFacts}
+use Rattle.pli_type_name_laws.specs.Nesting.{ListNests}
+use Rattle.pli_type_name_laws.specs.SourceBlocks.{SourceBlock, unit_blocks, signature_of, signatures, begun_among}
 use Rattle.pli_type_tree.specs.Templates.{Template}
 use Rattle.pli_type_tree.specs.TypedTree.{TypedProcedure, TypedStatements, TypedUnit}
-use Rattle.pli_type_tree.specs.WellTyped.{Signature, AreTypedStatements, labels_of}
-
--- the external procedure
-abbrev own : Signature
-own = record { parent = None; around = []; parameters = []; value = None }
-
-abbrev procedures : (number : ℕ) → Option Signature
-procedures zero = Some own
-procedures (suc number) = None
-
-some_same : {A : Type 0} {x y : A} → Some x ≡ Some y → x ≡ y
-some_same e = cc
-
-some_none : {A : Type 0} {x : A} → Some x ≡ None → ⊥
-some_none e = absurd (cc)
-
-error_given : {A B : Type 0} {x : A} {y : B} (r : Result A B) → r ≡ Err y → r ≡ Ok x → ⊥
-error_given r f e = absurd (cc)
+use Rattle.pli_type_tree.specs.WellTyped as trees
+use Rattle.pli_type_tree.specs.WellTyped.{Signature, TypingContext, AreTypedStatements}
 
 given_same : {A B : Type 0} {x y : A} (r : Result A B) → r ≡ Ok x → r ≡ Ok y → x ≡ y
 given_same r e f = cc
 
-module _ (tree : ExternalProcedure) (meaning : ℕ → NamedAs) (automatic statics : List Template) where
-  abbrev U : NamedUnit
-  U = record {
-    tree = tree;
-    naming = record { greatest = 31; meaning = meaning };
-    automatic = automatic;
-    statics = statics;
+error_given : {A B : Type 0} {x : A} {y : B} (r : Result A B) → r ≡ Err y → r ≡ Ok x → ⊥
+error_given r f e = absurd (cc)
+
+module _ (program : ExternalProcedure) (is_later : ℕ → Bool) (meaning : List ℕ → ℕ → NamedAs) (parameters : ℕ → List Description)
+    (returned : ℕ → Option Description) (automatic : ℕ → List Template) (statics : List Template) where
+  abbrev V : NamedUnit
+  V = unit_with program is_later meaning parameters returned automatic statics
+
+  abbrev L : Compiled
+  L = record { greatest = 31; is_later = is_later }
+
+  abbrev All : List SourceBlock
+  All = unit_blocks program
+
+  abbrev Outer : SourceBlock
+  Outer = record {
+    kind = kinds.Procedure;
+    statement = program.heading.number;
+    around = [];
+    labels = source.labels_of program.statements;
   }
 
-  module _ (facts : NameFacts U) where
-    known_as : (labels : List ℕ) (at : ℕ) (a : NamedAs) → meaning at ≡ a
-        → IsMeaning (context_of U procedures labels) a
-    known_as labels at (AVariable v) e =
-        let own_facts : VariableFacts U v = facts.variables at v e in
-        record {
-          begins = own_facts.begins procedures labels;
-          leads = own_facts.leads;
-          whole = own_facts.whole;
-        }
-    known_as labels at (AFunction f) e = tt
-    known_as labels at AProcedure e = tt
-    known_as labels at ALabel e = tt
+  all_sit : Sits All 0 All
+  all_sit = sits_all All 0 All (λ i. ap (slice_get All) (next i))
+    where
+      next : (i : ℕ) → 0 + i ≡ i
+      next i = omega arith
 
-    module _ (ss : TypedStatements)
-        (typed : AreTypedStatements 31 (context_of U procedures (labels_of ss)) ss) where
-      one_procedure : IsTypedProcedure 31 (descriptions statics) procedures own (procedure_of U ss)
-      one_procedure = record {
-        parent = refl;
-        parameters = refl;
-        end = tt;
-        made = facts.automatic;
-        statements = typed;
-      }
+  module _ (facts : NameFacts V) (nests : ListNests true 63 program.statements) where
+    all_direct : AreDirect All All
+    all_direct = (
+      (λ e. tt),
+      direct_among All true 63 (enclosing 0 program.statements ∷ []) 1 program.statements nests
+          (λ e. (Outer, refl, refl, within_self (source.labels_of program.statements))) all_sit.1,
+    )
 
-      each_procedure : (number : ℕ) (p : Signature) → procedures number ≡ Some p
-          → (f : TypedProcedure) × (procedure_in (procedure_of U ss ∷ []) number ≡ Some f)
-          × IsTypedProcedure 31 (descriptions statics) procedures p f
-      each_procedure zero p e = (
-        procedure_of U ss,
-        refl,
-        subst (λ q. IsTypedProcedure 31 (descriptions statics) procedures q (procedure_of U ss))
-            (some_same e) one_procedure,
+    direct : (number : ℕ) (b : SourceBlock) → slice_get All number ≡ Some b → b.kind ≡ kinds.Procedure → StandsDirectly All b.around
+    direct number b there kind = direct_at All All number b all_direct there kind
+
+    home : AreHome All (in_unit program.statements).blocks
+    home = ((Outer, refl, refl, within_self (source.labels_of program.statements)), tt)
+
+    -- the statements of the external procedure
+    abbrev Context : TypedStatements → TypingContext
+    Context list = context_in (descriptions statics) (signatures V) (own_signature V 0 Outer) (external_of V list)
+
+    entered : (list : TypedStatements) → Within (source.labels_of program.statements) (trees.labels_of list)
+        → Knows V (Context list) (in_unit program.statements)
+    entered list f = record {
+      statics = refl;
+      procedures = refl;
+      blocks = (refl, refl, f, tt);
+      begins = refl;
+      value = facts.blocks.returned;
+    }
+
+    abbrev Result_of : Result (WithProcedures TypedStatements) (List Fault)
+    Result_of = statements_typed V (in_unit program.statements) first_inside program.statements
+
+    abbrev Inner : List SourceBlock
+    Inner = begun_among (enclosing 0 program.statements ∷ []) 1 program.statements
+
+    list_typed : later_statements L (is_main program) program.statements ≡ None
+        → OnTyped (Typed V (λ list. AreTypedStatements 31 (Context list) list) 1 Inner) Result_of
+    list_typed l =
+        with_list V Result_of Context (λ t. Knows V t (in_unit program.statements)) 1 Inner
+        (list_is_typed program is_later meaning parameters returned automatic statics facts direct (is_main program)
+        (in_unit program.statements) first_inside program.statements l home tt all_sit.1)
+        (typed_map _ _ Result_of (λ y f. entered y.part f) (labels_kept V (in_unit program.statements) first_inside program.statements))
+
+    module _ (y : WithProcedures TypedStatements) (h : Typed V (λ list. AreTypedStatements 31 (Context list) list) 1 Inner y) where
+      abbrev Procedures : List TypedProcedure
+      Procedures = external_of V y.part ∷ y.procedures
+
+      none_given : HasEnd None (returned 0)
+      none_given = subst (HasEnd None) (sym facts.blocks.returned) tt
+
+      ours : AreOurs V Procedures
+      ours = (
+        (
+          own_signature V 0 Outer,
+          refl,
+          record {
+            parent = refl;
+            parameters = sym (ap length facts.blocks.parameters);
+            end = none_given;
+            made = facts.automatic 0;
+            statements = h.0;
+          },
+        ),
+        h.1,
       )
-      each_procedure (suc number) p e = absurd (some_none (sym e))
 
-      is_typed_main : IsTypedMain 31 (unit_of U ss)
+      covers : Covers Procedures 0 All
+      covers = (
+        (λ e. refl),
+        covers_more y.procedures Procedures 1 Inner (λ k a. has_back k (external_of V y.part ∷ []) y.procedures a) h.2,
+      )
+
+      abbrev IsThere : ℕ → Signature → Type 0
+      IsThere number p =
+          (f : TypedProcedure) × (procedure_in Procedures number ≡ Some f)
+          × IsTypedProcedure 31 (descriptions statics) (signatures V) p f
+
+      as_signed : (number : ℕ) (p : Signature) → signatures V number ≡ Some p
+          → (f : TypedProcedure) × (procedure_in Procedures number ≡ Some f) × (f.head.number ≡ number) → IsThere number p
+      as_signed number p signed (f, at, same) =
+          let own : IsOurs V f = ours_found V number f Procedures ours at in
+          (
+            f,
+            at,
+            subst (λ q. IsTypedProcedure 31 (descriptions statics) (signatures V) q f)
+                (same_Some own.0 p (sym own.1 ∙ ap (signatures V) same ∙ signed)) own.2,
+          )
+
+      no_signature : (number : ℕ) (p : Signature) → slice_get All number ≡ None → signatures V number ≡ Some p → ⊥
+      no_signature number p none signed = none-some p (sym (ap (option_and_then (signature_of V number)) none) ∙ signed)
+
+      no_procedure : (number : ℕ) (p : Signature) (b : SourceBlock) → slice_get All number ≡ Some b
+          → signature_of V number b ≡ None → signatures V number ≡ Some p → ⊥
+      no_procedure number p b there none signed =
+          none-some p (sym none ∙ sym (ap (option_and_then (signature_of V number)) there) ∙ signed)
+
+      of_kind : (number : ℕ) (p : Signature) (b : SourceBlock) → slice_get All number ≡ Some b → signatures V number ≡ Some p
+          → (kind : ResolvedBlockKind) → b.kind ≡ kind → IsThere number p
+      of_kind number p b there signed kinds.Procedure is =
+          as_signed number p signed
+          (found_among number Procedures (subst (λ k. Has k Procedures) (omega arith) (covered Procedures 0 number All b covers there is)))
+      of_kind number p b there signed kinds.Begin is = absurd (no_procedure number p b there (none is) signed)
+        where
+          none : b.kind ≡ kinds.Begin → signature_of V number b ≡ None
+          none is = rw is refl
+      of_kind number p b there signed kinds.OnUnit is = absurd (no_procedure number p b there (none is) signed)
+        where
+          none : b.kind ≡ kinds.OnUnit → signature_of V number b ≡ None
+          none is = rw is refl
+
+      each_procedure : (number : ℕ) (p : Signature) → signatures V number ≡ Some p → IsThere number p
+      each_procedure number p signed = by (slice_get All number) refl
+        where
+          by : (o : Option SourceBlock) → slice_get All number ≡ o → IsThere number p
+          by None is = absurd (no_signature number p is signed)
+          by (Some b) is = of_kind number p b is signed b.kind refl
+
+      is_typed_main : IsTypedMain 31 (unit_of V y)
       is_typed_main = record {
-        typed = record { procedures = procedures; made = facts.statics; typed = each_procedure };
-        signature = own;
+        typed = record { procedures = signatures V; made = facts.statics; typed = each_procedure };
+        signature = own_signature V 0 Outer;
         is_first = refl;
         parent = refl;
         around = refl;
-        parameters = refl;
-        value = refl;
+        parameters = facts.blocks.parameters;
+        value = facts.blocks.returned;
       }
 
-    of_result : (t : TypedUnit) (r : Result TypedStatements (List Fault))
-        → ((labels : List ℕ) → OnTyped (AreTypedStatements 31 (context_of U procedures labels)) r)
-        → made (unit_of U) r ≡ Ok t → IsTypedMain 31 t
-    of_result t (Ok ss) typed e =
-        subst (IsTypedMain 31) (given_same (Ok (unit_of U ss)) refl e) (is_typed_main ss (typed (labels_of ss)))
-    of_result t (Err fs) typed e = absurd (error_given _ refl e)
+    of_result : (t : TypedUnit) (r : Result (WithProcedures TypedStatements) (List Fault))
+        → OnTyped (Typed V (λ list. AreTypedStatements 31 (Context list) list) 1 Inner) r → typed_as V r ≡ Ok t → IsTypedMain 31 t
+    of_result t (Ok y) h e = subst (IsTypedMain 31) (given_same (Ok (unit_of V y)) refl e) (is_typed_main y h)
+    of_result t (Err fs) h e = absurd (error_given _ refl e)
 
-    of_built : (t : TypedUnit) (o : Option ℕ) → first_unbuilt U.naming tree ≡ o
-        → unless_unbuilt o (made (unit_of U) (statements_typed U.naming tree.statements)) ≡ Ok t → IsTypedMain 31 t
+    of_built : (t : TypedUnit) (o : Option ℕ) → first_unbuilt L program ≡ o → unless_unbuilt o (typed_as V Result_of) ≡ Ok t
+        → IsTypedMain 31 t
     of_built t None none e =
-        of_result t (statements_typed U.naming tree.statements)
-        (λ labels. list_is_typed meaning (context_of U procedures labels)
-        (λ at. known_as labels at (meaning at) refl) (is_main tree) tree.statements
-        ((no_either (later_heading tree.heading) (later_statements U.naming (is_main tree) tree.statements) none).1)) e
+        of_result t Result_of
+        (list_typed ((no_either (later_heading program.heading) (later_statements L (is_main program) program.statements) none).1)) e
     of_built t (Some at) some e = absurd (error_given _ refl e)
 
-    pub unit_is_typed : (t : TypedUnit) → checked U ≡ Ok t → IsTypedMain 31 t
+    pub unit_is_typed_so : (t : TypedUnit) → checked V ≡ Ok t → IsTypedMain 31 t
     unfolding checked
-    unit_is_typed t e = of_built t (first_unbuilt U.naming tree) refl e
+    unit_is_typed_so t e = of_built t (first_unbuilt L program) refl e
+
+pub unit_is_typed : TypedUnitsAreTyped
+unit_is_typed program is_later meaning parameters returned automatic statics facts nests t e =
+    unit_is_typed_so program is_later meaning parameters returned automatic statics facts nests t e

@@ -1,15 +1,19 @@
 -- What the type checker gives is well typed and numbered well.
-use Rattle.std.specs.Prelude.{◌≡◌, ℕ, Some, None, List, [], Ok}
+use Rattle.std.specs.Prelude.{◌≡◌, ℕ, Bool, true, Option, Some, None, List, [], Ok}
 use Rattle.pli_base.specs.Statements.{ExternalProcedure}
 use Rattle.pli_base.specs.Words.{Tokens}
 use Rattle.pli_gen_tree.specs.WellNumbered.{IsWellNumbered}
+use Rattle.pli_map.specs.Description.{Description}
 use Rattle.pli_meaning_typed.specs.TypedPrograms.{IsTypedUnit}
+use Rattle.pli_parse_expression.specs.Expressions.{Deeper}
+use Rattle.pli_parse_expression.specs.Operators.{nesting_limit}
 use Rattle.pli_parse_statement.specs.StatementReading.{unit_of}
 use Rattle.pli_resolve.specs.ResolvedUnits.{resolved_unit_of}
-use Rattle.pli_type.specs.Checked.{NamedUnit, checked}
+use Rattle.pli_type.specs.Checked.{checked}
 use Rattle.pli_type.specs.NamedUnits.{checked_unit}
-use Rattle.pli_type.specs.Names.{NamedAs}
+use Rattle.pli_type.specs.Names.{NamedAs, NamedUnit}
 use Rattle.pli_type_name_laws.specs.NameFacts.{NameFacts}
+use Rattle.pli_type_name_laws.specs.Nesting.{ListNests}
 use Rattle.pli_type_name_laws.specs.Numbering.{AreNumbered}
 use Rattle.pli_type_tree.specs.Templates.{Template}
 use Rattle.pli_type_tree.specs.TypedTree.{TypedUnit}
@@ -25,30 +29,38 @@ pub record IsTypedMain (greatest : ℕ) (u : TypedUnit) : Type 0 where
   pub parameters : signature.parameters ≡ []
   pub value : signature.value ≡ None
 
--- A unit whose statements are numbered in the order of the text, from any number on, gives a typed unit that
--- is numbered well.
+-- A unit whose statements are numbered in the order of the text, from any number on, and nest within the limit,
+-- gives a typed unit that is numbered well.
 abbrev pub TypedUnitsAreNumbered : Type 0
 TypedUnitsAreNumbered =
-    (u : NamedUnit) (t : TypedUnit) (from : ℕ) → AreNumbered from u.tree.statements → checked u ≡ Ok t
-    → IsWellNumbered t
+    (u : NamedUnit) (t : TypedUnit) (from : ℕ) → AreNumbered from u.tree.statements
+    → Deeper (λ m. ListNests true m u.tree.statements) nesting_limit → checked u ≡ Ok t → IsWellNumbered t
 
 -- a unit by its parts, where numbers have at most 31 binary digits
-abbrev pub unit_with : ExternalProcedure → (meaning : ℕ → NamedAs) → (automatic statics : List Template)
-    → NamedUnit
-unit_with tree meaning automatic statics = record {
+abbrev pub unit_with : ExternalProcedure → (is_later : ℕ → Bool) → (meaning : (blocks : List ℕ) → ℕ → NamedAs)
+    → (parameters : (block : ℕ) → List Description) → (returned : (block : ℕ) → Option Description)
+    → (automatic : (block : ℕ) → List Template) → (statics : List Template) → NamedUnit
+unit_with tree is_later meaning parameters returned automatic statics = record {
   tree = tree;
-  naming = record { greatest = 31; meaning = meaning };
+  compiled = record { greatest = 31; is_later = is_later };
+  naming = λ blocks. record { greatest = 31; meaning = meaning blocks };
+  parameters = parameters;
+  returned = returned;
   automatic = automatic;
   statics = statics;
 }
 
--- A unit whose names mean variables that are there, and whose variables begin with values that they hold,
--- gives a typed unit that is well typed.
+-- A unit whose names mean variables and procedures that are there, whose variables begin with values that they
+-- hold, and whose procedures stand directly in blocks, gives a typed unit that is well typed.
 abbrev pub TypedUnitsAreTyped : Type 0
 TypedUnitsAreTyped =
-    (tree : ExternalProcedure) (meaning : ℕ → NamedAs) (automatic statics : List Template)
-    → NameFacts (unit_with tree meaning automatic statics) → (t : TypedUnit)
-    → checked (unit_with tree meaning automatic statics) ≡ Ok t → IsTypedMain 31 t
+    (tree : ExternalProcedure) (is_later : ℕ → Bool) (meaning : (blocks : List ℕ) → ℕ → NamedAs)
+    (parameters : (block : ℕ) → List Description) (returned : (block : ℕ) → Option Description)
+    (automatic : (block : ℕ) → List Template) (statics : List Template)
+    → NameFacts (unit_with tree is_later meaning parameters returned automatic statics)
+    → Deeper (λ m. ListNests true m tree.statements) nesting_limit → (t : TypedUnit)
+    → checked (unit_with tree is_later meaning parameters returned automatic statics) ≡ Ok t
+    → IsTypedMain 31 t
 
 -- What the type checker gives for a unit that was read is well typed, with a block 0 that a program may begin
 -- with, and numbered well.

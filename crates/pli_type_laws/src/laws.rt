@@ -2,8 +2,9 @@
 ghost use Rattle.pli_type_laws.specs.ExpressionTyping.{ConvertedIsHeld, PrintedIsString};
 ghost use Rattle.pli_type_laws.specs.TypedUnits.{CheckedIsTyped, TypedUnitsAreNumbered, TypedUnitsAreTyped};
 
-/// A law: what the type checker gives for a unit whose statements are numbered in the order of the text is numbered
-/// well: each statement has a number of its own, there is one block, and no loop nests too deep.
+/// A law: what the type checker gives for a unit whose statements are numbered in the order of the text, and nest within
+/// the limit, is numbered well: each statement and each block has a number of its own, no loop nests too deep, and the
+/// temporaries of iterations in one another are apart.
 pub fn typed_units_are_numbered()
     ensures { TypedUnitsAreNumbered }
 {}
@@ -18,8 +19,8 @@ pub fn printed_is_string()
     ensures { PrintedIsString }
 {}
 
-/// A law: what the type checker gives for a unit is well typed, where its names mean variables that are there and its
-/// variables begin with values that they hold.
+/// A law: what the type checker gives for a unit is well typed, where its names mean variables and procedures that are
+/// there, its variables begin with values that they hold, and its procedures stand directly in blocks.
 pub fn typed_units_are_typed()
     ensures { TypedUnitsAreTyped }
 {}

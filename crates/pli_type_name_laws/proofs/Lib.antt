@@ -1,3 +1,4 @@
+pub mod BlocksOfUnits
 pub mod InitialHeld
 pub mod NameFactsHold
 pub mod NamesMean

@@ -5,7 +5,7 @@ ghost use Rattle.pli_base.specs.Words.{Tokens};
 ghost use Rattle.pli_parse_expression.specs.Expressions.{Deeper};
 ghost use Rattle.pli_parse_expression.specs.Operators.{nesting_limit};
 ghost use Rattle.pli_parse_statement.specs.StatementReading.{unit_of};
-ghost use Rattle.pli_resolve.specs.ResolvedUnits.{ResolvedUnit};
+ghost use Rattle.pli_resolve.specs.ResolvedUnits.{ResolvedUnit, resolved_unit_of};
 ghost use Rattle.pli_type.specs.NamedUnits.{named_unit};
 ghost use Rattle.pli_type_name_laws.specs.NameFacts.{NameFacts};
 ghost use Rattle.pli_type_name_laws.specs.Nesting.{ListNests};
@@ -18,6 +18,12 @@ ghost use Rattle.pli_type_name_laws.specs.UnitBlocks.{BlocksAreOfTree};
 /// the tree, directly in a block around; and each variable begins with values that its scalars hold.
 pub fn names_mean_variables()
     ensures { (r : ResolvedUnit) → BlocksAreOfTree r → NameFacts (named_unit 31 r) }
+{}
+
+/// A law: the blocks of a resolved unit are those of its tree, where procedures and BEGIN blocks begin.
+#[tactic(auto, using(crate::proofs::BlocksOfUnits::blocks_are_of_tree))]
+pub fn blocks_are_of_tree()
+    ensures { (u : ExternalProcedure) → BlocksAreOfTree (resolved_unit_of u) }
 {}
 
 /// A law: the statements of a unit that is read are numbered in the order of the text.

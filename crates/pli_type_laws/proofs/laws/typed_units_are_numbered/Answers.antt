@@ -1,4 +1,4 @@
-use Rattle.pli_type_laws.proofs.PlainTrees as law
+use Rattle.pli_type_laws.proofs.NumberedUnits as law
 use Rattle.pli_type_laws.proofs.laws.typed_units_are_numbered.Goals as goal
 
 pub returns : goal.returns

@@ -1,0 +1,76 @@
+-- What expressions denote: parts of variables that are placed, and values of their types.
+use Rattle.std.specs.Prelude.{◌≡◌, ℕ, Bool, true, false, IsTrue, Option, Some, None, List, [], ◌∷◌, Result, Ok, Err, refl}
+use Rattle.std.proofs.Common.{arith, sym}
+use Rattle.std.proofs.lemmas.Bool.{and_parts, leb-true, true≢false}
+use Rattle.pli_base.specs.declared.token.Fault.{Fault}
+use Rattle.pli_map.specs.Description.{Description, FixedBinary, Character, Varying, Bit, Pointer, Offset, Area, Array, Structure}
+use Rattle.pli_type.specs.ExpressionTypes.{type_of}
+use Rattle.pli_type.specs.FunctionCalls.{Denoted, DenotesVariable, DenotesResult, Meant, OneValue, WholeAggregate, meant_by, meant_as}
+use Rattle.pli_type.specs.FunctionCalls.{Argument}
+use Rattle.pli_type.specs.NamedUnits.{is_plain}
+use Rattle.pli_type.specs.References.{Referent}
+use Rattle.pli_type_laws.proofs.Conversions.{OnGiven}
+use Rattle.pli_type_laws.proofs.Operators.{HasValue}
+use Rattle.pli_type_laws.specs.ExpressionTyping.{HasType}
+use Rattle.pli_type_tree.specs.TypedTree.{TypedExpression, TypedReference, Held}
+use Rattle.pli_type_tree.specs.ValueTypes.{ValueType, type_held}
+use Rattle.pli_type_tree.specs.WellTyped.{TypingContext, IsTyped, IsPlaced}
+
+-- what was read, if there is no fault
+abbrev pub OnRead : {A : Type 0} → (A → Type 0) → Result A Fault → Type 0
+OnRead P (Ok x) = P x
+OnRead P (Err f) = Unit {0}
+
+-- a part is placed, and plain
+abbrev pub IsReferent : TypingContext → Referent → Type 0
+IsReferent s r = IsPlaced 31 s r.reference r.description × IsTrue (is_plain 31 r.description)
+
+abbrev pub IsMeant : TypingContext → Meant → Type 0
+IsMeant s (OneValue v) = HasValue s v
+IsMeant s (WholeAggregate r) = IsReferent s r
+
+abbrev pub IsDenoted : TypingContext → Denoted → Type 0
+IsDenoted s (DenotesVariable r) = IsReferent s r
+IsDenoted s (DenotesResult v) = HasValue s v
+
+abbrev pub AreArguments : TypingContext → List Argument → Type 0
+AreArguments s [] = Unit {0}
+AreArguments s (g ∷ gs) = IsDenoted s g.denoted × AreArguments s gs
+
+module _ (s : TypingContext) where
+  -- what has the type that a plain scalar holds
+  abbrev IsOfType : TypedExpression → Description → Type 0
+  IsOfType e d = (t : ValueType) → type_held d ≡ Some t → IsTyped 31 s e t
+
+  pub scalar_typed : (e : TypedExpression) (d : Description) → IsTrue (is_plain 31 d) → IsOfType e d
+      → OnGiven (HasType s e) (type_of d)
+  scalar_typed e (FixedBinary p) plain h =
+      (p, h _ refl, (omega arith, leb-true p 31 plain, leb-true p 31 plain))
+  scalar_typed e (Character k) plain h = (k, k, h _ refl, leb-true k 32767 ((and_parts _ _ plain).1))
+  scalar_typed e (Varying k) plain h = (0, k, h _ refl, leb-true k 32767 ((and_parts _ _ plain).1))
+  scalar_typed e (Bit k) plain h = (k, k, h _ refl, leb-true k 32767 ((and_parts _ _ plain).1))
+  scalar_typed e Pointer plain h = absurd (true≢false (sym plain))
+  scalar_typed e Offset plain h = absurd (true≢false (sym plain))
+  scalar_typed e (Area k) plain h = absurd (true≢false (sym plain))
+  scalar_typed e (Array bounds element) plain h = tt
+  scalar_typed e (Structure _) plain h = tt
+
+  held_as : (r : TypedReference) (d : Description) → IsPlaced 31 s r d → IsOfType (Held r) d
+  held_as r d placed t e = (d, placed, e)
+
+  -- what a variable holds
+  held_typed : (r : TypedReference) (d : Description) → IsReferent s (record { reference = r; description = d })
+      → IsMeant s (meant_by (record { reference = r; description = d }))
+  held_typed r (FixedBinary p) h = scalar_typed (Held r) (FixedBinary p) h.1 (held_as r (FixedBinary p) h.0)
+  held_typed r (Character k) h = scalar_typed (Held r) (Character k) h.1 (held_as r (Character k) h.0)
+  held_typed r (Varying k) h = scalar_typed (Held r) (Varying k) h.1 (held_as r (Varying k) h.0)
+  held_typed r (Bit k) h = scalar_typed (Held r) (Bit k) h.1 (held_as r (Bit k) h.0)
+  held_typed r Pointer h = absurd (true≢false (sym h.1))
+  held_typed r Offset h = absurd (true≢false (sym h.1))
+  held_typed r (Area k) h = absurd (true≢false (sym h.1))
+  held_typed r (Array bounds element) h = h
+  held_typed r (Structure _) h = h
+
+  pub denoted_meant : (d : Denoted) → IsDenoted s d → IsMeant s (meant_as d)
+  denoted_meant (DenotesVariable r) h = held_typed r.reference r.description h
+  denoted_meant (DenotesResult v) h = h

@@ -1,0 +1,294 @@
+-- Forms without statements in them are typed as the meaning of typed trees asks.
+use Rattle.std.specs.Prelude.{◌≡◌, ℕ, Bool, true, false, Option, Some, None, is_none, option_map, List, [], ◌∷◌, slice_get}
+use Rattle.std.specs.Prelude.{Result, Ok, Err, refl, if◌then◌else◌}
+use Rattle.std.specs.List.{list_any}
+use Rattle.std.proofs.Common.{sym, subst, ◌∙◌}
+use Rattle.pli_base.specs.Reading.{at_fault}
+use Rattle.pli_base.specs.Statements as tree
+use Rattle.pli_base.specs.Statements.{Range}
+use Rattle.pli_base.specs.Syntax.{Expression, Referred, Reference, Arguments, Absent, Given}
+use Rattle.pli_base.specs.declared.code.Code.TheVariants.{WrongOperandType, CannotAssign, CannotPrint, WrongReturn, NotYetBuilt}
+use Rattle.pli_base.specs.declared.syntax.Identifier.{Identifier}
+use Rattle.pli_base.specs.declared.token.Fault.{Fault}
+use Rattle.pli_map.specs.Description.{Description}
+use Rattle.pli_map.specs.Same.{same}
+use Rattle.pli_map.specs.laws.SameLaws.{same_decides}
+use Rattle.pli_map.specs.Scalars.{is_scalar}
+use Rattle.pli_operation.specs.Operations.{Operation}
+use Rattle.pli_type.specs.ExpressionTypes.{TypedValue, precision_of, converted, conversions, printed}
+use Rattle.pli_type.specs.FunctionCalls.{Denoted, DenotesVariable, DenotesResult, Meant, OneValue, WholeAggregate, Argument}
+use Rattle.pli_type.specs.Names.{NamedAs, AVariable, AFunction, AProcedure, ALabel, Untyped, NamedProcedure, Naming, Compiled}
+use Rattle.pli_type.specs.ProcedureCalls.{arguments_passed}
+use Rattle.pli_type.specs.References.{AsArgument, AsLocator, AsTarget, Referent}
+use Rattle.pli_type.specs.StatementTyping.{aggregate_assigned, scalar_assigned, assigned, assignment, truth_of, condition, item, items}
+use Rattle.pli_type.specs.StatementTyping.{Surroundings, label_found, jump_to, jump, goto_typed, arguments_typed, no_function, call_of}
+use Rattle.pli_type.specs.StatementTyping.{call_typed, returned_value, return_typed, number_of, limit, possible_limit, limits}
+use Rattle.pli_type.specs.StatementTyping.{without_subscripts, suits_range, controls, possible_condition, next_value, with_repeat}
+use Rattle.pli_type.specs.StatementTyping.{iteration}
+use Rattle.pli_type.specs.Typing.{first_token, or_fault, meant, referred, value_of}
+use Rattle.pli_type.specs.Unbuilt.{later_expression, later_reference, later_arguments, later_part, later_range, later_control}
+use Rattle.pli_type.specs.declared.expression_type.ExpressionType.{ExpressionType}
+use Rattle.pli_type.specs.declared.expression_type.ExpressionType.TheVariants as types
+use Rattle.pli_type_laws.proofs.Calls.{IsCallable, arguments_fit, fit_signature}
+use Rattle.pli_type_laws.proofs.Conversions.{OnGiven, IsItem, conversion_held, printing_held}
+use Rattle.pli_type_laws.proofs.Denotations.{OnRead, IsReferent, IsMeant, IsDenoted, AreArguments}
+use Rattle.pli_type_laws.proofs.Expressions.{IsMeaning, N, C, or_parts, read_option, meant_typed, referred_typed, value_typed}
+use Rattle.pli_type_laws.proofs.Expressions.{list_typed}
+use Rattle.pli_type_laws.proofs.Iterations.{Converts, conversions_hold, AreLimits, limits_range}
+use Rattle.pli_type_laws.proofs.Operators.{HasValue, has_precision}
+use Rattle.pli_type_laws.proofs.References.{read_then}
+use Rattle.pli_type_laws.specs.ExpressionTyping as Near
+use Rattle.pli_type_laws.specs.ExpressionTyping.{HasType}
+use Rattle.pli_type_tree.specs.TypedTree as typed
+use Rattle.pli_type_tree.specs.TypedTree.{TypedExpression, TypedReference, TypedArguments, TypedRange, Form}
+use Rattle.pli_type_tree.specs.ValueTypes.{StringKind, OfBits}
+use Rattle.pli_type_tree.specs.WellTyped.{TypingContext, IsPlaced, ArePassed, IsValueFor, IsString, AreItems, IsNumber}
+use Rattle.pli_type_tree.specs.WellTyped.{IsPossibleNumber, IsRange, IsPossibleCondition, IsIteration, knows_label, IsTypedForm}
+
+module _ (s : TypingContext) where
+  truth_typed : (e : TypedExpression) (kind : ExpressionType) → HasType s e kind
+      → OnGiven (IsString 31 s OfBits) (truth_of (record { expression = e; kind = kind }))
+  truth_typed e types.Bits h = (h.0, h.1, h.2)
+  truth_typed e (types.FixedDecimal d) h = tt
+  truth_typed e (types.FixedBinary p) h = tt
+  truth_typed e types.Characters h = tt
+  truth_typed e types.Pointer h = tt
+  truth_typed e types.Offset h = tt
+  truth_typed e types.Area h = tt
+
+  abbrev IsPrinted : TypedExpression → Type 0
+  IsPrinted x = (kind : StringKind) × IsString 31 s kind x
+
+  printed_typed : (o : Option TypedExpression) → OnGiven (IsItem s) o → OnGiven IsPrinted o
+  printed_typed (Some x) h = (h.0, (h.1.0, h.1.1, h.1.2))
+  printed_typed None h = tt
+
+  aggregate_typed : (equals : ℕ) (target : Referent) → IsReferent s target → (m : Meant) → IsMeant s m
+      → OnRead (IsTypedForm 31 s) (aggregate_assigned equals target m)
+  aggregate_typed equals target h (OneValue v) k = tt
+  aggregate_typed equals target h (WholeAggregate source) k = by (same target.description source.description) refl
+    where
+      by : (b : Bool) → same target.description source.description ≡ b
+          → OnRead (IsTypedForm 31 s)
+          (if b then Ok (typed.AssignAggregate target.reference source.reference)
+          else Err (record { code = CannotAssign; at = equals }))
+      by true e = (
+        target.description,
+        h.0,
+        subst (IsPlaced 31 s source.reference)
+            (sym ((same_decides target.description source.description).0 e)) k.0,
+      )
+      by false e = tt
+
+module _ (is_later : ℕ → Bool) (meaning : ℕ → NamedAs) (s : TypingContext) (known : (at : ℕ) → IsMeaning s (meaning at)) where
+  abbrev M : Naming
+  M = N is_later meaning s known
+
+  abbrev L : Compiled
+  L = C is_later meaning s known
+
+  pub condition_typed : (e : Expression) → later_expression L e ≡ false
+      → OnRead (IsString 31 s OfBits) (condition M e)
+  condition_typed e l =
+      read_then (HasValue s) (IsString 31 s OfBits) (value_of M e) _ (value_typed is_later meaning s known e l)
+      (λ v h. read_option (IsString 31 s OfBits) WrongOperandType (first_token e) (truth_of v)
+      (truth_typed s v.expression v.kind h))
+
+  item_typed : (e : Expression) → later_expression L e ≡ false → OnRead (IsPrinted s) (item M e)
+  item_typed e l =
+      read_then (HasValue s) (IsPrinted s) (value_of M e) _ (value_typed is_later meaning s known e l)
+      (λ v h. read_option (IsPrinted s) CannotPrint (first_token e) (printed v)
+      (printed_typed s (printed v) (printing_held s v h)))
+
+  pub items_typed : (es : List Expression) → list_any (later_expression L) es ≡ false
+      → OnRead (AreItems 31 s) (items M es)
+  items_typed [] l = tt
+  items_typed (e ∷ es) l =
+      let parts : (later_expression L e ≡ false) × (list_any (later_expression L) es ≡ false) = or_parts _ _ l in
+      read_then (IsPrinted s) (AreItems 31 s) (item M e) _ (item_typed e parts.0)
+      (λ x h. read_then (AreItems 31 s) (AreItems 31 s) (items M es) _ (items_typed es parts.1) (λ xs k. (h, k)))
+
+  scalar_typed : (equals : ℕ) (r : TypedReference) (d : Description) → IsPlaced 31 s r d → (e : Expression)
+      → later_expression L e ≡ false → OnRead (IsTypedForm 31 s) (scalar_assigned M equals r d e)
+  scalar_typed equals r d placed e l =
+      read_then (HasValue s) (IsTypedForm 31 s) (value_of M e) _ (value_typed is_later meaning s known e l)
+      (λ v h. read_then (IsValueFor 31 s d) (IsTypedForm 31 s) (or_fault CannotAssign equals (converted 31 d v)) _
+      (read_option (IsValueFor 31 s d) CannotAssign equals (converted 31 d v) (conversion_held s d v h))
+      (λ x k. (d, placed, k)))
+
+  choice : (b : Bool) (r q : Result Form Fault) → OnRead (IsTypedForm 31 s) r → OnRead (IsTypedForm 31 s) q
+      → OnRead (IsTypedForm 31 s) (if b then r else q)
+  choice true r q a b = a
+  choice false r q a b = b
+
+  assigned_typed : (at equals : ℕ) (d : Denoted) → IsDenoted s d → (e : Expression) → later_expression L e ≡ false
+      → OnRead (IsTypedForm 31 s) (assigned M at equals d e)
+  assigned_typed at equals (DenotesVariable target) h e l =
+      choice (is_scalar target.description) _ _
+      (scalar_typed equals target.reference target.description h.0 e l)
+      (read_then (IsMeant s) (IsTypedForm 31 s) (meant M AsArgument e) (aggregate_assigned equals target)
+      (meant_typed is_later meaning s known AsArgument e l) (aggregate_typed s equals target h))
+  assigned_typed at equals (DenotesResult v) h e l = tt
+
+  pub assignment_typed : (at : ℕ) (target : Reference) (equals : ℕ) (e : Expression) → later_reference L target ≡ false
+      → later_expression L e ≡ false → OnRead (IsTypedForm 31 s) (assignment M at target equals e)
+  assignment_typed at target equals e l m =
+      read_then (IsDenoted s) (IsTypedForm 31 s) (referred M AsTarget target) _
+      (referred_typed is_later meaning s known AsTarget target l) (λ d h. assigned_typed at equals d h e m)
+
+  -- calls
+  no_function_typed : (p : NamedProcedure) (callable : IsCallable s p) (xs : TypedArguments) → ArePassed 31 s xs p.parameters
+      → (at : ℕ) (o : Option Description) → p.returned ≡ o → OnRead (IsTypedForm 31 s) (no_function at p.block o xs)
+  no_function_typed p callable xs fit at None e =
+      (callable.signature, callable.there, callable.reached, fit_signature s p callable xs fit, callable.value ∙ e)
+  no_function_typed p callable xs fit at (Some d) e = tt
+
+  call_of_typed : (at : ℕ) (a : NamedAs) → IsMeaning s a → (gs : List Argument) → AreArguments s gs
+      → OnRead (IsTypedForm 31 s) (call_of 31 at a gs)
+  call_of_typed at (AProcedure p) k gs h =
+      read_then (λ xs. ArePassed 31 s xs p.parameters) (IsTypedForm 31 s) (arguments_passed 31 p at gs) _
+      (arguments_fit s p at gs h) (λ xs fit. no_function_typed p k xs fit at p.returned refl)
+  call_of_typed at other k gs h = tt
+
+  arguments_read : (a : Arguments) → later_arguments L a ≡ false → OnRead (AreArguments s) (arguments_typed M a)
+  arguments_read Absent l = tt
+  arguments_read (Given list) l = list_typed is_later meaning s known [] list l
+
+  pub call_is_typed : (name : Identifier) (a : Arguments) → later_arguments L a ≡ false
+      → OnRead (IsTypedForm 31 s) (call_typed M name a)
+  call_is_typed name a l =
+      read_then (AreArguments s) (IsTypedForm 31 s) (arguments_typed M a) _ (arguments_read a l)
+      (λ gs h. call_of_typed name.at (meaning name.at) (known name.at) gs h)
+
+  -- returns
+  module _ (su : Surroundings) (begins : s.begins ≡ su.begins) (value : s.value ≡ su.value) where
+    without_value : (at : ℕ) (o : Option Description) → su.value ≡ o
+        → OnRead (IsTypedForm 31 s) (if is_none o then Ok (typed.Return su.begins) else at_fault WrongReturn at)
+    without_value at None e = (sym begins, value ∙ e)
+    without_value at (Some d) e = tt
+
+    with_value : (at first : ℕ) (v : TypedValue) → HasValue s v → (o : Option Description) → su.value ≡ o
+        → OnRead (IsTypedForm 31 s) (returned_value 31 at first su.begins o v)
+    with_value at first v h None e = tt
+    with_value at first v h (Some d) e =
+        read_then (IsValueFor 31 s d) (IsTypedForm 31 s) (or_fault CannotAssign first (converted 31 d v)) _
+        (read_option (IsValueFor 31 s d) CannotAssign first (converted 31 d v) (conversion_held s d v h))
+        (λ x k. (sym begins, (d, value ∙ e, k)))
+
+    pub return_is_typed : (at : ℕ) (v : Option Expression) → later_part (later_expression L) v ≡ false
+        → OnRead (IsTypedForm 31 s) (return_typed M su at v)
+    return_is_typed at None l = without_value at su.value refl
+    return_is_typed at (Some e) l =
+        read_then (HasValue s) (IsTypedForm 31 s) (value_of M e) _ (value_typed is_later meaning s known e l)
+        (λ v h. with_value at (first_token e) v h su.value refl)
+
+  -- jumps
+  module _ (su : Surroundings)
+      (finds : (label outward : ℕ) → label_found su.blocks label ≡ Some outward → knows_label (slice_get s.blocks outward) label) where
+    jump_found : (label : ℕ) (o : Option ℕ) → label_found su.blocks label ≡ o → OnGiven (IsTypedForm 31 s) (jump_to label o)
+    jump_found label None e = tt
+    jump_found label (Some outward) e = finds label outward e
+
+    jump_typed : (a : NamedAs) → OnGiven (IsTypedForm 31 s) (jump su a)
+    jump_typed (ALabel statement) = jump_found statement (label_found su.blocks statement) refl
+    jump_typed (AVariable v) = tt
+    jump_typed (AFunction f) = tt
+    jump_typed (AProcedure p) = tt
+    jump_typed Untyped = tt
+
+    pub goto_is_typed : (label : Identifier) → OnRead (IsTypedForm 31 s) (goto_typed M su label)
+    goto_is_typed label = read_option (IsTypedForm 31 s) NotYetBuilt label.at (jump su (meaning label.at)) (jump_typed (meaning label.at))
+
+  -- groups with a control variable
+  limit_given : (v : TypedValue) (o : Option ℕ) → OnGiven (Near.IsNumber s v.expression) o
+      → OnGiven (IsNumber 31 s) (option_map (λ p. v.expression) o)
+  limit_given v (Some p) h = (h.0, h.1)
+  limit_given v None h = tt
+
+  limit_typed : (e : Expression) → later_expression L e ≡ false → OnRead (IsNumber 31 s) (limit M e)
+  limit_typed e l =
+      read_then (HasValue s) (IsNumber 31 s) (value_of M e) _ (value_typed is_later meaning s known e l)
+      (λ v h. read_option (IsNumber 31 s) WrongOperandType (first_token e) (number_of 31 v)
+      (limit_given v (precision_of 31 v.kind) (has_precision s v.expression v.kind h)))
+
+  possible_limit_typed : (o : Option Expression) → later_part (later_expression L) o ≡ false
+      → OnRead (IsPossibleNumber 31 s) (possible_limit M o)
+  possible_limit_typed None l = tt
+  possible_limit_typed (Some e) l =
+      read_then (IsNumber 31 s) (IsPossibleNumber 31 s) (limit M e) _ (limit_typed e l) (λ x h. h)
+
+  limits_typed : (range : Option Range) → later_part (later_range L) range ≡ false → OnRead (AreLimits s) (limits M range)
+  limits_typed (Some (tree.To to by)) l =
+      let parts : (later_expression L to ≡ false) × (later_part (later_expression L) by ≡ false) = or_parts _ _ l in
+      read_then (IsNumber 31 s) (AreLimits s) (limit M to) _ (limit_typed to parts.0)
+      (λ x h. read_then (IsPossibleNumber 31 s) (AreLimits s) (possible_limit M by) _ (possible_limit_typed by parts.1)
+      (λ y k. (h, k)))
+  limits_typed (Some (tree.By by to)) l =
+      let parts : (later_expression L by ≡ false) × (later_part (later_expression L) to ≡ false) = or_parts _ _ l in
+      read_then (IsNumber 31 s) (AreLimits s) (limit M by) _ (limit_typed by parts.0)
+      (λ x h. read_then (IsPossibleNumber 31 s) (AreLimits s) (possible_limit M to) _ (possible_limit_typed to parts.1)
+      (λ y k. (h, k)))
+  limits_typed (Some (tree.Repeat next)) l = tt
+  limits_typed None l = tt
+
+  -- the variable suits the limits
+  abbrev Suits : TypedRange → Referent → Type 0
+  Suits range r = IsReferent s r × (suits_range r.description range ≡ true)
+
+  suited : (at : ℕ) (range : TypedRange) (r : Referent) → IsReferent s r → (b : Bool) → without_subscripts r.reference ≡ b
+      → (c : Bool) → suits_range r.description range ≡ c → OnRead (Suits range) (controls at range (DenotesVariable r))
+  suited at range r h true e true f = rw (e, f) (h, f)
+  suited at range r h true e false f = rw (e, f) tt
+  suited at range r h false e c f = rw e tt
+
+  controls_typed : (at : ℕ) (range : TypedRange) (d : Denoted) → IsDenoted s d → OnRead (Suits range) (controls at range d)
+  controls_typed at range (DenotesVariable r) h = suited at range r h _ refl _ refl
+  controls_typed at range (DenotesResult v) h = tt
+
+  possible_condition_typed : (o : Option Expression) → later_part (later_expression L) o ≡ false
+      → OnRead (IsPossibleCondition 31 s) (possible_condition M o)
+  possible_condition_typed None l = tt
+  possible_condition_typed (Some e) l =
+      read_then (IsString 31 s OfBits) (IsPossibleCondition 31 s) (condition M e) _ (condition_typed e l) (λ x h. h)
+
+  next_typed : (d : Description) (operations : List Operation) (e : Expression) → later_expression L e ≡ false
+      → OnRead (IsRange 31 s operations d) (next_value M d e)
+  next_typed d operations e l =
+      read_then (HasValue s) (IsRange 31 s operations d) (value_of M e) _ (value_typed is_later meaning s known e l)
+      (λ v h. read_then (IsValueFor 31 s d) (IsRange 31 s operations d)
+      (or_fault CannotAssign (first_token e) (converted 31 d v)) _
+      (read_option (IsValueFor 31 s d) CannotAssign (first_token e) (converted 31 d v) (conversion_held s d v h))
+      (λ x k. k))
+
+  turns_typed : (d : Description) (operations : List Operation) (kept : TypedRange) (range : Option Range)
+      → later_part (later_range L) range ≡ false → IsRange 31 s operations d kept
+      → OnRead (IsRange 31 s operations d) (with_repeat M d kept range)
+  turns_typed d operations kept (Some (tree.Repeat next)) l h = next_typed d operations next l
+  turns_typed d operations kept (Some (tree.To to by)) l h = h
+  turns_typed d operations kept (Some (tree.By by to)) l h = h
+  turns_typed d operations kept None l h = h
+
+  pub iteration_typed : (temporary : ℕ) (variable : Reference) (equals : ℕ) (first : Expression) (range : Option Range)
+      (tested : Option Expression) → later_control L (tree.Iterate variable equals first range tested) ≡ false
+      → OnRead (IsIteration 31 s) (iteration M temporary variable equals first range tested)
+  iteration_typed temporary variable equals first range tested l =
+      let front : (_ ≡ false) × (later_part (later_expression L) tested ≡ false) = or_parts _ _ l in
+      let inner : (_ ≡ false) × (later_part (later_range L) range ≡ false) = or_parts _ _ front.0 in
+      let both : (later_reference L variable ≡ false) × (later_expression L first ≡ false) = or_parts _ _ inner.0 in
+      read_then (HasValue s) (IsIteration 31 s) (value_of M first) _ (value_typed is_later meaning s known first both.1)
+      (λ v h. read_then (AreLimits s) (IsIteration 31 s) (limits M range) _ (limits_typed range inner.1)
+      (λ kept k. read_then (IsDenoted s) (IsIteration 31 s) (referred M AsLocator variable) _
+      (referred_typed is_later meaning s known AsLocator variable both.0)
+      (λ d g. read_then (Suits kept) (IsIteration 31 s) (controls (first_token (Referred variable)) kept d) _
+      (controls_typed (first_token (Referred variable)) kept d g)
+      (λ r m. read_then (Converts s r.description v.expression) (IsIteration 31 s)
+      (or_fault CannotAssign equals (conversions 31 r.description v.kind)) _
+      (read_option (Converts s r.description v.expression) CannotAssign equals (conversions 31 r.description v.kind)
+      (conversions_hold s r.description v.expression v.kind h))
+      (λ operations c. read_then (IsPossibleCondition 31 s) (IsIteration 31 s) (possible_condition M tested) _
+      (possible_condition_typed tested front.1)
+      (λ x w. read_then (IsRange 31 s operations r.description) (IsIteration 31 s)
+      (with_repeat M r.description kept range) _
+      (turns_typed r.description operations kept range inner.1
+      (limits_range s r.description operations kept c.1 m.1 k))
+      (λ turns t. (r.description, m.0.0, c.0, t, w))))))))

@@ -1,0 +1,118 @@
+-- The blocks of a resolved unit are those of its tree, as statements know them.
+use Rattle.std.specs.Prelude.{◌≡◌, ℕ, suc, ◌+◌, Option, Some, None, List, [], ◌∷◌, ◌++◌, map, refl}
+use Rattle.std.proofs.Common.{sym, ap, ◌∙◌}
+use Rattle.pli_base.specs.Statements as tree
+use Rattle.pli_base.specs.Statements.{Statement, Numbered, Body, Statements, Ended, Before, Alternative, NoElse, Else}
+use Rattle.pli_base.specs.Statements.{ExternalProcedure}
+use Rattle.pli_resolve.specs.ResolvedUnits.{ResolvedBlock, resolved_unit_of}
+use Rattle.pli_resolve.specs.TreeBlocks as walked
+use Rattle.pli_resolve.specs.TreeBlocks.{TreeBlock}
+use Rattle.pli_resolve.specs.declared.block_numbers.ResolvedBlockKind.{ResolvedBlockKind}
+use Rattle.pli_resolve.specs.declared.block_numbers.ResolvedBlockKind.TheVariants as kinds
+use Rattle.pli_resolve.specs.laws.BlockLaws as laws
+use Rattle.pli_resolve.proofs.BlocksOfTrees.{blocks_of_the_tree}
+use Rattle.pli_type.specs.StatementTyping.{Enclosing, enclosing, labels_of, with_labels}
+use Rattle.pli_type.specs.TreeBlocks as blocks
+use Rattle.pli_type_name_laws.specs.SourceBlocks.{SourceBlock, of_unit, innermost, begun_in, begun_by, begun_among, begun_behind}
+use Rattle.pli_type_name_laws.specs.SourceBlocks.{unit_blocks}
+use Rattle.pli_type_name_laws.specs.UnitBlocks.{in_unit, in_tree, BlocksAreOfTree}
+
+abbrev in_walk : TreeBlock → ResolvedBlockKind × Option ℕ
+in_walk b = (b.kind, b.outer)
+
+map_both : {A B : Type 0} (f : A → B) (xs ys : List A) → map f (xs ++ ys) ≡ map f xs ++ map f ys
+map_both f [] ys = refl
+map_both f (x ∷ xs) ys = ap (λ zs. f x ∷ zs) (map_both f xs ys)
+
+mutual
+  same_count : (s : Statement) → walked.blocks_in s ≡ blocks.blocks_in s
+  same_count (Numbered number label at body) = same_body_count body
+
+  same_body_count : (b : Body) → walked.blocks_of b ≡ blocks.blocks_of b
+  same_body_count (tree.Procedure heading statements end) = ap suc (same_list_count statements)
+  same_body_count (tree.Begin statements end) = ap suc (same_list_count statements)
+  same_body_count (tree.Do control statements end) = same_list_count statements
+  same_body_count (tree.If condition consequence alternative) =
+      ap (λ n. n + walked.blocks_behind alternative) (same_count consequence)
+      ∙ ap (λ n. blocks.blocks_in consequence + n) (same_else_count alternative)
+  same_body_count (tree.On condition unit) = ap suc (same_count unit)
+  same_body_count body = refl
+
+  same_list_count : (ss : Statements) → walked.blocks_among ss ≡ blocks.blocks_among ss
+  same_list_count Ended = refl
+  same_list_count (Before first more) =
+      ap (λ n. n + walked.blocks_among more) (same_count first)
+      ∙ ap (λ n. blocks.blocks_in first + n) (same_list_count more)
+
+  same_else_count : (a : Alternative) → walked.blocks_behind a ≡ blocks.blocks_behind a
+  same_else_count NoElse = refl
+  same_else_count (Else s) = same_count s
+
+innermost_kept : (labels : List ℕ) (around : List Enclosing) (outer : ℕ) → innermost around ≡ Some outer
+    → innermost (with_labels labels around) ≡ Some outer
+innermost_kept labels [] outer e = e
+innermost_kept labels (b ∷ bs) outer e = e
+
+mutual
+  walk_in : (around : List Enclosing) (outer x : ℕ) (s : Statement) → innermost around ≡ Some outer
+      → map in_walk (walked.statement_blocks outer x s) ≡ map in_tree (begun_in around x s)
+  walk_in around outer x (Numbered number label at body) e = walk_by around outer x number body e
+
+  walk_by : (around : List Enclosing) (outer x number : ℕ) (b : Body) → innermost around ≡ Some outer
+      → map in_walk (walked.body_blocks outer x number b) ≡ map in_tree (begun_by around x number b)
+  walk_by around outer x number (tree.Procedure heading statements end) e =
+      ap (λ (o : Option ℕ). (kinds.Procedure, o) ∷ map in_walk (walked.statements_blocks x (suc x) statements)) (sym e)
+      ∙ ap (λ bs. (kinds.Procedure, innermost around) ∷ bs)
+      (walk_among (enclosing x statements ∷ around) x (suc x) statements refl)
+  walk_by around outer x number (tree.Begin statements end) e =
+      ap (λ (o : Option ℕ). (kinds.Begin, o) ∷ map in_walk (walked.statements_blocks x (suc x) statements)) (sym e)
+      ∙ ap (λ bs. (kinds.Begin, innermost around) ∷ bs)
+      (walk_among (enclosing x statements ∷ around) x (suc x) statements refl)
+  walk_by around outer x number (tree.Do control statements end) e =
+      walk_among (with_labels (labels_of statements) around) outer x statements
+      (innermost_kept (labels_of statements) around outer e)
+  walk_by around outer x number (tree.If condition consequence alternative) e =
+      map_both in_walk (walked.statement_blocks outer x consequence)
+      (walked.alternative_blocks outer (x + walked.blocks_in consequence) alternative)
+      ∙ ap (λ bs. bs ++ map in_walk (walked.alternative_blocks outer (x + walked.blocks_in consequence) alternative))
+      (walk_in around outer x consequence e)
+      ∙ ap (λ n. map in_tree (begun_in around x consequence) ++ map in_walk (walked.alternative_blocks outer (x + n) alternative))
+      (same_count consequence)
+      ∙ ap (λ bs. map in_tree (begun_in around x consequence) ++ bs)
+      (walk_behind around outer (x + blocks.blocks_in consequence) alternative e)
+      ∙ sym (map_both in_tree (begun_in around x consequence) (begun_behind around (x + blocks.blocks_in consequence) alternative))
+  walk_by around outer x number (tree.On condition unit) e =
+      ap (λ (o : Option ℕ). (kinds.OnUnit, o) ∷ map in_walk (walked.statement_blocks x (suc x) unit)) (sym e)
+      ∙ ap (λ bs. (kinds.OnUnit, innermost around) ∷ bs) (walk_in (of_unit x ∷ around) x (suc x) unit refl)
+  walk_by around outer x number body e = refl
+
+  walk_among : (around : List Enclosing) (outer x : ℕ) (ss : Statements) → innermost around ≡ Some outer
+      → map in_walk (walked.statements_blocks outer x ss) ≡ map in_tree (begun_among around x ss)
+  walk_among around outer x Ended e = refl
+  walk_among around outer x (Before first more) e =
+      map_both in_walk (walked.statement_blocks outer x first)
+      (walked.statements_blocks outer (x + walked.blocks_in first) more)
+      ∙ ap (λ bs. bs ++ map in_walk (walked.statements_blocks outer (x + walked.blocks_in first) more))
+      (walk_in around outer x first e)
+      ∙ ap (λ n. map in_tree (begun_in around x first) ++ map in_walk (walked.statements_blocks outer (x + n) more))
+      (same_count first)
+      ∙ ap (λ bs. map in_tree (begun_in around x first) ++ bs)
+      (walk_among around outer (x + blocks.blocks_in first) more e)
+      ∙ sym (map_both in_tree (begun_in around x first) (begun_among around (x + blocks.blocks_in first) more))
+
+  walk_behind : (around : List Enclosing) (outer x : ℕ) (a : Alternative) → innermost around ≡ Some outer
+      → map in_walk (walked.alternative_blocks outer x a) ≡ map in_tree (begun_behind around x a)
+  walk_behind around outer x NoElse e = refl
+  walk_behind around outer x (Else s) e = walk_in around outer x s e
+
+walk_unit : (u : ExternalProcedure) → map in_walk (walked.unit_blocks u) ≡ map in_tree (unit_blocks u)
+walk_unit u =
+    ap (λ bs. (kinds.Procedure, None) ∷ bs) (walk_among (enclosing 0 u.statements ∷ []) 0 1 u.statements refl)
+
+seen : (bs : List ResolvedBlock) → map in_unit bs ≡ map in_walk (map laws.in_tree bs)
+seen [] = refl
+seen (b ∷ bs) = ap (λ cs. in_unit b ∷ cs) (seen bs)
+
+pub blocks_are_of_tree : (u : ExternalProcedure) → BlocksAreOfTree (resolved_unit_of u)
+blocks_are_of_tree u =
+    seen (resolved_unit_of u).blocks ∙ ap (λ bs. map in_walk bs) (blocks_of_the_tree u) ∙ walk_unit u
