@@ -1,5 +1,5 @@
 -- The code of a well-typed program does what the program means.
-use Rattle.std.specs.Prelude.{ℕ, List, [], ◌∷◌, map, refl}
+use Rattle.std.specs.Prelude.{List, [], ◌∷◌, map, refl}
 use Rattle.pli_machine_step.proofs.OutcomesAreOne.{one_outcome}
 use Rattle.pli_type_tree.specs.TypedTree.{TypedUnit}
 use Rattle.pli_gen_tree.specs.TreeTranslation.{unit_code}

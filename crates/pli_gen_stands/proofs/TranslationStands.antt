@@ -1,21 +1,27 @@
 -- The code that the translation makes of each form stands as the simulation asks.
-use Rattle.std.specs.Prelude.{◌≡◌, ℕ, zero, suc, ◌+◌, ◌≤◌, nat_eq, Bool, true, false, Option, Some, None, List, [], ◌∷◌, ◌++◌, map, slice_get, refl}
+use Rattle.std.specs.Prelude.{◌≡◌, ℕ, zero, suc, ◌+◌, ◌-◌, ◌≤◌, nat_eq, Bool, true, false, Option, Some, None, List, [], ◌∷◌, ◌++◌, map, slice_get, refl}
 use Rattle.std.specs.List.{flat_map, list_any, AllByRecursion}
 use Rattle.std.specs.Prelude.{◌||◌, if◌then◌else◌}
 use Rattle.std.proofs.Common.{arith, ap, ◌∙◌, sym, subst, true≢false}
 use Rattle.std.proofs.lemmas.Bool.{eq-eqb}
 use Rattle.pli_code.specs.declared.ending.RunError.TheVariants.{NoReturnedValue}
 use Rattle.pli_machine_step.specs.Program as op
+use Rattle.pli_operation.specs.Operations.{Operation, Add, Within}
 use Rattle.pli_machine_step.specs.Program.{Instruction, Block, Procedure, BeginBlock, UnitCode}
 use Rattle.pli_type_tree.specs.TypedTree.{Root, InSlot, OfProgram, TypedExpression, Literal, Held, Calculated, Called, TypedReference, Whole, Part, Operands, NoOperand, OperandThen}
 use Rattle.pli_type_tree.specs.TypedTree.{Subscripts, NoSubscript, SubscriptThen, TypedArguments, NoArgument, ByPlace, ByDummy, TypedStatement, Statement}
-use Rattle.pli_type_tree.specs.TypedTree.{Form, Null, Assign, AssignAggregate, Put, If, Begin, Group, While, Call, Goto, Return, ReturnValue, Stop}
+use Rattle.pli_type_tree.specs.TypedTree.{Form, Null, Assign, AssignAggregate, Put, If, Begin, Group, While, Iterate, Call, Goto, Return, ReturnValue, Stop}
+use Rattle.pli_type_tree.specs.Iterations.{kept_by, limit_number, step_number, is_iterated}
+use Rattle.pli_type_tree.specs.TypedTree.{Iteration, TypedRange, Once, ToBy, ByTo, Repeated}
 use Rattle.pli_type_tree.specs.TypedTree.{OtherWise, NoElse, Else, TypedStatements, NoStatement, StatementThen, TypedProcedure, TypedUnit}
 use Rattle.pli_gen_tree.specs.TreeTranslation.{argument_count, root_code, value_code, place_code, operands_code, subscripts_code, arguments_code, call_code, skip_code, items_code, behind}
 use Rattle.pli_gen_tree.specs.TreeTranslation.{statement_code, form_code, list_code, places_in, places_in_form, places_in_else, places_among, statement_place, with_target, BlockTree, begin_block}
 use Rattle.pli_gen_tree.specs.TreeTranslation.{blocks_in, blocks_of_form, blocks_among, blocks_of_procedure, blocks_of, end_code, block_code, blocks_code, places_of, block_at, blocks_at, unit_code}
+use Rattle.pli_gen_tree.specs.TreeTranslation.{keeps_code, conversion_code, sets_code, start_code, test_against, limit_test, while_test, guarded, tests_code, advances_code, back_code}
+use Rattle.pli_gen_tree.specs.TreeTranslation.{turn_place, list_place}
+use Rattle.pli_gen_tree.proofs.IterationCode.{tests_length, iterate_ends}
 use Rattle.pli_gen_tree.specs.laws.ListLaws.{all_front, all_back}
-use Rattle.pli_gen_tree.specs.WellNumbered.{AreDistinct, HasRoom, HaveRoom, IsWellNumbered}
+use Rattle.pli_gen_tree.specs.WellNumbered.{AreDistinct, HasTurns, HasRoom, HaveRoom, next_temporary, KeepsApart, KeepApart, IsWellNumbered}
 use Rattle.pli_gen_tree.specs.WellNumbered.{numbers_in, numbers_in_form, numbers_in_else, numbers_among, numbers_of}
 use Rattle.std.proofs.lemmas.List.{map-append}
 use Rattle.pli_meaning_tree.specs.TreeMeaning.{number_of}
@@ -163,9 +169,9 @@ module _ (u : UnitCode) (places : List (ℕ × ℕ)) where
   abbrev Known : List (ℕ × ℕ) → Type 0
   Known es = AllByRecursion (λ e. statement_place places e.0 ≡ e.1) es
 
-  -- a block that stands and has room for its loops
+  -- a block that stands, has room for its loops and keeps the temporaries of its iterations apart
   abbrev Placed : BlockTree → Type 0
-  Placed b = Found (slice_get u.blocks b.head.number) b × HaveRoom 64 b.statements
+  Placed b = Found (slice_get u.blocks b.head.number) b × (HaveRoom 64 b.statements × KeepApart 0 b.head.temporaries b.statements)
 
   abbrev AllPlaced : List BlockTree → Type 0
   AllPlaced bs = AllByRecursion Placed bs
@@ -192,22 +198,171 @@ module _ (u : UnitCode) (places : List (ℕ × ℕ)) where
   starts : (s : TypedStatement) (p : ℕ) → Known (places_in s p) → at (number_of s) ≡ p
   starts (Statement number form) p known = known.0
 
-  mutual
-    statement_stands : (s : TypedStatement) (block : ℕ) (c : Context) → Fits c → HasRoom c.bound s → AllPlaced (blocks_in block s)
-        → (p : ℕ) → Known (places_in s p) → Stand (statement_code s p) p → stand.StatementStands u at block s c p (behind (statement_code s p) p)
-    statement_stands (Statement number form) block c fits room inner p known h =
-        record { middle = suc p; fst = record { here = h.0; ends = refl }; snd = form_stands form number block c fits room inner (suc p) known.1 h.1 }
+  -- iterations
 
-    form_stands : (form : Form) (number block : ℕ) (c : Context) → Fits c → HasRoom c.bound (Statement number form) → AllPlaced (blocks_of_form block form)
+  -- a limit on where parts of code end
+  first_within : (xs ys : List Instruction) (p n : ℕ) → behind (xs ++ ys) p ≤ n → behind xs p ≤ n
+  first_within xs ys p n h =
+      let e = behind_both xs ys p in
+      let le = later ys (behind xs p) in
+      omega (arith, e, le, h)
+
+  keeps_stand : (t : ℕ) (es : List TypedExpression) → Made (keeps_code t es) (stand.KeepsStand u t es)
+  keeps_stand t [] = nothing
+  keeps_stand t (e ∷ es) =
+      joined (value_code e) (op.SetTemporary t ∷ keeps_code (suc t) es) (stand.ValueStands u e) (Then (stand.Is u (op.SetTemporary t)) (stand.KeepsStand u (suc t) es)) (value_stands e)
+      (before (op.SetTemporary t) (keeps_code (suc t) es) (stand.KeepsStand u (suc t) es) (keeps_stand (suc t) es))
+
+  conversion_stands : (os : List Operation) → Made (conversion_code os) (stand.ConversionStands u os)
+  conversion_stands [] = nothing
+  conversion_stands (o ∷ os) = before (op.Operate o) (conversion_code os) (stand.ConversionStands u os) (conversion_stands os)
+
+  sets_stand : (i : Iteration) (value : List Instruction) (A : Span) → Made value A → Made (sets_code i value) (stand.SetsStand u i A)
+  sets_stand i value A a =
+      let conversion = conversion_code i.conversion in
+      let converts = stand.ConversionStands u i.conversion in
+      let store = stand.Is u op.Store in
+      joined (place_code i.control) (value ++ (conversion ++ op.Store ∷ [])) (stand.PlaceStands u i.control) (Then A (Then converts store)) (place_stands i.control)
+      (joined value (conversion ++ op.Store ∷ []) A (Then converts store) a (joined conversion (op.Store ∷ []) converts store (conversion_stands i.conversion) (one op.Store)))
+
+  advanced_stands : (i : Iteration) (step : ℕ)
+      → Made (place_code i.control ++ op.Load ∷ op.TakeTemporary (i.temporary + step) ∷ op.Operate Add ∷ []) (stand.AdvancedStands u i step)
+  advanced_stands i step =
+      let take = op.TakeTemporary (i.temporary + step) in
+      let add = stand.Is u (op.Operate Add) in
+      joined (place_code i.control) (op.Load ∷ take ∷ op.Operate Add ∷ []) (stand.PlaceStands u i.control) (Then (stand.Is u op.Load) (Then (stand.Is u take) add)) (place_stands i.control)
+      (before op.Load (take ∷ op.Operate Add ∷ []) (Then (stand.Is u take) add) (before take (op.Operate Add ∷ []) add (one (op.Operate Add))))
+
+  advances_stand : (range : TypedRange) (i : Iteration) → Made (advances_code range i) (stand.AdvancesStand u range i)
+  advances_stand Once i = nothing
+  advances_stand (ToBy to by) i = sets_stand i _ (stand.AdvancedStands u i 2) (advanced_stands i 2)
+  advances_stand (ByTo by to) i = sets_stand i _ (stand.AdvancedStands u i 1) (advanced_stands i 1)
+  advances_stand (Repeated next) i =
+      joined (place_code i.control) (value_code next ++ op.Store ∷ []) (stand.PlaceStands u i.control) (Then (stand.ValueStands u next) (stand.Is u op.Store)) (place_stands i.control)
+      (joined (value_code next) (op.Store ∷ []) (stand.ValueStands u next) (stand.Is u op.Store) (value_stands next) (one op.Store))
+
+  -- tests, whose jumps lead to a place that is no earlier
+  limit_stands : (i : Iteration) (limit : Option ℕ) (step target p : ℕ) → behind (guarded (test_against i limit step) target) p ≤ target
+      → Stand (guarded (test_against i limit step) target) p → stand.LimitStands u i limit step target p (behind (guarded (test_against i limit step) target) p)
+  limit_stands i None step target p le h = refl
+  limit_stands i (Some limit) step target p le h =
+      let place = place_code i.control in
+      let four = op.Load ∷ op.TakeTemporary (i.temporary + limit) ∷ op.TakeTemporary (i.temporary + step) ∷ op.Operate Within ∷ [] in
+      let jump = op.JumpUnless target ∷ [] in
+      let r = split (place ++ four) jump p h in
+      let s = split place four p r.0 in
+      let a = behind place p in
+      let e : behind (place ++ four) p ≡ suc (suc (suc (suc a))) = behind_both place four p in
+      record {
+        middle = a;
+        fst = place_stands i.control p s.0;
+        snd = record {
+          middle = suc a;
+          fst = record { here = s.1.0; ends = refl };
+          snd = record {
+            middle = suc (suc a);
+            fst = record { here = s.1.1.0; ends = refl };
+            snd = record {
+              middle = suc (suc (suc a));
+              fst = record { here = s.1.1.1.0; ends = refl };
+              snd = record {
+                middle = suc (suc (suc (suc a)));
+                fst = record { here = s.1.1.1.1.0; ends = refl };
+                snd = record {
+                  is = record {
+                    here = subst (λ k. slice_get u.instructions k ≡ Some (op.JumpUnless target)) e r.1.0;
+                    ends = sym (behind_both (place ++ four) jump p ∙ ap suc e);
+                  };
+                  on = le;
+                };
+              };
+            };
+          };
+        };
+      }
+
+  while_stands : (e : Option TypedExpression) (target p : ℕ) → behind (guarded (while_test e) target) p ≤ target
+      → Stand (guarded (while_test e) target) p → stand.WhileStands u e target p (behind (guarded (while_test e) target) p)
+  while_stands None target p le h = refl
+  while_stands (Some e) target p le h =
+      let jump = op.JumpUnless target ∷ [] in
+      let r = split (value_code e) jump p h in
+      let is = behind_both (value_code e) jump p in
+      subst (λ z. stand.ConditionStands u e target p z) (sym is) (test_stands e target p (subst (λ z. z ≤ target) is le) r.0 r.1.0)
+
+  tests_stand : (i : Iteration) (target p : ℕ) → behind (tests_code i target) p ≤ target → Stand (tests_code i target) p
+      → stand.TestStands u i target p (behind (tests_code i target) p)
+  tests_stand i target p le h =
+      let limit = guarded (limit_test i) target in
+      let condition = guarded (while_test i.condition) target in
+      let r = split limit condition p h in
+      let is = behind_both limit condition p in
+      record {
+        middle = behind limit p;
+        fst = limit_stands i (limit_number i.range) (step_number i.range) target p (first_within limit condition p target le) r.0;
+        snd = subst (λ q. stand.WhileStands u i.condition target (behind limit p) q) (sym is)
+            (while_stands i.condition target (behind limit p) (subst (λ z. z ≤ target) is le) r.1);
+      }
+
+  -- the list of an iteration, with or without turns back
+  abbrev Turned : (iterated : Bool) → (list : Context → Span) → Context → Span
+  Turned true list c = λ p q. stand.Nests c × list (stand.deeper c) p q
+  Turned false list c = list c
+
+  turned : (iterated : Bool) (ss : TypedStatements) (list : Context → Span) (size depth bound p q : ℕ) → bound ≤ 64 → HasTurns iterated bound (λ n. HaveRoom n ss)
+      → ((n : ℕ) → n ≤ 64 → HaveRoom n ss → list (record { size = size; depth = depth; bound = n }) p q)
+      → Turned iterated list (record { size = size; depth = depth; bound = bound }) p q
+  turned true ss list size depth bound p q most room run = (record { least = room.0; most = most }, run (bound - 1) (omega (arith, most)) room.1)
+  turned false ss list size depth bound p q most room run = run bound most room
+
+  -- the tests of an iteration, its list, and what leads back
+  turns_stand : (iterated : Bool) (i : Iteration) (number : ℕ) (between : List Instruction) (B : Span) → Made between B → (list : Context → Span) (c : Context) (p q finish : ℕ)
+      → q ≤ finish → suc (behind (tests_code i (behind (back_code iterated number between p) finish)) p) ≡ q
+      → Stand (tests_code i (behind (back_code iterated number between p) finish)) p
+      → slice_get u.instructions (behind (tests_code i (behind (back_code iterated number between p) finish)) p) ≡ Some (op.Step number)
+      → Turned iterated list c q finish → Stand (back_code iterated number between p) finish
+      → stand.TurnsStand u iterated (stand.TestStands u i) (λ c. Then (stand.Is u (op.Step number)) (list c)) (Then (stand.Is u (op.Line number)) B) c
+      p (behind (back_code iterated number between p) finish)
+  turns_stand true i number between B b list c p q finish le e tests step does back =
+      let line = op.Line number ∷ between in
+      let jump = op.Jump p ∷ [] in
+      let out = behind (line ++ jump) finish in
+      let on = later (line ++ jump) finish in
+      let r = split line jump finish back in (
+        does.0,
+        record {
+          start = behind (tests_code i out) p;
+          finish = finish;
+          behind = behind line finish;
+          holds = tests_stand i out p (omega (arith, le, e, on)) tests;
+          does = record { middle = q; fst = record { here = step; ends = e }; snd = does.1 };
+          does_between = before (op.Line number) between B b finish r.0;
+          back = record { here = r.1.0; ends = sym (behind_both line jump finish) };
+        },
+      )
+  turns_stand false i number between B b list c p q finish le e tests step does back =
+      record {
+        start = behind (tests_code i finish) p;
+        holds = tests_stand i finish p (omega (arith, le, e)) tests;
+        does = record { middle = q; fst = record { here = step; ends = e }; snd = does };
+      }
+
+  mutual
+    statement_stands : (s : TypedStatement) (block : ℕ) (c : Context) → Fits c → HasRoom c.bound s → KeepsApart c.depth c.size s → AllPlaced (blocks_in block s)
+        → (p : ℕ) → Known (places_in s p) → Stand (statement_code s p) p → stand.StatementStands u at block s c p (behind (statement_code s p) p)
+    statement_stands (Statement number form) block c fits room apart inner p known h =
+        record { middle = suc p; fst = record { here = h.0; ends = refl }; snd = form_stands form number block c fits room apart inner (suc p) known.1 h.1 }
+
+    form_stands : (form : Form) (number block : ℕ) (c : Context) → Fits c → HasRoom c.bound (Statement number form) → KeepsApart c.depth c.size (Statement number form) → AllPlaced (blocks_of_form block form)
         → (p : ℕ) → Known (places_in_form form p) → Stand (form_code number form p) p → stand.FormStands u at block number form c p (behind (form_code number form p) p)
-    form_stands Null number block c fits room inner p known h = refl
-    form_stands (Assign target e) number block c fits room inner p known h =
+    form_stands Null number block c fits room apart inner p known h = refl
+    form_stands (Assign target e) number block c fits room apart inner p known h =
         two_parts (place_code target) (value_code e) op.Store (stand.PlaceStands u target) (stand.ValueStands u e) (place_stands target) (value_stands e) p h
-    form_stands (AssignAggregate target source) number block c fits room inner p known h =
+    form_stands (AssignAggregate target source) number block c fits room apart inner p known h =
         two_parts (place_code target) (place_code source) op.Copy (stand.PlaceStands u target) (stand.PlaceStands u source) (place_stands target) (place_stands source) p h
-    form_stands (Put skip items) number block c fits room inner p known h =
+    form_stands (Put skip items) number block c fits room apart inner p known h =
         joined (skip_code skip) (items_code items) (stand.SkipStands u skip) (stand.ItemsStand u items) (skip_stands skip) (items_stand items) p h
-    form_stands (If e consequence NoElse) number block c fits room inner p known h =
+    form_stands (If e consequence NoElse) number block c fits room apart inner p known h =
         let q = suc (behind (value_code e) p) in
         let part = statement_code consequence q in
         let r = split (value_code e) (op.JumpUnless (behind part q) ∷ part) p h in
@@ -216,10 +371,10 @@ module _ (u : UnitCode) (places : List (ℕ × ℕ)) where
         (record {
           start = q;
           holds = test_stands e (behind part q) p (later part q) r.0 r.1.0;
-          does = statement_stands consequence block c fits room.0 (all_front Placed (blocks_in block consequence) [] inner) q
+          does = statement_stands consequence block c fits room.0 apart.0 (all_front Placed (blocks_in block consequence) [] inner) q
               (all_front (λ e. statement_place places e.0 ≡ e.1) (places_in consequence q) [] known) r.1.1;
         })
-    form_stands (If e consequence (Else other)) number block c fits room inner p known h =
+    form_stands (If e consequence (Else other)) number block c fits room apart inner p known h =
         let q = suc (behind (value_code e) p) in
         let part = statement_code consequence q in
         let t = suc (behind part q) in
@@ -233,13 +388,13 @@ module _ (u : UnitCode) (places : List (ℕ × ℕ)) where
           finish = behind part q;
           target = t;
           holds = test_stands e t p (let le = later part q in omega (arith, le)) r.0 r.1.0.0;
-          does = statement_stands consequence block c fits room.0 (all_front Placed (blocks_in block consequence) (blocks_in block other) inner) q
+          does = statement_stands consequence block c fits room.0 apart.0 (all_front Placed (blocks_in block consequence) (blocks_in block other) inner) q
               (all_front (λ e. statement_place places e.0 ≡ e.1) (places_in consequence q) (places_in other t) known) r.1.0.1;
           over = record { is = record { here = r.1.1.0; ends = refl }; on = later code t };
-          does_other = statement_stands other block c fits room.1 (all_back Placed (blocks_in block consequence) (blocks_in block other) inner) t
+          does_other = statement_stands other block c fits room.1 apart.1 (all_back Placed (blocks_in block consequence) (blocks_in block other) inner) t
               (all_back (λ e. statement_place places e.0 ≡ e.1) (places_in consequence q) (places_in other t) known) r.1.1.1;
         })
-    form_stands (Begin head statements) number block c fits room inner p known h =
+    form_stands (Begin head statements) number block c fits room apart inner p known h =
         let b = begin_block block head statements in
         let f = inner.0.0 in
         let r = split (list_code statements f.entry) (op.Return 0 ∷ []) f.entry f.code in
@@ -253,12 +408,12 @@ module _ (u : UnitCode) (places : List (ℕ × ℕ)) where
             finish = behind (list_code statements f.entry) f.entry;
             behind = suc (behind (list_code statements f.entry) f.entry);
             does = list_stands statements head.number (record { size = head.temporaries; depth = 0; bound = 64 }) (record { most = omega arith; depth = omega arith })
-                inner.0.1 inner.1 f.entry f.known r.0;
+                inner.0.1.0 inner.0.1.1 inner.1 f.entry f.known r.0;
             ends = record { here = r.1.0; ends = refl };
           };
         }
-    form_stands (Group statements) number block c fits room inner p known h = list_stands statements block c fits room inner p known h
-    form_stands (While e statements) number block c fits room inner p known h =
+    form_stands (Group statements) number block c fits room apart inner p known h = list_stands statements block c fits room apart inner p known h
+    form_stands (While e statements) number block c fits room apart inner p known h =
         let q = suc (suc (behind (value_code e) (suc p))) in
         let code = list_code statements q in
         let z = suc (behind code q) in
@@ -278,33 +433,66 @@ module _ (u : UnitCode) (places : List (ℕ × ℕ)) where
             does = record {
               middle = q;
               fst = record { here = r.1.0.1.0; ends = refl };
-              snd = list_stands statements block (stand.deeper c) (deeper_fits c fits) room.1 inner q known r.1.0.1.1;
+              snd = list_stands statements block (stand.deeper c) (deeper_fits c fits) room.1 apart inner q known r.1.0.1.1;
             };
             does_between = refl;
             back = record { here = r.1.1.0; ends = refl };
           },
         )
-    form_stands (Call called args) number block c fits room inner p known h = call_stands called args (arguments_stand args) p h
-    form_stands (Goto outward label) number block c fits room inner p known h = one (op.Goto outward label) p h
-    form_stands (Return outward) number block c fits room inner p known h = one (op.Return outward) p h
-    form_stands (ReturnValue outward e) number block c fits room inner p known h =
+    form_stands (Iterate i statements) number block c fits room apart inner p known h =
+        let turn = turn_place i p in
+        let q = list_place i p in
+        let code = list_code statements q in
+        let between = advances_code i.range i in
+        let back = back_code (is_iterated i.range) number between turn in
+        let out = behind back (behind code q) in
+        let tests = tests_code i out in
+        let keeps = keeps_code i.temporary (i.start ∷ kept_by i.range) in
+        let sets = sets_code i (op.TakeTemporary i.temporary ∷ []) in
+        let take = stand.Is u (op.TakeTemporary i.temporary) in
+        let r = split_three (start_code i) tests (op.Step number ∷ (code ++ back)) p h in
+        let s = split keeps sets p r.0 in
+        let e : suc (behind tests turn) ≡ q = ap suc (tests_length i out 0 turn) in
+        let l = split code back q (subst (λ k. Stand (code ++ back) k) e r.1.1.1) in
+        let next = next_temporary i in
+        subst (λ z. stand.FormStands u at block number (Iterate i statements) c p z) (sym (iterate_ends number i (list_code statements) p)) (
+          record { free = apart.0; room = apart.1 },
+          record {
+            middle = behind keeps p;
+            fst = keeps_stand i.temporary (i.start ∷ kept_by i.range) p s.0;
+            snd = record {
+              middle = turn;
+              fst = subst (λ z. stand.SetsStand u i take (behind keeps p) z) (sym (behind_both keeps sets p))
+                  (sets_stand i (op.TakeTemporary i.temporary ∷ []) take (one (op.TakeTemporary i.temporary)) (behind keeps p) s.1);
+              snd = turns_stand (is_iterated i.range) i number between (stand.AdvancesStand u i.range i) (advances_stand i.range i) (stand.ListStands u at block statements)
+                  (stand.using next c) turn q (behind code q) (later code q) e r.1.0 r.1.1.0
+                  (turned (is_iterated i.range) statements (stand.ListStands u at block statements) c.size next c.bound q (behind code q) fits.most room
+                  (λ n most space. list_stands statements block (record { size = c.size; depth = next; bound = n }) (record { most = most; depth = apart.1 }) space apart.2 inner q known l.0))
+                  l.1;
+            };
+          },
+        )
+    form_stands (Call called args) number block c fits room apart inner p known h = call_stands called args (arguments_stand args) p h
+    form_stands (Goto outward label) number block c fits room apart inner p known h = one (op.Goto outward label) p h
+    form_stands (Return outward) number block c fits room apart inner p known h = one (op.Return outward) p h
+    form_stands (ReturnValue outward e) number block c fits room apart inner p known h =
         joined (value_code e) (op.ReturnValue outward ∷ []) (stand.ValueStands u e) (stand.Is u (op.ReturnValue outward)) (value_stands e) (one (op.ReturnValue outward)) p h
-    form_stands Stop number block c fits room inner p known h = one op.Stop p h
+    form_stands Stop number block c fits room apart inner p known h = one op.Stop p h
 
-    list_stands : (ss : TypedStatements) (block : ℕ) (c : Context) → Fits c → HaveRoom c.bound ss → AllPlaced (blocks_among block ss)
+    list_stands : (ss : TypedStatements) (block : ℕ) (c : Context) → Fits c → HaveRoom c.bound ss → KeepApart c.depth c.size ss → AllPlaced (blocks_among block ss)
         → (p : ℕ) → Known (places_among ss p) → Stand (list_code ss p) p → stand.ListStands u at block ss c p (behind (list_code ss p) p)
-    list_stands NoStatement block c fits room inner p known h = refl
-    list_stands (StatementThen s more) block c fits room inner p known h =
+    list_stands NoStatement block c fits room apart inner p known h = refl
+    list_stands (StatementThen s more) block c fits room apart inner p known h =
         let code = statement_code s p in
         let q = behind code p in
         let r = split code (list_code more q) p h in (
           starts s p (all_front (λ e. statement_place places e.0 ≡ e.1) (places_in s p) (places_among more q) known),
           record {
             middle = q;
-            fst = statement_stands s block c fits room.0 (all_front Placed (blocks_in block s) (blocks_among block more) inner) p
+            fst = statement_stands s block c fits room.0 apart.0 (all_front Placed (blocks_in block s) (blocks_among block more) inner) p
                 (all_front (λ e. statement_place places e.0 ≡ e.1) (places_in s p) (places_among more q) known) r.0;
             snd = subst (λ z. stand.ListStands u at block more c q z) (sym (behind_both code (list_code more q) p))
-                (list_stands more block c fits room.1 (all_back Placed (blocks_in block s) (blocks_among block more) inner) q
+                (list_stands more block c fits room.1 apart.1 (all_back Placed (blocks_in block s) (blocks_among block more) inner) q
                 (all_back (λ e. statement_place places e.0 ≡ e.1) (places_in s p) (places_among more q) known) r.1);
           },
         )
@@ -340,7 +528,7 @@ module _ (u : UnitCode) (places : List (ℕ × ℕ)) where
         some = omega arith;
         finish = finish;
         behind = behind (end_code f.function_end) finish;
-        does = list_stands f.statements f.head.number (record { size = f.head.temporaries; depth = 0; bound = 64 }) (record { most = omega arith; depth = omega arith }) inner.0.1 inner.1 b.entry b.known r.0;
+        does = list_stands f.statements f.head.number (record { size = f.head.temporaries; depth = 0; bound = 64 }) (record { most = omega arith; depth = omega arith }) inner.0.1.0 inner.0.1.1 inner.1 b.entry b.known r.0;
         ends = end_stands f.function_end finish r.1;
       }
 
@@ -353,9 +541,10 @@ module _ (u : UnitCode) (places : List (ℕ × ℕ)) where
 
   -- blocks that are found and have room
   all_placed : (all bs : List BlockTree) → ((i : ℕ) (b : BlockTree) → slice_get all i ≡ Some b → Found (slice_get u.blocks i) b)
-      → AllByRecursion (λ b. slice_get all b.head.number ≡ Some b) bs → AllByRecursion (λ b. HaveRoom 64 b.statements) bs → AllPlaced bs
-  all_placed all [] find numbers rooms = tt
-  all_placed all (b ∷ bs) find numbers rooms = ((find b.head.number b numbers.0, rooms.0), all_placed all bs find numbers.1 rooms.1)
+      → AllByRecursion (λ b. slice_get all b.head.number ≡ Some b) bs → AllByRecursion (λ b. HaveRoom 64 b.statements) bs
+      → AllByRecursion (λ b. KeepApart 0 b.head.temporaries b.statements) bs → AllPlaced bs
+  all_placed all [] find numbers rooms apart = tt
+  all_placed all (b ∷ bs) find numbers rooms apart = ((find b.head.number b numbers.0, (rooms.0, apart.0)), all_placed all bs find numbers.1 rooms.1 apart.1)
 
   -- code that a unit has from a place on
   stand_all : (is : List Instruction) (p : ℕ) → ((k : ℕ) → slice_get u.instructions (p + k) ≡ slice_get (map (with_target places) is) k) → Stand is p
@@ -399,6 +588,7 @@ mutual
       both_numbered (places_in consequence q) (places_in_else alternative r) (numbers_in consequence) (numbers_in_else alternative) (numbered_in consequence q) (numbered_in_else alternative r)
   numbered_in_form (Group statements) p = numbered_among statements p
   numbered_in_form (While e statements) p = numbered_among statements (suc (suc (behind (value_code e) (suc p))))
+  numbered_in_form (Iterate i statements) p = numbered_among statements (list_place i p)
   numbered_in_form Null p = refl
   numbered_in_form (Assign target e) p = refl
   numbered_in_form (AssignAggregate target source) p = refl
@@ -439,5 +629,5 @@ code_stands t well =
       at = statement_place places;
       names = refl;
       statics = refl;
-      procedures = procedures_stand u places t.procedures (all_placed u places bs (flat_map blocks_of_procedure t.procedures) find well.blocks well.loops);
+      procedures = procedures_stand u places t.procedures (all_placed u places bs (flat_map blocks_of_procedure t.procedures) find well.blocks well.loops well.temporaries);
     }
