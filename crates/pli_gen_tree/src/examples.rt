@@ -1,16 +1,17 @@
 //! Worked examples of the translation.
 ghost use Rattle.pli_gen_tree.specs.examples.TranslationExamples.{AssignedAndPrinted, PartOfStructure};
-ghost use Rattle.pli_gen_tree.specs.examples.TranslationExamples.{ArgumentsHanded, AggregateCopied};
+ghost use Rattle.pli_gen_tree.specs.examples.TranslationExamples.{ArgumentsHanded, AggregateCopied, Counted};
 ghost use Rattle.pli_gen_tree.specs.examples.TranslationExamples.{JumpsAndBlocks, WholeUnit, NumberedWell};
 ghost use Rattle.pli_gen_tree.specs.examples.TranslationExamples.{TablesNumbered, InstructionsNumbered, LimitsKept};
 
-/// Worked examples: an assignment and PUT; a reference with subscripts; a call; an aggregate; jumps between blocks;
-/// tables.
+/// Worked examples: an assignment and PUT; a reference with subscripts; a call; an aggregate; a group with a control
+/// variable; jumps between blocks; tables.
 pub fn worked_examples()
     ensures assigned_and_printed { AssignedAndPrinted }
     ensures part_of_structure { PartOfStructure }
     ensures arguments_handed { ArgumentsHanded }
     ensures aggregate_copied { AggregateCopied }
+    ensures counted { Counted }
     ensures jumps_and_blocks { JumpsAndBlocks }
     ensures whole_unit { WholeUnit }
     ensures numbered_well { NumberedWell }

@@ -12,6 +12,7 @@ use Rattle.pli_type_tree.specs.TypedTree.{InSlot, TypedExpression, Literal, Held
 use Rattle.pli_type_tree.specs.TypedTree.{TypedReference, Part, NoOperand, OperandThen, NoSubscript}
 use Rattle.pli_type_tree.specs.TypedTree.{SubscriptThen, NoArgument, ByPlace, ByDummy, BlockHead, Statement}
 use Rattle.pli_type_tree.specs.TypedTree.{Null, Assign, AssignAggregate, Put, If, Begin, While, Call, Goto}
+use Rattle.pli_type_tree.specs.TypedTree.{Iterate, ToBy}
 use Rattle.pli_type_tree.specs.TypedTree.{Stop, Else, NoStatement, StatementThen}
 use Rattle.pli_type_tree.specs.TypedTree.{TypedUnit, TypedProcedure}
 use Rattle.pli_unit_code.specs.declared.instruction.Instruction.TheVariants as coded
@@ -81,6 +82,30 @@ abbrev pub AggregateCopied : Type 0
 AggregateCopied =
     statement_code (Statement 2 (AssignAggregate first second)) 0
     ≡ Step 2 ∷ Local 0 0 ∷ Local 0 1 ∷ Copy ∷ []
+
+-- statement 2: `DO X = 1 TO 3; ; END;`, with `DCL X FIXED BIN(15)`, at place 0
+abbrev pub Counted : Type 0
+Counted =
+    statement_code
+    (Statement 2
+    (Iterate
+    (record {
+      control = first;
+      conversion = calculate.Fit (FixedBinary 15) ∷ [];
+      start = number 1;
+      range = ToBy (number 3) None;
+      condition = None;
+      temporary = 0;
+    })
+    (StatementThen (Statement 3 Null) NoStatement)))
+    0
+    ≡ Step 2 ∷ Constant (Number (pos 1)) ∷ op.SetTemporary 0 ∷ Constant (Number (pos 3)) ∷ op.SetTemporary 1
+    ∷ Constant (Number (pos 1)) ∷ op.SetTemporary 2
+    ∷ Local 0 0 ∷ op.TakeTemporary 0 ∷ Operate (calculate.Fit (FixedBinary 15)) ∷ Store
+    ∷ Local 0 0 ∷ Load ∷ op.TakeTemporary 1 ∷ op.TakeTemporary 2 ∷ Operate calculate.Within ∷ JumpUnless 28
+    ∷ Step 2 ∷ Step 3
+    ∷ Line 2 ∷ Local 0 0 ∷ Local 0 0 ∷ Load ∷ op.TakeTemporary 2 ∷ Operate calculate.Add
+    ∷ Operate (calculate.Fit (FixedBinary 15)) ∷ Store ∷ Jump 11 ∷ []
 
 -- `M: PROC OPTIONS(MAIN); BEGIN; GOTO L; END; F: PROC RETURNS(BIT); END F;` and then
 -- `L: IF F() THEN ; ELSE STOP; DO WHILE(F()); ; END; END M;`: block 1 is the BEGIN, block 2 F
