@@ -1,5 +1,5 @@
 -- Lists of labels, and the blocks of a tree where statements stand in them.
-use Rattle.std.specs.Prelude.{◌≡◌, ℕ, zero, suc, ◌+◌, nat_eq, Bool, true, false, ◌||◌, IsTrue, Option, Some, None}
+use Rattle.std.specs.Prelude.{◌≡◌, ℕ, zero, suc, ◌+◌, nat_eq, Bool, true, false, ◌||◌, IsTrue, Some}
 use Rattle.std.specs.Prelude.{List, [], ◌∷◌, ◌++◌, length, slice_get, refl}
 use Rattle.std.specs.List.{list_any}
 use Rattle.std.proofs.Common.{arith, sym, ap, ◌∙◌, subst, length-append}
@@ -60,8 +60,12 @@ mutual
   body_count around x number (tree.Do control statements end) =
       list_count (with_labels (labels_of statements) around) x statements
   body_count around x number (tree.If condition consequence alternative) =
-      omega (arith, length-append (begun_in around x consequence) (begun_behind around (x + blocks.blocks_in consequence) alternative),
-      begun_count around x consequence, else_count around (x + blocks.blocks_in consequence) alternative)
+      omega (
+        arith,
+        length-append (begun_in around x consequence) (begun_behind around (x + blocks.blocks_in consequence) alternative),
+        begun_count around x consequence,
+        else_count around (x + blocks.blocks_in consequence) alternative,
+      )
   body_count around x number (tree.On condition unit) = ap suc (begun_count (of_unit x ∷ around) (suc x) unit)
   body_count around x number body = refl
 
@@ -69,8 +73,12 @@ mutual
       → length (begun_among around x ss) ≡ blocks.blocks_among ss
   list_count around x Ended = refl
   list_count around x (Before first more) =
-      omega (arith, length-append (begun_in around x first) (begun_among around (x + blocks.blocks_in first) more),
-      begun_count around x first, list_count around (x + blocks.blocks_in first) more)
+      omega (
+        arith,
+        length-append (begun_in around x first) (begun_among around (x + blocks.blocks_in first) more),
+        begun_count around x first,
+        list_count around (x + blocks.blocks_in first) more,
+      )
 
   else_count : (around : List Enclosing) (x : ℕ) (a : Alternative)
       → length (begun_behind around x a) ≡ blocks.blocks_behind a

@@ -1,11 +1,11 @@
 -- Calls of procedures: arguments fit parameters, and functions give values of their types.
-use Rattle.std.specs.Prelude.{◌≡◌, ℕ, nat_eq, Bool, true, false, IsTrue, Option, Some, None, List, [], ◌∷◌, length, Result, refl}
+use Rattle.std.specs.Prelude.{◌≡◌, ℕ, nat_eq, Bool, true, false, IsTrue, Option, Some, None, List, [], ◌∷◌, length, refl}
 use Rattle.std.specs.Prelude.{if◌then◌else◌}
 use Rattle.std.proofs.Common.{sym, subst, ◌∙◌}
 use Rattle.pli_map.specs.Description.{Description}
 use Rattle.pli_map.specs.Same.{same}
 use Rattle.pli_map.specs.laws.SameLaws.{same_decides}
-use Rattle.pli_type.specs.ExpressionTypes.{converted, type_of}
+use Rattle.pli_type.specs.ExpressionTypes.{type_of}
 use Rattle.pli_type.specs.FunctionCalls.{Denoted, DenotesVariable, DenotesResult, Meant, OneValue, WholeAggregate, meant_as, Argument}
 use Rattle.pli_type.specs.NamedUnits.{is_plain}
 use Rattle.pli_type.specs.Names.{NamedProcedure}
@@ -13,13 +13,12 @@ use Rattle.pli_type.specs.ProcedureCalls.{passed_place, passed_value, passed, pa
 use Rattle.pli_type.specs.ProcedureCalls.{arguments_passed, result_of, type_returned}
 use Rattle.pli_type.specs.declared.expression_type.ExpressionType.{ExpressionType}
 use Rattle.pli_type_laws.proofs.Conversions.{OnGiven, conversion_held}
-use Rattle.pli_type_laws.proofs.Denotations.{OnRead, IsReferent, IsMeant, IsDenoted, AreArguments, scalar_typed, denoted_meant}
+use Rattle.pli_type_laws.proofs.Denotations.{OnRead, IsMeant, IsDenoted, AreArguments, scalar_typed, denoted_meant}
 use Rattle.pli_type_laws.proofs.Operators.{HasValue}
 use Rattle.pli_type_laws.proofs.References.{read_if}
 use Rattle.pli_type_laws.specs.ExpressionTyping.{HasType}
 use Rattle.pli_type_tree.specs.TypedTree.{TypedExpression, TypedReference, TypedArguments, Called}
-use Rattle.pli_type_tree.specs.ValueTypes.{ValueType, type_held}
-use Rattle.pli_type_tree.specs.WellTyped.{Signature, TypingContext, IsReached, IsTyped, IsPlaced, ArePassed, IsValueFor}
+use Rattle.pli_type_tree.specs.WellTyped.{Signature, TypingContext, IsReached, IsPlaced, ArePassed, IsValueFor}
 
 -- a procedure that a name means is one of the unit, and reached; what it gives is plain
 pub record IsCallable (s : TypingContext) (p : NamedProcedure) : Type 0 where

@@ -1,22 +1,20 @@
 -- Contexts of typed statements, by where their source statements stand.
-use Rattle.std.specs.Prelude.{◌≡◌, ℕ, zero, suc, nat_eq, Bool, true, false, IsTrue, Option, Some, None, option_map, List, [], ◌∷◌, ◌++◌}
+use Rattle.std.specs.Prelude.{◌≡◌, ℕ, suc, nat_eq, Bool, true, false, IsTrue, Option, Some, None, option_map, List, [], ◌∷◌}
 use Rattle.std.specs.Prelude.{map, slice_get, refl, if◌then◌else◌}
 use Rattle.std.specs.List.{list_any}
-use Rattle.std.proofs.Common.{sym, ap, ◌∙◌, subst, eq-eqb}
+use Rattle.std.proofs.Common.{sym, ap, ◌∙◌, subst}
 use Rattle.std.proofs.lemmas.Bool.{eqb-true}
 use Rattle.std.proofs.lemmas.Option.{same_Some, none-some}
-use Rattle.pli_map.specs.Description.{Description}
-use Rattle.pli_resolve.specs.declared.block_numbers.ResolvedBlockKind.{ResolvedBlockKind}
 use Rattle.pli_resolve.specs.declared.block_numbers.ResolvedBlockKind.TheVariants as kinds
 use Rattle.pli_type.specs.NamedUnits.{outward_to}
 use Rattle.pli_type.specs.Names.{NamedUnit, NamedAs, AVariable, AFunction, AProcedure, ALabel, Untyped, NamedProcedure}
 use Rattle.pli_type.specs.StatementTyping as source
 use Rattle.pli_type.specs.StatementTyping.{Enclosing, Surroundings, label_found}
-use Rattle.pli_type_laws.proofs.BlocksKnown.{Within, within_both, within_self, AreHome, StandsDirectly}
+use Rattle.pli_type_laws.proofs.BlocksKnown.{Within, within_both, AreHome, StandsDirectly}
 use Rattle.pli_type_laws.proofs.Calls.{IsCallable}
 use Rattle.pli_type_laws.proofs.Expressions.{IsMeaning}
 use Rattle.pli_type_name_laws.specs.NameFacts.{HaveSlots, VariableFacts, ProcedureFacts, NameFacts, StandsAround}
-use Rattle.pli_type_name_laws.specs.SourceBlocks.{SourceBlock, unit_blocks, innermost, slots_in, known_blocks, signature_of, signatures}
+use Rattle.pli_type_name_laws.specs.SourceBlocks.{SourceBlock, unit_blocks, innermost, slots_in, known_blocks, signatures}
 use Rattle.pli_type_tree.specs.WellTyped.{BlockAround, Signature, TypingContext, AreAround, IsReached, blocks_from, knows_label}
 use Rattle.pli_type_tree.specs.WellTyped as trees
 
@@ -143,9 +141,11 @@ module _ (u : NamedUnit) where
           → (if c then Some 0 else option_map suc (outward_to (map (λ x. x.number) es) e.number)) ≡ Some outward
           → ((k : ℕ) → outward_to (map (λ x. x.number) es) e.number ≡ Some k → Found e.number bs (known_blocks u (e ∷ rest)))
           → Found e.number (b ∷ bs) (known_blocks u (e ∷ rest))
-      by true is g again =
-          (b ∷ bs, here (same_number is),
-          stands (eqb-true x.number e.number is) (one_block (eqb-true x.number e.number is)))
+      by true is g again = (
+        b ∷ bs,
+        here (same_number is),
+        stands (eqb-true x.number e.number is) (one_block (eqb-true x.number e.number is)),
+      )
       by false is g again = further (other_number is) (next _ refl g again)
 
   reached : (around es : List Enclosing) (bs : List BlockAround) → AreHome All es → AreAround bs (known_blocks u es)

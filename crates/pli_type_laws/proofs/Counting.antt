@@ -1,8 +1,8 @@
 -- How often numbers stand in lists, and blocks by their numbers.
-use Rattle.std.specs.Prelude.{◌≡◌, ℕ, zero, suc, ◌+◌, ◌≤◌, ◌<◌, nat_eq, Bool, true, false, ◌||◌, Option, Some, None}
-use Rattle.std.specs.Prelude.{List, [], ◌∷◌, ◌++◌, length, map, filter, slice_get, refl, if◌then◌else◌}
+use Rattle.std.specs.Prelude.{◌≡◌, ℕ, zero, suc, ◌+◌, ◌≤◌, ◌<◌, nat_eq, Bool, true, false, ◌||◌, Some}
+use Rattle.std.specs.Prelude.{List, [], ◌∷◌, ◌++◌, length, filter, slice_get, refl}
 use Rattle.std.specs.List.{flat_map, list_any, range_with_len, AllByRecursion}
-use Rattle.std.proofs.Common.{arith, sym, ap, ◌∙◌, subst, eq-eqb}
+use Rattle.std.proofs.Common.{arith, sym, ap, ◌∙◌, eq-eqb}
 use Rattle.std.proofs.lemmas.Bool.{eqb-true}
 use Rattle.pli_gen_tree.specs.TreeTranslation.{BlockTree, has_number, by_number}
 use Rattle.pli_gen_tree.specs.WellNumbered.{AreDistinct, numbers_among, numbers_of}
@@ -268,9 +268,13 @@ module _ (n : ℕ) where
       → Sum (c ∷ cs) from count ≡ Sum cs from count
   sum_past c cs from zero lt = refl
   sum_past c cs from (suc count) lt =
-      omega (arith, sum_next (c ∷ cs) from count, sum_next cs from count,
-      ap (in_blocks n) (piece_without from c cs (past (has_number from c) refl)),
-      sum_past c cs (from + 1) count (omega (arith, lt)))
+      omega (
+        arith,
+        sum_next (c ∷ cs) from count,
+        sum_next cs from count,
+        ap (in_blocks n) (piece_without from c cs (past (has_number from c) refl)),
+        sum_past c cs (from + 1) count (omega (arith, lt)),
+      )
     where
       past : (b : Bool) → has_number from c ≡ b → has_number from c ≡ false
       past true e = absurd (omega (arith, lt, number_is from c e))
@@ -285,8 +289,13 @@ module _ (n : ℕ) where
           → Sum (c ∷ cs) (from + 1) count ≤ times n (numbers_among c.statements) + Sum cs (from + 1) count
           → Sum (c ∷ cs) from (suc count) ≤ times n (numbers_among c.statements) + Sum cs from (suc count)
       by true e rest =
-          omega (arith, sum_next (c ∷ cs) from count, sum_next cs from count, ap (in_blocks n) (piece_with from c cs e),
-          sum_past c cs (from + 1) count (omega (arith, number_is from c e)))
+          omega (
+            arith,
+            sum_next (c ∷ cs) from count,
+            sum_next cs from count,
+            ap (in_blocks n) (piece_with from c cs e),
+            sum_past c cs (from + 1) count (omega (arith, number_is from c e)),
+          )
       by false e rest =
           omega (arith, sum_next (c ∷ cs) from count, sum_next cs from count, ap (in_blocks n) (piece_without from c cs e), rest)
 

@@ -1,5 +1,5 @@
 -- What expressions denote: parts of variables that are placed, and values of their types.
-use Rattle.std.specs.Prelude.{◌≡◌, ℕ, Bool, true, false, IsTrue, Option, Some, None, List, [], ◌∷◌, Result, Ok, Err, refl}
+use Rattle.std.specs.Prelude.{◌≡◌, IsTrue, Some, List, [], ◌∷◌, Result, Ok, Err, refl}
 use Rattle.std.proofs.Common.{arith, sym}
 use Rattle.std.proofs.lemmas.Bool.{and_parts, leb-true, true≢false}
 use Rattle.pli_base.specs.declared.token.Fault.{Fault}

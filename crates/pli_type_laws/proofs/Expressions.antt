@@ -7,8 +7,8 @@ use Rattle.pli_base.specs.declared.code.Code.{Code}
 use Rattle.pli_base.specs.declared.code.Code.TheVariants.{WrongOperandType}
 use Rattle.pli_base.specs.declared.token.Fault.{Fault}
 use Rattle.pli_base.specs.declared.syntax.Joining.TheVariants.{Member, Located}
-use Rattle.pli_type.specs.ExpressionTypes.{TypedValue, precision_of, constant, prefix_value, infix_value}
-use Rattle.pli_type.specs.FunctionCalls.{Denoted, DenotesVariable, DenotesResult, Meant, OneValue, WholeAggregate, meant_as, Argument}
+use Rattle.pli_type.specs.ExpressionTypes.{TypedValue, precision_of, prefix_value, infix_value}
+use Rattle.pli_type.specs.FunctionCalls.{Denoted, Meant, OneValue, WholeAggregate, meant_as, Argument}
 use Rattle.pli_type.specs.FunctionCalls.{roles_of, function_called}
 use Rattle.pli_type.specs.Names.{NamedAs, AVariable, AFunction, AProcedure, ALabel, Untyped, NamedProcedure, Naming, Compiled}
 use Rattle.pli_type.specs.ProcedureCalls.{arguments_passed, result_of, type_returned}
@@ -25,7 +25,7 @@ use Rattle.pli_type_laws.proofs.Functions.{calls_have_type}
 use Rattle.pli_type_laws.proofs.Operators.{HasValue, has_precision, prefix_has_type, infix_has_type}
 use Rattle.pli_type_laws.proofs.References.{read_then, IsKnown, AreIndices, more_indices, variable_typed}
 use Rattle.pli_type_laws.specs.ExpressionTyping.{IsNumber}
-use Rattle.pli_type_tree.specs.TypedTree.{TypedExpression, TypedArguments}
+use Rattle.pli_type_tree.specs.TypedTree.{TypedExpression}
 use Rattle.pli_type_tree.specs.ValueTypes.{Numbers}
 use Rattle.pli_type_tree.specs.WellTyped.{TypingContext, IsTyped, ArePassed}
 

@@ -1,9 +1,8 @@
 -- Built-in functions give values of their types.
 use Rattle.std.specs.Prelude.{◌≡◌, ℕ, zero, suc, ◌-◌, ◌≤◌, max, nat_le, ℤ, unsigned_abs, Bool, true, false, ◌&&◌, IsTrue}
-use Rattle.std.specs.Prelude.{Option, Some, None, option_map, option_and_then, List, [], ◌∷◌, slice_get, Result, Ok, Err, refl, if◌then◌else◌}
+use Rattle.std.specs.Prelude.{Option, Some, None, option_map, option_and_then, List, [], ◌∷◌, slice_get, refl, if◌then◌else◌}
 use Rattle.std.proofs.Common.{arith}
 use Rattle.std.proofs.lemmas.Bool.{and_parts, leb-true, false≢true}
-use Rattle.pli_base.specs.declared.token.Fault.{Fault}
 use Rattle.pli_map.specs.Description.{Description, Array}
 use Rattle.pli_map.specs.declared.description.Bounds.{Bounds}
 use Rattle.pli_operation.specs.Operations.{Operation, Absolute, Sign, LengthOf, Greatest, Least, Modulo, Divide, Index, Rest, Substring}
@@ -14,7 +13,7 @@ use Rattle.pli_type.specs.FunctionCalls.{Meant, OneValue, WholeAggregate, meant_
 use Rattle.pli_type.specs.FunctionCalls.{a_count, number_type, bound_value, bound_in, the_bound, value_in, values_in}
 use Rattle.pli_type.specs.FunctionCalls.{divided, of_arguments, or_bad_argument, function_called}
 use Rattle.pli_type.specs.NamedUnits.{is_plain, are_bounds}
-use Rattle.pli_type.specs.References.{Role, Referent}
+use Rattle.pli_type.specs.References.{Role}
 use Rattle.pli_type.specs.declared.expression_type.ExpressionType.{ExpressionType}
 use Rattle.pli_type.specs.declared.expression_type.ExpressionType.TheVariants as types
 use Rattle.pli_type_laws.proofs.Conversions.{OnGiven}
@@ -23,7 +22,7 @@ use Rattle.pli_type_laws.proofs.Operators.{HasValue, has_precision, have_precisi
 use Rattle.pli_type_laws.specs.ExpressionTyping.{HasType, IsNumber}
 use Rattle.pli_type_tree.specs.TypedTree.{TypedExpression, Calculated}
 use Rattle.pli_type_tree.specs.ValueTypes.{ValueType, Numbers, OfCharacters, OfBits, Operates}
-use Rattle.pli_type_tree.specs.WellTyped.{TypingContext, IsTyped, IsPlaced}
+use Rattle.pli_type_tree.specs.WellTyped.{TypingContext, IsTyped}
 
 abbrev pub AreValues : TypingContext → List TypedValue → Type 0
 AreValues s [] = Unit {0}

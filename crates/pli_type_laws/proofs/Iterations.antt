@@ -1,13 +1,10 @@
 -- Conversions of an iteration lead to values that its variable holds, and its limits are numbers.
-use Rattle.std.specs.Prelude.{◌≡◌, ℕ, suc, Bool, true, false, Option, Some, None, option_map, List, [], ◌∷◌, ◌++◌, length, refl}
-use Rattle.std.proofs.Common.{arith}
+use Rattle.std.specs.Prelude.{◌≡◌, ℕ, true, Option, Some, None, option_map, List, [], ◌∷◌, ◌++◌, refl}
 use Rattle.std.proofs.lemmas.Bool.{false≢true}
-use Rattle.pli_base.specs.Statements as tree
-use Rattle.pli_base.specs.Statements.{Range}
 use Rattle.pli_map.specs.Description as described
 use Rattle.pli_map.specs.Description.{Description}
-use Rattle.pli_operation.specs.Operations.{Operation, Fit, ToCharacters, FromBits}
-use Rattle.pli_type.specs.ExpressionTypes.{precision_of, string_conversions, suiting, conversions, columns, decimal_digits}
+use Rattle.pli_operation.specs.Operations.{Operation, Fit}
+use Rattle.pli_type.specs.ExpressionTypes.{string_conversions, conversions, columns, decimal_digits}
 use Rattle.pli_type.specs.StatementTyping.{suits_range}
 use Rattle.pli_type.specs.declared.expression_type.ExpressionType.{ExpressionType}
 use Rattle.pli_type.specs.declared.expression_type.ExpressionType.TheVariants as types
@@ -33,12 +30,14 @@ module _ (s : TypingContext) where
 
   numbers_convert : (p : ℕ) (e : TypedExpression) (kind : ExpressionType) → HasType s e kind
       → OnGiven (Converts (described.FixedBinary p) e) (conversions 31 (described.FixedBinary p) kind)
-  numbers_convert p e (types.FixedDecimal digits) h =
-      ((Numbers h.0, h.1, last (described.FixedBinary p) (Numbers h.0) (Numbers p) tt refl),
-      ((p, refl), λ q. last (described.FixedBinary p) (Numbers q) (Numbers p) tt refl))
-  numbers_convert p e (types.FixedBinary q) h =
-      ((Numbers h.0, h.1, last (described.FixedBinary p) (Numbers h.0) (Numbers p) tt refl),
-      ((p, refl), λ q. last (described.FixedBinary p) (Numbers q) (Numbers p) tt refl))
+  numbers_convert p e (types.FixedDecimal digits) h = (
+    (Numbers h.0, h.1, last (described.FixedBinary p) (Numbers h.0) (Numbers p) tt refl),
+    ((p, refl), λ q. last (described.FixedBinary p) (Numbers q) (Numbers p) tt refl),
+  )
+  numbers_convert p e (types.FixedBinary q) h = (
+    (Numbers h.0, h.1, last (described.FixedBinary p) (Numbers h.0) (Numbers p) tt refl),
+    ((p, refl), λ q. last (described.FixedBinary p) (Numbers q) (Numbers p) tt refl),
+  )
   numbers_convert p e types.Characters h = tt
   numbers_convert p e types.Bits h = tt
   numbers_convert p e types.Pointer h = tt
@@ -71,9 +70,11 @@ module _ (s : TypingContext) where
       (Numbers h.0, h.1, (Strings OfCharacters width width, (h.0, refl, (near_has_columns h.0 q h.2, refl)), last d (Strings OfCharacters width width) u (fits width width) held))
   characters_convert d u held fits e types.Characters h =
       (Strings OfCharacters h.0 h.1, h.2, last d (Strings OfCharacters h.0 h.1) u (fits h.0 h.1) held)
-  characters_convert d u held fits e types.Bits h =
-      (Strings OfBits h.0 h.1, h.2,
-      (Strings OfCharacters h.0 h.1, (OfBits, h.0, h.1, refl, (refl, refl)), last d (Strings OfCharacters h.0 h.1) u (fits h.0 h.1) held))
+  characters_convert d u held fits e types.Bits h = (
+    Strings OfBits h.0 h.1,
+    h.2,
+    (Strings OfCharacters h.0 h.1, (OfBits, h.0, h.1, refl, (refl, refl)), last d (Strings OfCharacters h.0 h.1) u (fits h.0 h.1) held),
+  )
   characters_convert d u held fits e types.Pointer h = absurd h
   characters_convert d u held fits e types.Offset h = absurd h
   characters_convert d u held fits e types.Area h = absurd h

@@ -1,8 +1,8 @@
 -- Parts of a typed unit that are numbered well, with the procedures in them.
-use Rattle.std.specs.Prelude.{◌≡◌, ℕ, zero, suc, ◌+◌, ◌-◌, ◌≤◌, ◌<◌, List, [], ◌∷◌, ◌++◌, length, Result, Ok, Err, refl}
+use Rattle.std.specs.Prelude.{◌≡◌, ℕ, zero, suc, ◌+◌, ◌≤◌, ◌<◌, List, [], ◌∷◌, ◌++◌, length}
 use Rattle.std.specs.List.{flat_map, AllByRecursion}
-use Rattle.std.proofs.Common.{arith, sym, ap, ◌∙◌, subst, length-append}
-use Rattle.pli_gen_tree.specs.TreeTranslation.{BlockTree, procedure_block, blocks_of_procedure, blocks_in, blocks_of_form}
+use Rattle.std.proofs.Common.{arith, sym, ap, subst, length-append}
+use Rattle.pli_gen_tree.specs.TreeTranslation.{BlockTree, blocks_of_procedure, blocks_in, blocks_of_form}
 use Rattle.pli_gen_tree.specs.TreeTranslation.{blocks_of_else, blocks_among}
 use Rattle.pli_gen_tree.specs.WellNumbered.{numbers_in, numbers_in_form, numbers_in_else, numbers_among, HasRoom, HasRoomForm}
 use Rattle.pli_gen_tree.specs.WellNumbered.{HasRoomElse, HaveRoom, KeepsApart, KeepsApartForm, KeepsApartElse, KeepApart}
@@ -36,22 +36,34 @@ within_in : (n : ℕ) (fs gs : List TypedProcedure)
     → in_blocks n (blocks_within (fs ++ gs)) ≡ in_blocks n (blocks_within fs) + in_blocks n (blocks_within gs)
 within_in n [] gs = omega arith
 within_in n (f ∷ fs) gs =
-    omega (arith, in_both n (blocks_of_procedure f) (blocks_within (fs ++ gs)), in_both n (blocks_of_procedure f) (blocks_within fs),
-    within_in n fs gs)
+    omega (
+      arith,
+      in_both n (blocks_of_procedure f) (blocks_within (fs ++ gs)),
+      in_both n (blocks_of_procedure f) (blocks_within fs),
+      within_in n fs gs,
+    )
 
 within_of : (n : ℕ) (fs gs : List TypedProcedure)
     → of_blocks n (blocks_within (fs ++ gs)) ≡ of_blocks n (blocks_within fs) + of_blocks n (blocks_within gs)
 within_of n [] gs = omega arith
 within_of n (f ∷ fs) gs =
-    omega (arith, of_both n (blocks_of_procedure f) (blocks_within (fs ++ gs)), of_both n (blocks_of_procedure f) (blocks_within fs),
-    within_of n fs gs)
+    omega (
+      arith,
+      of_both n (blocks_of_procedure f) (blocks_within (fs ++ gs)),
+      of_both n (blocks_of_procedure f) (blocks_within fs),
+      within_of n fs gs,
+    )
 
 within_length : (fs gs : List TypedProcedure)
     → length (blocks_within (fs ++ gs)) ≡ length (blocks_within fs) + length (blocks_within gs)
 within_length [] gs = omega arith
 within_length (f ∷ fs) gs =
-    omega (arith, length-append (blocks_of_procedure f) (blocks_within (fs ++ gs)),
-    length-append (blocks_of_procedure f) (blocks_within fs), within_length fs gs)
+    omega (
+      arith,
+      length-append (blocks_of_procedure f) (blocks_within (fs ++ gs)),
+      length-append (blocks_of_procedure f) (blocks_within fs),
+      within_length fs gs,
+    )
 
 within_roomy : (fs gs : List TypedProcedure) → AreRoomy (blocks_within fs) → AreRoomy (blocks_within gs)
     → AreRoomy (blocks_within (fs ++ gs))
@@ -116,13 +128,32 @@ module _ {A B C : Type 0} (n1 : A → List ℕ) (i1 : (parent : ℕ) → A → L
       → ((parent : ℕ) → i3 parent z ≡ i1 parent x.part ++ i2 parent y.part) → h3 z
       → Good n3 i3 h3 a c k m (record { part = z; procedures = x.procedures ++ y.procedures })
   good_both a b c k l m x y z g j same_numbers same_blocks h = (
-    (λ parent n. omega (arith, g.0 parent n, j.0 parent n, ap (times n) same_numbers, times_both n (n1 x.part) (n2 y.part),
-        ap (in_blocks n) (same_blocks parent), in_both n (i1 parent x.part) (i2 parent y.part),
-        within_in n x.procedures y.procedures)),
-    (λ parent n. omega (arith, g.1 parent n, j.1 parent n, ap (of_blocks n) (same_blocks parent),
-        of_both n (i1 parent x.part) (i2 parent y.part), within_of n x.procedures y.procedures)),
-    (λ parent. omega (arith, g.2 parent, j.2 parent, ap (λ (bs : List BlockTree). length bs) (same_blocks parent),
-        length-append (i1 parent x.part) (i2 parent y.part), within_length x.procedures y.procedures)),
+    (λ parent n. omega (
+      arith,
+      g.0 parent n,
+      j.0 parent n,
+      ap (times n) same_numbers,
+      times_both n (n1 x.part) (n2 y.part),
+      ap (in_blocks n) (same_blocks parent),
+      in_both n (i1 parent x.part) (i2 parent y.part),
+      within_in n x.procedures y.procedures,
+    )),
+    (λ parent n. omega (
+      arith,
+      g.1 parent n,
+      j.1 parent n,
+      ap (of_blocks n) (same_blocks parent),
+      of_both n (i1 parent x.part) (i2 parent y.part),
+      within_of n x.procedures y.procedures,
+    )),
+    (λ parent. omega (
+      arith,
+      g.2 parent,
+      j.2 parent,
+      ap (λ (bs : List BlockTree). length bs) (same_blocks parent),
+      length-append (i1 parent x.part) (i2 parent y.part),
+      within_length x.procedures y.procedures,
+    )),
     (λ parent. subst AreRoomy (sym (same_blocks parent))
         (roomy_both (i1 parent x.part) (i2 parent y.part) (g.3 parent) (j.3 parent))),
     within_roomy x.procedures y.procedures g.4 j.4,
@@ -189,10 +220,21 @@ pub good_procedure : (m j t a b c k l : ℕ) (f : TypedProcedure) (fs : List Typ
     → GoodList m 0 f.head.temporaries a b (suc k) l (record { part = f.statements; procedures = fs })
     → GoodForm j t t a c k l (record { part = typed.Null; procedures = fs ++ f ∷ [] })
 good_procedure m j t a b c k l f fs few le is g = (
-  (λ parent n. omega (arith, g.0 f.head.number n, below_more n b c le, within_in n fs (f ∷ []),
-      in_both n (blocks_of_procedure f) [])),
-  (λ parent n. omega (arith, g.1 f.head.number n, below_next n k, ap (same n) is, within_of n fs (f ∷ []),
-      of_both n (blocks_of_procedure f) [])),
+  (λ parent n. omega (
+    arith,
+    g.0 f.head.number n,
+    below_more n b c le,
+    within_in n fs (f ∷ []),
+    in_both n (blocks_of_procedure f) [],
+  )),
+  (λ parent n. omega (
+    arith,
+    g.1 f.head.number n,
+    below_next n k,
+    ap (same n) is,
+    within_of n fs (f ∷ []),
+    of_both n (blocks_of_procedure f) [],
+  )),
   (λ parent. omega (arith, g.2 f.head.number, within_length fs (f ∷ []), length-append (blocks_of_procedure f) [])),
   (λ parent. tt),
   within_roomy fs (f ∷ []) g.4

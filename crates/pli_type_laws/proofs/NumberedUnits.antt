@@ -1,6 +1,6 @@
 -- What the type checker gives is numbered well: by induction on the source tree.
-use Rattle.std.specs.Prelude.{◌≡◌, ℕ, zero, suc, ◌+◌, ◌-◌, ◌≤◌, ◌<◌, Bool, true, false, Option, Some, None, List, [], ◌∷◌, ◌++◌}
-use Rattle.std.specs.Prelude.{length, slice_get, Result, Ok, Err, refl}
+use Rattle.std.specs.Prelude.{◌≡◌, ℕ, zero, suc, ◌+◌, ◌-◌, ◌≤◌, ◌<◌, Bool, true, false, Option, Some, None, List, [], ◌∷◌}
+use Rattle.std.specs.Prelude.{length, Result, Ok, Err, refl}
 use Rattle.std.specs.List.{flat_map, AllByRecursion}
 use Rattle.std.proofs.Common.{arith, sym, ap, ◌∙◌, subst, length-append}
 use Rattle.std.proofs.lemmas.Bool.{false≢true}
@@ -9,9 +9,8 @@ use Rattle.pli_base.specs.Statements.{Statement, Numbered, Body, Range, Statemen
 use Rattle.pli_base.specs.Statements.{list_count, alternative_count}
 use Rattle.pli_base.specs.declared.token.Fault.{Fault}
 use Rattle.pli_gen_tree.specs.TreeTranslation.{BlockTree, blocks_of_procedure, blocks_in, blocks_of_form, blocks_of_else, blocks_among}
-use Rattle.pli_gen_tree.specs.TreeTranslation.{by_number}
-use Rattle.pli_gen_tree.specs.WellNumbered.{numbers_in, numbers_in_form, numbers_in_else, numbers_among, HasRoomForm, HasTurns, HaveRoom}
-use Rattle.pli_gen_tree.specs.WellNumbered.{KeepApart, KeepsApartForm, next_temporary, IsWellNumbered}
+use Rattle.pli_gen_tree.specs.WellNumbered.{numbers_in, numbers_in_form, numbers_in_else, numbers_among, HasTurns, HaveRoom}
+use Rattle.pli_gen_tree.specs.WellNumbered.{KeepApart, next_temporary, IsWellNumbered}
 use Rattle.pli_parse_expression.specs.Expressions.{Deeper}
 use Rattle.pli_type.specs.Checked.{in_unit, first_inside, external_of, unit_of, typed_as, checked, unless_unbuilt}
 use Rattle.pli_type.specs.Names.{NamedUnit}
@@ -22,10 +21,10 @@ use Rattle.pli_type.specs.StatementTyping.{statement_typed, body_typed, alternat
 use Rattle.pli_type.specs.TreeBlocks as blocks
 use Rattle.pli_type.specs.TreeBlocks.{Next, behind, limits_kept, temporaries_in, temporaries_of, temporaries_among, temporaries_behind}
 use Rattle.pli_type.specs.Unbuilt.{first_unbuilt}
-use Rattle.pli_type_laws.proofs.Counting.{same, below, below_next, below_bound, times, in_blocks, of_blocks, in_both, of_both}
+use Rattle.pli_type_laws.proofs.Counting.{same, below, below_next, below_bound, in_blocks, of_blocks, in_both, of_both}
 use Rattle.pli_type_laws.proofs.Counting.{blocks_placed, ordered_distinct}
 use Rattle.pli_type_laws.proofs.Denotations.{OnRead}
-use Rattle.pli_type_laws.proofs.NumberedParts.{IsRoomy, AreRoomy, roomy_both, blocks_within, Good, good_alone, good_made, good_both}
+use Rattle.pli_type_laws.proofs.NumberedParts.{AreRoomy, roomy_both, blocks_within, Good, good_alone, good_made, good_both}
 use Rattle.pli_type_laws.proofs.NumberedParts.{HereForm, HereStatement, HereElse, HereList, GoodForm, GoodStatement, GoodElse, GoodList}
 use Rattle.pli_type_laws.proofs.NumberedParts.{good_numbered, good_begin, good_procedure}
 use Rattle.pli_type_laws.proofs.Shapes.{IsSimple, simple_assignment, simple_goto, simple_call, simple_return, HasOwn, iteration_keeps}
@@ -91,8 +90,7 @@ iterate_good : (m i t z a b c k l : ℕ) (range : Option Range) (q : Result Iter
     → OnTyped (GoodForm m t z a c k l) (together typed.Iterate (of_own q) r)
 iterate_good m i t z a b c k l range (Ok x) (Ok y) e le room h g =
     good_made numbers_among blocks_among (HereList i (t + suc (limits_kept range)) z) numbers_in_form blocks_of_form (HereForm m t z)
-    a b c k l y (typed.Iterate x y.part) le g refl (λ parent. refl)
-    (
+    a b c k l y (typed.Iterate x y.part) le g refl (λ parent. refl) (
       (λ j lt. turns (is_iterated x.range) i j y.part (omega (arith, e, lt)) g.5.0),
       (λ used size u s. (
         omega (arith, u, h.0),
@@ -127,8 +125,7 @@ if_good : (m i t w z a b c k l n : ℕ) (q : Result TypedExpression Fault) (r : 
     (together (λ s otherwise. (s, otherwise)) r o))
 if_good m i t w z a b c k l n (Ok x) (Ok s) (Ok e) is low high g h =
     good_both numbers_in blocks_in (HereStatement i t w) numbers_in_else blocks_of_else (HereElse i w z) numbers_in_form blocks_of_form
-    (HereForm m t z) a b c k l n s e (typed.If x s.part e.part) g h refl (λ parent. refl)
-    (
+    (HereForm m t z) a b c k l n s e (typed.If x s.part e.part) g h refl (λ parent. refl) (
       (λ j lt. (g.5.0 j (omega (arith, is, lt)), h.5.0 j (omega (arith, is, lt)))),
       (λ used size u v. (g.5.1 used size u (omega (arith, v, high)), h.5.1 used size (omega (arith, u, low)) v)),
     )
@@ -176,8 +173,7 @@ put_good : (m t w z a b c k l n number : ℕ) (nothing : Bool) (r : Result (With
 put_good m t w z a b c k l n number false (Ok x) (Ok y) low high null g h =
     good_both numbers_in blocks_in (HereStatement m t w) numbers_among blocks_among (HereList m w z) numbers_among blocks_among
     (HereList m t z) a b c k l n (record { part = typed.Statement number x.part; procedures = x.procedures }) y
-    (StatementThen (typed.Statement number x.part) y.part) g h refl (λ parent. refl)
-    (
+    (StatementThen (typed.Statement number x.part) y.part) g h refl (λ parent. refl) (
       (λ j lt. (g.5.0 j lt, h.5.0 j lt)),
       (λ used size u v. (g.5.1 used size u (omega (arith, v, high)), h.5.1 used size (omega (arith, u, low)) v)),
     )

@@ -1,33 +1,32 @@
 -- Forms that have no statements in them, and how many temporaries an iteration has.
-use Rattle.std.specs.Prelude.{◌≡◌, ℕ, suc, Bool, true, false, Option, Some, None, is_none, option_map, List, [], ◌∷◌, length}
-use Rattle.std.specs.Prelude.{Result, Ok, Err, refl, if◌then◌else◌}
-use Rattle.pli_base.specs.Reading.{◌>>=◌, at_fault}
+use Rattle.std.specs.Prelude.{◌≡◌, ℕ, suc, Option, Some, None, is_none, List}
+use Rattle.std.specs.Prelude.{Result, Ok, Err, refl}
+use Rattle.pli_base.specs.Reading.{◌>>=◌}
 use Rattle.pli_base.specs.Statements as tree
 use Rattle.pli_base.specs.Statements.{Range}
 use Rattle.pli_base.specs.Syntax.{Expression, Referred, Reference, Arguments}
 use Rattle.pli_base.specs.declared.code.Code.{Code}
-use Rattle.pli_base.specs.declared.code.Code.TheVariants.{CannotAssign, WrongOperandType, NotYetBuilt}
+use Rattle.pli_base.specs.declared.code.Code.TheVariants.{CannotAssign, NotYetBuilt}
 use Rattle.pli_base.specs.declared.syntax.Identifier.{Identifier}
 use Rattle.pli_base.specs.declared.token.Fault.{Fault}
 use Rattle.pli_map.specs.Description.{Description}
 use Rattle.pli_map.specs.Same.{same}
 use Rattle.pli_map.specs.Scalars.{is_scalar}
-use Rattle.pli_operation.specs.Operations.{Operation}
 use Rattle.pli_type.specs.ExpressionTypes.{TypedValue, converted, conversions}
 use Rattle.pli_type.specs.FunctionCalls.{Denoted, DenotesVariable, DenotesResult, Meant, OneValue, WholeAggregate, Argument}
 use Rattle.pli_type.specs.Names.{NamedAs, AVariable, AFunction, AProcedure, ALabel, Untyped, Naming}
 use Rattle.pli_type.specs.ProcedureCalls.{arguments_passed}
 use Rattle.pli_type.specs.References.{AsArgument, AsLocator, AsTarget, Referent}
 use Rattle.pli_type.specs.StatementTyping.{aggregate_assigned, assigned, assignment, Surroundings, label_found, jump_to, jump, goto_typed}
-use Rattle.pli_type.specs.StatementTyping.{arguments_typed, no_function, call_of, call_typed, returned_value, return_typed, number_of}
-use Rattle.pli_type.specs.StatementTyping.{limit, possible_limit, limits, controls, possible_condition, next_value, with_repeat, iteration}
+use Rattle.pli_type.specs.StatementTyping.{arguments_typed, no_function, call_of, call_typed, returned_value, return_typed}
+use Rattle.pli_type.specs.StatementTyping.{limit, limits, controls, possible_condition, with_repeat, iteration}
 use Rattle.pli_type.specs.TreeBlocks.{limits_kept}
 use Rattle.pli_type.specs.Typing.{first_token, or_fault, meant, referred, value_of}
 use Rattle.pli_type_laws.proofs.Conversions.{OnGiven}
 use Rattle.pli_type_laws.proofs.Denotations.{OnRead}
 use Rattle.pli_type_laws.proofs.Expressions.{read_option}
 use Rattle.pli_type_laws.proofs.References.{read_if}
-use Rattle.pli_type_tree.specs.Iterations.{kept_by, temporaries_of}
+use Rattle.pli_type_tree.specs.Iterations.{temporaries_of}
 use Rattle.pli_type_tree.specs.TypedTree as typed
 use Rattle.pli_type_tree.specs.TypedTree.{Form, TypedRange, Iteration, Once, ToBy, ByTo, Repeated}
 

@@ -1,15 +1,14 @@
 -- Statements are typed as the meaning of typed trees asks, and each procedure as its signature says.
-use Rattle.std.specs.Prelude.{◌≡◌, ℕ, suc, ◌+◌, Bool, true, false, ◌||◌, IsTrue, Option, Some, None, List, [], ◌∷◌, ◌++◌, length, map}
+use Rattle.std.specs.Prelude.{◌≡◌, ℕ, suc, ◌+◌, Bool, true, false, ◌||◌, Option, Some, None, List, [], ◌∷◌, ◌++◌, map}
 use Rattle.std.specs.Prelude.{slice_get, Result, Ok, Err, refl, if◌then◌else◌}
 use Rattle.std.proofs.Common.{sym, ap, ◌∙◌, subst, eq-eqb}
 use Rattle.pli_base.specs.Statements as tree
 use Rattle.pli_base.specs.Statements.{ExternalProcedure, Statement, Numbered, Body, Statements, Ended, Before, Alternative}
-use Rattle.pli_base.specs.Syntax.{Expression}
 use Rattle.pli_base.specs.declared.token.Fault.{Fault}
 use Rattle.pli_map.specs.Description.{Description}
-use Rattle.pli_meaning_typed.specs.TypedPrograms.{HasEnd, IsTypedProcedure, context_in, descriptions}
+use Rattle.pli_meaning_typed.specs.TypedPrograms.{HasEnd, context_in, descriptions}
 use Rattle.pli_resolve.specs.declared.block_numbers.ResolvedBlockKind.TheVariants as kinds
-use Rattle.pli_type.specs.Names.{NamedUnit, NamedAs, Compiled, Naming}
+use Rattle.pli_type.specs.Names.{NamedUnit, NamedAs, Compiled}
 use Rattle.pli_type.specs.StatementTyping as source
 use Rattle.pli_type.specs.StatementTyping.{Enclosing, enclosing, Surroundings, naming_at, block_at, leaves_nothing, assignment, items}
 use Rattle.pli_type.specs.StatementTyping.{condition, iteration, call_typed, goto_typed, return_typed, WithProcedures, of_own, together}
@@ -17,21 +16,20 @@ use Rattle.pli_type.specs.StatementTyping.{made, head_of, function_end, procedur
 use Rattle.pli_type.specs.StatementTyping.{statement_typed, body_typed, alternative_typed, statements_typed}
 use Rattle.pli_type.specs.TreeBlocks as blocks
 use Rattle.pli_type.specs.TreeBlocks.{Next, behind}
-use Rattle.pli_type.specs.Unbuilt.{later_expression, later_part, later_control, later_option, or_else, token_if, later_statement}
+use Rattle.pli_type.specs.Unbuilt.{later_expression, later_control, or_else, token_if, later_statement}
 use Rattle.pli_type.specs.Unbuilt.{later_body, later_alternative, later_statements}
 use Rattle.pli_type_laws.proofs.BlocksKnown.{Within, within_self, within_both, within_behind, begun_count, Sits, sits_parts}
 use Rattle.pli_type_laws.proofs.BlocksKnown.{AreHome, home_labels, StandsDirectly}
 use Rattle.pli_type_laws.proofs.Contexts.{Knows, around_self, group_known, label_known, known_as, own_signature, signature_there}
-use Rattle.pli_type_laws.proofs.Denotations.{OnRead}
 use Rattle.pli_type_laws.proofs.Expressions.{IsMeaning, or_parts}
 use Rattle.pli_type_laws.proofs.Forms.{condition_typed, items_typed, assignment_typed, call_is_typed, return_is_typed, goto_is_typed}
 use Rattle.pli_type_laws.proofs.Forms.{iteration_typed}
-use Rattle.pli_type_laws.proofs.TypedParts.{OnTyped, typed_map, Has, has_front, has_back, Covers, covers_more, IsOurs, ours_both}
+use Rattle.pli_type_laws.proofs.TypedParts.{OnTyped, typed_map, has_front, has_back, covers_more, IsOurs, ours_both}
 use Rattle.pli_type_laws.proofs.TypedParts.{Typed, typed_made, typed_own, typed_with, typed_both, with_list}
 use Rattle.pli_type_laws.specs.TypedUnits.{unit_with}
 use Rattle.pli_type_name_laws.specs.NameFacts.{NameFacts}
 use Rattle.pli_type_name_laws.specs.SourceBlocks.{SourceBlock, unit_blocks, innermost, known_blocks, signatures, begun_in, begun_by}
-use Rattle.pli_type_name_laws.specs.SourceBlocks.{begun_among, begun_behind, slots_in}
+use Rattle.pli_type_name_laws.specs.SourceBlocks.{begun_among, begun_behind}
 use Rattle.pli_type_tree.specs.Templates.{Template}
 use Rattle.pli_type_tree.specs.TypedTree as typed
 use Rattle.pli_type_tree.specs.TypedTree.{Form, TypedStatement, TypedStatements, NoStatement, StatementThen, OtherWise, NoElse, Else}

@@ -1,9 +1,9 @@
 -- Parts of a typed unit with the procedures in them: the part has a property, each procedure is as its signature
 -- says, and each procedure that begins there is among them.
-use Rattle.std.specs.Prelude.{◌≡◌, ℕ, zero, suc, ◌+◌, nat_eq, Bool, true, false, ◌||◌, IsTrue, Option, Some, None, List, [], ◌∷◌, ◌++◌}
+use Rattle.std.specs.Prelude.{◌≡◌, ℕ, zero, suc, ◌+◌, nat_eq, Bool, true, false, ◌||◌, IsTrue, Some, List, [], ◌∷◌, ◌++◌}
 use Rattle.std.specs.Prelude.{length, slice_get, Result, Ok, Err, refl, if◌then◌else◌}
 use Rattle.std.specs.List.{list_any}
-use Rattle.std.proofs.Common.{arith, sym, ap, ◌∙◌, subst, eq-eqb}
+use Rattle.std.proofs.Common.{arith, ap, ◌∙◌, subst}
 use Rattle.std.proofs.lemmas.Bool.{eqb-true}
 use Rattle.std.proofs.lemmas.Option.{same_Some, none-some}
 use Rattle.pli_base.specs.declared.token.Fault.{Fault}

@@ -1,5 +1,5 @@
 -- Units are well typed.
-use Rattle.std.specs.Prelude.{◌≡◌, ℕ, zero, suc, ◌+◌, Option, Some, None, option_and_then, List, [], ◌∷◌, ◌++◌, length, map, slice_get}
+use Rattle.std.specs.Prelude.{◌≡◌, ℕ, ◌+◌, Option, Some, None, option_and_then, List, [], ◌∷◌, length, slice_get}
 use Rattle.std.specs.Prelude.{Result, Ok, Err, refl, Bool, true}
 use Rattle.std.proofs.Common.{arith, sym, ap, ◌∙◌, subst}
 use Rattle.std.proofs.lemmas.Option.{same_Some, none-some}
@@ -8,8 +8,6 @@ use Rattle.pli_base.specs.declared.token.Fault.{Fault}
 use Rattle.pli_map.specs.Description.{Description}
 use Rattle.pli_meaning_tree.specs.TreeMeaning.{procedure_in}
 use Rattle.pli_meaning_typed.specs.TypedPrograms.{HasEnd, IsTypedProcedure, context_in, descriptions}
-use Rattle.pli_parse_expression.specs.Expressions.{Deeper}
-use Rattle.pli_parse_expression.specs.Operators.{nesting_limit}
 use Rattle.pli_resolve.specs.declared.block_numbers.ResolvedBlockKind.{ResolvedBlockKind}
 use Rattle.pli_resolve.specs.declared.block_numbers.ResolvedBlockKind.TheVariants as kinds
 use Rattle.pli_type.specs.Checked.{in_unit, first_inside, external_of, unit_of, typed_as, checked, unless_unbuilt}
@@ -141,8 +139,7 @@ module _ (program : ExternalProcedure) (is_later : ℕ → Bool) (meaning : List
       as_signed : (number : ℕ) (p : Signature) → signatures V number ≡ Some p
           → (f : TypedProcedure) × (procedure_in Procedures number ≡ Some f) × (f.head.number ≡ number) → IsThere number p
       as_signed number p signed (f, at, same) =
-          let own : IsOurs V f = ours_found V number f Procedures ours at in
-          (
+          let own : IsOurs V f = ours_found V number f Procedures ours at in (
             f,
             at,
             subst (λ q. IsTypedProcedure 31 (descriptions statics) (signatures V) q f)

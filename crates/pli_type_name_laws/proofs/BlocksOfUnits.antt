@@ -13,7 +13,7 @@ use Rattle.pli_resolve.specs.laws.BlockLaws as laws
 use Rattle.pli_resolve.proofs.BlocksOfTrees.{blocks_of_the_tree}
 use Rattle.pli_type.specs.StatementTyping.{Enclosing, enclosing, labels_of, with_labels}
 use Rattle.pli_type.specs.TreeBlocks as blocks
-use Rattle.pli_type_name_laws.specs.SourceBlocks.{SourceBlock, of_unit, innermost, begun_in, begun_by, begun_among, begun_behind}
+use Rattle.pli_type_name_laws.specs.SourceBlocks.{of_unit, innermost, begun_in, begun_by, begun_among, begun_behind}
 use Rattle.pli_type_name_laws.specs.SourceBlocks.{unit_blocks}
 use Rattle.pli_type_name_laws.specs.UnitBlocks.{in_unit, in_tree, BlocksAreOfTree}
 

@@ -1,6 +1,6 @@
 -- The facts about the names of a unit.
-use Rattle.std.specs.Prelude.{◌≡◌, ℕ, zero, suc, true, false, nat_eq, nat_le, nat_lt, Bool, ◌&&◌, Option, Some, None, option_map}
-use Rattle.std.specs.Prelude.{List, [], ◌∷◌, ◌++◌, map, slice_get, if◌then◌else◌, refl}
+use Rattle.std.specs.Prelude.{◌≡◌, ℕ, suc, true, false, nat_eq, nat_le, nat_lt, Bool, Option, Some, None, option_map}
+use Rattle.std.specs.Prelude.{List, [], ◌∷◌, map, slice_get, if◌then◌else◌, refl}
 use Rattle.std.proofs.Common.{sym, ◌∙◌, ap, subst}
 use Rattle.std.proofs.lemmas.Bool.{and_parts, eqb-true}
 use Rattle.std.proofs.lemmas.Option.{same_Some, none-some}
@@ -10,19 +10,18 @@ use Rattle.pli_resolve.specs.ResolvedUnits.{ResolvedUnit, ResolvedBlock, all_sym
 use Rattle.pli_resolve.specs.declared.block_numbers.ResolvedBlockKind.{ResolvedBlockKind}
 use Rattle.pli_resolve.specs.declared.block_numbers.ResolvedBlockKind.TheVariants as kinds
 use Rattle.pli_type.specs.NamedUnits.{is_plain, is_stored, is_automatic, is_static, block_symbols, parameter_numbers, parameters_of}
-use Rattle.pli_type.specs.NamedUnits.{returned_of, outward_to, is_reached, is_procedure, stands_around, gives_stored, templates_of}
-use Rattle.pli_type.specs.NamedUnits.{all_statics, is_internal, named_as, named_procedure, named_unit}
-use Rattle.pli_type.specs.Names.{NamedUnit, NamedVariable, NamedProcedure, AVariable, AProcedure}
-use Rattle.pli_type_tree.specs.Templates.{Template, variable_of}
+use Rattle.pli_type.specs.NamedUnits.{returned_of, outward_to, is_reached, is_procedure, stands_around, gives_stored}
+use Rattle.pli_type.specs.NamedUnits.{is_internal, named_unit}
+use Rattle.pli_type.specs.Names.{NamedUnit, NamedVariable, NamedProcedure}
 use Rattle.pli_type_tree.specs.TypedTree.{Root, InSlot, OfProgram}
-use Rattle.pli_type_tree.specs.WellTyped.{AreMade, BlockAround, TypingContext, slot_of, root_of}
+use Rattle.pli_type_tree.specs.WellTyped.{BlockAround, TypingContext, slot_of, root_of}
 use Rattle.pli_type_name_laws.specs.NameFacts.{HaveSlots, VariableFacts, ProcedureFacts, BlockFacts, NameFacts}
 use Rattle.pli_type_name_laws.specs.SourceBlocks.{SourceBlock, unit_blocks, innermost, slots_in}
 use Rattle.pli_type_name_laws.specs.UnitBlocks.{in_unit, in_tree, BlocksAreOfTree}
 use Rattle.pli_type_name_laws.proofs.InitialHeld.{all_made, made_behind}
 use Rattle.pli_type_name_laws.proofs.NamesMean.{Begins, IsNamed, variable_begins, procedure_named_so, is_a_procedure, around, same_place}
 use Rattle.pli_type_name_laws.proofs.PartsOfNames.{part_stands, subscripts_lead, whole_is}
-use Rattle.pli_type_name_laws.proofs.RootsStand.{descriptions, Standing, automatic_stored, static_stored}
+use Rattle.pli_type_name_laws.proofs.RootsStand.{Standing, automatic_stored, static_stored}
 
 stored_plain : (n : ℕ) (d : Description) → is_stored n d ≡ true → is_plain n d ≡ true
 stored_plain n d h = (and_parts (is_plain n d) (nat_le (size_of d) 1000000) h).0

@@ -1,5 +1,5 @@
 -- What a name that means a variable or a procedure says.
-use Rattle.std.specs.Prelude.{◌≡◌, ℕ, zero, suc, Bool, true, false, ◌&&◌, Option, Some, None, option_map, List, [], ◌∷◌, map, slice_get}
+use Rattle.std.specs.Prelude.{◌≡◌, ℕ, zero, suc, Bool, true, false, ◌&&◌, Option, Some, None, List, [], ◌∷◌, map, slice_get}
 use Rattle.std.specs.Prelude.{if◌then◌else◌, refl}
 use Rattle.std.proofs.Common.{sym, ◌∙◌, ap, subst}
 use Rattle.std.proofs.lemmas.Bool.{and_parts}
@@ -14,9 +14,9 @@ use Rattle.pli_resolve.specs.declared.symbol.NameMeaning.TheVariants as meanings
 use Rattle.pli_resolve.specs.declared.symbol.StorageClass.{StorageClass}
 use Rattle.pli_resolve.specs.declared.symbol.SymbolKey.{SymbolKey}
 use Rattle.pli_type.specs.NamedUnits.{is_stored, block_symbols, outward_to, root_of, variable_from, variable_at, is_procedure}
-use Rattle.pli_type.specs.NamedUnits.{stands_around, is_reached, gives_stored, returned_of, named_procedure, procedure_named}
+use Rattle.pli_type.specs.NamedUnits.{stands_around, is_reached, gives_stored, returned_of, named_procedure}
 use Rattle.pli_type.specs.NamedUnits.{symbol_meant, declared_as, named_as}
-use Rattle.pli_type.specs.Names.{NamedVariable, NamedProcedure, NamedAs, AVariable, AFunction, AProcedure, ALabel, Untyped}
+use Rattle.pli_type.specs.Names.{NamedVariable, NamedProcedure, AVariable, AProcedure, ALabel, Untyped}
 use Rattle.pli_type_tree.specs.TypedTree.{Root}
 use Rattle.pli_type_name_laws.specs.NameFacts.{StandsAround}
 use Rattle.pli_type_name_laws.specs.SourceBlocks.{SourceBlock}

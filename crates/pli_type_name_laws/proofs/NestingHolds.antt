@@ -37,11 +37,10 @@ mutual
 
   body_nests : (c : Context) (levels : ℕ) (label : Option Identifier) (p k : ℕ) (ts : Tokens) (b : Body)
       → StandsIn c.standing label b → SpellsBody c levels label p k ts b → BodyNests (is_direct c.standing) levels b
-  body_nests c levels label p k ts (Procedure heading statements end) s h =
-      (
-        directly c.standing label heading statements end s,
-        deeper _ (λ m. ListNests true m statements) levels (λ m g. list_nests a_procedure m _ (k + 1) _ statements g) h.4.6,
-      )
+  body_nests c levels label p k ts (Procedure heading statements end) s h = (
+    directly c.standing label heading statements end s,
+    deeper _ (λ m. ListNests true m statements) levels (λ m g. list_nests a_procedure m _ (k + 1) _ statements g) h.4.6,
+  )
   body_nests c levels label p k ts (Begin statements end) s h =
       deeper _ (λ m. ListNests true m statements) levels
       (λ m g. list_nests (standing InBlock c) m _ (k + 1) _ statements g) h.4.3

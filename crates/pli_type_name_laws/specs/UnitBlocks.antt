@@ -1,5 +1,5 @@
 -- The blocks of a resolved unit are those of its tree.
-use Rattle.std.specs.Prelude.{◌≡◌, ℕ, Option, List, map}
+use Rattle.std.specs.Prelude.{◌≡◌, ℕ, Option, map}
 use Rattle.pli_resolve.specs.ResolvedUnits.{ResolvedUnit, ResolvedBlock}
 use Rattle.pli_resolve.specs.declared.block_numbers.ResolvedBlockKind.{ResolvedBlockKind}
 use Rattle.pli_type_name_laws.specs.SourceBlocks.{SourceBlock, unit_blocks, innermost}

@@ -4,4 +4,6 @@
 
 mod laws;
 
-pub use laws::{blocks_are_of_tree, names_mean_variables, statements_are_numbered, statements_nest};
+pub use laws::{
+    blocks_are_of_tree, names_mean_variables, statements_are_numbered, statements_nest,
+};
