@@ -102,7 +102,7 @@ impl Segment {
                 NamedAs::Function(_)
                 | NamedAs::Procedure(_)
                 | NamedAs::Label(_)
-                | NamedAs::Untyped => { Err(fault(Code::NotAVariable, at)) }
+                | NamedAs::Untyped => Err(fault(Code::NotAVariable, at)),
             },
             Segment::Function(value) => Ok(Denoted::Result(value)),
         }
