@@ -1,6 +1,6 @@
 -- The walk over expressions and references, step by step.
 use Rattle.std.proofs.Common.{◌≡◌, ℕ, ◌+◌, ◌∷◌, ◌++◌, [], List, true, false, Result, Ok, Err, refl, ap}
-use Rattle.std.proofs.Common.{◌∙◌, sym, suc, zero, drop, get_or, add-one}
+use Rattle.std.proofs.Common.{◌∙◌, suc, zero, drop, get_or, add-one}
 use Rattle.pli_base.specs.Reading.{◌>>=◌}
 use Rattle.pli_base.specs.Syntax.{Expression, Parenthesized, Prefix, Infix, Named, JoinedParts, Alone, Joined}
 use Rattle.pli_base.specs.Syntax.{Arguments, Expressions, Listed}
