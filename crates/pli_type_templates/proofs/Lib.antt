@@ -3,4 +3,5 @@ pub mod MembersFound
 pub mod NumbersMade
 pub mod PlansMade
 pub mod ScalarsPlanned
+pub mod UnitsMade
 pub mod ValuesWritten

@@ -1,2 +1,3 @@
 pub mod ItemView
 pub mod PlanView
+pub mod UnitView

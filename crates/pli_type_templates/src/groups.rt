@@ -106,19 +106,20 @@ fn put_group(
     Ok(())
 }
 
-/// What the variables of a class are made from, AUTOMATIC or STATIC, in the order of the text.
-pub(crate) fn groups(
+/// Puts what the variables of a class are made from, AUTOMATIC or STATIC, in the order of the text.
+pub(crate) fn put_groups(
     alloc: Global,
     wanted: StorageClass,
     symbols: &[Symbol<'_>],
     members: &[Vec<Item<'_>>],
-) -> Result<Vec<VariableGroup>, AllocError>
+    groups: &mut Vec<VariableGroup>,
+) -> Result<(), AllocError>
     requires { AreMembers (rows_view members.now) (map symbol_view symbols.now) }
-    ensures { IfOk result (λ made. groups_view made.items ≡ templates_of (is_such wanted) (map symbol_view symbols.now)) }
+    ensures { OnOk result (groups_view groups.new.items
+        ≡ groups_view groups.old.items ++ templates_of (is_such wanted) (map symbol_view symbols.now)) }
 {
-    let mut made = Vec::new(alloc);
     for number in 0..symbols.len() {
-        put_group(alloc, wanted, &symbols[number], &members[number], &mut made)?;
+        put_group(alloc, wanted, &symbols[number], &members[number], groups)?;
     }
-    Ok(made)
+    Ok(())
 }

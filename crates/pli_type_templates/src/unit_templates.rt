@@ -1,37 +1,89 @@
 //! What the variables of a unit are made from.
-ghost use Rattle.std.specs.Prelude.{◌≡◌, IfOk};
+ghost use Rattle.std.specs.Prelude.{◌≡◌, ℕ, ◌++◌, IfOk};
 ghost use Rattle.pli_base.specs.views.StatementView.{unit_view};
 ghost use Rattle.pli_resolve.specs.ResolvedUnits.{resolved_unit_of};
-ghost use Rattle.pli_type.specs.NamedUnits.{named_unit};
+ghost use Rattle.pli_type.specs.NamedUnits.{is_automatic, is_static, named_unit, templates_of};
+ghost use Rattle.pli_type_names.specs.UnitNaming.{symbols_in};
+ghost use Rattle.pli_type_templates.specs.views.UnitView.{automatic_at};
 ghost use Rattle.pli_type_tree.specs.views.TemplateView.{groups_view};
 
-use crate::groups::groups;
+use crate::groups::put_groups;
 use crate::members::members_by_root;
 use pli_resolve::{ResolvedUnit, StorageClass};
 use pli_type_names::symbols;
 use pli_type_tree::VariableGroup;
 use std::alloc::{AllocError, Global};
+use std::mem;
 
-/// What the AUTOMATIC and the STATIC variables of a unit are made from, in the order of the text.
+/// What the variables of a unit are made from, in the order of the text.
 #[derive(Drop)]
 pub struct UnitTemplates {
-    pub automatic: Vec<VariableGroup>,
+    /// The AUTOMATIC variables of each block, under the block's number.
+    pub automatic: Vec<Vec<VariableGroup>>,
+    /// The STATIC variables of all blocks, block after block.
     pub statics: Vec<VariableGroup>,
 }
 
-/// What the AUTOMATIC and the STATIC variables of a unit are made from (X3.74; the limits own): those of numbers and
-/// strings alone, of at most 1,000,000 bytes each. Initial values stand in the order of the text, fitted to their
-/// scalars. Takes time for the text and for the values that are kept.
+impl UnitTemplates {
+    /// Takes what the AUTOMATIC variables of a block are made from; nothing is left there.
+    pub fn take(&mut self, alloc: Global, block: u32) -> Vec<VariableGroup>
+        ensures taken { groups_view result.items ≡ automatic_at self.old block }
+        ensures others { (k : ℕ) → (k ≡ block → ⊥) → automatic_at self.new k ≡ automatic_at self.old k }
+        ensures statics { self.new.statics ≡ self.old.statics }
+    {
+        let nothing = Vec::new(alloc);
+        let block = block as usize;
+        if block >= self.automatic.len() {
+            return nothing;
+        }
+        mem::replace(&mut self.automatic[block], nothing)
+    }
+}
+
+/// What the AUTOMATIC variables of a block are made from. What its STATIC variables are made from goes behind those of
+/// the blocks before.
 #[tactic(auto, unfolding(pli_type_names::specs::UnitNaming::symbols_in))]
+fn block_templates(
+    alloc: Global,
+    resolved: &ResolvedUnit<'_>,
+    block: usize,
+    statics: &mut Vec<VariableGroup>,
+) -> Result<Vec<VariableGroup>, AllocError>
+    ensures automatic { IfOk result (λ made. groups_view made.items
+        ≡ templates_of (is_automatic 31) (symbols_in resolved.now block)) }
+    ensures statics { IfOk result (λ _. groups_view statics.new.items
+        ≡ groups_view statics.old.items ++ templates_of (is_static 31) (symbols_in resolved.now block)) }
+{
+    let symbols = symbols(alloc, resolved, block)?;
+    let members = members_by_root(alloc, &symbols)?;
+    put_groups(alloc, StorageClass::Static, &symbols, &members, statics)?;
+    let mut automatic = Vec::new(alloc);
+    put_groups(
+        alloc,
+        StorageClass::Automatic,
+        &symbols,
+        &members,
+        &mut automatic,
+    )?;
+    Ok(automatic)
+}
+
+/// What the AUTOMATIC variables of each block of a unit and its STATIC variables are made from (X3.74; the limits own):
+/// those of numbers and strings alone, of at most 1,000,000 bytes each. Initial values stand in the order of the text,
+/// fitted to their scalars. Takes time for the text and for the values that are kept.
 pub fn templates(alloc: Global, resolved: &ResolvedUnit<'_>) -> Result<UnitTemplates, AllocError>
-    ensures automatic { IfOk result (λ made. groups_view made.automatic.items
-        ≡ (named_unit 31 (resolved_unit_of (unit_view resolved.now))).automatic) }
+    ensures automatic { IfOk result (λ made. (block : ℕ) → automatic_at made block
+        ≡ (named_unit 31 (resolved_unit_of (unit_view resolved.now))).automatic block) }
     ensures statics { IfOk result (λ made. groups_view made.statics.items
         ≡ (named_unit 31 (resolved_unit_of (unit_view resolved.now))).statics) }
 {
-    let symbols = symbols(alloc, resolved)?;
-    let members = members_by_root(alloc, &symbols)?;
-    let automatic = groups(alloc, StorageClass::Automatic, &symbols, &members)?;
-    let statics = groups(alloc, StorageClass::Static, &symbols, &members)?;
+    let Some(blocks) = resolved.block_count().checked_add(1) else {
+        return Err(AllocError);
+    };
+    let mut automatic = Vec::new(alloc);
+    let mut statics = Vec::new(alloc);
+    for block in 0..blocks {
+        automatic.push(block_templates(alloc, resolved, block, &mut statics)?)?;
+    }
     Ok(UnitTemplates { automatic, statics })
 }

@@ -9,7 +9,7 @@ use Rattle.pli_type_templates.specs.Groups.{is_such}
 use Rattle.pli_type_templates.specs.declared.items.Item.{Item}
 use Rattle.pli_type_templates.specs.views.ItemView.{items_view}
 use Rattle.pli_type_templates.proofs.GroupsMade.{one_made}
-use Rattle.pli_type_templates.proofs.groups.groups.Goals as goal
+use Rattle.pli_type_templates.proofs.groups.put_groups.Goals as goal
 
 pub loop-number-preserved : goal.loop-number-preserved
 loop-number-preserved c =
@@ -26,7 +26,7 @@ loop-number-preserved c =
     let members : items_view c.deref.result.now ≡ member_items l.number all =
     ap items_view c.deref.ensures.value ∙ ap items c.index-members-number.is
     ∙ sym (get_or-map items c.args.members.now l.number v [] owned) ∙ c.requires.owned l.number within in
-    let so_far = groups_view l.made.items in
+    let so_far = groups_view l.groups.items in
     let rest = templates_from is_made all (l.number + 1) (map symbol_view others) in
     ap (λ ts. ts ++ rest) c.in_ok-put_group.ensures
     ∙ append_assoc so_far _ rest
@@ -40,4 +40,4 @@ returns c =
     let all = map symbol_view c.args.symbols.now in
     let none = drop_all l.number c.args.symbols.now c.loop-number-test.false in
     let nothing = ap (λ left. templates_from (is_such c.args.wanted) all l.number (map symbol_view left)) none in
-    sym (append-nil (groups_view l.made.items)) ∙ ap (λ ts. groups_view l.made.items ++ ts) (sym nothing) ∙ l.invariant
+    sym (append-nil (groups_view l.groups.items)) ∙ ap (λ ts. groups_view l.groups.items ++ ts) (sym nothing) ∙ l.invariant
