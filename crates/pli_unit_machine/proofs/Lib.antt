@@ -7,12 +7,9 @@ pub mod Links
 pub mod MadeVariables
 pub mod Operating
 pub mod Performed
-pub mod Quotients
 pub mod RunLemmas
 pub mod SlotPlaces
-pub mod Stack
 pub mod StepsEnd
 pub mod StorageAnswers
 pub mod Walks
-pub mod Wide
 pub mod Worlds

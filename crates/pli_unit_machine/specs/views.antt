@@ -1,4 +1,2 @@
 pub mod ActView
-pub mod CalculationView
 pub mod MachineView
-pub mod OperandView

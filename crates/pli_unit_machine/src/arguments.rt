@@ -4,10 +4,10 @@ ghost use Rattle.std.specs.List.{filter, list_any};
 ghost use Rattle.pli_store.specs.World.{is_given};
 ghost use Rattle.pli_store.specs.views.StorageView.{place_view};
 ghost use Rattle.pli_machine_step.specs.Machine.{places_off};
-ghost use Rattle.pli_unit_machine.specs.views.OperandView.{stack};
+ghost use Rattle.pli_unit_operate.specs.views.OperandView.{stack};
 
-use crate::operand::{Operand, pop_place};
 use pli_store::Place;
+use pli_unit_operate::{Operand, pop_place};
 use std::alloc::{AllocError, Global};
 
 /// Takes so many operands, where they are places: the oldest is the first.

@@ -5,9 +5,9 @@ ghost use Rattle.pli_machine_step.specs.Program.{MakeDummy};
 ghost use Rattle.pli_unit_machine.specs.views.MachineView.{Does};
 
 use crate::machine::{Machine, Stop};
-use crate::operand::{Operand, pop_value, push};
 use crate::storing::stop_at;
 use pli_map::Description;
+use pli_unit_operate::{Operand, pop_value, push};
 use std::alloc::{AllocError, Global};
 
 /// Takes a value and puts the place of a dummy argument of it upon the operands.

@@ -1,22 +1,22 @@
 //! Instructions on the operands of the newest activation.
 ghost use Rattle.std.specs.Prelude.{ℕ, map, slice_get, IfOk};
 ghost use Rattle.pli_map.specs.views.DescriptionView.{description_view};
-ghost use Rattle.pli_operation.specs.Operations.{Fit, Substring};
+ghost use Rattle.pli_operation.specs.Operations.{Fit};
 ghost use Rattle.pli_machine_step.specs.Program.{Jump, JumpUnless, Load, Store, Copy, Field, Subscript, Operate};
 ghost use Rattle.pli_unit_code.specs.CodeTables.{looked_up};
 ghost use Rattle.pli_unit_code.specs.declared.instruction.Instruction.TheVariants as coded;
 ghost use Rattle.pli_unit_code.specs.views.CodeView.{code_view};
-ghost use Rattle.pli_unit_machine.specs.views.CalculationView.{prefix_view, infix_view};
+ghost use Rattle.pli_unit_operate.specs.views.CalculationView.{prefix_view, infix_view, ternary_view};
 ghost use Rattle.pli_unit_machine.specs.views.MachineView.{Does};
 
-use crate::calculation::{Infix, Prefix};
 use crate::keeping::put_constant;
 use crate::machine::{Machine, Stop};
-use crate::operate::{operate_fit, operate_from, operate_substring, operate_with};
+use crate::operate::{operate_by, operate_fit, operate_from, operate_with};
 use crate::variables::template_of;
 use crate::{dummies, jumping, places, storing};
 use pli_map::Description;
 use pli_unit_code::Code;
+use pli_unit_operate::{Infix, Prefix, Ternary};
 use std::alloc::{AllocError, Global};
 
 /// A jump.
@@ -183,9 +183,13 @@ pub fn from_two(
     operate_with(alloc, &mut machine.here.operands, operation)
 }
 
-/// SUBSTR with a length.
-pub fn from_three(alloc: Global, machine: &mut Machine) -> Result<Option<Stop>, AllocError>
-    ensures { IfOk result (Does (Operate Substring) machine.old machine.new) }
+/// An operation on the newest three operands.
+pub fn from_three(
+    alloc: Global,
+    machine: &mut Machine,
+    operation: Ternary,
+) -> Result<Option<Stop>, AllocError>
+    ensures { IfOk result (Does (Operate (ternary_view operation)) machine.old machine.new) }
 {
-    operate_substring(alloc, &mut machine.here.operands)
+    operate_by(alloc, &mut machine.here.operands, operation)
 }

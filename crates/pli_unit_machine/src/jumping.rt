@@ -4,10 +4,10 @@ ghost use Rattle.pli_base.specs.Name.{Name};
 ghost use Rattle.pli_store.specs.World.{World};
 ghost use Rattle.pli_machine_step.specs.Machine.{Frame, counted_jump, jumped, jumped_unless};
 ghost use Rattle.pli_unit_machine.specs.views.MachineView.{activation_view, frame_view, leads, after};
-ghost use Rattle.pli_unit_machine.specs.views.OperandView.{stack};
+ghost use Rattle.pli_unit_operate.specs.views.OperandView.{stack};
 
 use crate::machine::{Activation, Stop};
-use crate::operand::pop_truth;
+use pli_unit_operate::pop_truth;
 
 /// How many backward jumps an activation makes at most between two steps (own).
 const JUMP_LIMIT: u32 = 64;

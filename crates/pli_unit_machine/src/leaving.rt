@@ -8,7 +8,7 @@ ghost use Rattle.pli_unit_machine.specs.answers.Activated.{Leaves};
 ghost use Rattle.pli_unit_machine.specs.views.MachineView.{Does, Moves};
 
 use crate::machine::{Machine, Stop};
-use crate::operand::{Operand, pop_value, push};
+use pli_unit_operate::{Operand, pop_value, push};
 use pli_value::Value;
 use std::alloc::{AllocError, Global};
 

@@ -1,9 +1,9 @@
 //! The machine: its activations, storage and output.
 ghost use Rattle.std.specs.Prelude.{◌≤◌, length};
 
-use crate::operand::Operand;
 use pli_code::RunError;
 use pli_store::{Place, Storage};
+use pli_unit_operate::Operand;
 use pli_value::Value;
 
 /// Why a run stops: the main procedure ended, no step is left, an error, or no rule fits.

@@ -2,18 +2,18 @@
 ghost use Rattle.std.specs.Prelude.{IfOk, Option, [], option_map};
 ghost use Rattle.std.specs.Option.{option_copied};
 ghost use Rattle.pli_map.specs.views.DescriptionView.{description_view};
-ghost use Rattle.pli_operation.specs.Operations.{Fit, Substring};
-ghost use Rattle.pli_unit_machine.specs.views.CalculationView.{calculation_view, prefix_view, infix_view};
+ghost use Rattle.pli_operation.specs.Operations.{Fit};
+ghost use Rattle.pli_unit_operate.specs.views.CalculationView.{calculation_view, prefix_view, infix_view, ternary_view};
 ghost use Rattle.pli_unit_machine.specs.views.MachineView.{Acts};
 ghost use Rattle.pli_unit_machine.specs.views.ActView.{calculated_as, operated_as, fitted_as, constant_as};
 
-use crate::calculation::{
-    Calculation, Infix, Prefix, calculate_from, calculate_with, fit, substring,
-};
 use crate::machine::Stop;
-use crate::operand::{Operand, pop_three, pop_two, pop_value, push};
 use pli_code::RunError;
 use pli_map::Description;
+use pli_unit_operate::{
+    Calculation, Infix, Operand, Prefix, Ternary, calculate_by, calculate_from, calculate_with,
+    fit, pop_three, pop_two, pop_value, push,
+};
 use pli_value::Value;
 use pli_value::number::Raised;
 use std::alloc::{AllocError, Global};
@@ -75,17 +75,18 @@ pub fn operate_with(
     give(operands, calculation)
 }
 
-/// SUBSTR with a length, of the newest three operands.
-pub fn operate_substring(
+/// An operation on the newest three operands.
+pub fn operate_by(
     alloc: Global,
     operands: &mut Vec<Operand>,
+    operation: Ternary,
 ) -> Result<Option<Stop>, AllocError>
-    ensures { IfOk result (Acts (operated_as Substring) operands.old.items operands.new.items) }
+    ensures { IfOk result (Acts (operated_as (ternary_view operation)) operands.old.items operands.new.items) }
 {
-    let Some((text, first, count)) = pop_three(alloc, operands)? else {
+    let Some((first, second, third)) = pop_three(alloc, operands)? else {
         return Ok(Some(Stop::Fault));
     };
-    let calculation = substring(alloc, &text, &first, &count)?;
+    let calculation = calculate_by(alloc, operation, &first, &second, &third)?;
     give(operands, calculation)
 }
 

@@ -3,7 +3,6 @@ ghost use Rattle.std.specs.Prelude.{IfOk};
 ghost use Rattle.pli_unit_code.specs.views.CodeView.{module_view};
 ghost use Rattle.pli_unit_machine.specs.views.MachineView.{Performs};
 
-use crate::calculation::{Infix, Prefix};
 use crate::calling::{begin, call};
 use crate::instructions::{
     constant, copy, field, fit, from_one, from_three, from_two, jump, jump_unless, load,
@@ -17,6 +16,7 @@ use crate::printing::{put, skip};
 use crate::slots::{global, local};
 use crate::stepping::{line, step};
 use pli_unit_code::{Instruction, Module};
+use pli_unit_operate::{Infix, Prefix, Ternary};
 use std::alloc::{AllocError, Global};
 
 /// Performs an instruction, and answers why the run stops there, if it does. The next instruction is known already.
@@ -83,7 +83,8 @@ pub fn perform<'m>(
         Instruction::Or => from_two(alloc, machine, Infix::Or),
         Instruction::Index => from_two(alloc, machine, Infix::Index),
         Instruction::Rest => from_two(alloc, machine, Infix::Rest),
-        Instruction::Substring => from_three(alloc, machine),
+        Instruction::Substring => from_three(alloc, machine, Ternary::Substring),
+        Instruction::Within => from_three(alloc, machine, Ternary::Within),
         Instruction::Put => put(alloc, machine),
         Instruction::Skip => skip(machine),
         Instruction::SetTemporary { number } => set_temporary(alloc, machine, number as usize),

@@ -7,9 +7,9 @@ ghost use Rattle.pli_unit_machine.specs.views.ActView.{fielded_as};
 ghost use Rattle.pli_unit_machine.specs.views.MachineView.{Acts};
 
 use crate::machine::Stop;
-use crate::operand::{Operand, pop_number, pop_place, push};
 use pli_code::RunError;
 use pli_map::Description;
+use pli_unit_operate::{Operand, pop_number, pop_place, push};
 use std::alloc::AllocError;
 
 /// Leads a place on to a part. Want of memory is answered where the part would begin at 2^64 bytes or behind.

@@ -4,8 +4,8 @@ ghost use Rattle.pli_machine_step.specs.Machine.{loaded, kept, copies};
 ghost use Rattle.pli_unit_machine.specs.views.MachineView.{Works, StopsAs};
 
 use crate::machine::Stop;
-use crate::operand::{Operand, pop_place, pop_value, push};
 use pli_store::{Storage, StoreFault};
+use pli_unit_operate::{Operand, pop_place, pop_value, push};
 use std::alloc::{AllocError, Global};
 
 /// Why a run stops where storage gives nothing.

@@ -1,5 +1,5 @@
 use Rattle.std.proofs.Common.{◌∙◌, ◌-◌, ◌+◌, arith}
-use Rattle.pli_unit_machine.specs.views.OperandView.{stack}
+use Rattle.pli_unit_operate.specs.views.OperandView.{stack}
 use Rattle.pli_unit_machine.proofs.GivenPlaces.{none_off, one_off}
 use Rattle.pli_unit_machine.proofs.arguments.pop_places.Goals as goal
 

@@ -4,7 +4,7 @@ use Rattle.pli_store.specs.views.StorageView.{place_view}
 use Rattle.pli_unit_code.specs.CodeTables.{program_of, block_looked_up}
 use Rattle.pli_unit_code.specs.views.CodeView.{code_view, block_view}
 use Rattle.pli_unit_machine.specs.views.MachineView.{frame_view, frames_of, world_of, left_of}
-use Rattle.pli_unit_machine.specs.views.OperandView.{stack}
+use Rattle.pli_unit_operate.specs.views.OperandView.{stack}
 use Rattle.pli_unit_machine.proofs.EnteredBlocks.{called_calls, called_other}
 use Rattle.pli_unit_machine.proofs.calling.call_with.Goals as goal
 

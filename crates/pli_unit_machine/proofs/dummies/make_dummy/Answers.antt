@@ -5,7 +5,7 @@ use Rattle.pli_store.specs.World.{dummy_of}
 use Rattle.pli_store.specs.views.StorageView.{place_view, with_storage}
 use Rattle.pli_machine_step.specs.Machine.{At, AtPlace, pushes, with_operands, dummied}
 use Rattle.pli_unit_machine.specs.views.MachineView.{leads, Running, activation_view, activations_of, frame_view, frames_of, world_of, left_of}
-use Rattle.pli_unit_machine.specs.views.OperandView.{stack}
+use Rattle.pli_unit_operate.specs.views.OperandView.{stack}
 use Rattle.pli_unit_machine.proofs.DummyArguments.{dummy_goes}
 use Rattle.pli_unit_machine.proofs.StorageAnswers.{answer_stops}
 use Rattle.pli_unit_machine.proofs.dummies.make_dummy.Goals as goal

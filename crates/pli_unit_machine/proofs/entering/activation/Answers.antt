@@ -6,7 +6,7 @@ use Rattle.pli_value.specs.Value as plain
 use Rattle.pli_store.specs.Activations as pli
 use Rattle.pli_store.specs.views.StorageView.{place_view}
 use Rattle.pli_machine_step.specs.Machine.{Operand, Frame}
-use Rattle.pli_unit_machine.specs.views.OperandView.{stack}
+use Rattle.pli_unit_operate.specs.views.OperandView.{stack}
 use Rattle.pli_unit_machine.proofs.EnteredBlocks.{none_set}
 use Rattle.pli_unit_machine.proofs.entering.activation.Goals as goal
 

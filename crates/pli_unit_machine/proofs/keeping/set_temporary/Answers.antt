@@ -1,6 +1,6 @@
 use Rattle.std.proofs.Common.{refl, arith}
 use Rattle.pli_unit_machine.specs.views.MachineView.{world_of, frame_view, frames_of, left_of}
-use Rattle.pli_unit_machine.specs.views.OperandView.{stack}
+use Rattle.pli_unit_operate.specs.views.OperandView.{stack}
 use Rattle.pli_unit_machine.proofs.Worlds.{temporary_set}
 use Rattle.pli_unit_machine.proofs.keeping.set_temporary.Goals as goal
 

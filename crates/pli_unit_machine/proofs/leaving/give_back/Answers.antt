@@ -2,7 +2,7 @@ use Rattle.std.proofs.Common.{◌-◌, ◌+◌, ◌∷◌, ◌∙◌, sym, ap, a
 use Rattle.pli_value.specs.Value.{value_view}
 use Rattle.pli_machine_step.specs.Machine.{OfValue, At, with_operands}
 use Rattle.pli_unit_machine.specs.views.MachineView.{Running, frame_view, frames_of, world_of, left_of}
-use Rattle.pli_unit_machine.specs.views.OperandView.{stack}
+use Rattle.pli_unit_operate.specs.views.OperandView.{stack}
 use Rattle.pli_unit_machine.proofs.Ends.{valued_more, valued_fails, valued_goes, valued_ends}
 use Rattle.pli_unit_machine.proofs.leaving.give_back.Goals as goal
 

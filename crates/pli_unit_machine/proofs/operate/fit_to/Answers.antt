@@ -3,7 +3,7 @@ use Rattle.pli_map.specs.views.DescriptionView.{description_view}
 use Rattle.pli_operation.specs.Operations.{Fit}
 use Rattle.pli_value.specs.Value.{value_view}
 use Rattle.pli_machine_step.specs.Machine.{values_off}
-use Rattle.pli_unit_machine.specs.views.CalculationView.{calculation_view}
+use Rattle.pli_unit_operate.specs.views.CalculationView.{calculation_view}
 use Rattle.pli_unit_machine.proofs.Operating.{operates, of_one}
 use Rattle.pli_unit_machine.proofs.operate.fit_to.Goals as goal
 

@@ -1,6 +1,6 @@
 use Rattle.std.proofs.Common.{[], ◌∷◌, ◌∙◌}
 use Rattle.pli_value.specs.Value.{value_view}
-use Rattle.pli_unit_machine.specs.views.CalculationView.{calculation_view, infix_view}
+use Rattle.pli_unit_operate.specs.views.CalculationView.{calculation_view, infix_view}
 use Rattle.pli_unit_machine.proofs.Operating.{operates, infix_two, of_two}
 use Rattle.pli_unit_machine.proofs.operate.operate_with.Goals as goal
 

@@ -176,6 +176,10 @@ pub returns-in-Substring : goal.returns-in-Substring
 returns-in-Substring c =
     does_performs (module_view c.args.«module».now) c.args.instruction coded.Substring c.args.machine.now c.from_three.new.machine c.from_three.result c.in-Substring.is c.from_three.ensures
 
+pub returns-in-Within : goal.returns-in-Within
+returns-in-Within c =
+    does_performs (module_view c.args.«module».now) c.args.instruction coded.Within c.args.machine.now c.from_three-in-Within.new.machine c.from_three-in-Within.result c.in-Within.is c.from_three-in-Within.ensures
+
 pub returns-in-Put : goal.returns-in-Put
 returns-in-Put c =
     does_performs (module_view c.args.«module».now) c.args.instruction coded.Put c.args.machine.now c.put.new.machine c.put.result c.in-Put.is c.put.ensures

@@ -8,7 +8,7 @@ ghost use Rattle.std.specs.Option.{option_copied};
 ghost use Rattle.pli_value.specs.Numbers.{within, quotient};
 ghost use Rattle.pli_value.specs.Value as plain;
 ghost use Rattle.pli_value.specs.Value.{value_view};
-ghost use Rattle.pli_unit_machine.specs.views.CalculationView.{calculation_view, prefix_view, infix_view};
+ghost use Rattle.pli_unit_operate.specs.views.CalculationView.{calculation_view, prefix_view, infix_view, ternary_view};
 
 use pli_map::Description;
 use pli_operation::Relation;
@@ -66,6 +66,15 @@ pub enum Infix {
     Or,
     Index,
     Rest,
+}
+
+/// An operation on three values.
+#[derive(Clone, Copy)]
+pub enum Ternary {
+    /// SUBSTR with a length.
+    Substring,
+    /// Whether a number has not passed a limit, with the step that it is counted on by.
+    Within,
 }
 
 /// A number, or the condition that is raised.
@@ -389,7 +398,7 @@ pub fn calculate_with(
 }
 
 /// SUBSTR with a length.
-pub fn substring(
+fn substring(
     alloc: Global,
     string: &Value,
     first: &Value,
@@ -408,5 +417,39 @@ pub fn substring(
             Some(part) => Ok(Calculation::Gives(Value::Bits(part))),
             None => Ok(Calculation::OutOfString),
         },
+    }
+}
+
+/// Whether a number has not passed a limit: it is at most the limit where the step is not negative, else at least.
+fn within_limit(number: &Value, limit: &Value, step: &Value) -> Calculation
+    ensures { calculation_view result
+        ≡ calculated_by calculate.Within (value_view number.now) (value_view limit.now) (value_view step.now) }
+{
+    match (number, limit, step) {
+        (Value::Number(number), Value::Number(limit), Value::Number(step)) => {
+            Calculation::GivesBit(if *step >= 0 {
+                *number <= *limit
+            } else {
+                *limit <= *number
+            })
+        }
+        _ => Calculation::Misfits,
+    }
+}
+
+/// An operation on three values.
+pub fn calculate_by(
+    alloc: Global,
+    operation: Ternary,
+    first: &Value,
+    second: &Value,
+    third: &Value,
+) -> Result<Calculation, AllocError>
+    ensures { IfOk result (λ c. calculation_view c
+        ≡ calculated_by (ternary_view operation) (value_view first.now) (value_view second.now) (value_view third.now)) }
+{
+    match operation {
+        Ternary::Substring => substring(alloc, first, second, third),
+        Ternary::Within => Ok(within_limit(first, second, third)),
     }
 }

@@ -1,0 +1,2 @@
+pub mod CalculationView
+pub mod OperandView

@@ -1,0 +1,10 @@
+//! Operations on values as the machine performs them, and the operands that it works on.
+#![tactic(auto)]
+
+mod calculation;
+mod operand;
+
+pub use calculation::{
+    Calculation, Infix, Prefix, Ternary, calculate_by, calculate_from, calculate_with, fit,
+};
+pub use operand::{Operand, pop_number, pop_place, pop_three, pop_truth, pop_two, pop_value, push};
