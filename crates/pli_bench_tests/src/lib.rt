@@ -4,6 +4,8 @@
 #[cfg(test)]
 mod calls;
 #[cfg(test)]
+mod control;
+#[cfg(test)]
 mod devices;
 #[cfg(test)]
 mod laws;

@@ -4,8 +4,11 @@ use pli_bench::Bench;
 use std::io::Cursor;
 use std::test::Fail;
 
+/// A session with its answers.
+pub type Row = (&'static [u8], &'static [u8]);
+
 /// Sessions with their answers.
-static PROGRAMS: [(&[u8], &[u8]); 12] = [
+static PROGRAMS: [Row; 12] = [
     // arrays: elements, copies and bounds
     (
         b"ADD M SOURCE\nINSERT M 0 M: PROC OPTIONS(MAIN);\nINSERT M 1   DCL SQUARE(3) FIXED BIN(15), I FIXED BIN(15), COPY(0:1, 2) CHAR(2), TABLE(0:1, 2) CHAR(2) INIT('A', 'B', 'C', 'D');\nINSERT M 2   SQUARE(1) = 1; I = 2; SQUARE(I) = I * I; SQUARE(I + 1) = SQUARE(I) + 5; PUT LIST(SQUARE(1), SQUARE(2), SQUARE(3));\nINSERT M 3   COPY = TABLE; COPY(1, 1) = 'XX'; PUT SKIP LIST(TABLE(0, 2), TABLE(1, 1), TABLE(1, 2), COPY(0, 2), COPY(1, 1));\nINSERT M 4   PUT SKIP LIST(LBOUND(TABLE, 1), HBOUND(TABLE, 1), LBOUND(TABLE, 2), HBOUND(TABLE, 2));\nINSERT M 5 END M;\nBUILD\nRUN\nREPLACE M 4   COPY = SQUARE; PUT SKIP LIST(TABLE, TABLE(1), TABLE(1, 1, 1)); I = TABLE;\nBUILD\nQUIT\n",
@@ -68,9 +71,9 @@ static PROGRAMS: [(&[u8], &[u8]); 12] = [
     ),
 ];
 
-#[test]
-fn programs(rt: HostRuntime) -> Result<(), Fail> {
-    for (place, (session, wanted)) in PROGRAMS.iter().enumerate() {
+/// Gives each session to a new workbench, and compares its answers.
+pub fn answered(rt: HostRuntime, rows: &[Row]) -> Result<(), Fail> {
+    for (place, (session, wanted)) in rows.iter().enumerate() {
         let mut bench = Bench::new(rt.alloc(), 1_000_000);
         let mut reader = Device::over(Cursor::new(*session));
         let mut writer = Device::over(Vec::new(rt.alloc()));
@@ -84,4 +87,9 @@ fn programs(rt: HostRuntime) -> Result<(), Fail> {
         );
     }
     Ok(())
+}
+
+#[test]
+fn programs(rt: HostRuntime) -> Result<(), Fail> {
+    answered(rt, &PROGRAMS)
 }
