@@ -1,10 +1,8 @@
 -- What the answers about names and procedures of a unit say.
-use Rattle.std.proofs.Common.{◌≡◌, ℕ, Option, Some, None, List, [], map, option_map, slice_get, refl, ap, sym, ◌∙◌}
+use Rattle.std.proofs.Common.{◌≡◌, ℕ, Option, Some, None, [], map, option_map, slice_get, refl, ap, sym, ◌∙◌}
 use Rattle.std.specs.Option.{option_and_then}
 use Rattle.std.specs.Prelude.{if◌then◌else◌}
-use Rattle.pli_base.specs.declared.statement.Procedure.{Procedure}
 use Rattle.pli_base.specs.views.StatementView.{unit_view}
-use Rattle.pli_map.specs.Description.{Description}
 use Rattle.pli_resolve.specs.ResolvedUnits.{ResolvedUnit, ResolvedBlock, meaning_at, resolved_unit_of, symbol_at}
 use Rattle.pli_resolve.specs.declared.built_in.BuiltInFunction.{BuiltInFunction}
 use Rattle.pli_resolve.specs.declared.symbol.NameMeaning.TheVariants as meanings

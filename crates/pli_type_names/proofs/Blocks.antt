@@ -1,16 +1,15 @@
 -- What is found block by block.
-use Rattle.std.proofs.Common.{◌≡◌, ℕ, zero, suc, ◌+◌, ◌<◌, ◌≤◌, Bool, Option, Some, None, List, [], ◌∷◌, ◌++◌, take, length, map, option_map, slice_get, get_or}
+use Rattle.std.proofs.Common.{◌≡◌, ℕ, ◌+◌, ◌<◌, ◌≤◌, Option, Some, None, List, [], ◌∷◌, ◌++◌, take, length, map, option_map, slice_get, get_or}
 use Rattle.std.proofs.Common.{refl, ap, sym, ◌∙◌, arith}
 use Rattle.std.specs.Option.{unwrap_or}
 use Rattle.std.proofs.lemmas.List.{length-append, length-map, take_all}
 use Rattle.std.proofs.lemmas.Option.{slice_get-get_or, unwrap_or-slice_get}
-use Rattle.pli_map.specs.Description.{Description}
 use Rattle.pli_resolve.specs.ResolvedUnits.{ResolvedUnit, ResolvedBlock, all_symbols}
 use Rattle.pli_resolve.specs.Symbols.{Symbol}
 use Rattle.pli_resolve.specs.views.UnitView.{without_symbols}
-use Rattle.pli_type.specs.NamedUnits.{block_symbols, is_static, such_before, such_in}
+use Rattle.pli_type.specs.NamedUnits.{block_symbols, such_before, such_in}
 use Rattle.pli_type_names.specs.BlockEntries.{BlockEntry, entry_at}
-use Rattle.pli_type_names.specs.BlockFacts.{BlockFacts, facts_of}
+use Rattle.pli_type_names.specs.BlockFacts.{facts_of}
 use Rattle.pli_type_names.specs.Numbered.{each_from}
 use Rattle.pli_type_names.specs.Seen.{Kept, kept_symbols}
 use Rattle.pli_type_names.proofs.Lists.{each_at, each_get, take_one_more, take_whole}

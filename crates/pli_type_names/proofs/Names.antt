@@ -12,8 +12,8 @@ use Rattle.pli_resolve.specs.declared.symbol.StorageClass.TheVariants as classes
 use Rattle.pli_resolve.specs.declared.symbol.SymbolKey.{SymbolKey}
 use Rattle.pli_type.specs.Names as plain
 use Rattle.pli_type.specs.Names.{AVariable, AFunction, AProcedure, ALabel, Untyped}
-use Rattle.pli_type.specs.NamedUnits.{block_symbols, declared_as, gives_stored, is_automatic, is_parameter, is_procedure, is_reached, is_static, is_stored}
-use Rattle.pli_type.specs.NamedUnits.{named_procedure, outward_to, in_slot, parameter_numbers, procedure_named, returned_of, root_of, stands_around, such_before, such_in}
+use Rattle.pli_type.specs.NamedUnits.{block_symbols, declared_as, gives_stored, is_parameter, is_procedure, is_reached, is_stored}
+use Rattle.pli_type.specs.NamedUnits.{named_procedure, parameter_numbers, returned_of, root_of, stands_around}
 use Rattle.pli_type.specs.NamedUnits.{symbol_meant, variable_at, variable_from}
 use Rattle.pli_type.specs.References.{StridedPart, part_on}
 use Rattle.pli_type_names.specs.BlockEntries.{BlockEntry, entry_at}
@@ -25,7 +25,7 @@ use Rattle.pli_type_names.specs.Seen.{Kept, KeptNothing, kept_seen, kept_symbols
 use Rattle.pli_type_names.specs.declared.naming.NamedAs.{NamedAs}
 use Rattle.pli_type_names.specs.declared.naming.NamedAs.TheVariants as answers
 use Rattle.pli_type_names.specs.declared.place.Place.{Place}
-use Rattle.pli_type_names.specs.declared.place.Place.TheVariants.{InBlock, BeforeProgram}
+use Rattle.pli_type_names.specs.declared.place.Place.TheVariants.{InBlock}
 use Rattle.pli_type_names.specs.views.MeaningView.{answer_view, procedure_view}
 use Rattle.pli_type_names.proofs.Lists.{each_get}
 use Rattle.pli_type_tree.specs.TypedTree.{Root}

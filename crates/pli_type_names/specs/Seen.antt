@@ -1,6 +1,5 @@
 -- What names mean, with the part of the variable that is named.
 use Rattle.std.specs.Prelude.{ℕ, Bool, ◌&&◌, Option, Some, None, List, [], get_or, slice_get, if◌then◌else◌}
-use Rattle.pli_map.specs.Description.{Description}
 use Rattle.pli_resolve.specs.Symbols.{SymbolKind, Variable, Member, Label, Procedure, Entry, BuiltIn}
 use Rattle.pli_resolve.specs.declared.built_in.BuiltInFunction.{BuiltInFunction}
 use Rattle.pli_type.specs.Names.{NamedAs, NamedProcedure, AVariable, AFunction, AProcedure, ALabel, Untyped}

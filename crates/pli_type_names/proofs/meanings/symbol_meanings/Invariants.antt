@@ -1,4 +1,4 @@
-use Rattle.std.proofs.Common.{◌≡◌, ◌++◌, drop, map, option_map}
+use Rattle.std.proofs.Common.{◌≡◌, ◌++◌, drop, map}
 use Rattle.pli_resolve.specs.views.SymbolView.{symbol_view}
 use Rattle.pli_type_names.specs.BlockFacts.{BlockFacts}
 use Rattle.pli_type_names.specs.Numbered.{each_from}

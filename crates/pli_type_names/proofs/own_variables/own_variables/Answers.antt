@@ -1,7 +1,7 @@
-use Rattle.std.proofs.Common.{◌≡◌, ◌+◌, ◌++◌, ℕ, Option, drop, get_or, length, map, option_map, ap, sym, ◌∙◌, arith}
+use Rattle.std.proofs.Common.{◌≡◌, ◌+◌, ◌++◌, ℕ, Option, drop, get_or, map, option_map, ap, ◌∙◌, arith}
 use Rattle.pli_resolve.specs.Symbols as plain
 use Rattle.pli_resolve.specs.views.SymbolView.{symbol_view, symbol_kind_view}
-use Rattle.pli_type.specs.NamedUnits.{is_automatic, is_static, one_such, such_before}
+use Rattle.pli_type.specs.NamedUnits.{is_automatic, is_static, one_such}
 use Rattle.pli_type_names.specs.BlockFacts.{BlockFacts}
 use Rattle.pli_type_names.specs.Numbered.{each_from}
 use Rattle.pli_type_names.specs.OwnVariables as spec
