@@ -3,6 +3,7 @@
 
 mod constants;
 mod expressions;
+mod groups;
 mod statements;
 
 pub use statements::{first_unbuilt, is_main};

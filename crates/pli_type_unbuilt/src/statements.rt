@@ -4,12 +4,13 @@ ghost use Rattle.std.specs.List.{list_any};
 ghost use Rattle.pli_base.specs.views.StatementView.{body_view, option_view, statement_view, statements_view, unit_view};
 ghost use Rattle.pli_base.specs.views.SyntaxView.{expression_view};
 ghost use Rattle.pli_type.specs.Unbuilt as spec;
-ghost use Rattle.pli_type_names.specs.UnitNaming.{naming_in};
+ghost use Rattle.pli_type_names.specs.UnitNaming.{compiled_in};
 
-use crate::expressions::{later_expression, later_list, later_reference};
+use crate::expressions::{later_expression, later_list, later_optional, later_reference};
+use crate::groups::{later_called, later_control};
 use pli_base::statement::{Body, Procedure, ProcedureOption, Statement};
-use pli_base::syntax::Expression;
-use pli_type::{later_heading, later_items};
+use pli_base::syntax::{Expression, Identifier};
+use pli_type::{later_heading, later_items, later_returns};
 use pli_type_names::Naming;
 
 /// Whether an option is OPTIONS(MAIN).
@@ -44,34 +45,61 @@ fn token_if(later: bool, at: u32) -> Option<u32>
 /// Whether one of the items of PUT has a part that is not compiled yet.
 #[tactic(auto, using(crate::proofs::Parts::items_later))]
 fn later_printed(naming: &Naming<'_>, items: &[Expression]) -> bool
-    ensures { result ≡ list_any (spec.later_expression (naming_in naming.now)) (map expression_view items.now) }
+    ensures { result ≡ list_any (spec.later_expression (compiled_in naming.now)) (map expression_view items.now) }
 {
     later_list(naming, items)
 }
 
-/// The token of the first form in a statement that is not compiled yet: a label, or the statement's first token.
-#[cycle(later_statement)]
-fn later_statement(naming: &Naming<'_>, main: bool, statement: &Statement) -> Option<u32>
-    ensures { result ≡ spec.later_statement (naming_in naming.now) main (statement_view statement.now) }
+/// The first token of a statement, which is its label where it has one.
+fn first_token(label: &Option<Identifier>, at: u32) -> u32
+    ensures { result ≡ spec.first_of label.now at }
 {
-    match &statement.label {
-        Some(label) => Some(label.at),
-        None => later_body(naming, main, statement.at, &statement.body),
+    match label {
+        None => at,
+        Some(label) => label.at,
     }
 }
 
-/// The same of what a statement without a label says, whose first token is `at`.
+/// The token of the first form in a statement that is not compiled yet: the statement's first, which is its label where
+/// it has one; the label of a PROCEDURE is its name.
 #[cycle(later_statement)]
+fn later_statement(naming: &Naming<'_>, main: bool, statement: &Statement) -> Option<u32>
+    ensures { result ≡ spec.later_statement (compiled_in naming.now) main (statement_view statement.now) }
+{
+    let first = first_token(&statement.label, statement.at);
+    later_body(naming, main, first, &statement.body)
+}
+
+/// The same of what a statement says, whose first token is `at`.
+#[cycle(later_statement)]
+#[tactic(auto, using(crate::proofs::Parts::later_procedure, crate::proofs::Parts::later_begin, crate::proofs::Parts::later_do))]
 fn later_body(naming: &Naming<'_>, main: bool, at: u32, body: &Body) -> Option<u32>
-    ensures { result ≡ spec.later_body (naming_in naming.now) main at (body_view body.now) }
+    ensures { result ≡ spec.later_body (compiled_in naming.now) main at (body_view body.now) }
 {
     match body {
-        Body::Null => None,
+        Body::Null | Body::Stop | Body::Goto(_) => None,
         Body::Assign { target, value, .. } => token_if(
             later_reference(naming, target) || later_expression(naming, value),
             at,
         ),
         Body::Declare(items) => token_if(later_items(main, items.as_slice()), at),
+        Body::Procedure(procedure) => {
+            if later_returns(procedure.options.as_slice()) {
+                return Some(procedure.name.at);
+            }
+            later_statements(naming, main, procedure.statements.as_slice())
+        }
+        Body::Begin { statements, .. } => later_statements(naming, main, statements.as_slice()),
+        Body::Do {
+            control,
+            statements,
+            ..
+        } => {
+            if later_control(naming, control) {
+                return Some(at);
+            }
+            later_statements(naming, main, statements.as_slice())
+        }
         Body::If {
             condition,
             consequence,
@@ -88,25 +116,18 @@ fn later_body(naming: &Naming<'_>, main: bool, at: u32, body: &Body) -> Option<u
                 Some(statement) => later_statement(naming, main, statement),
             }
         }
+        Body::Call { arguments, .. } => token_if(later_called(naming, arguments), at),
+        Body::Return(value) => token_if(later_optional(naming, value), at),
         Body::Put { items, .. } => token_if(later_printed(naming, items.as_slice()), at),
-        Body::Procedure(_)
-        | Body::Begin { .. }
-        | Body::Do { .. }
-        | Body::On { .. }
-        | Body::Revert(_)
-        | Body::Signal(_)
-        | Body::Stop
-        | Body::Allocate(_)
-        | Body::Free(_)
-        | Body::Call { .. }
-        | Body::Goto(_)
-        | Body::Return(_) => Some(at),
+        Body::On { .. } | Body::Revert(_) | Body::Signal(_) | Body::Allocate(_) | Body::Free(_) =>
+            Some(at),
     }
 }
 
 /// The token of the first form among statements that is not compiled yet.
+#[cycle(later_statement)]
 fn later_statements(naming: &Naming<'_>, main: bool, statements: &[Statement]) -> Option<u32>
-    ensures { result ≡ spec.later_statements (naming_in naming.now) main (statements_view statements.now) }
+    ensures { result ≡ spec.later_statements (compiled_in naming.now) main (statements_view statements.now) }
 {
     for statement in statements {
         if let Some(at) = later_statement(naming, main, statement) {
@@ -120,7 +141,7 @@ fn later_statements(naming: &Naming<'_>, main: bool, statements: &[Statement]) -
 /// of it is compiled. It calls itself as deep as statements and parentheses nest and operators stand in a row (own).
 #[tactic(auto, using(crate::proofs::Parts::later_unit, crate::proofs::Parts::unit_later))]
 pub fn first_unbuilt(naming: &Naming<'_>) -> Option<u32>
-    ensures { result ≡ spec.first_unbuilt (naming_in naming.now) (unit_view naming.now) }
+    ensures { result ≡ spec.first_unbuilt (compiled_in naming.now) (unit_view naming.now.unit) }
 {
     let unit = naming.unit();
     if later_heading(unit.parameters.as_slice(), unit.options.as_slice()) {

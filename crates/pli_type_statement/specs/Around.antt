@@ -1,0 +1,35 @@
+-- The lists of statements round a place, the outermost first, as a walk keeps them.
+use Rattle.std.specs.Prelude.{ℕ, Bool, true, false, Option, Some, None, List, [], ◌∷◌}
+use Rattle.pli_map.specs.Description.{Description}
+use Rattle.pli_type.specs.StatementTyping.{Enclosing, Surroundings, with_labels}
+
+-- a list with its labels: that of a block of this number, or of a group
+pub record Listing : Type 0 where
+  pub block : Option ℕ
+  pub labels : List ℕ
+
+pub record Around : Type 0 where
+  pub lists : List Listing
+  pub begins : ℕ
+  pub value : Option Description
+
+-- the blocks round what stands in a list
+abbrev pub blocks_with : Option ℕ → (labels : List ℕ) → List Enclosing → List Enclosing
+blocks_with None labels around = with_labels labels around
+blocks_with (Some number) labels around = record { number = number; labels = labels } ∷ around
+
+-- in lists that stand in these blocks
+abbrev pub blocks_from : List Enclosing → List Listing → List Enclosing
+blocks_from around [] = around
+blocks_from around (l ∷ ls) = blocks_from (blocks_with l.block l.labels around) ls
+
+abbrev pub blocks_of : List Listing → List Enclosing
+blocks_of lists = blocks_from [] lists
+
+abbrev pub surroundings_of : Around → Surroundings
+surroundings_of a = record { blocks = blocks_of a.lists; begins = a.begins; value = a.value }
+
+-- a label, if there is one
+abbrev pub label_if : Bool → ℕ → List ℕ
+label_if false number = []
+label_if true number = number ∷ []

@@ -1,0 +1,98 @@
+//! GOTO and RETURN.
+ghost use Rattle.std.specs.Prelude.{◌≡◌, false, option_map};
+ghost use Rattle.pli_base.specs.views.SyntaxView as syntax;
+ghost use Rattle.pli_type.specs.StatementTyping as spec;
+ghost use Rattle.pli_type.specs.Unbuilt.{later_expression, later_part};
+ghost use Rattle.pli_type.specs.views.ValueView.{value_view};
+ghost use Rattle.pli_type_expression.specs.answers.TypingAnswers.{Gives};
+ghost use Rattle.pli_type_names.specs.UnitNaming.{compiled_in, naming_in};
+ghost use Rattle.pli_type_statement.specs.Around.{surroundings_of};
+ghost use Rattle.pli_type_statement.specs.views.AroundView.{around_view};
+ghost use Rattle.pli_type_tree.specs.views.TypedView.{form_view};
+
+use crate::labels::outward_to;
+use crate::surroundings::Surroundings;
+use pli_base::Code;
+use pli_base::syntax::{Expression, Identifier};
+use pli_type::{TypedValue, converted};
+use pli_type_expression::{TypeError, fault, first_token, value_of};
+use pli_type_names::{NamedAs, Naming};
+use pli_type_tree::Form;
+use std::alloc::Global;
+
+/// A GOTO, which leads to a label of a list that it stands in (X3.74).
+pub(crate) fn jump(
+    naming: &Naming<'_>,
+    around: &Surroundings<'_>,
+    label: Identifier,
+) -> Result<Form, TypeError>
+    ensures { Gives form_view result
+        (spec.goto_typed (naming_in naming.now) (surroundings_of (around_view around.now)) label) }
+{
+    let NamedAs::Label(statement) = naming.meaning(label.at) else {
+        return Err(fault(Code::BadGoto, label.at));
+    };
+    match outward_to(around.lists.as_slice(), statement)? {
+        Some(outward) => Ok(Form::Goto {
+            outward,
+            label: statement,
+        }),
+        None => Err(fault(Code::BadGoto, label.at)),
+    }
+}
+
+/// A value that a procedure returns: T9 at RETURN where it is no function, T5 at the value's first token where it does
+/// not suit (X3.74).
+fn returned_value(
+    alloc: Global,
+    greatest: u8,
+    around: &Surroundings<'_>,
+    at: u32,
+    first: u32,
+    value: TypedValue,
+) -> Result<Form, TypeError>
+    ensures { Gives form_view result
+        (spec.returned_value greatest at first around.now.begins (around_view around.now).value (value_view value.entry)) }
+{
+    let Some(description) = around.value else {
+        return Err(fault(Code::WrongReturn, at));
+    };
+    match converted(alloc, greatest, description, value)? {
+        Some(value) => Ok(Form::ReturnValue {
+            outward: around.begins,
+            value,
+        }),
+        None => Err(fault(Code::CannotAssign, first)),
+    }
+}
+
+/// A RETURN at the token `at`: T9 there where a function returns nothing or another procedure a value (X3.74).
+pub(crate) fn returned(
+    alloc: Global,
+    naming: &Naming<'_>,
+    around: &Surroundings<'_>,
+    at: u32,
+    value: &Option<Expression>,
+) -> Result<Form, TypeError>
+    requires { later_part (later_expression (compiled_in naming.now)) (option_map syntax.expression_view value.now) ≡ false }
+    ensures { Gives form_view result
+        (spec.return_typed (naming_in naming.now) (surroundings_of (around_view around.now)) at
+        (option_map syntax.expression_view value.now)) }
+{
+    match value {
+        None => {
+            if around.value.is_none() {
+                Ok(Form::Return {
+                    outward: around.begins,
+                })
+            } else {
+                Err(fault(Code::WrongReturn, at))
+            }
+        }
+        Some(expression) => {
+            let value = value_of(alloc, naming, expression)?;
+            let first = first_token(expression);
+            returned_value(alloc, naming.greatest(), around, at, first, value)
+        }
+    }
+}

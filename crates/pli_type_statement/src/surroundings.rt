@@ -1,0 +1,39 @@
+//! Where a statement stands.
+ghost use Rattle.std.specs.Prelude.{◌≡◌, ◌++◌, ◌-◌, ◌∷◌, [], None, Some, length, take, OnOk};
+ghost use Rattle.pli_type_statement.specs.views.AroundView.{lists_view};
+
+use crate::labels::ListLabels;
+use pli_map::Description;
+use std::alloc::AllocError;
+
+/// Where a statement stands: the lists round it, the outermost first; how many BEGIN blocks of its procedure are round
+/// it; and what its procedure gives, if it is a function.
+#[derive(Drop)]
+pub(crate) struct Surroundings<'a> {
+    pub lists: Vec<ListLabels>,
+    pub begins: u32,
+    pub value: Option<&'a Description>,
+}
+
+impl<'a> Surroundings<'a> {
+    /// Goes into a list with these labels, which is that of a block of this number or of a group.
+    pub fn enter(&mut self, block: Option<u32>, labels: Vec<u32>) -> Result<(), AllocError>
+        ensures lists { OnOk result (lists_view self.new.lists.items
+            ≡ lists_view self.old.lists.items ++ record { block = block; labels = labels.entry.items } ∷ []) }
+        ensures begins { self.new.begins ≡ self.old.begins }
+        ensures value { self.new.value ≡ self.old.value }
+    {
+        self.lists.push(ListLabels { block, labels })?;
+        Ok(())
+    }
+
+    /// Goes out of the innermost list.
+    pub fn leave(&mut self)
+        ensures lists { lists_view self.new.lists.items
+            ≡ take (length (lists_view self.old.lists.items) - 1) (lists_view self.old.lists.items) }
+        ensures begins { self.new.begins ≡ self.old.begins }
+        ensures value { self.new.value ≡ self.old.value }
+    {
+        self.lists.pop();
+    }
+}
