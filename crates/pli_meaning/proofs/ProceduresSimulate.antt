@@ -70,7 +70,8 @@ module_is : (unit : Name) (u : TypedUnit) → program_of (module_of unit u) ≡ 
 module_is unit u = ap one_unit (looked_up_is_unit_code (of_member unit u))
 
 member_numbered : (unit : Name) (u : TypedUnit) → IsWellNumbered u → IsWellNumbered (of_member unit u)
-member_numbered unit u h = record { blocks = h.blocks; statements = h.statements; loops = h.loops }
+member_numbered unit u h =
+    record { blocks = h.blocks; statements = h.statements; loops = h.loops; temporaries = h.temporaries }
 
 pub simulation : Simulation
 simulation unit u typed numbered n =
