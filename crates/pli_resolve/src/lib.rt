@@ -4,6 +4,7 @@
 mod block_numbers;
 mod built_in;
 mod copies;
+mod laws;
 mod look_ups;
 mod resolving;
 mod statement_places;
@@ -15,6 +16,7 @@ mod ways;
 
 pub use block_numbers::ResolvedBlockKind;
 pub use built_in::{BuiltInFunction, function_named};
+pub use laws::blocks_are_of_the_tree;
 pub use resolving::resolve_unit;
 pub use symbol::{NameMeaning, StorageClass, Symbol, SymbolKey, SymbolKind};
 pub use unit::{ResolvedBlock, ResolvedUnit};
