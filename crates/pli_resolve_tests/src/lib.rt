@@ -1,0 +1,7 @@
+//! Tests of the blocks, symbols and meanings of names of resolved units.
+#![tactic(auto)]
+
+#[cfg(test)]
+mod resolved;
+#[cfg(test)]
+mod units;
