@@ -80,11 +80,11 @@ whole d [] = tt
 whole d (x ∷ xs) = (refl, later d x xs 0 xs (whole d xs))
 
 -- blocks among regions, without those before
-abbrev among : (number : ℕ) → List Region → List BlockRegion
+abbrev pub among : (number : ℕ) → List Region → List BlockRegion
 among n [] = []
 among n (r ∷ rs) = block_begun n r (block_kind r.kind) ++ among (n + 1) rs
 
-behind_those : (bs : List BlockRegion) (n : ℕ) (rs : List Region) → blocks_after bs n rs ≡ bs ++ among n rs
+pub behind_those : (bs : List BlockRegion) (n : ℕ) (rs : List Region) → blocks_after bs n rs ≡ bs ++ among n rs
 behind_those bs n [] = sym (append-nil bs)
 behind_those bs n (r ∷ rs) =
     behind_those (bs ++ block_begun n r (block_kind r.kind)) (n + 1) rs ∙ append_assoc bs (block_begun n r (block_kind r.kind)) (among (n + 1) rs)

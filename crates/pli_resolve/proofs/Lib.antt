@@ -5,3 +5,7 @@ pub mod SymbolsAt
 pub mod RegionWalks
 pub mod EnteredRegions
 pub mod BlocksOfTrees
+pub mod BuiltInNames
+pub mod DeclaredBlocks
+pub mod MeantNames
+pub mod UsesMean

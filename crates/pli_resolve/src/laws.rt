@@ -1,9 +1,16 @@
 //! Laws of resolved units.
 ghost use Rattle.pli_resolve.specs.laws.BlockLaws.{BlocksAreOfTheTree};
+ghost use Rattle.pli_resolve.specs.laws.UseLaws.{UsesHaveMeanings};
 
 /// A law: the blocks of a resolved unit are those of its tree, numbered from 0 in the order in which they begin in the
 /// text: what each is, the number of the block round it, its statement, and how many parameters it has.
 #[tactic(auto, using(crate::proofs::BlocksOfTrees::blocks_of_the_tree))]
 pub fn blocks_are_of_the_tree()
     ensures { BlocksAreOfTheTree }
+{}
+
+/// A law: in a unit whose declarations have no faults, the first name of each reference and the label of each GOTO mean a
+/// built-in function or a name that a block of the unit declares.
+pub fn uses_have_meanings()
+    ensures { UsesHaveMeanings }
 {}

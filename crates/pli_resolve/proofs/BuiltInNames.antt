@@ -1,0 +1,110 @@
+-- A name that is declared BUILTIN without a fault is a built-in function's.
+use Rattle.std.proofs.Common.{◌≡◌, ℕ, ◌==◌, ◌&&◌, ◌||◌, Bool, true, false, not, if◌then◌else◌, refl, ap, sym, ◌∙◌, Option, Some, None, List, [], ◌∷◌, map, bit_and}
+use Rattle.std.specs.List.{list_any}
+use Rattle.std.proofs.lemmas.Bool.{eqb-true}
+use Rattle.std.proofs.lemmas.Nat.{and_assoc}
+use Rattle.pli_base.specs.Name.{Name}
+use Rattle.pli_base.specs.Words.{same_name}
+use Rattle.pli_base.specs.Declarations.{Item}
+use Rattle.pli_base.specs.declared.code.Code.{Code}
+use Rattle.pli_base.specs.declared.code.Code.TheVariants.{AttributesConflict, AttributesMissing, BadPrecision, BadLength, BadBounds}
+use Rattle.pli_map.specs.Description.{Description}
+use Rattle.pli_declare_attributes.specs.Sets.{has, none_of, entry, built_in, outermost, set_of, each_once}
+use Rattle.pli_declare_attributes.specs.Agreement.{set_agrees, agrees_as_entry, agrees_as_built_in, agrees_as_variable, is_missing, is_plain}
+use Rattle.pli_declare_attributes.specs.Types.{number_of, is_bad_precision, is_bad_length}
+use Rattle.pli_declare_attributes.specs.Extents.{is_array, are_bad_bounds}
+use Rattle.pli_declare_attributes.specs.Faults.{first_of, shape_fault, own_fault, attributes_fault, item_fault, entry_fault, parameters_in}
+use Rattle.pli_declare_attributes.specs.Completed.{Variable, OfVariable, OfEntry, OfBuiltIn, variable_of, completed_of}
+use Rattle.pli_declare_attributes.specs.declared.place.Place.{Place}
+use Rattle.pli_declare_attributes.proofs.Shapes.{or_none, parts_none}
+use Rattle.pli_declare_variables.specs.Places.{is_built_in}
+use Rattle.pli_resolve.specs.BuiltIns.{built_in_functions, function_among, function_named}
+use Rattle.pli_resolve.specs.declared.built_in.BuiltInFunction.{BuiltInFunction}
+
+agrees : (a b c d e : Bool) (t u v w x : Code) → first_of ((not a, t) ∷ (b, u) ∷ (c, v) ∷ (d, w) ∷ (e, x) ∷ []) ≡ None → a ≡ true
+agrees false b c d e t u v w x h = cc
+agrees true b c d e t u v w x h = refl
+
+right_true : (a b : Bool) → (a && b) ≡ true → b ≡ true
+right_true true b h = h
+right_true false b h = cc
+
+middle_true : (a b c : Bool) → (a && b && c) ≡ true → b ≡ true
+middle_true true true c h = refl
+middle_true true false c h = cc
+middle_true false b c h = cc
+
+first_true : (a b : Bool) → (a && b) ≡ true → a ≡ true
+first_true true b h = refl
+first_true false b h = cc
+
+second_of : (a b c : Bool) → (a || b || c) ≡ true → a ≡ false → c ≡ false → b ≡ true
+second_of true b c h k l = cc
+second_of false true c h k l = refl
+second_of false false c h k l = cc
+
+no_middle : (a b c : Bool) → b ≡ false → (a && b && c) ≡ false
+no_middle true true c h = cc
+no_middle true false c h = refl
+no_middle false b c h = refl
+
+not_true : (b : Bool) → (b ≡ true → ⊥) → b ≡ false
+not_true true h = absurd (h refl)
+not_true false h = refl
+
+built_in_left : (e b : Bool) (ps : List Description) (r : Option Description) (w : Variable)
+    → (if e then OfEntry ps r else if b then OfBuiltIn else OfVariable w) ≡ OfBuiltIn → (e ≡ false) × (b ≡ true)
+built_in_left true b ps r w h = cc
+built_in_left false true ps r w h = (refl, refl)
+built_in_left false false ps r w h = cc
+
+-- neither ENTRY nor BUILTIN: not BUILTIN
+not_beside : (s : ℕ) → has s 32768 ≡ true → none_of s 98304 ≡ true → ⊥
+not_beside s h n =
+    let none : bit_and s 98304 ≡ 0 = eqb-true (bit_and s 98304) 0 n in
+    let it : bit_and s 32768 ≡ 0 = sym (and_assoc 32768 s 98304) ∙ ap (λ m. bit_and m 32768) none in
+    let other : false ≡ true = sym (ap (λ m. m == 32768) it) ∙ h in
+    cc
+
+leading : (a b c d e f g h : Bool) → (a && b && c && d && e && f && g && h) ≡ true → a ≡ true
+leading true b c d e f g h k = refl
+leading false b c d e f g h k = cc
+
+-- the name is one
+pub named_so : (p : Place) (i : Item) → item_fault p i ≡ None → completed_of p i ≡ OfBuiltIn → p.built_in_name ≡ true
+unfolding item_fault own_fault completed_of shape_fault set_agrees
+named_so p i h is =
+    let attributes = map outermost i.attributes in
+    let s = set_of attributes in
+    let n = number_of attributes in
+    let array = is_array i.dimensions in
+    let two = built_in_left (has s entry) (has s built_in) _ _ (variable_of p i) is in
+    let own = (parts_none p i (or_none (attributes_fault p i) (entry_fault (parameters_in i.attributes)) h).0).0 in
+    let whole =
+    right_true (each_once 0 attributes) (set_agrees p array s)
+    (agrees (each_once 0 attributes && set_agrees p array s) (is_missing p s) (is_bad_precision s n) (is_bad_length s n) (are_bad_bounds i.dimensions)
+    AttributesConflict AttributesMissing BadPrecision BadLength BadBounds (or_none _ _ own).0) in
+    let no_entry = no_middle (is_plain p array) (has s entry) _ two.0 in
+    let no_variable = not_true (agrees_as_variable p s) (λ v. not_beside s two.1 (leading (none_of s 98304) _ _ _ _ _ _ _ v)) in
+    middle_true (is_plain p array) p.built_in_name (s == built_in)
+    (second_of (agrees_as_entry p array s) (agrees_as_built_in p array s) (agrees_as_variable p s) whole no_entry no_variable)
+
+-- and has a function
+abbrev name_of : Name × BuiltInFunction → Name
+name_of f = f.0
+
+among : (name : Name) (fs : List (Name × BuiltInFunction)) → list_any (same_name name) (map name_of fs) ≡ true → (f : BuiltInFunction) × (function_among fs name ≡ Some f)
+among name [] h = cc
+among name (f ∷ fs) h = by (same_name name f.0) refl (λ k. among name fs k)
+  where
+    by : (b : Bool) → same_name name f.0 ≡ b → (list_any (same_name name) (map name_of fs) ≡ true → (g : BuiltInFunction) × (function_among fs name ≡ Some g))
+        → (g : BuiltInFunction) × ((if same_name name f.0 then Some f.1 else function_among fs name) ≡ Some g)
+    by true e more = (f.1, ap (λ (b : Bool). if b then Some f.1 else function_among fs name) e)
+    by false e more =
+        let rest : list_any (same_name name) (map name_of fs) ≡ true = ap (λ b. b || list_any (same_name name) (map name_of fs)) (sym e) ∙ h in
+        let g = more rest in
+        (g.0, ap (λ (b : Bool). if b then Some f.1 else function_among fs name) e ∙ g.1)
+
+pub has_function : (name : Name) → is_built_in name ≡ true → (f : BuiltInFunction) × (function_named name ≡ Some f)
+unfolding is_built_in function_named
+has_function name h = among name built_in_functions h

@@ -1,0 +1,29 @@
+-- In a unit whose declarations have no faults each name that is used means something.
+use Rattle.std.specs.Prelude.{◌≡◌, ℕ, Some, [], ◌∷◌, Contains}
+use Rattle.pli_base.specs.Statements.{ExternalProcedure}
+use Rattle.pli_declare.specs.Resolution.{resolution_faults}
+use Rattle.pli_declare_outline.specs.Outlines.{Mark, Used, Jumped, Placed, outline_of}
+use Rattle.pli_declare_tables.specs.Tables.{inner_marks}
+use Rattle.pli_resolve.specs.ResolvedUnits.{ResolvedUnit, resolved_unit_of, meaning_at, symbol_at}
+use Rattle.pli_resolve.specs.Symbols.{Symbol}
+use Rattle.pli_resolve.specs.declared.symbol.NameMeaning.{NameMeaning}
+use Rattle.pli_resolve.specs.declared.symbol.NameMeaning.TheVariants as meanings
+
+-- what is meant is there: a built-in function, or a name that a block of the unit declares
+abbrev pub IsThere : ResolvedUnit → NameMeaning → Type 0
+IsThere r (meanings.BuiltIn function) = Unit {0}
+IsThere r (meanings.Symbol key) = (s : Symbol) × (symbol_at r key ≡ Some s)
+
+-- the name at a token means something that is there
+abbrev pub MeansSomething : ResolvedUnit → (at : ℕ) → Type 0
+MeansSomething r at = (m : NameMeaning) × (meaning_at r at ≡ Some m) × IsThere r m
+
+-- so does the first name of a reference, and so does the label of a GOTO
+abbrev pub HasMeaning : ResolvedUnit → Mark → Type 0
+HasMeaning r (Used (i ∷ is)) = MeansSomething r i.at
+HasMeaning r (Jumped label) = MeansSomething r label.at
+HasMeaning r mark = Unit {0}
+
+abbrev pub UsesHaveMeanings : Type 0
+UsesHaveMeanings = (u : ExternalProcedure) → resolution_faults u ≡ [] → (p : Placed)
+    → Contains (inner_marks (outline_of u).marks) p → HasMeaning (resolved_unit_of u) p.mark
