@@ -1,11 +1,12 @@
 -- Each name that is used means something, where there are no faults.
 use Rattle.std.proofs.Common.{◌≡◌, ℕ, zero, suc, ◌<◌, nat_eq, Bool, true, false, if◌then◌else◌, Option, Some, None, option_map, option_and_then, List, [], ◌∷◌, ◌++◌, length, get_or, Contains, inr, refl, sym, ap, ◌∙◌, subst, arith}
+use Rattle.std.specs.Option.{unwrap_or}
 use Rattle.std.proofs.lemmas.Bool.{eqb-true, eq-eqb}
 use Rattle.pli_base.specs.Name.{Name}
 use Rattle.pli_base.specs.Statements.{ExternalProcedure}
 use Rattle.pli_base.specs.Declarations as tree
 use Rattle.pli_base.specs.declared.code.Code.{Code}
-use Rattle.pli_base.specs.declared.code.Code.TheVariants.{NotDeclared as NoName, Ambiguous as Several}
+use Rattle.pli_base.specs.declared.code.Code.TheVariants.{NotDeclared as NoName, Ambiguous as Several, BadGoto}
 use Rattle.pli_base.specs.declared.syntax.Identifier.{Identifier}
 use Rattle.pli_base.specs.declared.token.Fault.{Fault}
 use Rattle.pli_map.specs.Description.{Description}
@@ -18,8 +19,8 @@ use Rattle.pli_declare_scopes.specs.declared.found.Meant.{Meant}
 use Rattle.pli_declare_scopes.specs.declared.found.Meant.TheVariants.{Item, Ambiguous, NotDeclared}
 use Rattle.pli_declare_tables.specs.Tables.{Entity, AsItem, AsLabel, AsProcedure, Entry, no_entry, inner_marks, scope_of}
 use Rattle.pli_declare_variables.specs.Places.{place_in, item_in, is_built_in}
-use Rattle.pli_declare_variables.specs.Declarations.{OfItem, Declaration, kind_of, declaration_at, whole_description, IsGood}
-use Rattle.pli_declare.specs.Resolution.{is_function, names_of, reference_code, jump_code, resolution_faults}
+use Rattle.pli_declare_variables.specs.Declarations.{OfItem, OfLabel, Declaration, kind_of, declaration_at, whole_description, IsGood}
+use Rattle.pli_declare.specs.Resolution.{is_function, names_of, reference_code, target_code, jump_code, resolution_faults}
 use Rattle.pli_declare.specs.Resolved.{resolved_of, uses_at, used_as, function_use, of_marks, meaning_after}
 use Rattle.pli_declare.specs.laws.FaultLaws.{HasUse}
 use Rattle.pli_declare.specs.declared.block.Use.{Use}
@@ -27,8 +28,8 @@ use Rattle.pli_declare.specs.declared.block.Target.{Target}
 use Rattle.pli_declare.specs.declared.block.Target.TheVariants.{Name as AName, Function as AFunction}
 use Rattle.pli_declare.proofs.FaultsAreExact.{faults_are_least_codes}
 use Rattle.pli_resolve.specs.ResolvedUnits.{resolved_unit_of, symbol_at, functions_at, function_at, functions_in, kind_meaning, declared_meaning, target_meaning, facts_of}
-use Rattle.pli_resolve.specs.Symbols.{Symbol, found_after, found_in}
-use Rattle.pli_resolve.specs.laws.UseLaws.{IsThere, MeansSomething, HasMeaning, UsesHaveMeanings}
+use Rattle.pli_resolve.specs.Symbols.{Symbol, Label, SymbolFacts, Way, symbol_kind, symbol_of, found_after, found_in}
+use Rattle.pli_resolve.specs.laws.UseLaws.{IsThere, MeansSomething, HasMeaning, UsesHaveMeanings, IsUsedAt, MeansLabel, JumpsMeanLabels}
 use Rattle.pli_resolve.specs.declared.built_in.BuiltInFunction.{BuiltInFunction}
 use Rattle.pli_resolve.specs.declared.symbol.NameMeaning.{NameMeaning}
 use Rattle.pli_resolve.specs.declared.symbol.NameMeaning.TheVariants as meanings
@@ -119,6 +120,19 @@ function_found (q ∷ qs) found (suc k) p at f lt is e =
 single : (i : Identifier) (is : List Identifier) → is_function (i ∷ is) ≡ true → (is ≡ []) × (is_built_in i.name ≡ true)
 single i [] h = (refl, h)
 single i (j ∷ js) h = cc
+
+-- what a GOTO reaches is a label
+only_label : (o : Outline) (here : ℕ) (entity : Entity) → target_code o here entity ≡ None → (inner : ℕ) × (entity ≡ AsLabel inner)
+only_label o here (AsLabel inner) h = (inner, refl)
+only_label o here (AsItem item is_bad) h = absurd (let bad : Some BadGoto ≡ None = h in cc)
+only_label o here (AsProcedure heading region) h = absurd (let bad : Some BadGoto ≡ None = h in cc)
+
+label_kind : (f : SymbolFacts) (ps : List Name) (w : Way) (i : Identifier) (owner : Option ℕ) (inner : ℕ) → symbol_kind f ps w i owner (OfLabel inner) ≡ Label (unwrap_or (found_in f.labels i.at) 0)
+label_kind f ps w i None inner = refl
+label_kind f ps w i (Some owner) inner = refl
+
+differs : {is : List Identifier} {label : Identifier} → Used is ≡ Jumped label → ⊥
+differs e = cc
 
 module _ (u : ExternalProcedure) (h : resolution_faults u ≡ []) where
   abbrev o : Outline
@@ -261,5 +275,101 @@ module _ (u : ExternalProcedure) (h : resolution_faults u ≡ []) where
   mark_means p c (Labelled label) e = tt
   mark_means p c (Entered heading region) e = tt
 
+  -- labels
+
+  -- a target that is a label
+  pub record IsLabel (at : ℕ) (t : Target) : Type 0 where
+    pub key : SymbolKey
+    pub symbol : Symbol
+    pub statement : ℕ
+    pub means : target_meaning u (function_there at) t ≡ Some (meanings.Symbol key)
+    pub there : symbol_at (resolved_unit_of u) key ≡ Some symbol
+    pub is_label : symbol.kind ≡ Label statement
+
+  label_good : (region : Option ℕ) (number at inner : ℕ) → IsRegion o.regions region → number < length (entries_at o region)
+      → (get_or (entries_at o region) number no_entry).entity ≡ AsLabel inner → IsLabel at (AName region number)
+  label_good region number at inner good lt e =
+      let key = key_in u region number in
+      let d = declaration region number in
+      let s = found_symbol region number good lt in
+      let kind : d.kind ≡ OfLabel inner = ap (kind_of (entries_at o region) (parameters_at o region) number) e in
+      record {
+        key = key;
+        symbol = symbol_of (facts_of u) s.0 s.1 d;
+        statement = unwrap_or (found_in (facts_of u).labels d.identifier.at) 0;
+        means = ap (declared_meaning key) (declared_there u region number good lt) ∙ ap (kind_meaning key d.identifier.name) kind;
+        there = s.2;
+        is_label = ap (symbol_kind (facts_of u) s.0 s.1 d.identifier d.owner) kind ∙ label_kind (facts_of u) s.0 s.1 d.identifier d.owner inner;
+      }
+
+  abbrev OneLabel : (here : ℕ) → (label : Identifier) → Type 0
+  OneLabel here label = (t : Target) × (uses_at o here (Jumped label) ≡ record { at = label.at; target = t } ∷ []) × IsLabel label.at t
+
+  label_one : (p : Placed) (label : Identifier) → Contains marks p → p.mark ≡ Jumped label → OneLabel p.region label
+  label_one p label c e = by (meant (scope_of o p.region) (label.name ∷ [])) refl
+    where
+      none : jump_code o p.region (meant (scope_of o p.region) (label.name ∷ [])) ≡ None
+      none = no_code p label.at _ c (λ code f. subst (λ m. HasUse o p.region m (record { code = code; at = label.at })) (sym e) (refl, f))
+
+      by : (m : Meant) → meant (scope_of o p.region) (label.name ∷ []) ≡ m → OneLabel p.region label
+      by (Item number out) m =
+          let w = meant_in o p.region (label.name ∷ []) number out m in
+          let region = region_of o p.region out in
+          let code : target_code o p.region (get_or (entries_at o region) number no_entry).entity ≡ None =
+          ap (λ (es : List Entry). target_code o p.region (get_or es number no_entry).entity) (sym w.2) ∙ ap (jump_code o p.region) (sym m) ∙ none in
+          let it = only_label o p.region (get_or (entries_at o region) number no_entry).entity code in
+          (AName region number, ap (used_as o p.region label.at []) m, label_good region number label.at it.0 w.0 w.1 it.1)
+      by Ambiguous m = absurd (let bad : Some Several ≡ None = ap (jump_code o p.region) (sym m) ∙ none in cc)
+      by NotDeclared m = absurd (let bad : Some NoName ≡ None = ap (jump_code o p.region) (sym m) ∙ none in cc)
+
+  -- another mark uses no name there
+  module _ (p : Placed) (label : Identifier) (c : Contains marks p) (e : p.mark ≡ Jumped label)
+      (alone : (q : Placed) → Contains marks q → IsUsedAt label.at q.mark → q ≡ p) where
+    one : OneLabel p.region label
+    one = label_one p label c e
+
+    abbrev AllLabels : (q : Placed) → Mark → Type 0
+    AllLabels q m = Fit (IsLabel label.at) label.at (uses_at o q.region m)
+
+    same_one : (q : Placed) (l : Identifier) → Contains marks q → q.mark ≡ Jumped l → AllLabels q (Jumped l)
+    same_one q l d f =
+        let other = label_one q l d f in
+        subst (Fit (IsLabel label.at) label.at) (sym other.1) ((λ at. subst (λ k. IsLabel k other.0) at other.2), tt)
+
+    no_other : (q : Placed) (i : Identifier) (is : List Identifier) → Contains marks q → q.mark ≡ Used (i ∷ is) → AllLabels q (Used (i ∷ is))
+    no_other q i is d f =
+        let other = used_one q i is d f in
+        subst (Fit (IsLabel label.at) label.at) (sym other.1)
+        ((λ at. absurd (differs (sym f ∙ ap (λ (r : Placed). r.mark) (alone q d (subst (IsUsedAt label.at) (sym f) at)) ∙ e))), tt)
+
+    labels_fit : (q : Placed) → Contains marks q → AllLabels q q.mark
+    labels_fit q d = by q.mark refl
+      where
+        by : (m : Mark) → q.mark ≡ m → AllLabels q q.mark
+        by (Used []) f = subst (AllLabels q) (sym f) tt
+        by (Used (i ∷ is)) f = subst (AllLabels q) (sym f) (no_other q i is d f)
+        by (Jumped l) f = subst (AllLabels q) (sym f) (same_one q l d f)
+        by (Declared items) f = subst (AllLabels q) (sym f) tt
+        by (Labelled l) f = subst (AllLabels q) (sym f) tt
+        by (Entered heading region) f = subst (AllLabels q) (sym f) tt
+
+    label_means : MeansLabel (resolved_unit_of u) label.at
+    unfolding resolved_of
+    label_means =
+        let here : uses_at o p.region p.mark ≡ record { at = label.at; target = one.0 } ∷ [] = ap (uses_at o p.region) e ∙ one.1 in
+        let found = used_last (IsLabel label.at) label.at (uses_at o) marks None c.0 p one.0 c.1 c.2 here one.2 (λ k lt q f. labels_fit q (k, lt, f)) in
+        let l = found.2 in
+        record {
+          key = l.key;
+          symbol = l.symbol;
+          statement = l.statement;
+          means = ap (option_and_then (target_meaning u (function_there label.at))) found.1 ∙ l.means;
+          there = l.there;
+          is_label = l.is_label;
+        }
+
 pub uses_have_meanings : UsesHaveMeanings
 uses_have_meanings u h p c = mark_means u h p c p.mark refl
+
+pub jumps_mean_labels : JumpsMeanLabels
+jumps_mean_labels u h p label c e alone = label_means u h p label c e alone

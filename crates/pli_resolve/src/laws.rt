@@ -1,6 +1,6 @@
 //! Laws of resolved units.
 ghost use Rattle.pli_resolve.specs.laws.BlockLaws.{BlocksAreOfTheTree};
-ghost use Rattle.pli_resolve.specs.laws.UseLaws.{UsesHaveMeanings};
+ghost use Rattle.pli_resolve.specs.laws.UseLaws.{UsesHaveMeanings, JumpsMeanLabels};
 
 /// A law: the blocks of a resolved unit are those of its tree, numbered from 0 in the order in which they begin in the
 /// text: what each is, the number of the block round it, its statement, and how many parameters it has.
@@ -13,4 +13,10 @@ pub fn blocks_are_of_the_tree()
 /// built-in function or a name that a block of the unit declares.
 pub fn uses_have_meanings()
     ensures { UsesHaveMeanings }
+{}
+
+/// A law: in a unit whose declarations have no faults the name in a GOTO means the label of a statement, where no other
+/// name is used at its token.
+pub fn jumps_mean_labels()
+    ensures { JumpsMeanLabels }
 {}

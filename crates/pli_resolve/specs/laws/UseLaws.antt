@@ -1,13 +1,15 @@
 -- In a unit whose declarations have no faults each name that is used means something.
 use Rattle.std.specs.Prelude.{◌≡◌, ℕ, Some, [], ◌∷◌, Contains}
 use Rattle.pli_base.specs.Statements.{ExternalProcedure}
+use Rattle.pli_base.specs.declared.syntax.Identifier.{Identifier}
 use Rattle.pli_declare.specs.Resolution.{resolution_faults}
 use Rattle.pli_declare_outline.specs.Outlines.{Mark, Used, Jumped, Placed, outline_of}
 use Rattle.pli_declare_tables.specs.Tables.{inner_marks}
 use Rattle.pli_resolve.specs.ResolvedUnits.{ResolvedUnit, resolved_unit_of, meaning_at, symbol_at}
-use Rattle.pli_resolve.specs.Symbols.{Symbol}
+use Rattle.pli_resolve.specs.Symbols.{Symbol, Label}
 use Rattle.pli_resolve.specs.declared.symbol.NameMeaning.{NameMeaning}
 use Rattle.pli_resolve.specs.declared.symbol.NameMeaning.TheVariants as meanings
+use Rattle.pli_resolve.specs.declared.symbol.SymbolKey.{SymbolKey}
 
 -- what is meant is there: a built-in function, or a name that a block of the unit declares
 abbrev pub IsThere : ResolvedUnit → NameMeaning → Type 0
@@ -27,3 +29,25 @@ HasMeaning r mark = Unit {0}
 abbrev pub UsesHaveMeanings : Type 0
 UsesHaveMeanings = (u : ExternalProcedure) → resolution_faults u ≡ [] → (p : Placed)
     → Contains (inner_marks (outline_of u).marks) p → HasMeaning (resolved_unit_of u) p.mark
+
+-- a name is used at a token
+abbrev pub IsUsedAt : (at : ℕ) → Mark → Type 0
+IsUsedAt at (Used (i ∷ is)) = i.at ≡ at
+IsUsedAt at (Jumped label) = label.at ≡ at
+IsUsedAt at mark = ⊥
+
+-- the name at a token means the label of a statement
+pub record MeansLabel (r : ResolvedUnit) (at : ℕ) : Type 0 where
+  pub key : SymbolKey
+  pub symbol : Symbol
+  pub statement : ℕ
+  pub means : meaning_at r at ≡ Some (meanings.Symbol key)
+  pub there : symbol_at r key ≡ Some symbol
+  pub is_label : symbol.kind ≡ Label statement
+
+-- so does the name in a GOTO, where nothing else is used at its token
+abbrev pub JumpsMeanLabels : Type 0
+JumpsMeanLabels = (u : ExternalProcedure) → resolution_faults u ≡ [] → (p : Placed) (label : Identifier)
+    → Contains (inner_marks (outline_of u).marks) p → p.mark ≡ Jumped label
+    → ((q : Placed) → Contains (inner_marks (outline_of u).marks) q → IsUsedAt label.at q.mark → q ≡ p)
+    → MeansLabel (resolved_unit_of u) label.at
