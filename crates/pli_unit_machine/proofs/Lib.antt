@@ -11,6 +11,7 @@ pub mod Quotients
 pub mod RunLemmas
 pub mod SlotPlaces
 pub mod Stack
+pub mod StepsEnd
 pub mod StorageAnswers
 pub mod Walks
 pub mod Wide
