@@ -1,5 +1,5 @@
 -- A name that is declared BUILTIN without a fault is a built-in function's.
-use Rattle.std.proofs.Common.{◌≡◌, ℕ, ◌==◌, ◌&&◌, ◌||◌, Bool, true, false, not, if◌then◌else◌, refl, ap, sym, ◌∙◌, Option, Some, None, List, [], ◌∷◌, map, bit_and}
+use Rattle.std.proofs.Common.{◌≡◌, ℕ, ◌+◌, ◌==◌, ◌&&◌, ◌||◌, Bool, true, false, not, if◌then◌else◌, refl, ap, sym, ◌∙◌, Option, Some, None, List, [], ◌∷◌, map, bit_and}
 use Rattle.std.specs.List.{list_any}
 use Rattle.std.proofs.lemmas.Bool.{eqb-true}
 use Rattle.std.proofs.lemmas.Nat.{and_assoc}
@@ -10,7 +10,7 @@ use Rattle.pli_base.specs.declared.code.Code.{Code}
 use Rattle.pli_base.specs.declared.code.Code.TheVariants.{AttributesConflict, AttributesMissing, BadPrecision, BadLength, BadBounds}
 use Rattle.pli_map.specs.Description.{Description}
 use Rattle.pli_declare_attributes.specs.Sets.{has, none_of, entry, built_in, outermost, set_of, each_once}
-use Rattle.pli_declare_attributes.specs.Agreement.{set_agrees, agrees_as_entry, agrees_as_built_in, agrees_as_variable, is_missing, is_plain}
+use Rattle.pli_declare_attributes.specs.Agreement.{set_agrees, agrees_as_entry, agrees_as_built_in, agrees_as_variable, is_missing, is_plain, is_at_level_one}
 use Rattle.pli_declare_attributes.specs.Types.{number_of, is_bad_precision, is_bad_length}
 use Rattle.pli_declare_attributes.specs.Extents.{is_array, are_bad_bounds}
 use Rattle.pli_declare_attributes.specs.Faults.{first_of, shape_fault, own_fault, attributes_fault, item_fault, entry_fault, parameters_in}
@@ -88,6 +88,57 @@ named_so p i h is =
     let no_variable = not_true (agrees_as_variable p s) (λ v. not_beside s two.1 (leading (none_of s 98304) _ _ _ _ _ _ _ v)) in
     middle_true (is_plain p array) p.built_in_name (s == built_in)
     (second_of (agrees_as_entry p array s) (agrees_as_built_in p array s) (agrees_as_variable p s) whole no_entry no_variable)
+
+-- an item with members is a variable
+not_plain : (a b c : Bool) → b ≡ true → (a && not b && not c) ≡ false
+not_plain true true c h = refl
+not_plain true false c h = cc
+not_plain false b c h = refl
+
+no_front : (a b c : Bool) → a ≡ false → (a && b && c) ≡ false
+no_front true b c h = cc
+no_front false b c h = refl
+
+third_of : (a b c : Bool) → (a || b || c) ≡ true → a ≡ false → b ≡ false → c ≡ true
+third_of true b c h k l = cc
+third_of false true c h k l = cc
+third_of false false c h k l = h
+
+no_entry_beside : (s : ℕ) → none_of s 98304 ≡ true → has s 65536 ≡ true → ⊥
+no_entry_beside s n h =
+    let none : bit_and s 98304 ≡ 0 = eqb-true (bit_and s 98304) 0 n in
+    let it : bit_and s 65536 ≡ 0 = sym (and_assoc 65536 s 98304) ∙ ap (λ m. bit_and m 65536) none in
+    let other : false ≡ true = sym (ap (λ m. m == 65536) it) ∙ h in
+    cc
+
+variable_left : (e b : Bool) (ps : List Description) (r : Option Description) (w : Variable) → e ≡ false → b ≡ false
+    → (if e then OfEntry ps r else if b then OfBuiltIn else OfVariable w) ≡ OfVariable w
+variable_left true b ps r w h k = cc
+variable_left false true ps r w h k = cc
+variable_left false false ps r w h k = refl
+
+pub with_members : (p : Place) (i : Item) → item_fault p i ≡ None → p.has_members ≡ true
+    → (v : Variable) × (completed_of p i ≡ OfVariable v) × (none_of (set_of (map outermost i.attributes)) (entry + built_in) ≡ true)
+unfolding item_fault own_fault completed_of shape_fault set_agrees
+with_members p i h many =
+    let attributes = map outermost i.attributes in
+    let s = set_of attributes in
+    let n = number_of attributes in
+    let array = is_array i.dimensions in
+    let own = (parts_none p i (or_none (attributes_fault p i) (entry_fault (parameters_in i.attributes)) h).0).0 in
+    let whole =
+    right_true (each_once 0 attributes) (set_agrees p array s)
+    (agrees (each_once 0 attributes && set_agrees p array s) (is_missing p s) (is_bad_precision s n) (is_bad_length s n) (are_bad_bounds i.dimensions)
+    AttributesConflict AttributesMissing BadPrecision BadLength BadBounds (or_none _ _ own).0) in
+    let plain = not_plain (is_at_level_one p.position) p.has_members array many in
+    let variable =
+    third_of (agrees_as_entry p array s) (agrees_as_built_in p array s) (agrees_as_variable p s) whole
+    (no_front (is_plain p array) (has s entry) _ plain) (no_front (is_plain p array) p.built_in_name (s == built_in) plain) in
+    let none = leading (none_of s 98304) _ _ _ _ _ _ _ variable in (
+      variable_of p i,
+      variable_left (has s entry) (has s built_in) _ _ (variable_of p i) (not_true (has s entry) (no_entry_beside s none)) (not_true (has s built_in) (λ b. not_beside s b none)),
+      none,
+    )
 
 -- and has a function
 abbrev name_of : Name × BuiltInFunction → Name

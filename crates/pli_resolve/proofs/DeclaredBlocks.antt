@@ -128,7 +128,7 @@ ways_length ws cs (d ∷ ds) =
 abbrev pub HasSymbol : SymbolFacts → Declaration → Option Symbol → Type 0
 HasSymbol f d found = (ps : List Name) × (w : Way) × (found ≡ Some (symbol_of f ps w d))
 
-symbol_among : (f : SymbolFacts) (ps : List Name) (ds : List Declaration) (n : ℕ) (d : Declaration) → slice_get ds n ≡ Some d → HasSymbol f d (slice_get (symbols_of f ps ds) n)
+pub symbol_among : (f : SymbolFacts) (ps : List Name) (ds : List Declaration) (n : ℕ) (d : Declaration) → slice_get ds n ≡ Some d → HasSymbol f d (slice_get (symbols_of f ps ds) n)
 symbol_among f ps ds n d h =
     let ws = ways_of ds in
     let within : n < length ws = omega (arith, ways_length [] [] ds, slice_get_within ds n d h) in

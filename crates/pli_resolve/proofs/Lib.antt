@@ -9,3 +9,7 @@ pub mod BuiltInNames
 pub mod DeclaredBlocks
 pub mod MeantNames
 pub mod UsesMean
+pub mod WaysToMembers
+pub mod PartsOfMembers
+pub mod OwnersAreItems
+pub mod MembersAreParts

@@ -104,7 +104,7 @@ module _ (o : Outline) where
         at_picked (entries_in o) (unit_entries o.marks) [] bs out (omega (arith, within, same_lengths (block_in o) (entries_in o) (unit_block o) (unit_entries o.marks) bs)),
       )
 
-declared_number : (es : List Entry) (ps : List Name) (n : ℕ) → n < length es → slice_get (declared_in es ps) n ≡ Some (declaration_at es ps n)
+pub declared_number : (es : List Entry) (ps : List Name) (n : ℕ) → n < length es → slice_get (declared_in es ps) n ≡ Some (declaration_at es ps n)
 declared_number es ps n lt =
     slice_get-get_or (declared_in es ps) n (declaration_at es ps n) (omega (arith, lt, made_length (declaration_at es ps) (length es)))
     ∙ ap Some (made_at (declaration_at es ps) (length es) n (declaration_at es ps n) lt)

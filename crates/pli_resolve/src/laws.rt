@@ -1,5 +1,6 @@
 //! Laws of resolved units.
 ghost use Rattle.pli_resolve.specs.laws.BlockLaws.{BlocksAreOfTheTree};
+ghost use Rattle.pli_resolve.specs.laws.MemberLaws.{MembersAreParts};
 ghost use Rattle.pli_resolve.specs.laws.UseLaws.{UsesHaveMeanings, JumpsMeanLabels};
 
 /// A law: the blocks of a resolved unit are those of its tree, numbered from 0 in the order in which they begin in the
@@ -19,4 +20,10 @@ pub fn uses_have_meanings()
 /// name is used at its token.
 pub fn jumps_mean_labels()
     ensures { JumpsMeanLabels }
+{}
+
+/// A law: in a unit whose declarations have no faults a member of a structure is the part of a variable of its block to
+/// which its path leads.
+pub fn members_are_parts()
+    ensures { MembersAreParts }
 {}
