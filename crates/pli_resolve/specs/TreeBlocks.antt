@@ -1,5 +1,5 @@
--- The blocks of a source tree, by a walk over it. A PROCEDURE, a BEGIN and an ON begin one block each; a group
--- begins none. Blocks are numbered in the order in which they begin in the text.
+-- The blocks of a source tree, by a walk over it. A PROCEDURE, a BEGIN and an ON begin one block each; a
+-- group begins none. Blocks are numbered in the order in which they begin in the text.
 use Rattle.std.specs.Prelude.{ℕ, suc, ◌+◌, Option, Some, None, List, [], ◌∷◌, ◌++◌, length}
 use Rattle.pli_base.specs.Statements.{Statement, Numbered, Body, Procedure, Begin, Do, If, On}
 use Rattle.pli_base.specs.Statements.{Statements, Ended, Before, Alternative, NoElse, Else, ExternalProcedure}

@@ -10,8 +10,8 @@ pub fn blocks_are_of_the_tree()
     ensures { BlocksAreOfTheTree }
 {}
 
-/// A law: in a unit whose declarations have no faults, the first name of each reference and the label of each GOTO mean a
-/// built-in function or a name that a block of the unit declares.
+/// A law: in a unit whose declarations have no faults, the first name of each reference and the label of each GOTO mean
+/// a built-in function or a name that a block of the unit declares.
 pub fn uses_have_meanings()
     ensures { UsesHaveMeanings }
 {}

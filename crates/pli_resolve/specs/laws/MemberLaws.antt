@@ -43,10 +43,11 @@ pub record IsPart (u : ExternalProcedure) (key : SymbolKey) (root : ℕ) (path :
   pub region : ℕ
   pub part : Description
   pub leads : part_on description path ≡ Some part
-  pub described : description_of (entries_in (outline_of u) region) (parameters_of (outline_of u) region) key.number
-      ≡ Some part
+  pub described : description_of (entries_in (outline_of u) region) (parameters_of (outline_of u) region)
+      key.number ≡ Some part
 
 abbrev pub MembersAreParts : Type 0
-MembersAreParts = (u : ExternalProcedure) → resolution_faults u ≡ [] → (key : SymbolKey) (s : Symbol) (root : ℕ)
-    (path : List ℕ) (initial : List InitialValue) (area : Option SymbolKey)
-    → symbol_at (resolved_unit_of u) key ≡ Some s → s.kind ≡ Member root path initial area → IsPart u key root path
+MembersAreParts = (u : ExternalProcedure) → resolution_faults u ≡ []
+    → (key : SymbolKey) (s : Symbol) (root : ℕ) (path : List ℕ) (initial : List InitialValue)
+    (area : Option SymbolKey) → symbol_at (resolved_unit_of u) key ≡ Some s
+    → s.kind ≡ Member root path initial area → IsPart u key root path
