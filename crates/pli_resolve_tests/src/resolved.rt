@@ -12,7 +12,8 @@ use pli_declare_attributes::Scope;
 use pli_map::{Bounds, Description};
 use pli_resolve::{
     BuiltInFunction, NameMeaning, ResolvedBlock, ResolvedBlockKind, ResolvedUnit, StorageClass,
-    Symbol, SymbolKey, SymbolKind, resolve_unit,
+    Symbol, SymbolKey, SymbolKind, blocks_are_of_the_tree, jumps_mean_labels, members_are_parts,
+    resolve_unit, uses_have_meanings,
 };
 use std::alloc::{AllocError, Global};
 use std::fmt::Write;
@@ -431,4 +432,12 @@ fn variables_are_symbols(rt: HostRuntime) -> Result<(), Fail> {
 #[test]
 fn names_have_meanings(rt: HostRuntime) -> Result<(), Fail> {
     are_resolved(rt.alloc(), &NAMES)
+}
+
+#[test]
+fn laws_hold() {
+    blocks_are_of_the_tree();
+    uses_have_meanings();
+    jumps_mean_labels();
+    members_are_parts();
 }
