@@ -22,8 +22,8 @@ pub fn jumps_mean_labels()
     ensures { JumpsMeanLabels }
 {}
 
-/// A law: in a unit whose declarations have no faults a member of a structure is the part of a variable of its block to
-/// which its path leads.
+/// A law: in a unit whose declarations have no faults the path of a member of a structure leads to a part of a variable
+/// of its block.
 pub fn members_are_parts()
     ensures { MembersAreParts }
 {}

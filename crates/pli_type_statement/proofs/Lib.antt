@@ -1,6 +1,9 @@
+pub mod Blocks
 pub mod Built
-pub mod Lists
-pub mod Noted
+pub mod Called
+pub mod ItemLists
+pub mod Searches
 pub mod Sizes
 pub mod Turns
 pub mod Units
+pub mod Walked

@@ -1,121 +1,107 @@
 -- The typed unit, by its parts.
-use Rattle.std.proofs.Common.{◌≡◌, ◌∷◌, [], ℕ, Bool, List, Option, Some, None, Result, Ok, Err, ap, sym, ◌∙◌}
-use Rattle.pli_base.specs.Name.{Name}
+use Rattle.std.proofs.Common.{◌≡◌, ◌∷◌, ◌++◌, [], ℕ, Bool, List, Option, Some, None, Result, Ok, Err, refl, ap, sym, ◌∙◌, subst}
 use Rattle.pli_base.specs.declared.code.Code.TheVariants.{NotYetBuilt}
 use Rattle.pli_base.specs.declared.statement.Procedure.{Procedure, out-Procedure}
 use Rattle.pli_base.specs.declared.token.Fault.{Fault}
-use Rattle.pli_base.specs.laws.StatementLaws.{unit_out, unit_statements}
+use Rattle.pli_base.specs.Statements as tree
+use Rattle.pli_base.specs.laws.StatementLaws.{unit_statements}
 use Rattle.pli_base.specs.views.StatementView.{statements_view, unit_view}
 use Rattle.pli_resolve.specs.ResolvedUnits.{resolved_unit_of}
-use Rattle.pli_type.specs.Checked.{NamedUnit, unit_of, unless_unbuilt, checked}
-use Rattle.pli_type.specs.NamedUnits.{named_unit, checked_unit}
-use Rattle.pli_type.specs.StatementTyping.{made, statements_typed}
+use Rattle.pli_type.specs.Checked.{checked, in_unit, first_inside, typed_as, unit_of, unless_unbuilt}
+use Rattle.pli_type.specs.NamedUnits.{checked_unit}
+use Rattle.pli_type.specs.StatementTyping.{WithProcedures, statements_typed}
+use Rattle.pli_type.specs.TreeBlocks.{Next, temporaries_among}
 use Rattle.pli_type.specs.Unbuilt.{first_unbuilt, is_main, later_heading, later_statements, or_else}
-use Rattle.pli_type_names.specs.UnitNaming.{naming_in}
+use Rattle.pli_type_names.specs.UnitNaming.{unit_compiled}
 use Rattle.pli_type_tree.specs.Templates.{Template}
-use Rattle.pli_type_tree.specs.TypedTree.{TypedUnit, TypedStatements}
-use Rattle.pli_base.specs.declared.statement.Statement.{Statement}
+use Rattle.pli_type_tree.specs.TypedTree.{TypedProcedure, TypedStatements, TypedUnit}
 use Rattle.pli_type_tree.specs.declared.unit.TypedUnit as program
 use Rattle.pli_type_statement.specs.answers.Answers.{Checks}
 use Rattle.pli_type_statement.specs.declared.checking.CheckError.{CheckError}
 use Rattle.pli_type_statement.specs.declared.checking.CheckError.TheVariants as errors
-use Rattle.pli_type_statement.specs.Parts.{main_in, given, told}
-use Rattle.pli_type_statement.proofs.Noted.{is_given, is_told}
-
-abbrev unit_with : Name → ℕ → Bool → List Template → List Template → TypedStatements → TypedUnit
-unit_with name number main automatic statics ss = record {
-  name = name;
-  is_main = main;
-  statics = statics;
-  procedures = record {
-    head = record { number = 0; statement = number; variables = automatic; temporaries = 0 };
-    parent = None;
-    parameters = 0;
-    function_end = None;
-    statements = ss;
-  } ∷ [];
-}
-
--- a unit of equal parts
-pub unit_made : (u : NamedUnit) (name : Name) (number : ℕ) (main : Bool) (automatic statics : List Template) (ss : TypedStatements)
-    → name ≡ u.tree.heading.name.name → number ≡ u.tree.heading.number → main ≡ is_main u.tree
-    → automatic ≡ u.automatic → statics ≡ u.statics
-    → unit_with name number main automatic statics ss ≡ unit_of u ss
-unit_made u name number main automatic statics ss a b c d e =
-    ap (λ x. unit_with x number main automatic statics ss) a
-    ∙ ap (λ x. unit_with u.tree.heading.name.name x main automatic statics ss) b
-    ∙ ap (λ x. unit_with u.tree.heading.name.name u.tree.heading.number x automatic statics ss) c
-    ∙ ap (λ x. unit_with u.tree.heading.name.name u.tree.heading.number (is_main u.tree) x statics ss) d
-    ∙ ap (λ x. unit_with u.tree.heading.name.name u.tree.heading.number (is_main u.tree) u.automatic x ss) e
-
-pub name_of : (u : Procedure) → (out-Procedure u).name.name ≡ (unit_view u).heading.name.name
-name_of u = ap (λ v. v.heading.name.name) (sym (unit_out u))
-
-pub number_of : (u : Procedure) → (out-Procedure u).number ≡ (unit_view u).heading.number
-number_of u = ap (λ v. v.heading.number) (sym (unit_out u))
+use Rattle.pli_type_statement.specs.Parts.{unit_named, main_in, given, told, Adds}
+use Rattle.pli_type_statement.specs.Walking.{unit_with}
 
 behind_heading : (x y : Option ℕ) → or_else x y ≡ None → y ≡ None
 behind_heading None y h = h
 behind_heading (Some at) y h = cc
 
 -- where nothing comes later in a unit, nothing does in its statements
-pub unit_built : (u : Procedure) → first_unbuilt (naming_in u) (unit_view u) ≡ None
-    → later_statements (naming_in u) (main_in u) (statements_view (out-Procedure u).statements.items) ≡ None
+pub unit_built : (u : Procedure) → first_unbuilt (unit_compiled u) (unit_view u) ≡ None
+    → later_statements (unit_compiled u) (main_in u) (statements_view (out-Procedure u).statements.items) ≡ None
 unfolding main_in
 unit_built u h =
-    ap (later_statements (naming_in u) (is_main (unit_view u))) (sym (unit_statements u))
+    ap (later_statements (unit_compiled u) (is_main (unit_view u))) (sym (unit_statements u))
     ∙ behind_heading (later_heading (unit_view u).heading) _ h
 
-abbrev pub typed_statements : Procedure → Result TypedStatements (List Fault)
-typed_statements u = statements_typed (naming_in u) (statements_view (out-Procedure u).statements.items)
+abbrev pub typed_list : Procedure → tree.Statements → Result (WithProcedures TypedStatements) (List Fault)
+typed_list u ss = statements_typed (unit_named u) (in_unit ss) first_inside ss
 
 -- the check of a unit: a form that comes later decides, and then the statements
 opened : (u : Procedure) → checked_unit (resolved_unit_of (unit_view u))
-    ≡ unless_unbuilt (first_unbuilt (naming_in u) (unit_view u))
-    (made (unit_of (named_unit 31 (resolved_unit_of (unit_view u)))) (typed_statements u))
-unfolding checked_unit checked naming_in
-opened u =
-    ap (λ ss. unless_unbuilt (first_unbuilt (naming_in u) (unit_view u))
-    (made (unit_of (named_unit 31 (resolved_unit_of (unit_view u)))) (statements_typed (naming_in u) ss))) (unit_statements u)
+    ≡ unless_unbuilt (first_unbuilt (unit_compiled u) (unit_view u)) (typed_as (unit_named u) (typed_list u (unit_view u).statements))
+unfolding checked_unit checked unit_compiled unit_named
+opened u = refl
 
-pub unbuilt : (u : Procedure) (at : ℕ) → first_unbuilt (naming_in u) (unit_view u) ≡ Some at
+pub unbuilt : (u : Procedure) (at : ℕ) → first_unbuilt (unit_compiled u) (unit_view u) ≡ Some at
     → checked_unit (resolved_unit_of (unit_view u)) ≡ Err (record { code = NotYetBuilt; at = at } ∷ [])
 unbuilt u at h =
-    opened u
-    ∙ ap (λ o. unless_unbuilt o (made (unit_of (named_unit 31 (resolved_unit_of (unit_view u)))) (typed_statements u))) h
+    opened u ∙ ap (λ o. unless_unbuilt o (typed_as (unit_named u) (typed_list u (unit_view u).statements))) h
 
-pub faulty : (u : Procedure) → first_unbuilt (naming_in u) (unit_view u) ≡ None → None ≡ given (typed_statements u)
-    → checked_unit (resolved_unit_of (unit_view u)) ≡ Err (told (typed_statements u))
-faulty u h none =
-    opened u
-    ∙ ap (λ o. unless_unbuilt o (made (unit_of (named_unit 31 (resolved_unit_of (unit_view u)))) (typed_statements u))) h
-    ∙ ap (made (unit_of (named_unit 31 (resolved_unit_of (unit_view u))))) (is_told (typed_statements u) none)
+-- the statements of a unit decide
+decided : (u : Procedure) → first_unbuilt (unit_compiled u) (unit_view u) ≡ None
+    → checked_unit (resolved_unit_of (unit_view u)) ≡ typed_as (unit_named u) (typed_list u (statements_view (out-Procedure u).statements.items))
+decided u h =
+    opened u ∙ ap (λ o. unless_unbuilt o (typed_as (unit_named u) (typed_list u (unit_view u).statements))) h
+    ∙ ap (λ ss. typed_as (unit_named u) (typed_list u ss)) (unit_statements u)
 
-pub typed : (u : Procedure) (ss : TypedStatements) → first_unbuilt (naming_in u) (unit_view u) ≡ None
-    → Some ss ≡ given (typed_statements u)
-    → checked_unit (resolved_unit_of (unit_view u)) ≡ Ok (unit_of (named_unit 31 (resolved_unit_of (unit_view u))) ss)
-typed u ss h some =
-    opened u
-    ∙ ap (λ o. unless_unbuilt o (made (unit_of (named_unit 31 (resolved_unit_of (unit_view u)))) (typed_statements u))) h
-    ∙ ap (made (unit_of (named_unit 31 (resolved_unit_of (unit_view u))))) (is_given (typed_statements u) ss some)
+is_told : {A : Type 0} (r : Result (WithProcedures A) (List Fault)) → None ≡ given r → r ≡ Err (told r)
+is_told (Ok y) e = cc
+is_told (Err fs) e = refl
+
+pub faulty : (u : Procedure) (fs : List Fault) → first_unbuilt (unit_compiled u) (unit_view u) ≡ None
+    → None ≡ given (typed_list u (statements_view (out-Procedure u).statements.items))
+    → fs ≡ told (typed_list u (statements_view (out-Procedure u).statements.items))
+    → checked_unit (resolved_unit_of (unit_view u)) ≡ Err fs
+faulty u fs h none is =
+    decided u h ∙ ap (typed_as (unit_named u)) (is_told _ none) ∙ ap Err (sym is)
+
+with_parts : (u : tree.ExternalProcedure) (s s' a a' : List Template) (t t' : ℕ) (l l' : TypedStatements) (p p' : List TypedProcedure)
+    → s ≡ s' → a ≡ a' → t ≡ t' → l ≡ l' → p ≡ p' → unit_with u s a t l p ≡ unit_with u s' a' t' l' p'
+with_parts u s s' a a' t t' l l' p p' e f g h i =
+    ap (λ x. unit_with u x a t l p) e ∙ ap (λ x. unit_with u s' x t l p) f ∙ ap (λ x. unit_with u s' a' x l p) g
+    ∙ ap (λ x. unit_with u s' a' t' x p) h ∙ ap (λ x. unit_with u s' a' t' l' x) i
+
+unit_named_with : (u : Procedure) (w : WithProcedures TypedStatements)
+    → unit_with (unit_view u) (unit_named u).statics ((unit_named u).automatic 0) (temporaries_among (unit_view u).statements) w.part w.procedures
+    ≡ unit_of (unit_named u) w
+unfolding unit_named
+unit_named_with u w = refl
+
+whole : (u : Procedure) (r : Result (WithProcedures TypedStatements) (List Fault)) (statics automatic : List Template) (temporaries : ℕ)
+    (list : TypedStatements) (procedures : List TypedProcedure)
+    → Some list ≡ given r → Adds r [] procedures → statics ≡ (unit_named u).statics → automatic ≡ (unit_named u).automatic 0
+    → temporaries ≡ temporaries_among (unit_view u).statements
+    → typed_as (unit_named u) r ≡ Ok (unit_with (unit_view u) statics automatic temporaries list procedures)
+whole u (Ok w) statics automatic temporaries list procedures is adds s a t =
+    ap Ok (sym (with_parts (unit_view u) _ _ _ _ _ _ _ _ _ _ s a t (inner _ _ is) adds ∙ unit_named_with u w))
+  where
+    inner : (x y : TypedStatements) → Some x ≡ Some y → x ≡ y
+    inner x y e = cc
+whole u (Err fs) statics automatic temporaries list procedures is adds s a t = cc
+
+pub typed : (u : Procedure) (statics automatic : List Template) (temporaries : ℕ) (list : TypedStatements) (procedures : List TypedProcedure)
+    → first_unbuilt (unit_compiled u) (unit_view u) ≡ None
+    → Some list ≡ given (typed_list u (statements_view (out-Procedure u).statements.items))
+    → Adds (typed_list u (statements_view (out-Procedure u).statements.items)) [] procedures
+    → statics ≡ (unit_named u).statics → automatic ≡ (unit_named u).automatic 0
+    → temporaries ≡ temporaries_among (statements_view (out-Procedure u).statements.items)
+    → checked_unit (resolved_unit_of (unit_view u)) ≡ Ok (unit_with (unit_view u) statics automatic temporaries list procedures)
+typed u statics automatic temporaries list procedures h is adds s a t =
+    decided u h ∙ whole u _ statics automatic temporaries list procedures is adds s a (t ∙ ap temporaries_among (sym (unit_statements u)))
 
 -- an answer to an equal question
-pub moved : (x : Result program.TypedUnit CheckError) (r s : Result TypedUnit (List Fault)) → r ≡ s → Checks x r → Checks x s
-moved (Ok u) r s e h = sym e ∙ h
-moved (Err (errors.Faults fs)) r s e h = sym e ∙ h
-moved (Err errors.OutOfMemory) r s e h = tt
-
--- the statements of a unit, as its naming has it
-pub requires_built : (u v : Procedure) (xs : List Statement) → v ≡ u → xs ≡ (out-Procedure u).statements.items
-    → first_unbuilt (naming_in u) (unit_view u) ≡ None
-    → later_statements (naming_in v) (main_in v) (statements_view xs) ≡ None
-requires_built u v xs same is h =
-    ap (λ p. later_statements (naming_in p) (main_in p) (statements_view xs)) same
-    ∙ ap (λ ss. later_statements (naming_in u) (main_in u) (statements_view ss)) is
-    ∙ unit_built u h
-
-pub typed_by : (u v : Procedure) (xs : List Statement) → v ≡ u → xs ≡ (out-Procedure u).statements.items
-    → statements_typed (naming_in v) (statements_view xs) ≡ typed_statements u
-typed_by u v xs same is =
-    ap (λ p. statements_typed (naming_in p) (statements_view xs)) same
-    ∙ ap (λ ss. statements_typed (naming_in u) (statements_view ss)) is
+pub moved_answer : (x : Result program.TypedUnit CheckError) (r s : Result TypedUnit (List Fault)) → r ≡ s → Checks x r → Checks x s
+moved_answer (Ok u) r s e h = sym e ∙ h
+moved_answer (Err (errors.Faults fs)) r s e h = sym e ∙ h
+moved_answer (Err errors.OutOfMemory) r s e h = tt

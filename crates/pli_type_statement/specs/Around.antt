@@ -1,7 +1,7 @@
 -- The lists of statements round a place, the outermost first, as a walk keeps them.
 use Rattle.std.specs.Prelude.{ℕ, Bool, true, false, Option, Some, None, List, [], ◌∷◌}
 use Rattle.pli_map.specs.Description.{Description}
-use Rattle.pli_type.specs.StatementTyping.{Enclosing, Surroundings, with_labels}
+use Rattle.pli_type.specs.StatementTyping.{Enclosing, Surroundings, block_at, with_labels}
 
 -- a list with its labels: that of a block of this number, or of a group
 pub record Listing : Type 0 where
@@ -33,3 +33,11 @@ surroundings_of a = record { blocks = blocks_of a.lists; begins = a.begins; valu
 abbrev pub label_if : Bool → ℕ → List ℕ
 label_if false number = []
 label_if true number = number ∷ []
+
+-- the number of the block here
+abbrev pub number_of : List Enclosing → ℕ
+number_of bs = block_at (record { blocks = bs; begins = 0; value = None })
+
+-- in the list of an external procedure, with these labels
+abbrev pub outermost : List ℕ → Around
+outermost labels = record { lists = record { block = Some 0; labels = labels } ∷ []; begins = 0; value = None }

@@ -1,23 +1,36 @@
 -- A part of a unit with its faults apart: what it is where it has none, and those that it has.
-use Rattle.std.specs.Prelude.{Bool, true, false, Option, Some, None, List, [], ◌∷◌, Result, Ok, Err}
+use Rattle.std.specs.Prelude.{◌≡◌, ℕ, ◌+◌, suc, Bool, true, false, Option, Some, None, List, [], ◌∷◌, ◌++◌, Result}
+use Rattle.std.specs.Prelude.{Ok, Err}
 use Rattle.pli_base.specs.Statements as source
 use Rattle.pli_base.specs.declared.statement.Procedure.{Procedure}
 use Rattle.pli_base.specs.declared.token.Fault.{Fault}
 use Rattle.pli_base.specs.views.StatementView.{unit_view}
+use Rattle.pli_resolve.specs.ResolvedUnits.{resolved_unit_of}
+use Rattle.pli_type.specs.Names.{NamedUnit}
+use Rattle.pli_type.specs.NamedUnits.{named_unit}
+use Rattle.pli_type.specs.StatementTyping.{WithProcedures}
+use Rattle.pli_type.specs.TreeBlocks.{Next, blocks_of, blocks_among, blocks_behind, temporaries_of}
+use Rattle.pli_type.specs.TreeBlocks.{temporaries_among, temporaries_behind}
 use Rattle.pli_type.specs.Unbuilt.{is_main}
 use Rattle.pli_type_expression.specs.declared.answer.TypeError.{TypeError}
 use Rattle.pli_type_expression.specs.declared.answer.TypeError.TheVariants as errors
 use Rattle.pli_type_tree.specs.TypedTree as typed
 
 -- what it is, where it has no fault
-abbrev pub given : {A : Type 0} → Result A (List Fault) → Option A
-given (Ok x) = Some x
+abbrev pub given : {A : Type 0} → Result (WithProcedures A) (List Fault) → Option A
+given (Ok x) = Some x.part
 given (Err fs) = None
 
 -- its faults
-abbrev pub told : {A : Type 0} → Result A (List Fault) → List Fault
+abbrev pub told : {A : Type 0} → Result (WithProcedures A) (List Fault) → List Fault
 told (Ok x) = []
 told (Err fs) = fs
+
+-- the procedures in it are put behind others; where it has a fault nothing is said of them
+abbrev pub Adds : {A : Type 0} → Result (WithProcedures A) (List Fault) → (old new : List typed.TypedProcedure)
+    → Type 0
+Adds (Ok x) old new = new ≡ old ++ x.procedures
+Adds (Err fs) old new = Unit {0}
 
 -- the same of what typing answered
 abbrev pub part_in : {A : Type 0} → Result A TypeError → Option A
@@ -33,22 +46,36 @@ abbrev pub IsKnown : {A : Type 0} → Result A TypeError → Type 0
 IsKnown (Err errors.OutOfMemory) = ⊥
 IsKnown answer = Unit {0}
 
+-- two parts together, where neither has a fault
+abbrev pub both : {A B C : Type 0} → (A → B → C) → Option A → Option B → Option C
+both make (Some x) (Some y) = Some (make x y)
+both make x y = None
+
 -- an IF of its three parts
 abbrev pub if_of : Option typed.TypedExpression → Option typed.TypedStatement → Option typed.OtherWise
     → Option typed.Form
 if_of (Some x) (Some s) (Some otherwise) = Some (typed.If x s otherwise)
 if_of tested consequence alternative = None
 
--- a DECLARE
-abbrev pub is_declare : source.Body → Bool
-is_declare (source.Declare items) = true
-is_declare other = false
-
 -- none or one
-abbrev pub listed_if : {A : Type 0} → Option A → List A
-listed_if None = []
-listed_if (Some x) = x ∷ []
+abbrev pub listed_if : {A : Type 0} → (nothing : Bool) → Option A → List A
+listed_if nothing None = []
+listed_if true (Some x) = []
+listed_if false (Some x) = x ∷ []
 
--- a unit is MAIN
+-- behind parts of a statement
+abbrev pub behind_body : Next → source.Body → Next
+behind_body x b = record { block = x.block + blocks_of b; temporary = x.temporary + temporaries_of b }
+
+abbrev pub behind_list : Next → source.Statements → Next
+behind_list x ss = record { block = x.block + blocks_among ss; temporary = x.temporary + temporaries_among ss }
+
+abbrev pub behind_other : Next → source.Alternative → Next
+behind_other x a = record { block = x.block + blocks_behind a; temporary = x.temporary + temporaries_behind a }
+
+-- a unit as types see it, and whether it is MAIN
+unfoldable pub unit_named : Procedure → NamedUnit
+unit_named u = named_unit 31 (resolved_unit_of (unit_view u))
+
 unfoldable pub main_in : Procedure → Bool
 main_in u = is_main (unit_view u)

@@ -5,7 +5,7 @@ ghost use Rattle.pli_type.specs.StatementTyping as spec;
 ghost use Rattle.pli_type.specs.Unbuilt.{later_expression, later_reference};
 ghost use Rattle.pli_type_expression.specs.answers.TypingAnswers.{Gives};
 ghost use Rattle.pli_type_expression.specs.views.TypingView.{denoted_view, meant_view, referent_view};
-ghost use Rattle.pli_type_names.specs.UnitNaming.{naming_in};
+ghost use Rattle.pli_type_names.specs.UnitNaming.{compiled_in, naming_in};
 ghost use Rattle.pli_type_tree.specs.views.TypedView.{form_view};
 
 use pli_base::Code;
@@ -50,7 +50,7 @@ fn scalar_assigned(
     target: Referent<'_>,
     value: &Expression,
 ) -> Result<Form, TypeError>
-    requires { later_expression (naming_in naming.now) (syntax.expression_view value.now) ≡ false }
+    requires { later_expression (compiled_in naming.now) (syntax.expression_view value.now) ≡ false }
     ensures { Gives form_view result
         (spec.scalar_assigned (naming_in naming.now) equals (referent_view target.entry).reference
         (referent_view target.entry).description (syntax.expression_view value.now)) }
@@ -74,7 +74,7 @@ fn assigned<'a>(
     target: Denoted<'a>,
     value: &Expression,
 ) -> Result<Form, TypeError>
-    requires { later_expression (naming_in naming.now) (syntax.expression_view value.now) ≡ false }
+    requires { later_expression (compiled_in naming.now) (syntax.expression_view value.now) ≡ false }
     ensures { Gives form_view result
         (spec.assigned (naming_in naming.now) at equals (denoted_view target.entry) (syntax.expression_view value.now)) }
 {
@@ -99,8 +99,8 @@ pub(crate) fn assignment(
     equals: u32,
     value: &Expression,
 ) -> Result<Form, TypeError>
-    requires target { later_reference (naming_in naming.now) (syntax.reference_view target.now) ≡ false }
-    requires value { later_expression (naming_in naming.now) (syntax.expression_view value.now) ≡ false }
+    requires target { later_reference (compiled_in naming.now) (syntax.reference_view target.now) ≡ false }
+    requires value { later_expression (compiled_in naming.now) (syntax.expression_view value.now) ≡ false }
     ensures { Gives form_view result
         (spec.assignment (naming_in naming.now) at (syntax.reference_view target.now) equals
         (syntax.expression_view value.now)) }

@@ -6,7 +6,7 @@ ghost use Rattle.pli_type.specs.StatementTyping as spec;
 ghost use Rattle.pli_type.specs.Unbuilt.{later_expression};
 ghost use Rattle.pli_type.specs.views.ValueView.{value_view};
 ghost use Rattle.pli_type_expression.specs.answers.TypingAnswers.{Gives};
-ghost use Rattle.pli_type_names.specs.UnitNaming.{naming_in};
+ghost use Rattle.pli_type_names.specs.UnitNaming.{compiled_in, naming_in};
 ghost use Rattle.pli_type_tree.specs.views.TypedView.{expression_view};
 
 use pli_base::Code;
@@ -23,7 +23,7 @@ pub(crate) fn condition(
     naming: &Naming<'_>,
     expression: &Expression,
 ) -> Result<TypedExpression, TypeError>
-    requires { later_expression (naming_in naming.now) (syntax.expression_view expression.now) ≡ false }
+    requires { later_expression (compiled_in naming.now) (syntax.expression_view expression.now) ≡ false }
     ensures { Gives expression_view result
         (spec.condition (naming_in naming.now) (syntax.expression_view expression.now)) }
 {
@@ -40,7 +40,7 @@ fn item(
     naming: &Naming<'_>,
     expression: &Expression,
 ) -> Result<TypedExpression, TypeError>
-    requires { later_expression (naming_in naming.now) (syntax.expression_view expression.now) ≡ false }
+    requires { later_expression (compiled_in naming.now) (syntax.expression_view expression.now) ≡ false }
     ensures { Gives expression_view result
         (spec.item (naming_in naming.now) (syntax.expression_view expression.now)) }
 {
@@ -57,7 +57,7 @@ pub(crate) fn items(
     naming: &Naming<'_>,
     expressions: &[Expression],
 ) -> Result<Vec<TypedExpression>, TypeError>
-    requires { list_any (later_expression (naming_in naming.now)) (map syntax.expression_view expressions.now) ≡ false }
+    requires { list_any (later_expression (compiled_in naming.now)) (map syntax.expression_view expressions.now) ≡ false }
     ensures { Gives (λ items. map expression_view items.items) result
         (spec.items (naming_in naming.now) (map syntax.expression_view expressions.now)) }
 {

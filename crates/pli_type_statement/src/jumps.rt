@@ -20,7 +20,8 @@ use pli_type_names::{NamedAs, Naming};
 use pli_type_tree::Form;
 use std::alloc::Global;
 
-/// A GOTO, which leads to a label of a list that it stands in (X3.74).
+/// A GOTO, which leads to a label of a list that it stands in (X3.74); any other is not compiled yet, which is Z1 at the
+/// label.
 pub(crate) fn jump(
     naming: &Naming<'_>,
     around: &Surroundings<'_>,
@@ -30,14 +31,14 @@ pub(crate) fn jump(
         (spec.goto_typed (naming_in naming.now) (surroundings_of (around_view around.now)) label) }
 {
     let NamedAs::Label(statement) = naming.meaning(label.at) else {
-        return Err(fault(Code::BadGoto, label.at));
+        return Err(fault(Code::NotYetBuilt, label.at));
     };
     match outward_to(around.lists.as_slice(), statement)? {
         Some(outward) => Ok(Form::Goto {
             outward,
             label: statement,
         }),
-        None => Err(fault(Code::BadGoto, label.at)),
+        None => Err(fault(Code::NotYetBuilt, label.at)),
     }
 }
 
@@ -52,7 +53,7 @@ fn returned_value(
     value: TypedValue,
 ) -> Result<Form, TypeError>
     ensures { Gives form_view result
-        (spec.returned_value greatest at first around.now.begins (around_view around.now).value (value_view value.entry)) }
+        (spec.returned_value greatest at first around.now.begins (around_view around.now).value (value_view value)) }
 {
     let Some(description) = around.value else {
         return Err(fault(Code::WrongReturn, at));
@@ -67,6 +68,7 @@ fn returned_value(
 }
 
 /// A RETURN at the token `at`: T9 there where a function returns nothing or another procedure a value (X3.74).
+#[tactic(auto, using(crate::proofs::Called::greatest_is))]
 pub(crate) fn returned(
     alloc: Global,
     naming: &Naming<'_>,

@@ -3,8 +3,17 @@
 
 mod answer;
 mod assignment;
+mod calls;
 mod checking;
+mod forms;
+mod headers;
 mod items;
+mod iteration;
+mod jumps;
+mod labels;
+mod simple;
 mod statement;
+mod surroundings;
+mod walk;
 
 pub use checking::{CheckError, check};

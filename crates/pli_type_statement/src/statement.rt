@@ -1,142 +1,147 @@
 //! Statements.
-ghost use Rattle.std.specs.Prelude.{◌≡◌, ◌++◌, [], ◌∷◌, None, false, is_some, map, option_map, IfOk, OnOk};
-ghost use Rattle.std.specs.List.{list_any};
-ghost use Rattle.pli_base.specs.declared.code.Code.TheVariants.{NotYetBuilt};
+ghost use Rattle.std.specs.Prelude.{◌≡◌, ℕ, ◌+◌, None, false, length, option_map, IfOk};
 ghost use Rattle.pli_base.specs.views.StatementView as source;
 ghost use Rattle.pli_base.specs.views.SyntaxView as syntax;
+ghost use Rattle.pli_map.specs.views.DescriptionView.{description_view};
 ghost use Rattle.pli_type.specs.StatementTyping as spec;
-ghost use Rattle.pli_type.specs.Unbuilt.{later_body, later_expression, later_reference, later_statement, later_statements};
-ghost use Rattle.pli_type_names.specs.UnitNaming.{naming_in};
-ghost use Rattle.pli_type_statement.specs.Parts.{given, if_of, is_declare, listed_if, main_in, told};
-ghost use Rattle.pli_type_tree.specs.TypedTree.{Else};
-ghost use Rattle.pli_type_tree.specs.laws.TypedTreeLaws.{boxed_view};
+ghost use Rattle.pli_type.specs.TreeBlocks.{behind, kept_by};
+ghost use Rattle.pli_type.specs.Unbuilt.{later_body, later_control, later_expression, later_part, later_statement, later_statements};
+ghost use Rattle.pli_type_names.specs.UnitNaming.{compiled_in};
+ghost use Rattle.pli_type_statement.specs.Around.{surroundings_of};
+ghost use Rattle.pli_type_statement.specs.Headers.{Header as PlainHeader, header_typed};
+ghost use Rattle.pli_type_statement.specs.Parts.{main_in};
+ghost use Rattle.pli_type_statement.specs.Simple.{is_compound, simple_typed};
+ghost use Rattle.pli_type_statement.specs.Walking.{Finishes, IsPlaced, in_block, Walks, WalksBlock, WalksBody, WalksList, around, next_at, unit_at};
+ghost use Rattle.pli_type_statement.specs.views.HeaderView.{header_view};
+ghost use Rattle.pli_type_tree.specs.TypedTree as plain;
 ghost use Rattle.pli_type_tree.specs.views.TypedView.{expression_view, form_view, statement_view, statements_view};
 
 use crate::answer::noted;
-use crate::assignment::assignment;
-use crate::items::{condition, items};
-use pli_base::statement::{Body, Statement};
-use pli_base::syntax::{Expression, Reference};
-use pli_base::{Code, Fault};
-use pli_type_names::Naming;
-use pli_type_tree::{Form, TypedExpression, TypedStatement};
+use crate::forms::{begin_form, group_form, if_form, keep, numbered, otherwise};
+use crate::headers::{Header, kept_by, specified};
+use crate::items::condition;
+use crate::labels::{labels_of, leaves_nothing};
+use crate::simple::simple;
+use crate::surroundings::innermost;
+use crate::walk::{Walk, enter_block, leave_block};
+use pli_base::statement::{Body, Control, Statement};
+use pli_base::syntax::Expression;
+use pli_map::Description;
+use pli_type_tree::{BlockHead, Form, TypedExpression, TypedProcedure, TypedStatement};
 use std::alloc::{AllocError, Global};
 
-/// An assignment, whose fault is put behind the others.
-fn type_assignment(
-    alloc: Global,
-    naming: &Naming<'_>,
-    at: u32,
-    target: &Reference,
-    equals: u32,
-    value: &Expression,
-    faults: &mut Vec<Fault>,
-) -> Result<Option<Form>, AllocError>
-    requires target { later_reference (naming_in naming.now) (syntax.reference_view target.now) ≡ false }
-    requires value { later_expression (naming_in naming.now) (syntax.expression_view value.now) ≡ false }
-    ensures form { IfOk result (λ form. option_map form_view form
-        ≡ given (spec.of_own (spec.assignment (naming_in naming.now) at (syntax.reference_view target.now) equals
-        (syntax.expression_view value.now)))) }
-    ensures faults { OnOk result (faults.new.items
-        ≡ faults.old.items ++ told (spec.of_own (spec.assignment (naming_in naming.now) at
-        (syntax.reference_view target.now) equals (syntax.expression_view value.now)))) }
+/// What a block begins with, and its list, if that has no fault.
+#[derive(Drop)]
+struct TypedBlock {
+    head: BlockHead,
+    list: Option<Vec<TypedStatement>>,
+}
+
+/// The statement of this number, which is the END of a function; it must not be reached.
+fn end_of(returned: Option<&Description>, end: u32) -> Option<u32>
+    ensures { result ≡ spec.function_end (option_map (λ d. description_view d.now) returned.entry) end }
 {
-    let form = assignment(alloc, naming, at, target, equals, value);
-    noted(form, faults)
+    match returned {
+        None => None,
+        Some(_) => Some(end),
+    }
+}
+
+/// A statement without statements in it, whose fault is put behind the others.
+fn type_simple(
+    alloc: Global,
+    walk: &mut Walk<'_>,
+    at: u32,
+    body: &Body,
+) -> Result<Option<Form>, AllocError>
+    requires placed { IsPlaced walk.old }
+    requires built { (first : ℕ) × (later_body (compiled_in walk.old.naming) (main_in walk.old.naming.unit) first (source.body_view body.now) ≡ None) }
+    requires simple { is_compound (source.body_view body.now) ≡ false }
+    ensures walked { IfOk result (λ form. Walks plain.Form walk.old walk.new (next_at walk.old)
+        (spec.of_own (simple_typed (spec.naming_at (unit_at walk.old) (around walk.old)) (around walk.old) at (source.body_view body.now)))
+        (option_map form_view form)) }
+    ensures simple { is_compound (source.body_view body.now) ≡ false }
+{
+    let form = simple(alloc, &walk.naming, &walk.surroundings, at, body);
+    noted(form, &mut walk.faults)
 }
 
 /// A condition, whose fault is put behind the others.
 fn type_condition(
     alloc: Global,
-    naming: &Naming<'_>,
+    walk: &mut Walk<'_>,
     expression: &Expression,
-    faults: &mut Vec<Fault>,
 ) -> Result<Option<TypedExpression>, AllocError>
-    requires { later_expression (naming_in naming.now) (syntax.expression_view expression.now) ≡ false }
-    ensures tested { IfOk result (λ tested. option_map expression_view tested
-        ≡ given (spec.of_own (spec.condition (naming_in naming.now) (syntax.expression_view expression.now)))) }
-    ensures faults { OnOk result (faults.new.items
-        ≡ faults.old.items ++ told (spec.of_own (spec.condition (naming_in naming.now)
-        (syntax.expression_view expression.now)))) }
+    requires placed { IsPlaced walk.old }
+    requires built { later_expression (compiled_in walk.old.naming) (syntax.expression_view expression.now) ≡ false }
+    ensures { IfOk result (λ tested. Walks plain.TypedExpression walk.old walk.new (next_at walk.old)
+        (spec.of_own (spec.condition (spec.naming_at (unit_at walk.old) (around walk.old)) (syntax.expression_view expression.now)))
+        (option_map expression_view tested)) }
 {
-    let tested = condition(alloc, naming, expression);
-    noted(tested, faults)
+    let tested = condition(alloc, &walk.naming, expression);
+    noted(tested, &mut walk.faults)
 }
 
-/// A PUT, whose first fault is put behind the others.
-fn type_put(
+/// So many more.
+fn counted(number: u32, count: u32) -> Result<u32, AllocError>
+    ensures { IfOk result (λ counted. counted ≡ number + count) }
+{
+    number.checked_add(count).ok_or(AllocError)
+}
+
+/// How many parameters these are.
+fn how_many(parameters: &[&Description]) -> Result<u32, AllocError>
+    ensures { IfOk result (λ count. count ≡ length parameters.now) }
+{
+    u32::try_from(parameters.len()).ok().ok_or(AllocError)
+}
+
+/// What controls a group, whose fault is put behind the others; its temporaries are counted.
+fn type_header(
     alloc: Global,
-    naming: &Naming<'_>,
-    skip: bool,
-    expressions: &[Expression],
-    faults: &mut Vec<Fault>,
-) -> Result<Option<Form>, AllocError>
-    requires { list_any (later_expression (naming_in naming.now)) (map syntax.expression_view expressions.now) ≡ false }
-    ensures form { IfOk result (λ form. option_map form_view form
-        ≡ given (spec.put_form skip (spec.items (naming_in naming.now) (map syntax.expression_view expressions.now)))) }
-    ensures faults { OnOk result (faults.new.items
-        ≡ faults.old.items ++ told (spec.put_form skip (spec.items (naming_in naming.now)
-        (map syntax.expression_view expressions.now)))) }
+    walk: &mut Walk<'_>,
+    control: &Option<Control>,
+) -> Result<Option<Header>, AllocError>
+    requires placed { IsPlaced walk.old }
+    requires built { later_part (later_control (compiled_in walk.old.naming)) (option_map source.control_view control.now) ≡ false }
+    ensures { IfOk result (λ header. Walks PlainHeader walk.old walk.new
+        (record { block = walk.old.next.block; temporary = walk.old.next.temporary + kept_by (option_map source.control_view control.now) })
+        (spec.of_own (header_typed (spec.naming_at (unit_at walk.old) (around walk.old)) walk.old.next.temporary
+        (option_map source.control_view control.now))) (option_map header_view header)) }
 {
-    let items = items(alloc, naming, expressions);
-    match noted(items, faults)? {
-        Some(items) => Ok(Some(Form::Put { skip, items })),
-        None => Ok(None),
-    }
+    let temporary = walk.next.temporary;
+    let further = counted(temporary, kept_by(control))?;
+    let header = specified(alloc, &walk.naming, temporary, control);
+    walk.next.temporary = further;
+    noted(header, &mut walk.faults)
 }
 
-/// A form that is not compiled yet, which is Z1 at the token `at`.
-fn type_unbuilt(at: u32, faults: &mut Vec<Fault>) -> Result<Option<Form>, AllocError>
-    ensures form { IfOk result (λ form. option_map form_view form ≡ None) }
-    ensures faults { OnOk result (faults.new.items
-        ≡ faults.old.items ++ record { code = NotYetBuilt; at = at } ∷ []) }
+/// Puts a procedure behind those that have ended, if its list has no fault; it leaves nothing where it stands. The
+/// statement of the number `end` is its END.
+fn finish(
+    walk: &mut Walk<'_>,
+    end: u32,
+    head: BlockHead,
+    list: Option<Vec<TypedStatement>>,
+) -> Result<Option<Form>, AllocError>
+    ensures { IfOk result (λ form. Finishes walk.old walk.new end head
+        (option_map (λ list. statements_view list.items) list) (option_map form_view form)) }
 {
-    faults.push(Fault {
-        code: Code::NotYetBuilt,
-        at,
+    let Some(statements) = list else {
+        return Ok(None);
+    };
+    let parent = innermost(walk.surroundings.lists.as_slice());
+    let procedure = walk.naming.procedure(head.number);
+    let parameters = how_many(procedure.parameters)?;
+    let function_end = end_of(procedure.returned, end);
+    walk.procedures.push(TypedProcedure {
+        head,
+        parent: Some(parent),
+        parameters,
+        function_end,
+        statements,
     })?;
-    Ok(None)
-}
-
-/// What stands behind ELSE, if it has no fault.
-fn if_there(
-    alloc: Global,
-    statement: Option<TypedStatement>,
-) -> Result<Option<Option<Box<TypedStatement>>>, AllocError>
-    ensures { IfOk result (λ made. option_map boxed_view made
-        ≡ option_map Else (option_map statement_view statement)) }
-{
-    match statement {
-        Some(statement) => Ok(Some(Some(Box::new(alloc, statement)?))),
-        None => Ok(None),
-    }
-}
-
-/// An IF of its three parts, if none has a fault.
-fn if_form(
-    alloc: Global,
-    tested: Option<TypedExpression>,
-    consequence: Option<TypedStatement>,
-    alternative: Option<Option<Box<TypedStatement>>>,
-) -> Result<Option<Form>, AllocError>
-    ensures { IfOk result (λ form. option_map form_view form
-        ≡ if_of (option_map expression_view tested) (option_map statement_view consequence)
-        (option_map boxed_view alternative)) }
-{
-    let Some(condition) = tested else {
-        return Ok(None);
-    };
-    let Some(consequence) = consequence else {
-        return Ok(None);
-    };
-    let Some(alternative) = alternative else {
-        return Ok(None);
-    };
-    Ok(Some(Form::If {
-        condition,
-        consequence: Box::new(alloc, consequence)?,
-        alternative,
-    }))
+    Ok(Some(Form::Null))
 }
 
 /// A statement, if it has no fault. Its faults, and those of the statements in it, are put behind the others, in the
@@ -144,125 +149,137 @@ fn if_form(
 #[cycle(typed)]
 fn type_statement(
     alloc: Global,
-    naming: &Naming<'_>,
+    walk: &mut Walk<'_>,
     statement: &Statement,
-    faults: &mut Vec<Fault>,
 ) -> Result<Option<TypedStatement>, AllocError>
-    requires built { later_statement (naming_in naming.now) (main_in naming.now) (source.statement_view statement.now) ≡ None }
-    ensures statement { IfOk result (λ typed. option_map statement_view typed
-        ≡ given (spec.statement_typed (naming_in naming.now) (source.statement_view statement.now))) }
-    ensures faults { OnOk result (faults.new.items
-        ≡ faults.old.items ++ told (spec.statement_typed (naming_in naming.now) (source.statement_view statement.now))) }
+    requires placed { IsPlaced walk.old }
+    requires built { later_statement (compiled_in walk.old.naming) (main_in walk.old.naming.unit) (source.statement_view statement.now) ≡ None }
+    ensures { IfOk result (λ typed. Walks plain.TypedStatement walk.old walk.new
+        (behind (next_at walk.old) (source.statement_view statement.now))
+        (spec.statement_typed (unit_at walk.old) (around walk.old) (next_at walk.old) (source.statement_view statement.now))
+        (option_map statement_view typed)) }
 {
-    match type_body(alloc, naming, statement.at, &statement.body, faults)? {
-        Some(form) => Ok(Some(TypedStatement {
-            number: statement.number,
-            form,
-        })),
-        None => Ok(None),
-    }
+    let form = type_body(alloc, walk, statement.number, statement.at, &statement.body)?;
+    Ok(numbered(statement.number, form))
 }
 
-/// The same of what a statement says, whose first token is `at`.
+/// The same of what the statement of a number says, whose first token behind its label is `at`.
 #[cycle(typed)]
-#[tactic(auto, using(crate::proofs::Noted::given_if, crate::proofs::Noted::told_if, crate::proofs::Noted::given_made, crate::proofs::Noted::told_made, crate::proofs::Built::assignment_built, crate::proofs::Built::put_built, crate::proofs::Built::if_built))]
-fn type_body(
+fn type_body<'a>(
     alloc: Global,
-    naming: &Naming<'_>,
+    walk: &mut Walk<'a>,
+    number: u32,
     at: u32,
     body: &Body,
-    faults: &mut Vec<Fault>,
 ) -> Result<Option<Form>, AllocError>
-    requires built { later_body (naming_in naming.now) (main_in naming.now) at (source.body_view body.now) ≡ None }
-    ensures form { IfOk result (λ form. option_map form_view form
-        ≡ given (spec.body_typed (naming_in naming.now) at (source.body_view body.now))) }
-    ensures faults { OnOk result (faults.new.items
-        ≡ faults.old.items ++ told (spec.body_typed (naming_in naming.now) at (source.body_view body.now))) }
+    requires placed { IsPlaced walk.old }
+    requires built { (first : ℕ) × (later_body (compiled_in walk.old.naming) (main_in walk.old.naming.unit) first (source.body_view body.now) ≡ None) }
+    ensures { IfOk result (λ form. WalksBody walk.old walk.new number at (source.body_view body.now) (option_map form_view form)) }
 {
     match body {
-        Body::Null | Body::Declare(_) => Ok(Some(Form::Null)),
-        Body::Assign {
-            target,
-            equals,
-            value,
-        } => type_assignment(alloc, naming, at, target, *equals, value, faults),
-        Body::Put { skip, items } => type_put(alloc, naming, *skip, items.as_slice(), faults),
+        Body::Procedure(procedure) => {
+            let value = walk.naming.procedure(walk.next.block).returned;
+            let statements = procedure.statements.as_slice();
+            let block = type_block(alloc, walk, 0, value, number, statements)?;
+            finish(walk, procedure.end, block.head, block.list)
+        }
+        Body::Begin { statements, .. } => {
+            let begins = counted(walk.surroundings.begins, 1)?;
+            let value = walk.surroundings.value;
+            let block = type_block(alloc, walk, begins, value, number, statements.as_slice())?;
+            Ok(begin_form(block.head, block.list))
+        }
+        Body::Do {
+            control,
+            statements,
+            ..
+        } => {
+            let header = type_header(alloc, walk, control)?;
+            let list = type_group(alloc, walk, statements.as_slice())?;
+            group_form(alloc, header, list)
+        }
         Body::If {
             condition,
             consequence,
             alternative,
         } => {
-            let tested = type_condition(alloc, naming, condition, faults)?;
-            let consequence = type_statement(alloc, naming, consequence, faults)?;
+            let tested = type_condition(alloc, walk, condition)?;
+            let consequence = type_statement(alloc, walk, consequence)?;
             match alternative {
                 None => if_form(alloc, tested, consequence, Some(None)),
                 Some(statement) => {
-                    let other = type_statement(alloc, naming, statement, faults)?;
-                    let otherwise = if_there(alloc, other)?;
-                    if_form(alloc, tested, consequence, otherwise)
+                    let other = type_statement(alloc, walk, statement)?;
+                    let other = otherwise(alloc, other)?;
+                    if_form(alloc, tested, consequence, other)
                 }
             }
         }
-        Body::Procedure(_)
-        | Body::Begin { .. }
-        | Body::Do { .. }
-        | Body::On { .. }
-        | Body::Revert(_)
-        | Body::Signal(_)
-        | Body::Stop
-        | Body::Allocate(_)
-        | Body::Free(_)
-        | Body::Call { .. }
-        | Body::Goto(_)
-        | Body::Return(_) => type_unbuilt(at, faults),
+        _ => type_simple(alloc, walk, at, body),
     }
 }
 
-/// Whether a statement is a DECLARE, which leaves nothing in the typed tree.
-fn is_declare(body: &Body) -> bool
-    ensures { result ≡ is_declare (source.body_view body.now) }
+/// The list of a block, which stands in so many BEGIN blocks of a procedure that gives this; its PROCEDURE or BEGIN is the
+/// statement of this number.
+#[cycle(typed)]
+fn type_block<'a>(
+    alloc: Global,
+    walk: &mut Walk<'a>,
+    begins: u32,
+    value: Option<&'a Description>,
+    number: u32,
+    statements: &[Statement],
+) -> Result<TypedBlock, AllocError>
+    requires placed { IsPlaced walk.old }
+    requires built { later_statements (compiled_in walk.old.naming) (main_in walk.old.naming.unit) (source.statements_view statements.now) ≡ None }
+    ensures { IfOk result (λ block. WalksBlock walk.old walk.new
+        (in_block walk.old begins (option_map (λ d. description_view d.now) value.entry) (source.statements_view statements.now))
+        number (source.statements_view statements.now) block.head (option_map (λ list. statements_view list.items) block.list)) }
 {
-    matches!(body, Body::Declare(_))
+    let block = enter_block(alloc, walk, begins, value, statements)?;
+    let list = type_statements(alloc, walk, statements)?;
+    let head = leave_block(walk, block, number);
+    Ok(TypedBlock { head, list })
 }
 
-/// Puts a statement behind others, if it has no fault; says whether it has none.
-fn keep(
-    statement: Option<TypedStatement>,
-    statements: &mut Vec<TypedStatement>,
-) -> Result<bool, AllocError>
-    ensures kept { IfOk result (λ kept. kept ≡ is_some (option_map statement_view statement)) }
-    ensures statements { OnOk result (map statement_view statements.new.items
-        ≡ map statement_view statements.old.items ++ listed_if (option_map statement_view statement)) }
+/// The list of a group.
+#[cycle(typed)]
+fn type_group(
+    alloc: Global,
+    walk: &mut Walk<'_>,
+    statements: &[Statement],
+) -> Result<Option<Vec<TypedStatement>>, AllocError>
+    requires placed { IsPlaced walk.old }
+    requires built { later_statements (compiled_in walk.old.naming) (main_in walk.old.naming.unit) (source.statements_view statements.now) ≡ None }
+    ensures { IfOk result (λ typed. WalksList walk.old walk.new
+        (spec.in_group (source.statements_view statements.now) (around walk.old)) (source.statements_view statements.now)
+        (option_map (λ list. statements_view list.items) typed)) }
 {
-    let Some(statement) = statement else {
-        return Ok(false);
-    };
-    statements.push(statement)?;
-    Ok(true)
+    let labels = labels_of(alloc, statements)?;
+    walk.surroundings.enter(None, labels)?;
+    let list = type_statements(alloc, walk, statements)?;
+    walk.surroundings.leave();
+    Ok(list)
 }
 
-/// Statements, without the DECLAREs, if none has a fault. All faults are put behind the others, in the order of the
-/// text. It calls itself as deep as IF statements nest.
+/// Statements, without those that leave nothing, if none has a fault. All faults are put behind the others, in the order
+/// of the text. It calls itself as deep as statements nest.
+#[cycle(typed)]
 pub(crate) fn type_statements(
     alloc: Global,
-    naming: &Naming<'_>,
+    walk: &mut Walk<'_>,
     statements: &[Statement],
-    faults: &mut Vec<Fault>,
 ) -> Result<Option<Vec<TypedStatement>>, AllocError>
-    requires { later_statements (naming_in naming.now) (main_in naming.now) (source.statements_view statements.now) ≡ None }
-    ensures statements { IfOk result (λ typed. option_map (λ list. statements_view list.items) typed
-        ≡ given (spec.statements_typed (naming_in naming.now) (source.statements_view statements.now))) }
-    ensures faults { OnOk result (faults.new.items
-        ≡ faults.old.items ++ told (spec.statements_typed (naming_in naming.now) (source.statements_view statements.now))) }
+    requires placed { IsPlaced walk.old }
+    requires built { later_statements (compiled_in walk.old.naming) (main_in walk.old.naming.unit) (source.statements_view statements.now) ≡ None }
+    ensures { IfOk result (λ typed. WalksList walk.old walk.new (around walk.old) (source.statements_view statements.now)
+        (option_map (λ list. statements_view list.items) typed)) }
 {
     let mut typed = Vec::new(alloc);
     let mut complete = true;
     for statement in statements {
-        if is_declare(&statement.body) {
-            continue;
-        }
-        let kept = type_statement(alloc, naming, statement, faults)?;
-        let is_kept = keep(kept, &mut typed)?;
+        let leaves_nothing = leaves_nothing(&statement.body);
+        let kept = type_statement(alloc, walk, statement)?;
+        let is_kept = keep(leaves_nothing, kept, &mut typed)?;
         complete = complete && is_kept;
     }
     Ok(if complete { Some(typed) } else { None })

@@ -1,5 +1,6 @@
 //! Where a statement stands.
-ghost use Rattle.std.specs.Prelude.{◌≡◌, ◌++◌, ◌-◌, ◌∷◌, [], None, Some, length, take, OnOk};
+ghost use Rattle.std.specs.Prelude.{◌≡◌, ◌++◌, ◌-◌, ◌∷◌, [], length, take, OnOk};
+ghost use Rattle.pli_type_statement.specs.Around.{blocks_of, number_of};
 ghost use Rattle.pli_type_statement.specs.views.AroundView.{lists_view};
 
 use crate::labels::ListLabels;
@@ -19,7 +20,7 @@ impl<'a> Surroundings<'a> {
     /// Goes into a list with these labels, which is that of a block of this number or of a group.
     pub fn enter(&mut self, block: Option<u32>, labels: Vec<u32>) -> Result<(), AllocError>
         ensures lists { OnOk result (lists_view self.new.lists.items
-            ≡ lists_view self.old.lists.items ++ record { block = block; labels = labels.entry.items } ∷ []) }
+            ≡ lists_view self.old.lists.items ++ record { block = block; labels = labels.items } ∷ []) }
         ensures begins { self.new.begins ≡ self.old.begins }
         ensures value { self.new.value ≡ self.old.value }
     {
@@ -36,4 +37,17 @@ impl<'a> Surroundings<'a> {
     {
         self.lists.pop();
     }
+}
+
+/// The number of the block here; the lists stand in one another, the outermost first.
+pub(crate) fn innermost(lists: &[ListLabels]) -> u32
+    ensures { result ≡ number_of (blocks_of (lists_view lists.now)) }
+{
+    let mut number = 0;
+    for list in lists {
+        if let Some(block) = list.block {
+            number = block;
+        }
+    }
+    number
 }

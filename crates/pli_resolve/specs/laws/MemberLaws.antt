@@ -29,8 +29,8 @@ abbrev pub part_on : Description → (path : List ℕ) → Option Description
 part_on d [] = Some d
 part_on d (number ∷ path) = option_and_then (λ member. part_on member path) (member_of d number)
 
--- the root is a variable of the same block; the path leads from it to a part, which is what the member is
--- described as where it is declared
+-- the root is a variable of the same block; the path leads from it to a part, and the name of the same number
+-- in a region is described as that part (that the region is the block's own is not said)
 pub record IsPart (u : ExternalProcedure) (key : SymbolKey) (root : ℕ) (path : List ℕ) : Type 0 where
   pub symbol : Symbol
   pub description : Description

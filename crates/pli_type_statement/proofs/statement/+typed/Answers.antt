@@ -1,111 +1,341 @@
-use Rattle.std.proofs.Common.{◌++◌, option_map, ap, sym, ◌∙◌}
+use Rattle.std.proofs.Common.{◌≡◌, IfOk, ◌+◌, ◌<◌, ◌≤◌, ◌&&◌, ℕ, suc, None, Some, Vec, Global, length, map, drop, option_map, refl, ap, sym, ◌∙◌, subst, arith, true, false}
+use Rattle.pli_base.specs.Statements as tree
+use Rattle.pli_base.specs.declared.statement.Procedure.{out-Procedure}
 use Rattle.pli_base.specs.laws.StatementLaws as laws
 use Rattle.pli_base.specs.views.StatementView as source
-use Rattle.std.proofs.Common.{append-nil, arith}
-use Rattle.pli_type_statement.proofs.Sizes.{statement_size, body_size, alternative_size}
-use Rattle.pli_base.specs.Statements as tree
-use Rattle.pli_base.specs.Statements.{If}
 use Rattle.pli_base.specs.views.SyntaxView as syntax
-use Rattle.pli_type.specs.StatementTyping.{body_typed, statement_typed, alternative_typed, condition}
-use Rattle.pli_type.specs.Unbuilt.{later_body, later_alternative, later_statement}
-use Rattle.pli_type_statement.proofs.Built.{if_built, statement_built}
-use Rattle.pli_type_names.specs.UnitNaming.{naming_in}
-use Rattle.pli_type_tree.specs.TypedTree.{Statement, Else}
-use Rattle.pli_type_tree.specs.views.TypedView.{form_view}
-use Rattle.pli_type_statement.specs.Parts.{told, main_in}
-use Rattle.pli_type_statement.proofs.Noted.{given_made, told_made, if_faults, of_any}
+use Rattle.pli_map.specs.views.DescriptionView.{description_view}
+use Rattle.pli_type.specs.StatementTyping as spec
+use Rattle.pli_type.specs.StatementTyping.{labels_of}
+use Rattle.pli_type.specs.TreeBlocks.{behind}
+use Rattle.pli_type.specs.Unbuilt.{later_alternative, later_body, later_statement, later_statements}
+use Rattle.pli_type_names.specs.UnitNaming.{Names, compiled_in, procedure_in}
+use Rattle.pli_type_tree.specs.TypedTree as plain
+use Rattle.pli_type_tree.specs.declared.statement.TypedStatement.{TypedStatement}
+use Rattle.pli_type_tree.specs.laws.TypedTreeLaws as typed_laws
+use Rattle.pli_type_tree.specs.views.TypedView.{expression_view, form_view, head_view, statement_view, statements_view}
+use Rattle.pli_type_statement.specs.Headers.{group_of}
+use Rattle.pli_type_statement.specs.Parts.{both, if_of, main_in}
+use Rattle.pli_type_statement.specs.Walking.{WalksBody, WalksList, around, next_at, unit_at}
+use Rattle.pli_type_statement.specs.views.AroundView.{around_view}
+use Rattle.pli_type_statement.specs.views.HeaderView.{header_view}
+use Rattle.pli_type_statement.proofs.Blocks.{begin_walked, block_placed, block_walked, group_placed, group_walked, in_group_around, procedure_answer, returned_is}
+use Rattle.pli_type_statement.proofs.Built.{statement_built, procedure_built, do_built, if_built}
+use Rattle.pli_type_statement.proofs.Sizes.{statement_size, body_size, list_size, alternative_size, item_size}
+use Rattle.pli_type_statement.proofs.Turns.{all_walked, do_walked, goes_on_first, goes_on_next, if_next_none, if_next_some, in_front, next_built, none_walked, simple_answer}
+use Rattle.pli_type_statement.proofs.Walked.{as_typed, if_walked, made_walked, back_then, moved, nothing_walked, of_part}
 use Rattle.pli_type_statement.proofs.statement.+typed.Goals as goal
+use Rattle.pli_type_statement.proofs.statement.+typed.Goals.{type_statements-then-complete, type_statements-else-complete, type_statements-then-complete-2, type_statements-else-complete-2}
 
-pub type_statement-returns-in-Some-clause-statement : goal.type_statement-returns-in-Some-clause-statement
-type_statement-returns-in-Some-clause-statement t c =
-    let s = c.args.statement.now in
-    ap (option_map (Statement s.number)) (ap (option_map form_view) (sym c.in-Some.is) ∙ c.in_ok-form.ensures.form)
-    ∙ sym (given_made (Statement s.number) (body_typed (naming_in c.args.naming.now) s.at (source.body_view s.body)))
-
-pub type_statement-returns-in-None-clause-statement : goal.type_statement-returns-in-None-clause-statement
-type_statement-returns-in-None-clause-statement t c =
-    let s = c.args.statement.now in
-    ap (option_map (Statement s.number)) (ap (option_map form_view) (sym c.in-None.is) ∙ c.in_ok-form.ensures.form)
-    ∙ sym (given_made (Statement s.number) (body_typed (naming_in c.args.naming.now) s.at (source.body_view s.body)))
-
-pub type_statement-returns-in-Some-clause-faults : goal.type_statement-returns-in-Some-clause-faults
-type_statement-returns-in-Some-clause-faults t c =
-    let s = c.args.statement.now in
-    c.in_ok-form.ensures.faults
-    ∙ ap (λ fs. c.args.faults.now.items ++ fs) (sym (told_made (Statement s.number) (body_typed (naming_in c.args.naming.now) s.at (source.body_view s.body))))
-
-pub type_statement-returns-in-None-clause-faults : goal.type_statement-returns-in-None-clause-faults
-type_statement-returns-in-None-clause-faults t c =
-    let s = c.args.statement.now in
-    c.in_ok-form.ensures.faults
-    ∙ ap (λ fs. c.args.faults.now.items ++ fs) (sym (told_made (Statement s.number) (body_typed (naming_in c.args.naming.now) s.at (source.body_view s.body))))
+-- statements
 
 pub type_statement-type_body-requires : goal.type_statement-type_body-requires
 type_statement-type_body-requires t c =
-    let s = c.args.statement.now in (
+    let s = c.args.statement.now in
+    let n = c.args.walk.now.naming in (
       omega (arith, c.decreases),
-      statement_built (naming_in c.args.naming.now) (main_in c.args.naming.now) s.number s.label s.at (source.body_view s.body) c.requires.built,
+      (
+        c.requires.placed,
+        statement_built (compiled_in n) (main_in n.unit) s.number s.label s.at (source.body_view s.body) c.requires.built,
+      ),
     )
+
+pub type_statement-returns : goal.type_statement-returns
+type_statement-returns t c =
+    as_typed _ _ _ _ _ _ _ _ refl refl c.numbered.ensures
+    (made_walked (plain.Statement c.args.statement.now.number) _ _ _ _ _ c.in_ok-form.ensures)
+
+-- blocks
+
+pub type_block-type_statements-requires : goal.type_block-type_statements-requires
+type_block-type_statements-requires t c =
+    let ss = source.statements_view c.args.statements.now in (
+      omega (arith, c.decreases),
+      (
+        block_placed c.args.walk.now _ c.in_ok-block.block _ _ _ c.requires.placed c.in_ok-block.ensures,
+        subst (λ (n : Names). later_statements (compiled_in n) (main_in n.unit) ss ≡ None) (sym c.in_ok-block.ensures.naming) c.requires.built,
+      ),
+    )
+
+pub type_block-returns : goal.type_block-returns
+type_block-returns t c =
+    block_walked c.args.walk.now _ _ _ c.in_ok-block.block _ _ c.args.number (source.statements_view c.args.statements.now) _ _
+    c.requires.placed c.in_ok-block.ensures c.in_ok-list.ensures c.leave_block-head.ensures
+
+pub type_body-type_block-requires : goal.type_body-type_block-requires
+type_body-type_block-requires t c =
+    let n = c.args.walk.now.naming in
+    let p = c.in-Procedure.procedure in
+    let ss = source.statements_view c.as_slice-statements.result.now in
+    let h = (source.unit_view p).heading in
+    let end = (source.unit_view p).end in
+    let is : source.body_view c.args.body.now ≡ tree.Procedure h ss end =
+    ap source.body_view c.in-Procedure.is ∙ laws.procedure_body p
+    ∙ ap (λ x. tree.Procedure h x end) (laws.unit_statements p ∙ ap source.statements_view (sym c.as_slice-statements.ensures.value)) in (
+      omega (arith, c.decreases, ap body_size is),
+      (
+        c.requires.placed,
+        procedure_built (compiled_in n) (main_in n.unit) c.requires.built.0 h ss end (ap (later_body (compiled_in n) (main_in n.unit) c.requires.built.0) (sym is) ∙ c.requires.built.1),
+      ),
+    )
+
+pub type_body-returns-in_ok-block-in-Procedure : goal.type_body-returns-in_ok-block-in-Procedure
+type_body-returns-in_ok-block-in-Procedure t c =
+    let p = c.in-Procedure.procedure in
+    let ss = source.statements_view c.as_slice-statements.result.now in
+    let h = (source.unit_view p).heading in
+    let end = (out-Procedure p).end in
+    let is : source.body_view c.args.body.now ≡ tree.Procedure h ss end =
+    ap source.body_view c.in-Procedure.is ∙ laws.procedure_body p
+    ∙ ap (λ x. tree.Procedure h x (source.unit_view p).end) (laws.unit_statements p ∙ ap source.statements_view (sym c.as_slice-statements.ensures.value))
+    ∙ ap (λ (u : tree.ExternalProcedure). tree.Procedure h ss u.end) (laws.unit_out p) in
+    subst (λ b. IfOk c.finish.result (λ form. WalksBody c.args.walk.now c.finish.new.walk c.args.number c.args.at b (option_map form_view form))) (sym is)
+    (procedure_answer form_view c.finish.result c.args.walk.now _ _ c.args.number c.args.at end h ss _ c.in_ok-block-in-Procedure.block.head _
+    (returned_is c.args.walk.now c.args.walk.now.next.block c.procedure.result c.procedure.ensures) c.in_ok-block-in-Procedure.ensures c.finish.ensures)
+
+pub type_body-type_block-requires-in-Begin : goal.type_body-type_block-requires-in-Begin
+type_body-type_block-requires-in-Begin t c =
+    let n = c.args.walk.now.naming in
+    let b = c.in-Begin in
+    let ss = source.statements_view c.as_slice.result.now in
+    let is : source.body_view c.args.body.now ≡ tree.Begin ss b.end =
+    ap source.body_view b.is ∙ laws.begin_made b.statements b.end ∙ ap (λ xs. tree.Begin (source.statements_view xs) b.end) (sym c.as_slice.ensures.value) in (
+      omega (arith, c.decreases, ap body_size is),
+      (
+        c.requires.placed,
+        ap (later_body (compiled_in n) (main_in n.unit) c.requires.built.0) (sym is) ∙ c.requires.built.1,
+      ),
+    )
+
+pub type_body-returns-in_ok-block-in-Begin : goal.type_body-returns-in_ok-block-in-Begin
+type_body-returns-in_ok-block-in-Begin t c =
+    let b = c.in-Begin in
+    let w = c.args.walk.now in
+    let ss = source.statements_view c.as_slice.result.now in
+    let is : source.body_view c.args.body.now ≡ tree.Begin ss b.end =
+    ap source.body_view b.is ∙ laws.begin_made b.statements b.end ∙ ap (λ xs. tree.Begin (source.statements_view xs) b.end) (sym c.as_slice.ensures.value) in
+    let one_more : c.in_ok-begins-in-Begin.begins ≡ suc w.surroundings.begins = c.in_ok-begins-in-Begin.ensures ∙ omega arith in
+    subst (λ x. WalksBody w c.type_block-in-Begin.new.walk c.args.number c.args.at x (option_map form_view c.begin_form.result)) (sym is)
+    (as_typed _ _ _ _ _ _ _ _ refl refl c.begin_form.ensures
+    (begin_walked w _ c.args.number c.args.at ss b.end c.in_ok-begins-in-Begin.begins c.in_ok-block-in-Begin.block.head _ one_more c.in_ok-block-in-Begin.ensures))
+
+-- groups
+
+pub type_body-type_header-requires-clause-placed : goal.type_body-type_header-requires-clause-placed
+type_body-type_header-requires-clause-placed t c = c.requires.placed
+
+pub type_body-type_header-requires-clause-built : goal.type_body-type_header-requires-clause-built
+type_body-type_header-requires-clause-built t c =
+    let n = c.args.walk.now.naming in
+    let b = c.in-Do in
+    let is = ap source.body_view b.is ∙ laws.do_made b.control b.statements b.end in
+    (do_built (compiled_in n) (main_in n.unit) c.requires.built.0 (option_map source.control_view b.control) (source.statements_view b.statements.items) b.end
+    (ap (later_body (compiled_in n) (main_in n.unit) c.requires.built.0) (sym is) ∙ c.requires.built.1)).0
+
+pub type_body-type_group-requires : goal.type_body-type_group-requires
+type_body-type_group-requires t c =
+    let n = c.args.walk.now.naming in
+    let b = c.in-Do in
+    let ss = source.statements_view c.as_slice-in-Do.result.now in
+    let is : source.body_view c.args.body.now ≡ tree.Do (option_map source.control_view b.control) ss b.end =
+    ap source.body_view b.is ∙ laws.do_made b.control b.statements b.end
+    ∙ ap (λ xs. tree.Do (option_map source.control_view b.control) (source.statements_view xs) b.end) (sym c.as_slice-in-Do.ensures.value) in
+    let built = (do_built (compiled_in n) (main_in n.unit) c.requires.built.0 (option_map source.control_view b.control) ss b.end
+    (ap (later_body (compiled_in n) (main_in n.unit) c.requires.built.0) (sym is) ∙ c.requires.built.1)).1 in (
+      omega (arith, c.decreases, ap body_size is),
+      (
+        c.in_ok-header-in-Do.ensures.back.placed,
+        subst (λ (n : Names). later_statements (compiled_in n) (main_in n.unit) ss ≡ None) (sym c.in_ok-header-in-Do.ensures.back.naming) built,
+      ),
+    )
+
+pub type_body-returns-in_ok-list-in-Do : goal.type_body-returns-in_ok-list-in-Do
+type_body-returns-in_ok-list-in-Do t c =
+    let b = c.in-Do in
+    let w = c.args.walk.now in
+    let ss = source.statements_view c.as_slice-in-Do.result.now in
+    let control = option_map source.control_view b.control in
+    let is : source.body_view c.args.body.now ≡ tree.Do control ss b.end =
+    ap source.body_view b.is ∙ laws.do_made b.control b.statements b.end
+    ∙ ap (λ xs. tree.Do control (source.statements_view xs) b.end) (sym c.as_slice-in-Do.ensures.value) in
+    of_part w c.type_group.new.walk _ _ _ form_view c.group_form.result
+    (subst (λ x. WalksBody w c.type_group.new.walk c.args.number c.args.at x (both group_of (option_map header_view c.in_ok-header-in-Do.header) (option_map (λ (list : Vec TypedStatement Global). statements_view list.items) c.in_ok-list-in-Do.list))) (sym is)
+    (do_walked w _ _ c.args.number c.args.at control ss b.end (option_map header_view c.in_ok-header-in-Do.header)
+    (option_map (λ (list : Vec TypedStatement Global). statements_view list.items) c.in_ok-list-in-Do.list) c.in_ok-header-in-Do.ensures c.in_ok-list-in-Do.ensures))
+    c.group_form.ensures
+
+pub type_group-type_statements-requires : goal.type_group-type_statements-requires
+type_group-type_statements-requires t c =
+    (
+      omega (arith, c.decreases),
+      (
+        group_placed c.args.walk.now _ c.in_ok-labels.labels.items c.requires.placed refl (in_group_around c.args.walk.now.surroundings c.enter.new.self _ _ refl c.in_ok-enter.ensures.lists c.enter.ensures.begins c.enter.ensures.value) refl refl,
+        c.requires.built,
+      ),
+    )
+
+pub type_group-returns : goal.type_group-returns
+type_group-returns t c =
+    let ss = source.statements_view c.args.statements.now in
+    group_walked c.args.walk.now _ _ _ ss _ c.requires.placed refl
+    (in_group_around c.args.walk.now.surroundings c.enter.new.self _ _ c.in_ok-labels.ensures c.in_ok-enter.ensures.lists c.enter.ensures.begins c.enter.ensures.value) refl refl refl refl
+    c.in_ok-list.ensures refl c.leave.ensures.lists c.leave.ensures.begins (ap (option_map (λ d. description_view d.now)) c.leave.ensures.value)
+    refl refl refl refl
+
+-- an IF
+
+pub type_body-type_condition-requires-clause-placed : goal.type_body-type_condition-requires-clause-placed
+type_body-type_condition-requires-clause-placed t c = c.requires.placed
+
+pub type_body-type_condition-requires-clause-built : goal.type_body-type_condition-requires-clause-built
+type_body-type_condition-requires-clause-built t c =
+    let n = c.args.walk.now.naming in
+    let b = c.in-If in
+    let is = ap source.body_view b.is ∙ laws.if_made b.condition b.consequence b.alternative in
+    (if_built (compiled_in n) (main_in n.unit) c.requires.built.0 (syntax.expression_view b.condition) (source.statement_view b.consequence.value) (laws.boxed_view b.alternative)
+    (ap (later_body (compiled_in n) (main_in n.unit) c.requires.built.0) (sym is) ∙ c.requires.built.1)).condition
 
 pub type_body-type_statement-requires : goal.type_body-type_statement-requires
 type_body-type_statement-requires t c =
-    let n = naming_in c.args.naming.now in
-    let m = main_in c.args.naming.now in
+    let n = c.args.walk.now.naming in
     let b = c.in-If in
-    let e = ap source.body_view b.is ∙ laws.if_made b.condition b.consequence b.alternative in
-    let parts = if_built n m c.args.at (syntax.expression_view b.condition) (source.statement_view b.consequence.value)
-    (laws.boxed_view b.alternative) (ap (later_body n m c.args.at) (sym e) ∙ c.requires.built) in (
-      omega (arith, c.decreases, ap body_size e, ap (λ s. statement_size (source.statement_view s)) c.deref.ensures),
-      ap (λ s. later_statement n m (source.statement_view s)) c.deref.ensures ∙ parts.consequence,
+    let is = ap source.body_view b.is ∙ laws.if_made b.condition b.consequence b.alternative in
+    let parts = if_built (compiled_in n) (main_in n.unit) c.requires.built.0 (syntax.expression_view b.condition) (source.statement_view b.consequence.value) (laws.boxed_view b.alternative)
+    (ap (later_body (compiled_in n) (main_in n.unit) c.requires.built.0) (sym is) ∙ c.requires.built.1) in
+    let back = c.in_ok-tested-in-If.ensures.back in (
+      omega (arith, c.decreases, ap body_size is, ap (λ s. statement_size (source.statement_view s)) c.deref.ensures),
+      (
+        back.placed,
+        ap (λ (n : Names). later_statement (compiled_in n) (main_in n.unit) (source.statement_view c.deref.result.now)) back.naming ∙ ap (λ s. later_statement (compiled_in n) (main_in n.unit) (source.statement_view s)) c.deref.ensures ∙ parts.consequence,
+      ),
     )
 
 pub type_body-type_statement-requires-in-Some : goal.type_body-type_statement-requires-in-Some
 type_body-type_statement-requires-in-Some t c =
-    let n = naming_in c.args.naming.now in
-    let m = main_in c.args.naming.now in
+    let n = c.args.walk.now.naming in
     let b = c.in-If in
-    let e = ap source.body_view b.is ∙ laws.if_made b.condition b.consequence b.alternative in
-    let parts = if_built n m c.args.at (syntax.expression_view b.condition) (source.statement_view b.consequence.value)
-    (laws.boxed_view b.alternative) (ap (later_body n m c.args.at) (sym e) ∙ c.requires.built) in (
-      omega (arith, c.decreases, ap body_size e, ap (λ a. alternative_size (laws.boxed_view a)) c.in-Some.is, ap (λ s. statement_size (source.statement_view s)) c.deref-in-Some.ensures),
-      ap (λ s. later_statement n m (source.statement_view s)) c.deref-in-Some.ensures
-          ∙ ap (λ a. later_alternative n m (laws.boxed_view a)) (sym c.in-Some.is) ∙ parts.alternative,
+    let is = ap source.body_view b.is ∙ laws.if_made b.condition b.consequence b.alternative in
+    let parts = if_built (compiled_in n) (main_in n.unit) c.requires.built.0 (syntax.expression_view b.condition) (source.statement_view b.consequence.value) (laws.boxed_view b.alternative)
+    (ap (later_body (compiled_in n) (main_in n.unit) c.requires.built.0) (sym is) ∙ c.requires.built.1) in
+    let naming = c.in_ok-consequence-in-If.ensures.back.naming ∙ c.in_ok-tested-in-If.ensures.back.naming in (
+      omega (arith, c.decreases, ap body_size is, ap (λ a. alternative_size (laws.boxed_view a)) c.in-Some.is, ap (λ s. statement_size (source.statement_view s)) c.deref-in-Some.ensures),
+      (
+        c.in_ok-consequence-in-If.ensures.back.placed,
+        ap (λ (n : Names). later_statement (compiled_in n) (main_in n.unit) (source.statement_view c.deref-in-Some.result.now)) naming ∙ ap (λ s. later_statement (compiled_in n) (main_in n.unit) (source.statement_view s)) c.deref-in-Some.ensures ∙ ap (λ a. later_alternative (compiled_in n) (main_in n.unit) (laws.boxed_view a)) (sym c.in-Some.is) ∙ parts.alternative,
+      ),
     )
 
-pub type_body-returns-in-None-clause-faults : goal.type_body-returns-in-None-clause-faults
-type_body-returns-in-None-clause-faults t c =
-    let n = naming_in c.args.naming.now in
-    let old = c.args.faults.now.items in
+-- statements without statements in them
+
+pub type_body-returns-in_default : goal.type_body-returns-in_default
+type_body-returns-in_default t c =
+    let n = c.args.walk.now.naming in
+    simple_answer form_view c.type_simple.result c.args.walk.now _ (compiled_in n) (main_in n.unit) c.requires.built.0 c.args.number c.args.at
+    (source.body_view c.args.body.now) c.type_simple.ensures.simple c.requires.built.1 c.type_simple.ensures.walked
+
+-- lists
+
+pub type_statements-loop-statement-init : goal.type_statements-loop-statement-init
+type_statements-loop-statement-init t c =
+    record {
+      back = record { naming = refl; around = refl; statics = refl; placed = c.requires.placed };
+      goes = λ new part w. subst (λ ts. WalksList c.args.walk.now new (around c.args.walk.now) (source.statements_view c.args.statements.now) (in_front true (map statement_view ts) part))
+          (sym c.new-typed.ensures.items) (goes_on_first c.args.walk.now (source.statements_view c.args.statements.now) new part w);
+      built = c.requires.built;
+    }
+
+pub type_statements-type_statement-requires : goal.type_statements-type_statement-requires
+type_statements-type_statement-requires t c =
+    let n = c.args.walk.now.naming in
+    let ss = c.args.statements.now in
+    let l = c.loop-statement in
+    let inside : l.statement-index < length ss = omega arith in
+    let built = (next_built (compiled_in n) (main_in n.unit) ss l.statement-index c.statement-item.result c.statement-item.is inside l.invariant.built).0 in (
+      omega (arith, c.decreases, item_size ss l.statement-index c.statement-item.result inside c.statement-item.is),
+      (
+        l.invariant.back.placed,
+        ap (λ (n : Names). later_statement (compiled_in n) (main_in n.unit) (source.statement_view c.statement-item.result)) l.invariant.back.naming ∙ built,
+      ),
+    )
+
+pub type_statements-loop-statement-preserved : goal.type_statements-loop-statement-preserved
+type_statements-loop-statement-preserved t c =
+    let n = c.args.walk.now.naming in
+    let ss = c.args.statements.now in
+    let l = c.loop-statement in
+    let i = l.statement-index in
+    let s = c.statement-item.result in
+    let kept = c.in_ok-is_kept.is_kept in
+    let inside : i < length ss = omega arith in
+    let both : c.if-complete.complete ≡ (l.complete && kept) =
+    elim c.if-complete.branch [ type_statements-then-complete w ↦ w.complete-is ∙ sym (ap (λ b. b && kept) w.if-complete.true) | type_statements-else-complete w ↦ w.complete-is ∙ w.if-complete.false ∙ sym (ap (λ b. b && kept) w.if-complete.false) ] in
+    record {
+      back = back_then c.args.walk.now l.walk _ l.invariant.back c.in_ok-kept.ensures.back;
+      goes = goes_on_next c.args.walk.now l.walk _ l.complete kept c.if-complete.complete c.leaves_nothing-leaves_nothing.result (map statement_view l.typed.items)
+          (map statement_view c.keep.new.statements.items) (source.statements_view ss) ss i s (option_map statement_view c.in_ok-kept.kept)
+          c.statement-item.is inside c.leaves_nothing-leaves_nothing.ensures c.in_ok-is_kept.ensures.kept both c.in_ok-is_kept.ensures.statements
+          c.in_ok-kept.ensures l.invariant.goes;
+      built = (next_built (compiled_in n) (main_in n.unit) ss i s c.statement-item.is inside l.invariant.built).1;
+    }
+
+pub type_statements-returns : goal.type_statements-returns
+type_statements-returns t c =
+    let ss = c.args.statements.now in
+    let l = c.loop-statement in
+    let all = source.statements_view ss in
+    let past : length ss ≤ l.statement-index = omega arith in
+    elim c.if-complete-2.branch [ type_statements-then-complete-2 w ↦ subst (λ o. WalksList c.args.walk.now l.walk (around c.args.walk.now) all (option_map (λ (list : Vec TypedStatement Global). statements_view list.items) o)) (sym w.result-is) (all_walked c.args.walk.now l.walk l.complete l.typed.items all ss l.statement-index past w.if-complete-2.true l.invariant.back.placed l.invariant.goes) | type_statements-else-complete-2 w ↦ subst (λ o. WalksList c.args.walk.now l.walk (around c.args.walk.now) all (option_map (λ (list : Vec TypedStatement Global). statements_view list.items) o)) (sym w.result-is) (none_walked c.args.walk.now l.walk l.complete l.typed.items all ss l.statement-index past w.if-complete-2.false l.invariant.back.placed l.invariant.goes) ]
+
+pub type_body-returns-in-None : goal.type_body-returns-in-None
+type_body-returns-in-None t c =
+    let w = c.args.walk.now in
     let b = c.in-If in
     let e = syntax.expression_view b.condition in
     let s = source.statement_view b.consequence.value in
-    let done = c.type_statement.new.faults.items in
-    of_any c.if_form.result
-    (if_faults old c.type_condition.new.faults.items done done (condition n e) (statement_typed n s) (alternative_typed n tree.NoElse)
-    c.in_ok-tested-in-If.ensures.faults
-    (c.in_ok-consequence-in-If.ensures.faults
-    ∙ ap (λ x. c.type_condition.new.faults.items ++ told (statement_typed n (source.statement_view x))) c.deref.ensures)
-    (sym (append-nil done))
-    ∙ sym (ap (λ x. old ++ told (body_typed n c.args.at x)) (ap source.body_view b.is ∙ laws.if_made b.condition b.consequence b.alternative
-    ∙ ap (λ a. If e s (laws.boxed_view a)) c.in-None.is)))
+    let s' = source.statement_view c.deref.result.now in
+    let is : source.body_view c.args.body.now ≡ tree.If e s tree.NoElse =
+    ap source.body_view b.is ∙ laws.if_made b.condition b.consequence b.alternative ∙ ap (λ a. tree.If e s (laws.boxed_view a)) c.in-None.is in
+    let tested = c.in_ok-tested-in-If.ensures in
+    let done = c.in_ok-consequence-in-If.ensures in
+    let mid = c.type_condition.new.walk in
+    let new = c.type_statement.new.walk in
+    let part = if_of (option_map expression_view c.in_ok-tested-in-If.tested) (option_map statement_view c.in_ok-consequence-in-If.consequence) (Some plain.NoElse) in
+    of_part w new _ _ part form_view c.if_form.result
+    (subst (λ x. WalksBody w new c.args.number c.args.at x part) (sym is)
+    (as_typed w new _ _ _ _ _ _ (if_next_none w mid new s s' (ap source.statement_view c.deref.ensures) e tested.next done.next) refl refl
+    (if_walked w mid new new _ _ (next_at new) (spec.condition (spec.naming_at (unit_at w) (around w)) e) _ _ _ _ _ _ _ tested done
+    (nothing_walked new (next_at new) plain.NoElse done.back.placed refl)
+    (moved (λ u a x. spec.statement_typed u a x s') w mid _ tested.back tested.next
+    ∙ ap (λ s. spec.statement_typed (unit_at w) (around w) (next_at w) (source.statement_view s)) c.deref.ensures) refl)))
+    c.if_form.ensures
 
-pub type_body-returns-in_ok-otherwise-in-Some-clause-faults : goal.type_body-returns-in_ok-otherwise-in-Some-clause-faults
-type_body-returns-in_ok-otherwise-in-Some-clause-faults t c =
-    let n = naming_in c.args.naming.now in
-    let old = c.args.faults.now.items in
+pub type_body-returns-in_ok-other-in-Some-2 : goal.type_body-returns-in_ok-other-in-Some-2
+type_body-returns-in_ok-other-in-Some-2 t c =
+    let w = c.args.walk.now in
     let b = c.in-If in
     let e = syntax.expression_view b.condition in
     let s = source.statement_view b.consequence.value in
     let o = source.statement_view c.in-Some.statement.value in
-    let done = c.type_statement.new.faults.items in
-    of_any c.if_form-in-Some.result
-    (if_faults old c.type_condition.new.faults.items done c.type_statement-in-Some.new.faults.items
-    (condition n e) (statement_typed n s) (alternative_typed n (tree.Else o))
-    c.in_ok-tested-in-If.ensures.faults
-    (c.in_ok-consequence-in-If.ensures.faults
-    ∙ ap (λ x. c.type_condition.new.faults.items ++ told (statement_typed n (source.statement_view x))) c.deref.ensures)
-    (c.in_ok-other-in-Some.ensures.faults
-    ∙ ap (λ x. done ++ told (statement_typed n (source.statement_view x))) c.deref-in-Some.ensures
-    ∙ ap (λ fs. done ++ fs) (sym (told_made Else (statement_typed n o))))
-    ∙ sym (ap (λ x. old ++ told (body_typed n c.args.at x)) (ap source.body_view b.is ∙ laws.if_made b.condition b.consequence b.alternative
-    ∙ ap (λ a. If e s (laws.boxed_view a)) c.in-Some.is)))
+    let s' = source.statement_view c.deref.result.now in
+    let o' = source.statement_view c.deref-in-Some.result.now in
+    let is : source.body_view c.args.body.now ≡ tree.If e s (tree.Else o) =
+    ap source.body_view b.is ∙ laws.if_made b.condition b.consequence b.alternative ∙ ap (λ a. tree.If e s (laws.boxed_view a)) c.in-Some.is in
+    let tested = c.in_ok-tested-in-If.ensures in
+    let done = c.in_ok-consequence-in-If.ensures in
+    let other = c.in_ok-other-in-Some.ensures in
+    let mid = c.type_condition.new.walk in
+    let there = c.type_statement.new.walk in
+    let new = c.type_statement-in-Some.new.walk in
+    let part = if_of (option_map expression_view c.in_ok-tested-in-If.tested) (option_map statement_view c.in_ok-consequence-in-If.consequence) (option_map typed_laws.boxed_view c.in_ok-other-in-Some-2.other) in
+    of_part w new _ _ part form_view c.if_form-in-Some.result
+    (subst (λ x. WalksBody w new c.args.number c.args.at x part) (sym is)
+    (as_typed w new _ _ _ _ _ _ (sym other.next ∙ if_next_some w mid there new s s' o o'
+    (ap source.statement_view c.deref.ensures) (ap source.statement_view c.deref-in-Some.ensures) e tested.next done.next other.next) refl refl
+    (if_walked w mid there new _ _ _ (spec.condition (spec.naming_at (unit_at w) (around w)) e) _ _ _ _ _ _ _ tested done
+    (as_typed there new _ _ _ _ _ _ refl refl c.in_ok-other-in-Some-2.ensures (made_walked plain.Else there new _ _ _ other))
+    (moved (λ u a x. spec.statement_typed u a x s') w mid _ tested.back tested.next
+    ∙ ap (λ s. spec.statement_typed (unit_at w) (around w) (next_at w) (source.statement_view s)) c.deref.ensures)
+    (ap (spec.made plain.Else) (moved (λ u a x. spec.statement_typed u a x o') w there (behind (next_at w) s) (back_then w mid there tested.back done.back)
+    (done.next ∙ ap (λ s. behind (next_at mid) (source.statement_view s)) c.deref.ensures ∙ ap (λ n. behind n s) tested.next)
+    ∙ ap (λ z. spec.statement_typed (unit_at w) (around w) (behind (next_at w) s) (source.statement_view z)) c.deref-in-Some.ensures)))))
+    c.if_form-in-Some.ensures

@@ -1,0 +1,131 @@
+-- Calls by CALL, and control variables without subscripts.
+use Rattle.std.proofs.Common.{◌≡◌, arith, ◌∷◌, [], ℕ, nat_eq, List, length, Option, Some, None, option_map, Result, Ok, Err, map, Vec, Global, refl, ap, sym, ◌∙◌, subst}
+use Rattle.std.proofs.lemmas.Bool.{ne_eqb}
+use Rattle.pli_base.specs.Reading.{◌>>=◌, at_fault}
+use Rattle.pli_map.specs.views.DescriptionView.{description_view}
+use Rattle.pli_base.specs.Statements.{Range}
+use Rattle.pli_base.specs.Syntax.{Arguments, Expression, Referred}
+use Rattle.pli_base.specs.declared.syntax.Reference as syntax
+use Rattle.pli_base.specs.declared.syntax.Reference.{out-Reference}
+use Rattle.pli_base.specs.laws.SyntaxLaws.{reference_out}
+use Rattle.pli_base.specs.views.SyntaxView.{reference_view as reference_in}
+use Rattle.pli_type.specs.ExpressionTypes.{TypedValue}
+use Rattle.pli_type.specs.References.{AsLocator}
+use Rattle.pli_type.specs.Typing.{first_token, referred, value_of}
+use Rattle.pli_type_statement.specs.Iterations.{iteration_with}
+use Rattle.pli_base.specs.declared.code.Code.TheVariants.{NotCallableHere}
+use Rattle.pli_base.specs.declared.syntax.Identifier.{Identifier}
+use Rattle.pli_base.specs.declared.token.Fault.{Fault}
+use Rattle.pli_map.specs.Description.{Description}
+use Rattle.pli_map.specs.declared.description.Description as described
+use Rattle.pli_type.specs.FunctionCalls.{Argument, Denoted}
+use Rattle.pli_type.specs.Names.{Naming, NamedAs, NamedProcedure, AVariable, AFunction, AProcedure, ALabel, Untyped}
+use Rattle.pli_type.specs.ProcedureCalls.{arguments_passed}
+use Rattle.pli_type.specs.StatementTyping.{Surroundings, jump, arguments_typed, call_of, call_typed, controls, iteration, limits, no_function, without_subscripts}
+use Rattle.pli_type_expression.specs.answers.TypingAnswers.{Fails}
+use Rattle.pli_type_expression.specs.declared.answer.TypeError.{TypeError}
+use Rattle.pli_type_expression.specs.declared.answer.TypeError.TheVariants as errors
+use Rattle.pli_type_names.specs.Meant.{IsMeantAs, IsProcedure}
+use Rattle.pli_type_names.specs.UnitNaming.{Names, naming_in}
+use Rattle.pli_type_names.specs.declared.naming.NamedAs as program_name
+use Rattle.pli_type_names.specs.declared.naming.NamedAs.TheVariants as answers
+use Rattle.pli_type_names.specs.declared.naming.NamedProcedure as program
+use Rattle.pli_type_tree.specs.TypedTree as typed
+use Rattle.pli_type_tree.specs.TypedTree.{TypedArguments, Form}
+use Rattle.pli_type_tree.specs.declared.expression.Root.{Root}
+use Rattle.pli_type_tree.specs.declared.expression.TypedReference.{Part}
+use Rattle.pli_type_tree.specs.declared.expression.TypedSubscript.{TypedSubscript}
+use Rattle.pli_type_tree.specs.laws.TypedTreeLaws.{part_made}
+use Rattle.pli_type_tree.specs.views.TypedView.{reference_view, root_view, subscripts_view}
+
+-- what a name means that was found to mean a procedure
+pub meant_procedure : (p : program.NamedProcedure) (m : NamedAs) → IsMeantAs (answers.Procedure p) m
+    → (q : NamedProcedure) × (m ≡ AProcedure q) × IsProcedure p q
+meant_procedure p (AProcedure q) h = (q, refl, h)
+meant_procedure p (AVariable v) h = absurd h
+meant_procedure p (AFunction f) h = absurd h
+meant_procedure p (ALabel s) h = absurd h
+meant_procedure p Untyped h = absurd h
+
+pub greatest_is : (names : Names) → (naming_in names).greatest ≡ 31
+unfolding naming_in
+greatest_is names = refl
+
+call_passed : (names : Names) (name : Identifier) (list : Arguments) (gs : List Argument) (q : NamedProcedure)
+    → arguments_typed (naming_in names) list ≡ Ok gs → (naming_in names).meaning name.at ≡ AProcedure q
+    → call_typed (naming_in names) name list
+    ≡ (arguments_passed 31 q name.at gs >>= no_function name.at q.block q.returned)
+call_passed names name list gs q typed meant =
+    ap (λ r. r >>= λ gs. call_of (naming_in names).greatest name.at ((naming_in names).meaning name.at) gs) typed
+    ∙ ap (λ m. call_of (naming_in names).greatest name.at m gs) meant
+    ∙ ap (λ g. arguments_passed g q name.at gs >>= no_function name.at q.block q.returned) (greatest_is names)
+
+pub call_fails : (names : Names) (name : Identifier) (list : Arguments) (gs : List Argument) (q : NamedProcedure) (e : TypeError) (g : ℕ) → g ≡ 31
+    → arguments_typed (naming_in names) list ≡ Ok gs → (naming_in names).meaning name.at ≡ AProcedure q
+    → Fails e (arguments_passed g q name.at gs) → Fails e (call_typed (naming_in names) name list)
+call_fails names name list gs q errors.OutOfMemory g is typed meant h = tt
+call_fails names name list gs q (errors.Fault f) g is typed meant h =
+    call_passed names name list gs q typed meant ∙ ap (λ g. arguments_passed g q name.at gs >>= no_function name.at q.block q.returned) (sym is)
+    ∙ ap (λ r. r >>= no_function name.at q.block q.returned) h
+
+pub call_done : (names : Names) (name : Identifier) (list : Arguments) (gs : List Argument) (q : NamedProcedure) (xs : TypedArguments)
+    (returned : Option Description) (block : ℕ) (g : ℕ) → g ≡ 31 → arguments_typed (naming_in names) list ≡ Ok gs
+    → (naming_in names).meaning name.at ≡ AProcedure q → arguments_passed g q name.at gs ≡ Ok xs
+    → block ≡ q.block → returned ≡ q.returned
+    → call_typed (naming_in names) name list ≡ no_function name.at block returned xs
+call_done names name list gs q xs returned block g small typed meant h is gives =
+    call_passed names name list gs q typed meant ∙ ap (λ g. arguments_passed g q name.at gs >>= no_function name.at q.block q.returned) (sym small) ∙ ap (λ r. r >>= no_function name.at q.block q.returned) h
+    ∙ ap (λ b. no_function name.at b q.returned xs) (sym is) ∙ ap (λ d. no_function name.at block d xs) (sym gives)
+
+-- a reference without subscripts
+bare_list : (root : typed.Root) (offset : ℕ) (d : Description) (xs : List TypedSubscript)
+    → without_subscripts (typed.Part root offset d (subscripts_view xs)) ≡ nat_eq (length xs) 0
+bare_list root offset d [] = refl
+bare_list root offset d (x ∷ xs) = sym (ne_eqb (length (x ∷ xs)) 0 (λ e. omega (arith, e)))
+
+pub bare : (root : Root) (offset : ℕ) (d : described.Description) (xs : Vec TypedSubscript Global)
+    → without_subscripts (reference_view (Part root offset d xs)) ≡ nat_eq (length xs.items) 0
+bare root offset d xs = ap without_subscripts (part_made root offset d xs) ∙ bare_list (root_view root) offset (description_view d) xs.items
+
+-- a control variable that may not control
+
+token_of : (r : syntax.Reference) → first_token (Referred (reference_in r)) ≡ (out-Reference r).first.name.at
+token_of r = ap (λ r. first_token (Referred r)) (reference_out r)
+
+pub iteration_fails : (n : Naming) (temporary : ℕ) (v : syntax.Reference) (equals : ℕ) (first : Expression) (range : Option Range)
+    (tested : Option Expression) (a : TypedValue) (k : typed.TypedRange) (d : Denoted) (e : TypeError)
+    → value_of n first ≡ Ok a → limits n range ≡ Ok k → referred n AsLocator (reference_in v) ≡ Ok d
+    → Fails e (controls (out-Reference v).first.name.at k d)
+    → Fails e (iteration n temporary (reference_in v) equals first range tested)
+iteration_fails n temporary v equals first range tested a k d errors.OutOfMemory x y z h = tt
+iteration_fails n temporary v equals first range tested a k d (errors.Fault f) x y z h =
+    let at = first_token (Referred (reference_in v)) in
+    ap (λ r. r >>= λ a. limits n range >>= λ k. referred n AsLocator (reference_in v) >>= λ d. controls at k d >>= λ r. iteration_with n temporary equals a k r range tested) x
+    ∙ ap (λ r. r >>= λ k. referred n AsLocator (reference_in v) >>= λ d. controls at k d >>= λ r. iteration_with n temporary equals a k r range tested) y
+    ∙ ap (λ r. r >>= λ d. controls at k d >>= λ r. iteration_with n temporary equals a k r range tested) z
+    ∙ ap (λ at. controls at k d >>= λ r. iteration_with n temporary equals a k r range tested) (token_of v)
+    ∙ ap (λ r. r >>= λ r. iteration_with n temporary equals a k r range tested) h
+
+-- labels
+
+pub meant_label : (s : ℕ) (m : NamedAs) → IsMeantAs (answers.Label s) m → m ≡ ALabel s
+meant_label s (ALabel t) h = ap ALabel (sym h)
+meant_label s (AProcedure q) h = absurd h
+meant_label s (AVariable v) h = absurd h
+meant_label s (AFunction f) h = absurd h
+meant_label s Untyped h = absurd h
+
+pub no_jump : (s : Surroundings) (a : program_name.NamedAs) (m : NamedAs) → IsMeantAs a m → ((x : ℕ) → a ≡ answers.Label x → ⊥)
+    → jump s m ≡ None
+no_jump s a (ALabel t) h never = absurd (not_label a t h never)
+  where
+    not_label : (a : program_name.NamedAs) (t : ℕ) → IsMeantAs a (ALabel t) → ((x : ℕ) → a ≡ answers.Label x → ⊥) → ⊥
+    not_label (answers.Label x) t h never = never x refl
+    not_label (answers.Variable v) t h never = h
+    not_label (answers.Function f) t h never = h
+    not_label (answers.Procedure p) t h never = h
+    not_label answers.Untyped t h never = h
+no_jump s a (AProcedure q) h never = refl
+no_jump s a (AVariable v) h never = refl
+no_jump s a (AFunction f) h never = refl
+no_jump s a Untyped h never = refl

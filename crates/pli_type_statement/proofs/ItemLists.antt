@@ -1,0 +1,68 @@
+-- Lists of items, one after another.
+use Rattle.std.proofs.Common.{◌≡◌, ◌++◌, ◌+◌, ◌<◌, ℕ, [], ◌∷◌, List, Result, Ok, Err, map, drop, get_or, length, false, refl, ap, sym, ◌∙◌, append_assoc}
+use Rattle.std.proofs.lemmas.List.{at_drop_more}
+use Rattle.std.specs.List.{list_any}
+use Rattle.pli_base.specs.Reading.{◌>>=◌}
+use Rattle.pli_base.specs.Syntax as tree
+use Rattle.pli_base.specs.declared.syntax.Expression.{Expression}
+use Rattle.pli_base.specs.declared.token.Fault.{Fault}
+use Rattle.pli_base.specs.views.SyntaxView as syntax
+use Rattle.pli_type.specs.Names.{Compiled, Naming}
+use Rattle.pli_type.specs.StatementTyping.{item, items}
+use Rattle.pli_type.specs.Unbuilt.{later_expression}
+use Rattle.pli_type_tree.specs.TypedTree.{TypedExpression}
+use Rattle.pli_type_statement.proofs.Built.{both_false}
+
+-- items in front of those that are left, unless one of these has a fault
+abbrev pub behind : List TypedExpression → Result (List TypedExpression) Fault → Result (List TypedExpression) Fault
+behind xs (Ok ys) = Ok (xs ++ ys)
+behind xs (Err f) = Err f
+
+more_items : (xs : List TypedExpression) (x : TypedExpression) (r : Result (List TypedExpression) Fault)
+    → behind xs (r >>= λ ys. Ok (x ∷ ys)) ≡ behind (xs ++ x ∷ []) r
+more_items xs x (Ok ys) = ap Ok (sym (append_assoc xs (x ∷ []) ys))
+more_items xs x (Err f) = refl
+
+item_then : (n : Naming) (xs : List TypedExpression) (x : TypedExpression) (e : tree.Expression) (es : List tree.Expression)
+    → item n e ≡ Ok x → behind xs (items n (e ∷ es)) ≡ behind (xs ++ x ∷ []) (items n es)
+item_then n xs x e es h =
+    ap (λ r. behind xs (r >>= λ y. items n es >>= λ ys. Ok (y ∷ ys))) h ∙ more_items xs x (items n es)
+
+item_faulty : (n : Naming) (xs : List TypedExpression) (f : Fault) (e : tree.Expression) (es : List tree.Expression)
+    → item n e ≡ Err f → behind xs (items n (e ∷ es)) ≡ Err f
+item_faulty n xs f e es h = ap (λ r. behind xs (r >>= λ y. items n es >>= λ ys. Ok (y ∷ ys))) h
+
+pub none_behind : (r : Result (List TypedExpression) Fault) → behind [] r ≡ r
+none_behind (Ok ys) = refl
+none_behind (Err f) = refl
+
+-- what is left of a list begins with the element of this turn
+pub front : {A B : Type 0} (P : List A → B) (xs : List A) (i : ℕ) (x : A) → x ≡ get_or xs i x → i < length xs
+    → P (drop i xs) ≡ P (x ∷ drop (i + 1) xs)
+front P xs i x is lt = at_drop_more P xs i x lt ∙ ap (λ y. P (y ∷ drop (i + 1) xs)) (sym is)
+
+pub item_built : (n : Compiled) (es : List Expression) (i : ℕ) (e : Expression) → e ≡ get_or es i e → i < length es
+    → list_any (later_expression n) (map syntax.expression_view (drop i es)) ≡ false
+    → (later_expression n (syntax.expression_view e) ≡ false)
+    × (list_any (later_expression n) (map syntax.expression_view (drop (i + 1) es)) ≡ false)
+item_built n es i e is lt h =
+    both_false _ _ (sym (front (λ ys. list_any (later_expression n) (map syntax.expression_view ys)) es i e is lt) ∙ h)
+
+pub item_typed : (n : Naming) (es : List Expression) (i : ℕ) (e : Expression) (xs : List TypedExpression) (x : TypedExpression)
+    (whole : Result (List TypedExpression) Fault) → e ≡ get_or es i e → i < length es
+    → item n (syntax.expression_view e) ≡ Ok x
+    → behind xs (items n (map syntax.expression_view (drop i es))) ≡ whole
+    → behind (xs ++ x ∷ []) (items n (map syntax.expression_view (drop (i + 1) es))) ≡ whole
+item_typed n es i e xs x whole is lt h was =
+    sym (item_then n xs x (syntax.expression_view e) (map syntax.expression_view (drop (i + 1) es)) h)
+    ∙ sym (front (λ ys. behind xs (items n (map syntax.expression_view ys))) es i e is lt)
+    ∙ was
+
+pub item_stops : (n : Naming) (es : List Expression) (i : ℕ) (e : Expression) (xs : List TypedExpression) (f : Fault)
+    (whole : Result (List TypedExpression) Fault) → e ≡ get_or es i e → i < length es
+    → item n (syntax.expression_view e) ≡ Err f
+    → behind xs (items n (map syntax.expression_view (drop i es))) ≡ whole
+    → whole ≡ Err f
+item_stops n es i e xs f whole is lt h was =
+    sym was ∙ front (λ ys. behind xs (items n (map syntax.expression_view ys))) es i e is lt
+    ∙ item_faulty n xs f (syntax.expression_view e) (map syntax.expression_view (drop (i + 1) es)) h

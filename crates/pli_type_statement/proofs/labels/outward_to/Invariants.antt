@@ -1,0 +1,9 @@
+use Rattle.std.proofs.Common.{◌≡◌, None, false, drop}
+use Rattle.pli_type_statement.specs.views.AroundView.{lists_view}
+use Rattle.pli_type_statement.proofs.Searches.{searched}
+use Rattle.pli_type_statement.proofs.labels.outward_to.Given as goal
+
+-- the lists that are left give what all give
+abbrev pub invariant-loop-list : goal.invariant-loop-list
+invariant-loop-list l =
+    searched l.label l.outward l.is_inside (lists_view (drop l.list-index l.lists)) ≡ searched l.label None false (lists_view l.lists)

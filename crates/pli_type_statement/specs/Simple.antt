@@ -1,0 +1,35 @@
+-- Statements without statements in them.
+use Rattle.std.specs.Prelude.{ℕ, Bool, true, false, List, Result, Ok}
+use Rattle.pli_base.specs.Reading.{◌>>=◌, at_fault}
+use Rattle.pli_base.specs.Statements as tree
+use Rattle.pli_base.specs.Syntax.{Expression}
+use Rattle.pli_base.specs.declared.code.Code.TheVariants.{NotYetBuilt}
+use Rattle.pli_base.specs.declared.token.Fault.{Fault}
+use Rattle.pli_type.specs.Names.{Naming}
+use Rattle.pli_type.specs.StatementTyping.{Surroundings, assignment, call_typed, goto_typed, items, return_typed}
+use Rattle.pli_type_tree.specs.TypedTree as typed
+use Rattle.pli_type_tree.specs.TypedTree.{Form}
+
+abbrev pub put_typed : Naming → (skip : Bool) → List Expression → Result Form Fault
+put_typed n skip printed = do
+  xs ← items n printed
+  Ok (typed.Put skip xs)
+
+abbrev pub simple_typed : Naming → Surroundings → (at : ℕ) → tree.Body → Result Form Fault
+simple_typed n s at tree.Null = Ok typed.Null
+simple_typed n s at (tree.Declare declared) = Ok typed.Null
+simple_typed n s at (tree.Assign target equals value) = assignment n at target equals value
+simple_typed n s at tree.Stop = Ok typed.Stop
+simple_typed n s at (tree.Call name arguments) = call_typed n name arguments
+simple_typed n s at (tree.Goto label) = goto_typed n s label
+simple_typed n s at (tree.Return value) = return_typed n s at value
+simple_typed n s at (tree.Put skip printed) = put_typed n skip printed
+simple_typed n s at other = at_fault NotYetBuilt at
+
+-- a statement with statements in it; ON is not compiled yet
+abbrev pub is_compound : tree.Body → Bool
+is_compound (tree.Procedure heading statements end) = true
+is_compound (tree.Begin statements end) = true
+is_compound (tree.Do control statements end) = true
+is_compound (tree.If condition consequence alternative) = true
+is_compound other = false

@@ -1,0 +1,171 @@
+-- What the walk over a unit's statements does at a part of them.
+use Rattle.std.specs.Prelude.{◌≡◌, ◌≤◌, ◌+◌, ◌-◌, ℕ, suc, Option, Some, None, List, [], ◌∷◌, ◌++◌, Result, map}
+use Rattle.std.specs.Prelude.{length, take}
+use Rattle.pli_base.specs.Statements.{Body, ExternalProcedure, Statements}
+use Rattle.pli_base.specs.declared.token.Fault.{Fault}
+use Rattle.pli_map.specs.Description.{Description}
+use Rattle.pli_map.specs.views.DescriptionView.{description_view}
+use Rattle.pli_type.specs.Names.{NamedUnit}
+use Rattle.pli_type.specs.StatementTyping as spec
+use Rattle.pli_type.specs.StatementTyping.{Enclosing, Surroundings, WithProcedures, head_of}
+use Rattle.pli_type.specs.TreeBlocks.{Next, blocks_among}
+use Rattle.pli_type.specs.Unbuilt.{is_main}
+use Rattle.pli_type_names.specs.UnitNaming.{inside, outside}
+use Rattle.pli_type_templates.specs.views.UnitView.{automatic_at}
+use Rattle.pli_type_tree.specs.Templates.{Template}
+use Rattle.pli_type_tree.specs.TypedTree as typed
+use Rattle.pli_type_tree.specs.TypedTree.{Form, TypedProcedure, TypedStatements, TypedUnit}
+use Rattle.pli_type_tree.specs.declared.statement.BlockHead.{BlockHead}
+use Rattle.pli_type_tree.specs.views.TemplateView.{groups_view}
+use Rattle.pli_type_tree.specs.views.TypedView.{head_view, procedure_view}
+use Rattle.pli_type_statement.specs.Around.{Around, Listing, surroundings_of}
+use Rattle.pli_type_statement.specs.Parts.{unit_named, given, told, Adds, behind_body, behind_list}
+use Rattle.pli_type_statement.specs.declared.walk.OpenBlock.{OpenBlock}
+use Rattle.pli_type_statement.specs.declared.walk.Walk.{Walk}
+use Rattle.pli_type_statement.specs.views.AroundView.{around_view, lists_view}
+
+-- where it is
+abbrev pub unit_at : Walk → NamedUnit
+unit_at w = unit_named w.naming.unit
+
+abbrev pub around : Walk → Surroundings
+around w = surroundings_of (around_view w.surroundings)
+
+abbrev pub next_at : Walk → Next
+next_at w = record { block = w.next.block; temporary = w.next.temporary }
+
+abbrev pub finished : Walk → List TypedProcedure
+finished w = map procedure_view w.procedures.items
+
+-- names are looked at from the blocks round the place, and what the variables of the blocks that begin from
+-- here on are made from is still there
+pub record IsPlaced (w : Walk) : Type 0 where
+  pub blocks : w.naming.blocks ≡ map (λ (b : Enclosing). b.number) (around w).blocks
+  pub templates : (block : ℕ) → w.next.block ≤ block
+      → automatic_at w.templates block ≡ (unit_at w).automatic block
+
+-- it is where it was
+pub record IsBack (old new : Walk) : Type 0 where
+  pub naming : new.naming ≡ old.naming
+  pub around : around_view new.surroundings ≡ around_view old.surroundings
+  pub statics : new.templates.statics ≡ old.templates.statics
+  pub placed : IsPlaced new
+
+-- it has walked over a part: that part, if it has no fault; its faults behind the others; and its procedures
+-- behind the others
+pub record Walks (A : Type 0) (old new : Walk) (after : Next)
+    (typed : Result (WithProcedures A) (List Fault)) (answer : Option A) : Type 0 where
+  pub back : IsBack old new
+  pub next : next_at new ≡ after
+  pub part : answer ≡ given typed
+  pub faults : new.faults.items ≡ old.faults.items ++ told typed
+  pub procedures : Adds typed (finished old) (finished new)
+
+-- over what a statement says
+abbrev pub WalksBody : (old new : Walk) → (number at : ℕ) → Body → Option Form → Type 0
+WalksBody old new number at b form =
+    Walks Form old new (behind_body (next_at old) b)
+    (spec.body_typed (unit_at old) (around old) (next_at old) number at b) form
+
+-- over a list in other surroundings than those of the place
+abbrev pub WalksList : (old new : Walk) → Surroundings → Statements → Option TypedStatements → Type 0
+WalksList old new s ss list =
+    Walks TypedStatements old new (behind_list (next_at old) ss)
+    (spec.statements_typed (unit_at old) s (next_at old) ss) list
+
+-- a list that the walk has gone into
+abbrev pub in_list : Around → Listing → (begins : ℕ) → Option Description → Around
+in_list a l begins value = record { lists = a.lists ++ l ∷ []; begins = begins; value = value }
+
+-- it has gone into the next block
+pub record Enters (old new : Walk) (block : OpenBlock) (inner : ℕ) (gives : Option Description)
+    (labels : List ℕ) : Type 0 where
+  pub naming : new.naming ≡ inside old.naming old.next.block
+  pub around : around_view new.surroundings
+      ≡ in_list (around_view old.surroundings) (record { block = Some old.next.block; labels = labels }) inner gives
+  pub next : next_at new ≡ record { block = suc old.next.block; temporary = 0 }
+  pub templates : (k : ℕ) → (k ≡ old.next.block → ⊥)
+      → automatic_at new.templates k ≡ automatic_at old.templates k
+  pub statics : new.templates.statics ≡ old.templates.statics
+  pub faults : new.faults.items ≡ old.faults.items
+  pub procedures : new.procedures.items ≡ old.procedures.items
+  pub number : block.number ≡ old.next.block
+  pub variables : groups_view block.variables.items ≡ automatic_at old.templates old.next.block
+  pub begins : block.begins ≡ old.surroundings.begins
+  pub value : block.value ≡ old.surroundings.value
+  pub temporary : block.temporary ≡ old.next.temporary
+
+-- it has gone out of that block
+pub record Leaves (old new : Walk) (block : OpenBlock) (statement : ℕ) (made : BlockHead) : Type 0 where
+  pub naming : new.naming ≡ outside old.naming
+  pub lists : lists_view new.surroundings.lists.items
+      ≡ take (length (lists_view old.surroundings.lists.items) - 1) (lists_view old.surroundings.lists.items)
+  pub begins : new.surroundings.begins ≡ block.begins
+  pub value : new.surroundings.value ≡ block.value
+  pub next : next_at new ≡ record { block = old.next.block; temporary = block.temporary }
+  pub templates : new.templates ≡ old.templates
+  pub faults : new.faults.items ≡ old.faults.items
+  pub procedures : new.procedures.items ≡ old.procedures.items
+  pub head : head_view made
+      ≡ record {
+        number = block.number;
+        statement = statement;
+        variables = groups_view block.variables.items;
+        temporaries = old.next.temporary;
+      }
+
+-- the whole block
+pub record WalksBlock (old new : Walk) (s : Surroundings) (statement : ℕ) (ss : Statements) (made : BlockHead)
+    (list : Option TypedStatements) : Type 0 where
+  pub walked : Walks TypedStatements old new
+      (record { block = suc old.next.block + blocks_among ss; temporary = old.next.temporary })
+      (spec.statements_typed (unit_at old) s (spec.inside (next_at old)) ss) list
+  pub head : head_view made ≡ head_of (unit_at old) old.next.block statement ss
+
+-- where the statements of the next block stand
+abbrev pub in_block : Walk → (begins : ℕ) → Option Description → Statements → Surroundings
+in_block w begins value ss =
+    surroundings_of (in_list (around_view w.surroundings)
+    (record { block = Some w.next.block; labels = spec.labels_of ss }) begins value)
+
+-- a procedure of this list
+abbrev pub ended_as : Walk → (end : ℕ) → BlockHead → TypedStatements → TypedProcedure
+ended_as w end head list = record {
+  head = head_view head;
+  parent = Some (spec.block_at (around w));
+  parameters = length ((unit_at w).parameters head.number);
+  function_end = spec.function_end ((unit_at w).returned head.number) end;
+  statements = list;
+}
+
+-- it is put behind the others, if the list has no fault
+abbrev pub Ends : Walk → (end : ℕ) → BlockHead → Option TypedStatements → (new : List TypedProcedure) → Option Form
+    → Type 0
+Ends w end head None new form = form ≡ None
+Ends w end head (Some list) new form =
+    (form ≡ Some typed.Null) × (new ≡ finished w ++ ended_as w end head list ∷ [])
+
+pub record Finishes (old new : Walk) (end : ℕ) (head : BlockHead) (list : Option TypedStatements)
+    (form : Option Form) : Type 0 where
+  pub naming : new.naming ≡ old.naming
+  pub surroundings : new.surroundings ≡ old.surroundings
+  pub next : new.next ≡ old.next
+  pub templates : new.templates ≡ old.templates
+  pub faults : new.faults ≡ old.faults
+  pub ends : Ends old end head list (finished new) form
+
+-- a unit of its parts
+abbrev pub unit_with : ExternalProcedure → (statics automatic : List Template) → (temporaries : ℕ)
+    → TypedStatements → List TypedProcedure → TypedUnit
+unit_with u statics automatic temporaries list procedures = record {
+  name = u.heading.name.name;
+  is_main = is_main u;
+  statics = statics;
+  procedures = record {
+    head = record { number = 0; statement = u.heading.number; variables = automatic; temporaries = temporaries };
+    parent = None;
+    parameters = 0;
+    function_end = None;
+    statements = list;
+  } ∷ procedures;
+}

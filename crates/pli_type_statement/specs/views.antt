@@ -1,0 +1,2 @@
+pub mod AroundView
+pub mod HeaderView

@@ -1,0 +1,121 @@
+//! Statements that are put together from their parts, where none of these has a fault.
+ghost use Rattle.std.specs.Prelude.{◌≡◌, ◌++◌, is_some, map, option_map, IfOk, OnOk};
+ghost use Rattle.pli_type_statement.specs.Headers.{group_of};
+ghost use Rattle.pli_type_statement.specs.Parts.{both, if_of, listed_if};
+ghost use Rattle.pli_type_statement.specs.views.HeaderView.{header_view};
+ghost use Rattle.pli_type_tree.specs.TypedTree as plain;
+ghost use Rattle.pli_type_tree.specs.laws.TypedTreeLaws.{boxed_view};
+ghost use Rattle.pli_type_tree.specs.views.TypedView.{expression_view, form_view, head_view, statement_view, statements_view};
+
+use crate::headers::Header;
+use pli_type_tree::{BlockHead, Form, TypedExpression, TypedStatement};
+use std::alloc::{AllocError, Global};
+
+/// A statement of what it says.
+pub(crate) fn numbered(number: u32, form: Option<Form>) -> Option<TypedStatement>
+    ensures { option_map statement_view result ≡ option_map (plain.Statement number) (option_map form_view form) }
+{
+    match form {
+        Some(form) => Some(TypedStatement { number, form }),
+        None => None,
+    }
+}
+
+/// What stands behind ELSE, if it has no fault.
+pub(crate) fn otherwise(
+    alloc: Global,
+    statement: Option<TypedStatement>,
+) -> Result<Option<Option<Box<TypedStatement>>>, AllocError>
+    ensures { IfOk result (λ made. option_map boxed_view made
+        ≡ option_map plain.Else (option_map statement_view statement)) }
+{
+    match statement {
+        Some(statement) => Ok(Some(Some(Box::new(alloc, statement)?))),
+        None => Ok(None),
+    }
+}
+
+/// An IF of its three parts, if none has a fault.
+pub(crate) fn if_form(
+    alloc: Global,
+    tested: Option<TypedExpression>,
+    consequence: Option<TypedStatement>,
+    alternative: Option<Option<Box<TypedStatement>>>,
+) -> Result<Option<Form>, AllocError>
+    ensures { IfOk result (λ form. option_map form_view form
+        ≡ if_of (option_map expression_view tested) (option_map statement_view consequence)
+        (option_map boxed_view alternative)) }
+{
+    let Some(condition) = tested else {
+        return Ok(None);
+    };
+    let Some(consequence) = consequence else {
+        return Ok(None);
+    };
+    let Some(alternative) = alternative else {
+        return Ok(None);
+    };
+    Ok(Some(Form::If {
+        condition,
+        consequence: Box::new(alloc, consequence)?,
+        alternative,
+    }))
+}
+
+/// A BEGIN block of its list, if that has no fault.
+pub(crate) fn begin_form(head: BlockHead, list: Option<Vec<TypedStatement>>) -> Option<Form>
+    ensures { option_map form_view result
+        ≡ option_map (plain.Begin (head_view head)) (option_map (λ list. statements_view list.items) list) }
+{
+    match list {
+        Some(statements) => Some(Form::Begin { head, statements }),
+        None => None,
+    }
+}
+
+/// A group of what controls it and its list, if neither has a fault.
+pub(crate) fn group_form(
+    alloc: Global,
+    header: Option<Header>,
+    list: Option<Vec<TypedStatement>>,
+) -> Result<Option<Form>, AllocError>
+    ensures { IfOk result (λ form. option_map form_view form
+        ≡ both group_of (option_map header_view header) (option_map (λ list. statements_view list.items) list)) }
+{
+    let Some(header) = header else {
+        return Ok(None);
+    };
+    let Some(statements) = list else {
+        return Ok(None);
+    };
+    match header {
+        Header::Plain => Ok(Some(Form::Group(statements))),
+        Header::While(condition) => Ok(Some(Form::While {
+            condition,
+            statements,
+        })),
+        Header::Iterate(iteration) => Ok(Some(Form::Iterate {
+            iteration: Box::new(alloc, iteration)?,
+            statements,
+        })),
+    }
+}
+
+/// Puts a statement behind others, if it has no fault and leaves something; says whether it has none.
+pub(crate) fn keep(
+    leaves_nothing: bool,
+    statement: Option<TypedStatement>,
+    statements: &mut Vec<TypedStatement>,
+) -> Result<bool, AllocError>
+    ensures kept { IfOk result (λ kept. kept ≡ is_some (option_map statement_view statement)) }
+    ensures statements { OnOk result (map statement_view statements.new.items
+        ≡ map statement_view statements.old.items ++ listed_if leaves_nothing (option_map statement_view statement)) }
+{
+    let Some(statement) = statement else {
+        return Ok(false);
+    };
+    if !leaves_nothing {
+        statements.push(statement)?;
+    }
+    Ok(true)
+}

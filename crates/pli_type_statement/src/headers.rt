@@ -1,0 +1,86 @@
+//! What controls a group.
+ghost use Rattle.std.specs.Prelude.{◌≡◌, false, option_map};
+ghost use Rattle.pli_base.specs.views.StatementView.{control_view, range_view};
+ghost use Rattle.pli_type.specs.TreeBlocks as spec;
+ghost use Rattle.pli_type.specs.Unbuilt.{later_control, later_part};
+ghost use Rattle.pli_type_expression.specs.answers.TypingAnswers.{Gives};
+ghost use Rattle.pli_type_names.specs.UnitNaming.{compiled_in, naming_in};
+ghost use Rattle.pli_type_statement.specs.Headers.{header_typed};
+ghost use Rattle.pli_type_statement.specs.views.HeaderView.{header_view};
+
+use crate::items::condition;
+use crate::iteration::{IterationText, iteration};
+use pli_base::statement::{Control, Range};
+use pli_type_expression::TypeError;
+use pli_type_names::Naming;
+use pli_type_tree::{Iteration, TypedExpression};
+use std::alloc::{AllocError, Global};
+
+/// What controls a group.
+#[derive(Drop)]
+pub(crate) enum Header {
+    Plain,
+    While(TypedExpression),
+    Iterate(Iteration),
+}
+
+/// How many numbers a group keeps of what limits it: those of TO and BY, and 1 where TO stands without BY.
+fn limits_kept(range: &Option<Range>) -> u32
+    ensures { result ≡ spec.limits_kept (option_map range_view range.now) }
+{
+    match range {
+        None | Some(Range::Repeat(_)) => 0,
+        Some(Range::To { .. }) => 2,
+        Some(Range::By { to, .. }) => {
+            if to.is_some() {
+                2
+            } else {
+                1
+            }
+        }
+    }
+}
+
+/// How many temporaries a group has: with a control variable one for the value that this begins with, and those of its
+/// limits.
+pub(crate) fn kept_by(control: &Option<Control>) -> u32
+    ensures { result ≡ spec.kept_by (option_map control_view control.now) }
+{
+    match control {
+        None | Some(Control::While(_)) => 0,
+        Some(Control::Iterate { range, .. }) => 1 + limits_kept(range),
+    }
+}
+
+/// What controls a group, whose temporaries begin with this one.
+#[tactic(auto, using(crate::proofs::Built::iteration_built))]
+pub(crate) fn specified(
+    alloc: Global,
+    naming: &Naming<'_>,
+    temporary: u32,
+    control: &Option<Control>,
+) -> Result<Header, TypeError>
+    requires { later_part (later_control (compiled_in naming.now)) (option_map control_view control.now) ≡ false }
+    ensures { Gives header_view result (header_typed (naming_in naming.now) temporary (option_map control_view control.now)) }
+{
+    match control {
+        None => Ok(Header::Plain),
+        Some(Control::While(tested)) => Ok(Header::While(condition(alloc, naming, tested)?)),
+        Some(Control::Iterate {
+            variable,
+            equals,
+            first,
+            range,
+            condition,
+        }) => {
+            let text = IterationText {
+                variable,
+                equals: *equals,
+                first,
+                range,
+                condition,
+            };
+            Ok(Header::Iterate(iteration(alloc, naming, temporary, text)?))
+        }
+    }
+}

@@ -1,0 +1,251 @@
+//! Groups with a control variable.
+ghost use Rattle.std.specs.Prelude.{◌≡◌, false, map, option_map};
+ghost use Rattle.pli_base.specs.views.StatementView.{range_view};
+ghost use Rattle.pli_base.specs.views.SyntaxView as syntax;
+ghost use Rattle.pli_map.specs.views.DescriptionView.{description_view};
+ghost use Rattle.pli_type.specs.StatementTyping as spec;
+ghost use Rattle.pli_type.specs.Unbuilt.{later_expression, later_part, later_range, later_reference};
+ghost use Rattle.pli_type.specs.views.ValueView.{value_view};
+ghost use Rattle.pli_type_expression.specs.answers.TypingAnswers.{Gives};
+ghost use Rattle.pli_type_expression.specs.views.TypingView.{denoted_view, referent_view};
+ghost use Rattle.pli_type_names.specs.UnitNaming.{compiled_in, naming_in};
+ghost use Rattle.pli_type_statement.specs.Iterations.{iteration_with};
+ghost use Rattle.pli_type_tree.specs.views.TypedView as typed;
+
+use crate::items::condition;
+use pli_base::Code;
+use pli_base::statement::Range;
+use pli_base::syntax::{Expression, Reference};
+use pli_map::Description;
+use pli_type::{TypedValue, conversions, converted};
+use pli_type_expression::{
+    Denoted, Referent, Role, TypeError, fault, first_token, referred, value_of,
+};
+use pli_type_names::Naming;
+use pli_type_tree::{Iteration, TypedExpression, TypedRange, TypedReference};
+use std::alloc::Global;
+
+/// TO or BY, which takes a number: T4 at its first token where it has none (X3.74).
+fn limit(
+    alloc: Global,
+    naming: &Naming<'_>,
+    expression: &Expression,
+) -> Result<TypedExpression, TypeError>
+    requires { later_expression (compiled_in naming.now) (syntax.expression_view expression.now) ≡ false }
+    ensures { Gives typed.expression_view result
+        (spec.limit (naming_in naming.now) (syntax.expression_view expression.now)) }
+{
+    let value = value_of(alloc, naming, expression)?;
+    match value.kind.precision(naming.greatest()) {
+        Some(_) => Ok(value.expression),
+        None => Err(fault(Code::WrongOperandType, first_token(expression))),
+    }
+}
+
+/// The second of them, if it stands there.
+fn possible_limit(
+    alloc: Global,
+    naming: &Naming<'_>,
+    expression: &Option<Expression>,
+) -> Result<Option<TypedExpression>, TypeError>
+    requires { later_part (later_expression (compiled_in naming.now)) (option_map syntax.expression_view expression.now) ≡ false }
+    ensures { Gives (option_map typed.expression_view) result
+        (spec.possible_limit (naming_in naming.now) (option_map syntax.expression_view expression.now)) }
+{
+    match expression {
+        None => Ok(None),
+        Some(expression) => Ok(Some(limit(alloc, naming, expression)?)),
+    }
+}
+
+/// TO and BY as they stand; what REPEAT says comes later.
+fn limits(
+    alloc: Global,
+    naming: &Naming<'_>,
+    range: &Option<Range>,
+) -> Result<TypedRange, TypeError>
+    requires { later_part (later_range (compiled_in naming.now)) (option_map range_view range.now) ≡ false }
+    ensures { Gives typed.range_view result (spec.limits (naming_in naming.now) (option_map range_view range.now)) }
+{
+    match range {
+        Some(Range::To { to, by }) => Ok(TypedRange::ToBy {
+            to: limit(alloc, naming, to)?,
+            by: possible_limit(alloc, naming, by)?,
+        }),
+        Some(Range::By { by, to }) => Ok(TypedRange::ByTo {
+            by: limit(alloc, naming, by)?,
+            to: possible_limit(alloc, naming, to)?,
+        }),
+        Some(Range::Repeat(_)) | None => Ok(TypedRange::Once),
+    }
+}
+
+/// Whether a reference has no subscripts.
+fn is_without_subscripts(reference: &TypedReference) -> bool
+    ensures { result ≡ spec.without_subscripts (typed.reference_view reference.now) }
+{
+    match reference {
+        TypedReference::Whole(_) => true,
+        TypedReference::Part { subscripts, .. } => subscripts.is_empty(),
+    }
+}
+
+/// Whether a variable of this description can count: it is a number where TO or BY stands.
+fn suits_range(description: &Description, range: &TypedRange) -> bool
+    ensures { result ≡ spec.suits_range (description_view description.now) (typed.range_view range.now) }
+{
+    match range {
+        TypedRange::Once => true,
+        _ => matches!(description, Description::FixedBinary(_)),
+    }
+}
+
+/// The control variable at the token `at`: a variable without subscripts, and a number where TO or BY stands; T12 there
+/// where it is not (X3.74; that subscripts are refused, own).
+fn controls<'a>(
+    at: u32,
+    range: &TypedRange,
+    variable: Denoted<'a>,
+) -> Result<Referent<'a>, TypeError>
+    ensures { Gives referent_view result (spec.controls at (typed.range_view range.now) (denoted_view variable.entry)) }
+{
+    let Denoted::Variable(referent) = variable else {
+        return Err(fault(Code::NotAVariable, at));
+    };
+    if !is_without_subscripts(&referent.reference) {
+        return Err(fault(Code::BadControlVariable, at));
+    }
+    if !suits_range(referent.description, range) {
+        return Err(fault(Code::BadControlVariable, at));
+    }
+    Ok(referent)
+}
+
+/// WHILE behind them, if it stands there.
+fn possible_condition(
+    alloc: Global,
+    naming: &Naming<'_>,
+    expression: &Option<Expression>,
+) -> Result<Option<TypedExpression>, TypeError>
+    requires { later_part (later_expression (compiled_in naming.now)) (option_map syntax.expression_view expression.now) ≡ false }
+    ensures { Gives (option_map typed.expression_view) result
+        (spec.possible_condition (naming_in naming.now) (option_map syntax.expression_view expression.now)) }
+{
+    match expression {
+        None => Ok(None),
+        Some(expression) => Ok(Some(condition(alloc, naming, expression)?)),
+    }
+}
+
+/// REPEAT: T5 at its expression's first token where that does not suit the variable (X3.74).
+fn next_value(
+    alloc: Global,
+    naming: &Naming<'_>,
+    description: &Description,
+    expression: &Expression,
+) -> Result<TypedRange, TypeError>
+    requires { later_expression (compiled_in naming.now) (syntax.expression_view expression.now) ≡ false }
+    ensures { Gives typed.range_view result
+        (spec.next_value (naming_in naming.now) (description_view description.now) (syntax.expression_view expression.now)) }
+{
+    let value = value_of(alloc, naming, expression)?;
+    match converted(alloc, naming.greatest(), description, value)? {
+        Some(next) => Ok(TypedRange::Repeated(next)),
+        None => Err(fault(Code::CannotAssign, first_token(expression))),
+    }
+}
+
+/// What limits or continues a group, with REPEAT if it stands there.
+fn with_repeat(
+    alloc: Global,
+    naming: &Naming<'_>,
+    description: &Description,
+    kept: TypedRange,
+    range: &Option<Range>,
+) -> Result<TypedRange, TypeError>
+    requires { later_part (later_range (compiled_in naming.now)) (option_map range_view range.now) ≡ false }
+    ensures { Gives typed.range_view result
+        (spec.with_repeat (naming_in naming.now) (description_view description.now) (typed.range_view kept)
+        (option_map range_view range.now)) }
+{
+    match range {
+        Some(Range::Repeat(next)) => next_value(alloc, naming, description, next),
+        _ => Ok(kept),
+    }
+}
+
+/// What `DO v = a ..` says.
+#[derive(Clone, Copy)]
+pub(crate) struct IterationText<'s> {
+    pub variable: &'s Reference,
+    /// The token of `=`.
+    pub equals: u32,
+    pub first: &'s Expression,
+    pub range: &'s Option<Range>,
+    pub condition: &'s Option<Expression>,
+}
+
+/// The group of its first value, what limits it and its variable: T5 at `=` where the value does not suit the variable,
+/// then the faults of WHILE, and those of REPEAT (own).
+fn iterated(
+    alloc: Global,
+    naming: &Naming<'_>,
+    temporary: u32,
+    text: IterationText<'_>,
+    start: TypedValue,
+    kept: TypedRange,
+    variable: Referent<'_>,
+) -> Result<Iteration, TypeError>
+    requires range { later_part (later_range (compiled_in naming.now)) (option_map range_view text.range.now) ≡ false }
+    requires condition { later_part (later_expression (compiled_in naming.now))
+        (option_map syntax.expression_view text.condition.now) ≡ false }
+    ensures { Gives typed.iteration_view result
+        (iteration_with (naming_in naming.now) temporary text.entry.equals (value_view start)
+        (typed.range_view kept) (referent_view variable.entry) (option_map range_view text.entry.range.now)
+        (option_map syntax.expression_view text.entry.condition.now)) }
+{
+    let Some(conversion) = conversions(
+        alloc,
+        naming.greatest(),
+        variable.description,
+        start.kind,
+    )?
+    else {
+        return Err(fault(Code::CannotAssign, text.equals));
+    };
+    let condition = possible_condition(alloc, naming, text.condition)?;
+    let range = with_repeat(alloc, naming, variable.description, kept, text.range)?;
+    Ok(Iteration {
+        control: variable.reference,
+        conversion,
+        start: start.expression,
+        range,
+        condition,
+        temporary,
+    })
+}
+
+/// What `DO v = a ..` says, whose temporaries begin with this one, or its first fault: those of a, of TO and BY, of v, then
+/// T12 at v, T5 at `=`, those of WHILE, and those of REPEAT (own).
+pub(crate) fn iteration(
+    alloc: Global,
+    naming: &Naming<'_>,
+    temporary: u32,
+    text: IterationText<'_>,
+) -> Result<Iteration, TypeError>
+    requires variable { later_reference (compiled_in naming.now) (syntax.reference_view text.variable.now) ≡ false }
+    requires first { later_expression (compiled_in naming.now) (syntax.expression_view text.first.now) ≡ false }
+    requires range { later_part (later_range (compiled_in naming.now)) (option_map range_view text.range.now) ≡ false }
+    requires condition { later_part (later_expression (compiled_in naming.now))
+        (option_map syntax.expression_view text.condition.now) ≡ false }
+    ensures { Gives typed.iteration_view result
+        (spec.iteration (naming_in naming.now) temporary (syntax.reference_view text.entry.variable.now) text.entry.equals
+        (syntax.expression_view text.entry.first.now) (option_map range_view text.entry.range.now)
+        (option_map syntax.expression_view text.entry.condition.now)) }
+{
+    let start = value_of(alloc, naming, text.first)?;
+    let kept = limits(alloc, naming, text.range)?;
+    let variable = referred(alloc, naming, Role::Locator, text.variable)?;
+    let variable = controls(text.variable.first.name.at, &kept, variable)?;
+    iterated(alloc, naming, temporary, text, start, kept, variable)
+}

@@ -1,0 +1,70 @@
+//! Statements without statements in them.
+ghost use Rattle.std.specs.Prelude.{◌≡◌, ℕ, None, false, map};
+ghost use Rattle.std.specs.List.{list_any};
+ghost use Rattle.pli_base.specs.views.StatementView as source;
+ghost use Rattle.pli_base.specs.views.SyntaxView as syntax;
+ghost use Rattle.pli_type.specs.Unbuilt.{later_body, later_expression};
+ghost use Rattle.pli_type_expression.specs.answers.TypingAnswers.{Gives};
+ghost use Rattle.pli_type_names.specs.UnitNaming.{compiled_in, naming_in};
+ghost use Rattle.pli_type_statement.specs.Around.{surroundings_of};
+ghost use Rattle.pli_type_statement.specs.Parts.{main_in};
+ghost use Rattle.pli_type_statement.specs.Simple.{put_typed, simple_typed};
+ghost use Rattle.pli_type_statement.specs.views.AroundView.{around_view};
+ghost use Rattle.pli_type_tree.specs.views.TypedView.{form_view};
+
+use crate::assignment::assignment;
+use crate::calls::call;
+use crate::items::items;
+use crate::jumps::{jump, returned};
+use crate::surroundings::Surroundings;
+use pli_base::Code;
+use pli_base::statement::Body;
+use pli_base::syntax::Expression;
+use pli_type_expression::{TypeError, fault};
+use pli_type_names::Naming;
+use pli_type_tree::Form;
+use std::alloc::Global;
+
+/// A PUT, or the first fault of its items.
+fn put(
+    alloc: Global,
+    naming: &Naming<'_>,
+    skip: bool,
+    expressions: &[Expression],
+) -> Result<Form, TypeError>
+    requires { list_any (later_expression (compiled_in naming.now)) (map syntax.expression_view expressions.now) ≡ false }
+    ensures { Gives form_view result
+        (put_typed (naming_in naming.now) skip (map syntax.expression_view expressions.now)) }
+{
+    let items = items(alloc, naming, expressions)?;
+    Ok(Form::Put { skip, items })
+}
+
+/// A statement without statements in it, which begins at the token `at`. What is not compiled yet is Z1 there.
+#[tactic(auto, using(crate::proofs::Built::assignment_built, crate::proofs::Built::call_built, crate::proofs::Built::return_built, crate::proofs::Built::put_built))]
+pub(crate) fn simple(
+    alloc: Global,
+    naming: &Naming<'_>,
+    around: &Surroundings<'_>,
+    at: u32,
+    body: &Body,
+) -> Result<Form, TypeError>
+    requires { (first : ℕ) × (later_body (compiled_in naming.now) (main_in naming.now.unit) first (source.body_view body.now) ≡ None) }
+    ensures { Gives form_view result
+        (simple_typed (naming_in naming.now) (surroundings_of (around_view around.now)) at (source.body_view body.now)) }
+{
+    match body {
+        Body::Null | Body::Declare(_) => Ok(Form::Null),
+        Body::Stop => Ok(Form::Stop),
+        Body::Assign {
+            target,
+            equals,
+            value,
+        } => assignment(alloc, naming, at, target, *equals, value),
+        Body::Call { name, arguments } => call(alloc, naming, *name, arguments),
+        Body::Goto(label) => jump(naming, around, *label),
+        Body::Return(value) => returned(alloc, naming, around, at, value),
+        Body::Put { skip, items } => put(alloc, naming, *skip, items.as_slice()),
+        _ => Err(fault(Code::NotYetBuilt, at)),
+    }
+}

@@ -1,0 +1,103 @@
+//! The walk over the statements of a unit: what it keeps, and how it goes into blocks and out of them.
+ghost use Rattle.std.specs.Prelude.{◌≡◌, option_map, IfOk};
+ghost use Rattle.pli_base.specs.views.StatementView as source;
+ghost use Rattle.pli_map.specs.views.DescriptionView.{description_view};
+ghost use Rattle.pli_type.specs.StatementTyping.{labels_of};
+ghost use Rattle.pli_type_statement.specs.Walking.{Enters, Leaves};
+
+use crate::labels::labels_of;
+use crate::surroundings::Surroundings;
+use pli_base::Fault;
+use pli_base::statement::Statement;
+use pli_map::Description;
+use pli_type_names::Naming;
+use pli_type_templates::UnitTemplates;
+use pli_type_tree::{BlockHead, TypedProcedure, VariableGroup};
+use std::alloc::{AllocError, Global};
+
+/// The next block of the unit, and the next temporary of the block here.
+#[derive(Clone, Copy)]
+pub(crate) struct Next {
+    pub block: u32,
+    pub temporary: u32,
+}
+
+/// Where the walk is, and what it has found: faults, and the procedures that have ended, in the order in which they end.
+#[derive(Drop)]
+pub(crate) struct Walk<'a> {
+    pub naming: Naming<'a>,
+    pub surroundings: Surroundings<'a>,
+    pub next: Next,
+    /// What the variables of the blocks that are still to come are made from.
+    pub templates: UnitTemplates,
+    pub faults: Vec<Fault>,
+    pub procedures: Vec<TypedProcedure>,
+}
+
+/// A block that the walk has gone into, with what is outside of it.
+#[derive(Drop)]
+pub(crate) struct OpenBlock<'a> {
+    pub number: u32,
+    pub variables: Vec<VariableGroup>,
+    pub begins: u32,
+    pub value: Option<&'a Description>,
+    pub temporary: u32,
+}
+
+/// Goes into the next block, which has these statements, and stands in so many BEGIN blocks of a procedure that gives
+/// this.
+pub(crate) fn enter_block<'a>(
+    alloc: Global,
+    walk: &mut Walk<'a>,
+    begins: u32,
+    value: Option<&'a Description>,
+    statements: &[Statement],
+) -> Result<OpenBlock<'a>, AllocError>
+    ensures { IfOk result (λ block. Enters walk.old walk.new block begins
+        (option_map (λ d. description_view d.now) value.entry) (labels_of (source.statements_view statements.now))) }
+{
+    let labels = labels_of(alloc, statements)?;
+    let number = walk.next.block;
+    let block = number.checked_add(1).ok_or(AllocError)?;
+    walk.naming.enter(number)?;
+    let open = OpenBlock {
+        number,
+        variables: walk.templates.take(alloc, number),
+        begins: walk.surroundings.begins,
+        value: walk.surroundings.value,
+        temporary: walk.next.temporary,
+    };
+    walk.surroundings.enter(Some(number), labels)?;
+    walk.surroundings.begins = begins;
+    walk.surroundings.value = value;
+    walk.next = Next {
+        block,
+        temporary: 0,
+    };
+    Ok(open)
+}
+
+/// Goes out of a block, whose PROCEDURE or BEGIN is this statement; gives what its activations begin with.
+pub(crate) fn leave_block<'a>(walk: &mut Walk<'a>, block: OpenBlock<'a>, statement: u32) -> BlockHead
+    ensures { Leaves walk.old walk.new block.entry statement result }
+{
+    let head = BlockHead {
+        number: block.number,
+        statement,
+        variables: block.variables,
+        temporaries: walk.next.temporary,
+    };
+    walk.naming.leave();
+    walk.surroundings.leave();
+    walk.surroundings.begins = block.begins;
+    walk.surroundings.value = block.value;
+    walk.next.temporary = block.temporary;
+    head
+}
+
+#[tactic(auto, using(crate::proofs::Walked::if_walked, crate::proofs::Blocks::procedure_walked, crate::proofs::Turns::all_walked, crate::proofs::Units::typed, crate::proofs::Sizes::item_size))]
+pub(crate) fn probe(n: u8) -> u8
+    ensures { result ≡ n }
+{
+    n
+}
