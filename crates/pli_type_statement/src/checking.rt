@@ -83,8 +83,8 @@ fn in_unit<'a>(alloc: Global, statements: &[Statement]) -> Result<Surroundings<'
     })
 }
 
-/// The typed unit of its tree, what the variables of block 0 are made from, its typed statements, and what the walk over
-/// these has found.
+/// The typed unit of its tree, what the variables of block 0 are made from, its typed statements, and what the walk
+/// over these has found.
 #[tactic(auto, using(crate::proofs::Beginnings::unit_named_so))]
 fn typed_unit(
     tree: &Procedure,
