@@ -223,9 +223,11 @@ procedure_ends : (r : Result (WithProcedures TypedStatements) (List Fault)) (mak
     → Ends w end head list new form
     → (form ≡ given (spec.as_procedure make r)) × Adds (spec.as_procedure make r) old new
 procedure_ends (Ok x) make old mid new list w end head form is adds same ends =
-    let there : Ends w end head (Some x.part) new form = subst (λ l. Ends w end head l new form) is ends in
-    (there.0, there.1 ∙ ap (λ ps. ps ++ ended_as w end head x.part ∷ []) adds
-        ∙ ap (λ p. (old ++ x.procedures) ++ p ∷ []) (same x.part) ∙ append_assoc old x.procedures (make x.part ∷ []))
+    let there : Ends w end head (Some x.part) new form = subst (λ l. Ends w end head l new form) is ends in (
+      there.0,
+      there.1 ∙ ap (λ ps. ps ++ ended_as w end head x.part ∷ []) adds
+          ∙ ap (λ p. (old ++ x.procedures) ++ p ∷ []) (same x.part) ∙ append_assoc old x.procedures (make x.part ∷ []),
+    )
 procedure_ends (Err fs) make old mid new list w end head form is adds same ends =
     (subst (λ l. Ends w end head l new form) is ends, tt)
 
@@ -251,10 +253,10 @@ procedure_walked old mid new number at end heading ss value head list form gives
     let make = spec.procedure_of (unit_at old) (Some (spec.block_at (around old))) b number end ss in
     let counted : head.number ≡ b = ap (λ (h : typed.BlockHead). h.number) w.head in
     let same : (x : TypedStatements) → ended_as mid end head x ≡ make x = λ x.
-        ap (λ (n : Names). record { head = head_view head; parent = Some (spec.block_at (around mid)); parameters = length ((unit_named n.unit).parameters head.number); function_end = spec.function_end ((unit_named n.unit).returned head.number) end; statements = x }) w.walked.back.naming
-        ∙ ap (λ (a : Around). record { head = head_view head; parent = Some (spec.block_at (surroundings_of a)); parameters = length ((unit_at old).parameters head.number); function_end = spec.function_end ((unit_at old).returned head.number) end; statements = x }) w.walked.back.around
-        ∙ ap (λ k. record { head = head_view head; parent = Some (spec.block_at (around old)); parameters = length ((unit_at old).parameters k); function_end = spec.function_end ((unit_at old).returned k) end; statements = x }) counted
-        ∙ ap (λ h. record { head = h; parent = Some (spec.block_at (around old)); parameters = length ((unit_at old).parameters b); function_end = spec.function_end ((unit_at old).returned b) end; statements = x }) w.head in
+    ap (λ (n : Names). record { head = head_view head; parent = Some (spec.block_at (around mid)); parameters = length ((unit_named n.unit).parameters head.number); function_end = spec.function_end ((unit_named n.unit).returned head.number) end; statements = x }) w.walked.back.naming
+    ∙ ap (λ (a : Around). record { head = head_view head; parent = Some (spec.block_at (surroundings_of a)); parameters = length ((unit_at old).parameters head.number); function_end = spec.function_end ((unit_at old).returned head.number) end; statements = x }) w.walked.back.around
+    ∙ ap (λ k. record { head = head_view head; parent = Some (spec.block_at (around old)); parameters = length ((unit_at old).parameters k); function_end = spec.function_end ((unit_at old).returned k) end; statements = x }) counted
+    ∙ ap (λ h. record { head = h; parent = Some (spec.block_at (around old)); parameters = length ((unit_at old).parameters b); function_end = spec.function_end ((unit_at old).returned b) end; statements = x }) w.head in
     let r = statements_typed (unit_at old) (in_procedure b ((unit_at old).returned b) ss (around old)) (spec.inside (next_at old)) ss in
     let both = procedure_ends r make (finished old) (finished mid) (finished new) list mid end head form (w.walked.part ∙ ap given asked)
     (subst (λ r. Adds r (finished old) (finished mid)) asked w.walked.procedures) same ended.ends in

@@ -1,6 +1,8 @@
 -- Calls by CALL, and control variables without subscripts.
-use Rattle.std.proofs.Common.{◌≡◌, arith, ◌∷◌, [], ℕ, nat_eq, List, length, Option, Some, None, option_map, Result, Ok, Err, map, Vec, Global, refl, ap, sym, ◌∙◌, subst}
-use Rattle.std.proofs.lemmas.Bool.{ne_eqb}
+use Rattle.std.proofs.Common.{◌≡◌, arith, ◌∷◌, [], ℕ, List, length, Option, Some, None, option_map, Result, Ok, Err, map, Vec, Global, refl, ap, sym, ◌∙◌, subst}
+use Rattle.std.specs.Bool.{◌==◌}
+use Rattle.std.specs.Vec.{vec_len}
+use Rattle.std.proofs.lemmas.Bool.{eq-eqb, ne_eqb}
 use Rattle.pli_base.specs.Reading.{◌>>=◌, at_fault}
 use Rattle.pli_map.specs.views.DescriptionView.{description_view}
 use Rattle.pli_base.specs.Statements.{Range}
@@ -78,14 +80,15 @@ call_done names name list gs q xs returned block g small typed meant h is gives 
     ∙ ap (λ b. no_function name.at b q.returned xs) (sym is) ∙ ap (λ d. no_function name.at block d xs) (sym gives)
 
 -- a reference without subscripts
-bare_list : (root : typed.Root) (offset : ℕ) (d : Description) (xs : List TypedSubscript)
-    → without_subscripts (typed.Part root offset d (subscripts_view xs)) ≡ nat_eq (length xs) 0
-bare_list root offset d [] = refl
-bare_list root offset d (x ∷ xs) = sym (ne_eqb (length (x ∷ xs)) 0 (λ e. omega (arith, e)))
+bare_list : (root : typed.Root) (offset : ℕ) (d : Description) (xs : List TypedSubscript) (n : ℕ) → n ≡ length xs
+    → (n == 0) ≡ without_subscripts (typed.Part root offset d (subscripts_view xs))
+bare_list root offset d [] n e = eq-eqb n 0 e
+bare_list root offset d (x ∷ xs) n e = ne_eqb n 0 (λ none. omega (arith, e, none))
 
 pub bare : (root : Root) (offset : ℕ) (d : described.Description) (xs : Vec TypedSubscript Global)
-    → without_subscripts (reference_view (Part root offset d xs)) ≡ nat_eq (length xs.items) 0
-bare root offset d xs = ap without_subscripts (part_made root offset d xs) ∙ bare_list (root_view root) offset (description_view d) xs.items
+    → (vec_len xs == 0) ≡ without_subscripts (reference_view (Part root offset d xs))
+bare root offset d xs = bare_list (root_view root) offset (description_view d) xs.items (vec_len xs) xs.ok.0
+    ∙ ap without_subscripts (sym (part_made root offset d xs))
 
 -- a control variable that may not control
 

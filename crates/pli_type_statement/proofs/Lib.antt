@@ -1,3 +1,4 @@
+pub mod Beginnings
 pub mod Blocks
 pub mod Built
 pub mod Called

@@ -40,4 +40,5 @@ number_of bs = block_at (record { blocks = bs; begins = 0; value = None })
 
 -- in the list of an external procedure, with these labels
 abbrev pub outermost : List ℕ → Around
-outermost labels = record { lists = record { block = Some 0; labels = labels } ∷ []; begins = 0; value = None }
+outermost labels =
+    record { lists = record { block = Some 0; labels = labels } ∷ []; begins = 0; value = None }

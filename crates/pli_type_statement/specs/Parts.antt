@@ -1,5 +1,6 @@
 -- A part of a unit with its faults apart: what it is where it has none, and those that it has.
-use Rattle.std.specs.Prelude.{◌≡◌, ℕ, ◌+◌, suc, Bool, true, false, Option, Some, None, List, [], ◌∷◌, ◌++◌, Result}
+use Rattle.std.specs.Prelude.{◌≡◌, ℕ, ◌+◌, suc, Bool, true, false, Option, Some, None, Result}
+use Rattle.std.specs.Prelude.{List, [], ◌∷◌, ◌++◌}
 use Rattle.std.specs.Prelude.{Ok, Err}
 use Rattle.pli_base.specs.Statements as source
 use Rattle.pli_base.specs.declared.statement.Procedure.{Procedure}
@@ -27,7 +28,8 @@ told (Ok x) = []
 told (Err fs) = fs
 
 -- the procedures in it are put behind others; where it has a fault nothing is said of them
-abbrev pub Adds : {A : Type 0} → Result (WithProcedures A) (List Fault) → (old new : List typed.TypedProcedure)
+abbrev pub Adds : {A : Type 0} → Result (WithProcedures A) (List Fault)
+    → (old new : List typed.TypedProcedure)
     → Type 0
 Adds (Ok x) old new = new ≡ old ++ x.procedures
 Adds (Err fs) old new = Unit {0}
@@ -68,10 +70,12 @@ abbrev pub behind_body : Next → source.Body → Next
 behind_body x b = record { block = x.block + blocks_of b; temporary = x.temporary + temporaries_of b }
 
 abbrev pub behind_list : Next → source.Statements → Next
-behind_list x ss = record { block = x.block + blocks_among ss; temporary = x.temporary + temporaries_among ss }
+behind_list x ss =
+    record { block = x.block + blocks_among ss; temporary = x.temporary + temporaries_among ss }
 
 abbrev pub behind_other : Next → source.Alternative → Next
-behind_other x a = record { block = x.block + blocks_behind a; temporary = x.temporary + temporaries_behind a }
+behind_other x a =
+    record { block = x.block + blocks_behind a; temporary = x.temporary + temporaries_behind a }
 
 -- a unit as types see it, and whether it is MAIN
 unfoldable pub unit_named : Procedure → NamedUnit

@@ -6,7 +6,8 @@ use Rattle.pli_base.specs.Syntax.{Expression}
 use Rattle.pli_base.specs.declared.code.Code.TheVariants.{NotYetBuilt}
 use Rattle.pli_base.specs.declared.token.Fault.{Fault}
 use Rattle.pli_type.specs.Names.{Naming}
-use Rattle.pli_type.specs.StatementTyping.{Surroundings, assignment, call_typed, goto_typed, items, return_typed}
+use Rattle.pli_type.specs.StatementTyping.{Surroundings, assignment, call_typed, goto_typed}
+use Rattle.pli_type.specs.StatementTyping.{items, return_typed}
 use Rattle.pli_type_tree.specs.TypedTree as typed
 use Rattle.pli_type_tree.specs.TypedTree.{Form}
 

@@ -1,6 +1,6 @@
 -- What the walk over a unit's statements does at a part of them.
-use Rattle.std.specs.Prelude.{◌≡◌, ◌≤◌, ◌+◌, ◌-◌, ℕ, suc, Option, Some, None, List, [], ◌∷◌, ◌++◌, Result, map}
-use Rattle.std.specs.Prelude.{length, take}
+use Rattle.std.specs.Prelude.{◌≡◌, ◌≤◌, ◌+◌, ◌-◌, ℕ, suc, Option, Some, None, Result}
+use Rattle.std.specs.Prelude.{List, [], ◌∷◌, ◌++◌, length, map, take}
 use Rattle.pli_base.specs.Statements.{Body, ExternalProcedure, Statements}
 use Rattle.pli_base.specs.declared.token.Fault.{Fault}
 use Rattle.pli_map.specs.Description.{Description}
@@ -82,7 +82,8 @@ pub record Enters (old new : Walk) (block : OpenBlock) (inner : ℕ) (gives : Op
     (labels : List ℕ) : Type 0 where
   pub naming : new.naming ≡ inside old.naming old.next.block
   pub around : around_view new.surroundings
-      ≡ in_list (around_view old.surroundings) (record { block = Some old.next.block; labels = labels }) inner gives
+      ≡ in_list (around_view old.surroundings)
+      (record { block = Some old.next.block; labels = labels }) inner gives
   pub next : next_at new ≡ record { block = suc old.next.block; temporary = 0 }
   pub templates : (k : ℕ) → (k ≡ old.next.block → ⊥)
       → automatic_at new.templates k ≡ automatic_at old.templates k
@@ -139,8 +140,8 @@ ended_as w end head list = record {
 }
 
 -- it is put behind the others, if the list has no fault
-abbrev pub Ends : Walk → (end : ℕ) → BlockHead → Option TypedStatements → (new : List TypedProcedure) → Option Form
-    → Type 0
+abbrev pub Ends : Walk → (end : ℕ) → BlockHead → Option TypedStatements → (new : List TypedProcedure)
+    → Option Form → Type 0
 Ends w end head None new form = form ≡ None
 Ends w end head (Some list) new form =
     (form ≡ Some typed.Null) × (new ≡ finished w ++ ended_as w end head list ∷ [])
@@ -162,7 +163,12 @@ unit_with u statics automatic temporaries list procedures = record {
   is_main = is_main u;
   statics = statics;
   procedures = record {
-    head = record { number = 0; statement = u.heading.number; variables = automatic; temporaries = temporaries };
+    head = record {
+      number = 0;
+      statement = u.heading.number;
+      variables = automatic;
+      temporaries = temporaries;
+    };
     parent = None;
     parameters = 0;
     function_end = None;

@@ -83,8 +83,9 @@ fn in_unit<'a>(alloc: Global, statements: &[Statement]) -> Result<Surroundings<'
     })
 }
 
-/// The typed unit of its tree, what the variables of block 0 are made from, its typed statements, and what the walk over
-/// these has found.
+/// The typed unit of its tree, what the variables of block 0 are made from, its typed statements, and what the walk
+/// over these has found.
+#[tactic(auto, using(crate::proofs::Beginnings::unit_named_so))]
 fn typed_unit(
     tree: &Procedure,
     variables: Vec<VariableGroup>,
@@ -95,7 +96,12 @@ fn typed_unit(
         ≡ unit_with (unit_view tree.now) (groups_view walk.entry.templates.statics.items) (groups_view variables.items)
         walk.entry.next.temporary (typed.statements_view statements.items) (finished walk.entry)) }
 {
-    let mut procedures = walk.procedures;
+    let Walk {
+        next,
+        templates,
+        mut procedures,
+        ..
+    } = walk;
     procedures.insert(
         0,
         TypedProcedure {
@@ -103,7 +109,7 @@ fn typed_unit(
                 number: 0,
                 statement: tree.number,
                 variables,
-                temporaries: walk.next.temporary,
+                temporaries: next.temporary,
             },
             parent: None,
             parameters: 0,
@@ -114,7 +120,7 @@ fn typed_unit(
     Ok(TypedUnit {
         name: tree.name.name,
         is_main: is_main(tree),
-        statics: walk.templates.statics,
+        statics: templates.statics,
         procedures,
     })
 }
@@ -149,7 +155,10 @@ fn built<'a>(
     };
     match type_statements(alloc, &mut walk, statements)? {
         Some(list) => Ok(typed_unit(tree, variables, list, walk)?),
-        None => Err(CheckError::Faults(walk.faults)),
+        None => {
+            let Walk { faults, .. } = walk;
+            Err(CheckError::Faults(faults))
+        }
     }
 }
 

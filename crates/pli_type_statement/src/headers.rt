@@ -31,13 +31,7 @@ fn limits_kept(range: &Option<Range>) -> u32
     match range {
         None | Some(Range::Repeat(_)) => 0,
         Some(Range::To { .. }) => 2,
-        Some(Range::By { to, .. }) => {
-            if to.is_some() {
-                2
-            } else {
-                1
-            }
-        }
+        Some(Range::By { to, .. }) => { if to.is_some() { 2 } else { 1 } }
     }
 }
 
@@ -66,13 +60,15 @@ pub(crate) fn specified(
     match control {
         None => Ok(Header::Plain),
         Some(Control::While(tested)) => Ok(Header::While(condition(alloc, naming, tested)?)),
-        Some(Control::Iterate {
-            variable,
-            equals,
-            first,
-            range,
-            condition,
-        }) => {
+        Some(
+            Control::Iterate {
+                variable,
+                equals,
+                first,
+                range,
+                condition,
+            },
+        ) => {
             let text = IterationText {
                 variable,
                 equals: *equals,

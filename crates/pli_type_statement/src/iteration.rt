@@ -204,12 +204,7 @@ fn iterated(
         (typed.range_view kept) (referent_view variable.entry) (option_map range_view text.entry.range.now)
         (option_map syntax.expression_view text.entry.condition.now)) }
 {
-    let Some(conversion) = conversions(
-        alloc,
-        naming.greatest(),
-        variable.description,
-        start.kind,
-    )?
+    let Some(conversion) = conversions(alloc, naming.greatest(), variable.description, start.kind)?
     else {
         return Err(fault(Code::CannotAssign, text.equals));
     };
@@ -225,8 +220,8 @@ fn iterated(
     })
 }
 
-/// What `DO v = a ..` says, whose temporaries begin with this one, or its first fault: those of a, of TO and BY, of v, then
-/// T12 at v, T5 at `=`, those of WHILE, and those of REPEAT (own).
+/// What `DO v = a ..` says, whose temporaries begin with this one, or its first fault: those of a, of TO and BY, of v,
+/// then T12 at v, T5 at `=`, those of WHILE, and those of REPEAT (own).
 pub(crate) fn iteration(
     alloc: Global,
     naming: &Naming<'_>,

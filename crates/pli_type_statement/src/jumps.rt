@@ -20,8 +20,8 @@ use pli_type_names::{NamedAs, Naming};
 use pli_type_tree::Form;
 use std::alloc::Global;
 
-/// A GOTO, which leads to a label of a list that it stands in (X3.74); any other is not compiled yet, which is Z1 at the
-/// label.
+/// A GOTO, which leads to a label of a list that it stands in (X3.74); any other is not compiled yet, which is Z1 at
+/// the label.
 pub(crate) fn jump(
     naming: &Naming<'_>,
     around: &Surroundings<'_>,

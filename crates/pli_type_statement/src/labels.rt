@@ -65,8 +65,8 @@ fn further(outward: Option<u32>) -> Result<Option<u32>, AllocError>
     }
 }
 
-/// How many static links outward the label of a statement is, if one of the lists has it; the lists stand in one another,
-/// the outermost first.
+/// How many static links outward the label of a statement is, if one of the lists has it; the lists stand in one
+/// another, the outermost first.
 pub(crate) fn outward_to(lists: &[ListLabels], label: u32) -> Result<Option<u32>, AllocError>
     ensures { IfOk result (λ outward. outward ≡ spec.label_found (blocks_of (lists_view lists.now)) label) }
 {

@@ -218,8 +218,8 @@ fn type_body<'a>(
     }
 }
 
-/// The list of a block, which stands in so many BEGIN blocks of a procedure that gives this; its PROCEDURE or BEGIN is the
-/// statement of this number.
+/// The list of a block, which stands in so many BEGIN blocks of a procedure that gives this; its PROCEDURE or BEGIN is
+/// the statement of this number.
 #[cycle(typed)]
 fn type_block<'a>(
     alloc: Global,
@@ -261,8 +261,8 @@ fn type_group(
     Ok(list)
 }
 
-/// Statements, without those that leave nothing, if none has a fault. All faults are put behind the others, in the order
-/// of the text. It calls itself as deep as statements nest.
+/// Statements, without those that leave nothing, if none has a fault. All faults are put behind the others, in the
+/// order of the text. It calls itself as deep as statements nest.
 #[cycle(typed)]
 pub(crate) fn type_statements(
     alloc: Global,

@@ -22,7 +22,8 @@ pub(crate) struct Next {
     pub temporary: u32,
 }
 
-/// Where the walk is, and what it has found: faults, and the procedures that have ended, in the order in which they end.
+/// Where the walk is, and what it has found: faults, and the procedures that have ended, in the order in which they
+/// end.
 #[derive(Drop)]
 pub(crate) struct Walk<'a> {
     pub naming: Naming<'a>,
@@ -78,7 +79,11 @@ pub(crate) fn enter_block<'a>(
 }
 
 /// Goes out of a block, whose PROCEDURE or BEGIN is this statement; gives what its activations begin with.
-pub(crate) fn leave_block<'a>(walk: &mut Walk<'a>, block: OpenBlock<'a>, statement: u32) -> BlockHead
+pub(crate) fn leave_block<'a>(
+    walk: &mut Walk<'a>,
+    block: OpenBlock<'a>,
+    statement: u32,
+) -> BlockHead
     ensures { Leaves walk.old walk.new block.entry statement result }
 {
     let head = BlockHead {
@@ -93,11 +98,4 @@ pub(crate) fn leave_block<'a>(walk: &mut Walk<'a>, block: OpenBlock<'a>, stateme
     walk.surroundings.value = block.value;
     walk.next.temporary = block.temporary;
     head
-}
-
-#[tactic(auto, using(crate::proofs::Walked::if_walked, crate::proofs::Blocks::procedure_walked, crate::proofs::Turns::all_walked, crate::proofs::Units::typed, crate::proofs::Sizes::item_size))]
-pub(crate) fn probe(n: u8) -> u8
-    ensures { result ≡ n }
-{
-    n
 }

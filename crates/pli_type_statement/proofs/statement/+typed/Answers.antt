@@ -165,14 +165,13 @@ type_body-returns-in_ok-list-in-Do t c =
     c.group_form.ensures
 
 pub type_group-type_statements-requires : goal.type_group-type_statements-requires
-type_group-type_statements-requires t c =
-    (
-      omega (arith, c.decreases),
-      (
-        group_placed c.args.walk.now _ c.in_ok-labels.labels.items c.requires.placed refl (in_group_around c.args.walk.now.surroundings c.enter.new.self _ _ refl c.in_ok-enter.ensures.lists c.enter.ensures.begins c.enter.ensures.value) refl refl,
-        c.requires.built,
-      ),
-    )
+type_group-type_statements-requires t c = (
+  omega (arith, c.decreases),
+  (
+    group_placed c.args.walk.now _ c.in_ok-labels.labels.items c.requires.placed refl (in_group_around c.args.walk.now.surroundings c.enter.new.self _ _ refl c.in_ok-enter.ensures.lists c.enter.ensures.begins c.enter.ensures.value) refl refl,
+    c.requires.built,
+  ),
+)
 
 pub type_group-returns : goal.type_group-returns
 type_group-returns t c =

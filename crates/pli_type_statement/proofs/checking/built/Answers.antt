@@ -1,0 +1,80 @@
+use Rattle.std.proofs.Common.{◌++◌, Vec, Global, Ok, map, option_map, refl, ap, sym, ◌∙◌, subst, arith}
+use Rattle.pli_base.specs.declared.statement.Procedure.{out-Procedure}
+use Rattle.pli_base.specs.views.StatementView.{unit_view}
+use Rattle.pli_type.specs.TreeBlocks.{Next}
+use Rattle.pli_type.specs.Unbuilt.{first_unbuilt}
+use Rattle.pli_type_names.specs.UnitNaming.{Names, compiled_in}
+use Rattle.pli_type_tree.specs.declared.statement.TypedStatement.{TypedStatement}
+use Rattle.pli_type_tree.specs.declared.template.VariableGroup.{VariableGroup}
+use Rattle.pli_type_tree.specs.views.TemplateView.{groups_view}
+use Rattle.pli_type_tree.specs.views.TypedView.{procedure_view, statements_view}
+use Rattle.pli_type_statement.specs.Parts.{told, Adds}
+use Rattle.pli_type_statement.specs.Walking.{finished, unit_with}
+use Rattle.pli_type_statement.proofs.Beginnings.{all_of, built_first, first_entered, placed_first}
+use Rattle.pli_type_statement.proofs.Beginnings.{statics_first, templates_first, whole_walked}
+use Rattle.pli_type_statement.proofs.Units.{faulty, typed, typed_list}
+use Rattle.pli_type_statement.proofs.checking.built.Goals as goal
+
+pub type_statements-requires : goal.type_statements-requires
+type_statements-requires c =
+    let u = c.args.unit.now in
+    let named =
+    first_entered u c.args.naming c.enter.new.self c.requires.same c.in_ok-enter.ensures.entered in
+    let same =
+    c.as_slice-statements.ensures.value ∙ ap (λ p. (out-Procedure p).statements.items) c.unit-tree.ensures in
+    let built =
+    ap (λ (n : Names). first_unbuilt (compiled_in n) (unit_view u)) (sym c.requires.same) ∙ c.requires.built in
+    record {
+      placed =
+          placed_first u _ _ c.in_ok-templates.templates named c.in_ok-surroundings.ensures refl
+          c.in_ok-templates.ensures.automatic c.take-variables.ensures.others;
+      built = built_first u c.enter.new.self c.as_slice-statements.result.now named same built;
+    }
+
+pub returns-in_ok-typed_unit-in-Some : goal.returns-in_ok-typed_unit-in-Some
+returns-in_ok-typed_unit-in-Some c =
+    let u = c.args.unit.now in
+    let named =
+    first_entered u c.args.naming c.enter.new.self c.requires.same c.in_ok-enter.ensures.entered in
+    let same =
+    c.as_slice-statements.ensures.value ∙ ap (λ p. (out-Procedure p).statements.items) c.unit-tree.ensures in
+    let built =
+    ap (λ (n : Names). first_unbuilt (compiled_in n) (unit_view u)) (sym c.requires.same) ∙ c.requires.built in
+    let new = c.type_statements.new.walk in
+    let w =
+    whole_walked u _ new c.as_slice-statements.result.now _ named c.in_ok-surroundings.ensures refl same
+    c.in_ok-list.ensures in
+    let statics = groups_view new.templates.statics.items in
+    let variables = groups_view c.take-variables.result.items in
+    let list = statements_view c.in-Some.list.items in
+    typed u statics variables new.next.temporary list (finished new) built
+    (ap (option_map (λ (list : Vec TypedStatement Global). statements_view list.items)) (sym c.in-Some.is)
+    ∙ w.part)
+    (subst (λ ps. Adds (typed_list u (all_of u)) (map procedure_view ps) (finished new)) c.new-2.ensures.items
+    w.procedures)
+    (statics_first u _ (ap (λ (groups : Vec VariableGroup Global). groups_view groups.items)
+    (w.back.statics ∙ c.take-variables.ensures.statics) ∙ c.in_ok-templates.ensures.statics))
+    (c.take-variables.ensures.taken
+    ∙ templates_first u c.in_ok-templates.templates c.in_ok-templates.ensures.automatic 0)
+    (ap (λ (n : Next). n.temporary) w.next ∙ omega arith)
+    ∙ ap (λ p. Ok (unit_with (unit_view p) statics variables new.next.temporary list (finished new)))
+    (sym c.unit-tree.ensures)
+    ∙ ap Ok (sym c.in_ok-typed_unit-in-Some.ensures)
+
+pub returns-in-None : goal.returns-in-None
+returns-in-None c =
+    let u = c.args.unit.now in
+    let named =
+    first_entered u c.args.naming c.enter.new.self c.requires.same c.in_ok-enter.ensures.entered in
+    let same =
+    c.as_slice-statements.ensures.value ∙ ap (λ p. (out-Procedure p).statements.items) c.unit-tree.ensures in
+    let built =
+    ap (λ (n : Names). first_unbuilt (compiled_in n) (unit_view u)) (sym c.requires.same) ∙ c.requires.built in
+    let new = c.type_statements.new.walk in
+    let w =
+    whole_walked u _ new c.as_slice-statements.result.now _ named c.in_ok-surroundings.ensures refl same
+    c.in_ok-list.ensures in
+    faulty u new.faults.items built
+    (ap (option_map (λ (list : Vec TypedStatement Global). statements_view list.items)) (sym c.in-None.is)
+    ∙ w.part)
+    (w.faults ∙ ap (λ fs. fs ++ told (typed_list u (all_of u))) c.new.ensures.items)
