@@ -65,6 +65,14 @@ below_or_last n k lt = by (nat_lt n k) refl
     by true e = inl (search (rules, nat_tests))
     by false e = inr (grind (arith, nat_tests))
 
+-- one more item belongs to one before it too
+pub owners_added : (items : Block) (i : Declared) → OwnersBefore items → IfSome i.owner (λ o. o < length items) → OwnersBefore (items ++ i ∷ [])
+owners_added items i owners owned n lt = elim (below_or_last n (length items) (omega (arith, lt, length-append items (i ∷ [])))) [
+  | inl front ↦ subst (λ (j : Declared). IfSome j.owner (λ o. o < n)) (sym (item_front items i n front)) (owners n front)
+  | inr last ↦ subst (λ (k : ℕ). IfSome (item_at (items ++ i ∷ []) k).owner (λ o. o < k)) (sym last)
+      (subst (λ (j : Declared). IfSome j.owner (λ o. o < length items)) (sym (item_last items i)) owned)
+]
+
 -- one more item with its links
 module _ {S : Type 0} (items : Block) (earlier : List (Option ℕ)) (latest later : IndexMap Name ℕ S) (kept : IsIndexed items earlier latest)
     (i : Declared) (before : Option ℕ)
@@ -85,11 +93,7 @@ module _ {S : Type 0} (items : Block) (earlier : List (Option ℕ)) (latest late
   ]
 
   pub owners_more : OwnersBefore (items ++ i ∷ [])
-  owners_more n lt = elim (below_or_last n (length items) (omega (arith, length-append items (i ∷ [])))) [
-    | inl front ↦ subst (λ (j : Declared). IfSome j.owner (λ o. o < n)) (sym (item_front items i n front)) (kept.owners n front)
-    | inr last ↦ subst (λ (k : ℕ). IfSome (item_at (items ++ i ∷ []) k).owner (λ o. o < k)) (sym last)
-        (subst (λ (j : Declared). IfSome j.owner (λ o. o < length items)) (sym (item_last items i)) owned)
-  ]
+  owners_more = owners_added items i kept.owners owned
 
   pub indexed_more : (all : Block) (links : List (Option ℕ)) → all ≡ items ++ i ∷ [] → links ≡ earlier ++ before ∷ [] → IsIndexed all links later
   indexed_more all links p q =

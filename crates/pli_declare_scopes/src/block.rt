@@ -10,9 +10,10 @@ ghost use Rattle.pli_declare_scopes.specs.answers.Leaps.{IsLastUpTo};
 ghost use Rattle.pli_declare_scopes.specs.answers.Reaches.{IsReach, IsCandidate};
 
 use crate::found::Found;
-use crate::leap::{Leap, leap_from};
+use crate::leap::{Leap, leap_on};
 use crate::path::{Step, note_end, path_above, path_of};
-use crate::reach::{close, is_in_order, outermost};
+use crate::reach::reach_on;
+use crate::room::{make_room, push_within};
 use indexmap::{IndexMap, IndexSet};
 use pli_base::Name;
 use std::alloc::{AllocError, AllocFailed, Global};
@@ -140,28 +141,33 @@ impl Block {
         ensures err { OnErr result (self.new ≡ self.old) }
     {
         let number = self.items.len();
-        self.items.reserve(1)?;
-        self.earlier.reserve(1)?;
-        self.paths.reserve(1)?;
-        self.leaps.reserve(1)?;
-        self.lasts.reserve(1)?;
-        self.tops.reserve(1)?;
+        make_room(
+            &mut self.items,
+            &mut self.earlier,
+            &mut self.paths,
+            &mut self.leaps,
+            &mut self.lasts,
+            &mut self.tops,
+        )?;
         let step = Step {
             name: item.name,
             above: path_above(&self.paths, item.owner),
         };
         let path = path_of(&mut self.steps, &mut self.ended, step)?;
         let before = note(&mut self.latest, &item, number)?;
-        self.earlier.push(before)?;
-        self.paths.push(path)?;
-        self.leaps.push(leap_from(&self.leaps, before, number))?;
-        let is_behind = close(&self.items, &mut self.lasts, item.owner);
-        self.is_ordered = is_in_order(&self.items, &item, self.is_ordered, is_behind);
-        let top = outermost(&self.lasts, &self.tops, before, number);
-        self.lasts.push(None)?;
-        self.tops.push(top)?;
+        push_within(&mut self.earlier, before);
+        push_within(&mut self.paths, path);
         note_end(&mut self.ended, path, item.counts, number);
-        self.items.push(item)?;
+        leap_on(&mut self.leaps, before, number);
+        self.is_ordered = reach_on(
+            &self.items,
+            &mut self.lasts,
+            &mut self.tops,
+            &item,
+            before,
+            self.is_ordered,
+        );
+        push_within(&mut self.items, item);
         Ok(number)
     }
 

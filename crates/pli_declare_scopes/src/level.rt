@@ -5,14 +5,14 @@ ghost use Rattle.pli_declare_scopes.specs.Levels.{level_of, owner_of, is_bad, ne
 use std::alloc::{AllocError, Global};
 
 /// An item of a list, by its number, with its level.
-#[derive(Clone, Copy, Debug)]
+#[derive(Clone, Copy)]
 pub struct Numbered {
     pub number: usize,
     pub level: u32,
 }
 
 /// How an item stands in its list.
-#[derive(Clone, Copy, Debug, PartialEq, Eq)]
+#[derive(Clone, Copy)]
 pub struct Standing {
     /// The number of the item that it is a member of; none where it is a variable of its own.
     pub owner: Option<usize>,

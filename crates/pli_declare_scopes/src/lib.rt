@@ -9,6 +9,7 @@ mod level;
 mod path;
 mod reach;
 mod repeat;
+mod room;
 mod scope;
 
 pub use block::{Block, Declared};

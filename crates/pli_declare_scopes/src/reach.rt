@@ -1,11 +1,12 @@
 //! How far items reach: the last number within an item, and the outermost item of its name that an item is within.
-ghost use Rattle.std.specs.Prelude.{◌≡◌, ◌<◌, ◌≤◌, ℕ, true, false, get_or, length, IfSome};
-ghost use Rattle.std.specs.Vec.{vec_capacity};
-ghost use Rattle.pli_declare_scopes.specs.Scopes.{item_at};
-ghost use Rattle.pli_declare_scopes.specs.answers.Indexes.{OwnersBefore};
-ghost use Rattle.pli_declare_scopes.specs.answers.Reaches.{AreClosed, outermost_of};
+ghost use Rattle.std.specs.Prelude.{◌≡◌, ◌<◌, ◌≤◌, ◌++◌, [], ◌∷◌, ℕ, true, false, get_or, length, None, IfSome};
+ghost use Rattle.std.specs.Vec.{vec_len, vec_capacity};
+ghost use Rattle.pli_declare_scopes.specs.Scopes.{item_at, is_named};
+ghost use Rattle.pli_declare_scopes.specs.answers.Indexes.{last_below, OwnersBefore};
+ghost use Rattle.pli_declare_scopes.specs.answers.Reaches.{AreClosed, AreReaching, outermost_of};
 
 use crate::block::Declared;
+use crate::room::push_within;
 
 /// Whether a number is no greater than that of an owner, if there is one.
 fn is_up_to(number: usize, owner: Option<usize>) -> bool
@@ -19,11 +20,7 @@ fn is_up_to(number: usize, owner: Option<usize>) -> bool
 
 /// Closes the items that the last one is within, up to the owner of a new one: their last number is that of the last item. Tells
 /// whether the last item is within that owner, as items that stand in order are.
-pub(crate) fn close(
-    items: &[Declared],
-    lasts: &mut Vec<Option<usize>>,
-    owner: Option<usize>,
-) -> bool
+fn close(items: &[Declared], lasts: &mut Vec<Option<usize>>, owner: Option<usize>) -> bool
     requires all { length lasts.old.items ≡ length items.now }
     requires owners { OwnersBefore items.now }
     ensures closed { AreClosed items.now lasts.old.items owner lasts.new.items result }
@@ -42,12 +39,7 @@ pub(crate) fn close(
 
 /// Whether items still stand in order with one more: they did so far, it stands behind what its owner has so far, and where it
 /// counts its owner does.
-pub(crate) fn is_in_order(
-    items: &[Declared],
-    item: &Declared,
-    is_ordered: bool,
-    is_behind: bool,
-) -> bool
+fn is_in_order(items: &[Declared], item: &Declared, is_ordered: bool, is_behind: bool) -> bool
     requires { IfSome item.now.owner (λ o. o < length items.now) }
     ensures so_far { result ≡ true → is_ordered ≡ true }
     ensures behind { result ≡ true → is_behind ≡ true }
@@ -61,12 +53,7 @@ pub(crate) fn is_in_order(
 }
 
 /// The outermost item of its name that one is within, which has the item of its name before it.
-pub(crate) fn outermost(
-    lasts: &[Option<usize>],
-    tops: &[usize],
-    before: Option<usize>,
-    number: usize,
-) -> usize
+fn outermost(lasts: &[Option<usize>], tops: &[usize], before: Option<usize>, number: usize) -> usize
     requires within { IfSome before (λ b. b < length tops.now) }
     requires tops { (n : ℕ) → n < length tops.now → get_or tops.now n 0 ≤ n }
     requires all { length lasts.now ≡ length tops.now }
@@ -76,4 +63,29 @@ pub(crate) fn outermost(
         Some(before) if lasts[tops[before]].is_none() => tops[before],
         _ => number,
     }
+}
+
+/// Notes how far items reach with one more. Tells whether they still stand in order.
+pub(crate) fn reach_on(
+    items: &[Declared],
+    lasts: &mut Vec<Option<usize>>,
+    tops: &mut Vec<usize>,
+    item: &Declared,
+    before: Option<usize>,
+    is_ordered: bool,
+) -> bool
+    requires owners { OwnersBefore items.now }
+    requires owned { IfSome item.now.owner (λ o. o < length items.now) }
+    requires before { item.now.counts ≡ true → before ≡ last_below (is_named items.now item.now.name) (length items.now) }
+    requires none { item.now.counts ≡ false → before ≡ None }
+    requires reaching { AreReaching items.now lasts.old.items tops.old.items is_ordered }
+    requires lasts_room { vec_len lasts.old < vec_capacity lasts.old }
+    requires tops_room { vec_len tops.old < vec_capacity tops.old }
+    ensures { AreReaching (items.now ++ item.now ∷ []) lasts.new.items tops.new.items result }
+{
+    let is_behind = close(items, lasts, item.owner);
+    let top = outermost(lasts, tops, before, items.len());
+    push_within(lasts, None);
+    push_within(tops, top);
+    is_in_order(items, item, is_ordered, is_behind)
 }
