@@ -1,7 +1,14 @@
 use Rattle.std.proofs.Common.{◌≡◌, ◌<◌, ◌^◌, ltb, true, sym, arith}
 use Rattle.std.proofs.lemmas.Bool.{lt-ltb}
-use Rattle.pli_lex.proofs.BitsGathered.{more_bits, more_digits}
+use Rattle.pli_lex.proofs.BitsGathered.{more_bits, more_digits, no_bits, all_bits}
 use Rattle.pli_lex.proofs.quoted.bits_in.Goals as goal
+
+pub returns-then-value-width : goal.returns-then-value-width
+returns-then-value-width c =
+    no_bits c.args.width c.args.digits.now c.loop-digit.digit-index c.digit_value-value.result c.requires c.loop-digit-test.true c.digit_value-value.ensures c.if-value-width.true
+
+pub returns : goal.returns
+returns c = all_bits c.args.width c.args.digits.now c.loop-digit.digit-index c.loop-digit.bits.items c.loop-digit-test.false c.loop-digit.invariant.bits c.loop-digit.invariant.digits
 
 pub loop-digit-preserved : goal.loop-digit-preserved
 loop-digit-preserved c =
