@@ -1,5 +1,5 @@
 -- Loops over operators, parts and arguments: what was read so far, and what is still read.
-use Rattle.std.proofs.Common.{◌≡◌, ◌+◌, ◌<◌, ◌≤◌, ℕ, suc, zero, cond, List, [], ◌∷◌, ◌++◌, Option, Some, None, Result, Ok, Err, length, refl, ap, ◌∙◌, sym, arith}
+use Rattle.std.proofs.Common.{◌≡◌, ◌+◌, ◌<◌, ◌≤◌, ℕ, suc, zero, Bool, true, false, nat_lt, cond, List, [], ◌∷◌, ◌++◌, Option, Some, None, Result, Ok, Err, length, refl, ap, ◌∙◌, sym, arith}
 use Rattle.std.proofs.lemmas.Bool.{le-ltb, lt-ltb}
 use Rattle.pli_base.specs.Name.{Name}
 use Rattle.pli_base.specs.Syntax.{Expression, Infix, Named, JoinedParts, Alone, Joined, Arguments, Expressions, Empty, Listed}
@@ -11,7 +11,7 @@ use Rattle.pli_base.specs.declared.syntax.InfixOperator.{InfixOperator}
 use Rattle.pli_base.specs.declared.syntax.Joining.{Joining}
 use Rattle.pli_base.specs.declared.token.Fault.{Fault}
 use Rattle.pli_parse_expression.specs.Operators.{operator_limit, level_of, operator_at, joining_at}
-use Rattle.pli_parse_expression.specs.Reading.{Front, Reader, limited, operand_then, grouped, infix_from, closed, listed_behind, further_from, listed_at, arguments_at, part_behind, parts_behind, joined_from, reference_behind, reference_of}
+use Rattle.pli_parse_expression.specs.Reading.{Front, Reader, limited, operand_then, grouped, infix_from, right_of, closed, listed_behind, further_from, listed_at, arguments_at, part_behind, parts_behind, joined_from, reference_behind, reference_of}
 use Rattle.pli_base.specs.declared.reading.ParseError.TheVariants as errors
 use Rattle.pli_base.specs.views.SyntaxView.{expressions_view, arguments_view, joined_view}
 use Rattle.pli_base.specs.Words.{Tokens, name_first, behind, is_comma, is_close}
@@ -46,6 +46,29 @@ closed_list done read = read >>= λ y. closed (expressions_before done y.value) 
 abbrev pub ListLeft : Reader → List made.Expression → (count p : ℕ) → Tokens → Result (Front Expressions) Fault → Type 0
 ListLeft one done count p ts total = (bound : ℕ) × (length ts < bound) × (closed_list done (further_from one bound count p ts) ≡ total)
 
+-- where there are not too many operators, what comes of what is read
+limited_then : (few : Bool) (p : ℕ) (read : Result (Front Expression) Fault) (next : Front Expression → Result (Front Expression) Fault)
+    → cond few (read >>= next) (at_fault NestedTooDeep p) ≡ (cond few read (at_fault NestedTooDeep p) >>= next)
+limited_then true p read next = refl
+limited_then false p read next = refl
+
+-- behind an infix operator
+module _ (operand : Reader) (bound : ℕ) (o : InfixOperator) (count p : ℕ) (ts : Tokens) where
+  pub too_many : operator_limit ≤ count → right_of operand bound o count p ts ≡ at_fault NestedTooDeep p
+  too_many full = ap (λ b. cond b (operand_then operand (infix_from operand bound) (level_of o + 1) (count + 1) (p + 1) ts) (at_fault NestedTooDeep p)) (le-ltb count operator_limit full)
+
+  within : count < operator_limit → right_of operand bound o count p ts ≡ operand_then operand (infix_from operand bound) (level_of o + 1) (count + 1) (p + 1) ts
+  within few = ap (λ b. cond b (operand_then operand (infix_from operand bound) (level_of o + 1) (count + 1) (p + 1) ts) (at_fault NestedTooDeep p)) (lt-ltb count operator_limit few)
+
+  pub operand_fails : (e : ParseError) → count < operator_limit → Fails e (operand (count + 1) (p + 1) ts) → Fails e (right_of operand bound o count p ts)
+  operand_fails errors.OutOfMemory few h = tt
+  operand_fails (errors.Fault f) few h = within few ∙ ap (λ r. r >>= λ z. infix_from operand bound (level_of o + 1) z.count z.value z.next z.rest) h
+
+  pub right_goes_on : (z : Front Expression) (top : ℕ) → count < operator_limit → top ≡ level_of o + 1 → operand (count + 1) (p + 1) ts ≡ Ok z
+      → right_of operand bound o count p ts ≡ infix_from operand bound top z.count z.value z.next z.rest
+  right_goes_on z top few above read =
+      within few ∙ ap (λ r. r >>= λ z. infix_from operand bound (level_of o + 1) z.count z.value z.next z.rest) read ∙ ap (λ m. infix_from operand bound m z.count z.value z.next z.rest) (sym above)
+
 -- behind a left operand, where an infix operator stands
 module _ (operand : Reader) (min count : ℕ) (left : Expression) (p : ℕ) (ts : Tokens) (o : InfixOperator × Tokens) (total : Result (Front Expression) Fault) (found : operator_at min ts ≡ Some o) where
   -- what the operator leads to
@@ -56,43 +79,25 @@ module _ (operand : Reader) (min count : ℕ) (left : Expression) (p : ℕ) (ts 
   unfolding infix_from
   turned bound so_far = sym so_far ∙ ap (grouped operand (infix_from operand bound) min count left p ts) found
 
-  within : (bound : ℕ) → count < operator_limit → infix_from operand (suc bound) min count left p ts ≡ total → total ≡ led bound
-  within bound few so_far = turned bound so_far ∙ ap (λ b. cond b (led bound) (at_fault NestedTooDeep p)) (lt-ltb count operator_limit few)
+  -- what the operator's right operand leads to
+  abbrev leads : ℕ → Front Expression → Result (Front Expression) Fault
+  leads bound y = infix_from operand bound min y.count (Infix o.0 p left y.value) y.next y.rest
 
-  pub too_many : operator_limit ≤ count → OperatorsLeft operand min count left p ts total → total ≡ at_fault NestedTooDeep p
-  too_many full (zero, small, so_far) = absurd (omega arith)
-  too_many full (suc bound, small, so_far) = turned bound so_far ∙ ap (λ b. cond b (led bound) (at_fault NestedTooDeep p)) (le-ltb count operator_limit full)
+  behind_right : (bound : ℕ) → infix_from operand (suc bound) min count left p ts ≡ total → total ≡ (right_of operand bound o.0 count p o.1 >>= leads bound)
+  behind_right bound so_far =
+      turned bound so_far
+      ∙ limited_then (nat_lt count operator_limit) p (operand_then operand (infix_from operand bound) (level_of o.0 + 1) (count + 1) (p + 1) o.1) (leads bound)
 
-  pub operand_fails : (e : ParseError) → count < operator_limit → Fails e (operand (count + 1) (p + 1) o.1) → OperatorsLeft operand min count left p ts total → Fails e total
-  operand_fails errors.OutOfMemory few h left_over = tt
-  operand_fails (errors.Fault f) few h (zero, small, so_far) = absurd (omega arith)
-  operand_fails (errors.Fault f) few h (suc bound, small, so_far) =
-      within bound few so_far
-      ∙ ap (λ r. r >>= (λ z. infix_from operand bound (level_of o.0 + 1) z.count z.value z.next z.rest) >>= λ y. infix_from operand bound min y.count (Infix o.0 p left y.value) y.next y.rest) h
+  pub right_fails : (e : ParseError) → length o.1 < length ts → ((bound : ℕ) → length o.1 < bound → Fails e (right_of operand bound o.0 count p o.1))
+      → OperatorsLeft operand min count left p ts total → Fails e total
+  right_fails errors.OutOfMemory less h left_over = tt
+  right_fails (errors.Fault f) less h (zero, small, so_far) = absurd (omega arith)
+  right_fails (errors.Fault f) less h (suc bound, small, so_far) = behind_right bound so_far ∙ ap (λ r. r >>= leads bound) (h bound (omega arith))
 
-  module _ (z : Front Expression) (top : ℕ) (above : top ≡ level_of o.0 + 1) (read : operand (count + 1) (p + 1) o.1 ≡ Ok z) (less : length z.rest < length ts) where
-    behind_operand : (bound : ℕ) → count < operator_limit → infix_from operand (suc bound) min count left p ts ≡ total
-        → total ≡ (infix_from operand bound (level_of o.0 + 1) z.count z.value z.next z.rest >>= λ y. infix_from operand bound min y.count (Infix o.0 p left y.value) y.next y.rest)
-    behind_operand bound few so_far =
-        within bound few so_far
-        ∙ ap (λ r. r >>= (λ z. infix_from operand bound (level_of o.0 + 1) z.count z.value z.next z.rest) >>= λ y. infix_from operand bound min y.count (Infix o.0 p left y.value) y.next y.rest) read
-
-    pub right_fails : (e : ParseError) → count < operator_limit → ((bound : ℕ) → length z.rest < bound → Fails e (infix_from operand bound top z.count z.value z.next z.rest))
-        → OperatorsLeft operand min count left p ts total → Fails e total
-    right_fails errors.OutOfMemory few h left_over = tt
-    right_fails (errors.Fault f) few h (zero, small, so_far) = absurd (omega arith)
-    right_fails (errors.Fault f) few h (suc bound, small, so_far) =
-        behind_operand bound few so_far ∙ ap (λ r. r >>= λ y. infix_from operand bound min y.count (Infix o.0 p left y.value) y.next y.rest) (ap (λ m. infix_from operand bound m z.count z.value z.next z.rest) (sym above) ∙ h bound (omega arith))
-
-    pub goes_on : (y : Front Expression) → count < operator_limit → length y.rest < length ts
-        → ((bound : ℕ) → length z.rest < bound → infix_from operand bound top z.count z.value z.next z.rest ≡ Ok y)
-        → OperatorsLeft operand min count left p ts total → OperatorsLeft operand min y.count (Infix o.0 p left y.value) y.next y.rest total
-    goes_on y few shorter right (zero, small, so_far) = absurd (omega arith)
-    goes_on y few shorter right (suc bound, small, so_far) = (
-      bound,
-      omega arith,
-      sym (behind_operand bound few so_far ∙ ap (λ r. r >>= λ y. infix_from operand bound min y.count (Infix o.0 p left y.value) y.next y.rest) (ap (λ m. infix_from operand bound m z.count z.value z.next z.rest) (sym above) ∙ right bound (omega arith))),
-    )
+  pub goes_on : (y : Front Expression) → length o.1 < length ts → length y.rest < length ts → ((bound : ℕ) → length o.1 < bound → right_of operand bound o.0 count p o.1 ≡ Ok y)
+      → OperatorsLeft operand min count left p ts total → OperatorsLeft operand min y.count (Infix o.0 p left y.value) y.next y.rest total
+  goes_on y less shorter right (zero, small, so_far) = absurd (omega arith)
+  goes_on y less shorter right (suc bound, small, so_far) = (bound, omega arith, sym (behind_right bound so_far ∙ ap (λ r. r >>= leads bound) (right bound (omega arith))))
 
 pub operators_end : (operand : Reader) (min count : ℕ) (left : Expression) (p : ℕ) (ts : Tokens) (total : Result (Front Expression) Fault) → operator_at min ts ≡ None
     → OperatorsLeft operand min count left p ts total → total ≡ Ok (record { value = left; count = count; next = p; rest = ts })

@@ -1,6 +1,5 @@
 -- Operators: their signs and priorities. The tokens of constants, and tests of tokens.
-use Rattle.std.specs.Prelude.{ℕ, nat_lt, Bool, true, false, Option, Some, None, List, [], ◌∷◌, if◌then◌else◌}
-use Rattle.pli_base.specs.Name.{Name}
+use Rattle.std.specs.Prelude.{ℕ, nat_lt, Bool, true, false, Option, Some, None, [], ◌∷◌, if◌then◌else◌}
 use Rattle.pli_base.specs.Syntax.{Expression, Infix}
 use Rattle.pli_base.specs.declared.syntax.ConstantValue.{ConstantValue}
 use Rattle.pli_base.specs.declared.syntax.ConstantValue.TheVariants as constants

@@ -1,7 +1,7 @@
 -- Reading expressions and references at the front of tokens: the tree, the place behind it and the rest, or
 -- the one fault. Tokens are counted from 0, and p is the place of the first.
-use Rattle.std.specs.Prelude.{ℕ, zero, suc, ◌+◌, ◌-◌, nat_lt, Bool, true, false, Option, Some, None, Result}
-use Rattle.std.specs.Prelude.{Ok, Err, [], ◌∷◌, length, option_map, if◌then◌else◌}
+use Rattle.std.specs.Prelude.{ℕ, zero, suc, ◌+◌, nat_lt, Bool, true, false, Option, Some, None, Result}
+use Rattle.std.specs.Prelude.{Ok, ◌∷◌, length, option_map, if◌then◌else◌}
 use Rattle.pli_base.specs.Name.{Name}
 use Rattle.pli_base.specs.Syntax.{Expression, Referred, Constant, Parenthesized, Prefix, Infix, Reference}
 use Rattle.pli_base.specs.Syntax.{Named, JoinedParts, Alone, Joined, Arguments, Absent, Given, Expressions}
@@ -11,11 +11,10 @@ use Rattle.pli_base.specs.declared.syntax.PrefixOperator.{PrefixOperator}
 use Rattle.pli_base.specs.declared.syntax.PrefixOperator.TheVariants as prefixes
 use Rattle.pli_base.specs.declared.syntax.InfixOperator.{InfixOperator}
 use Rattle.pli_base.specs.declared.syntax.Joining.{Joining}
-use Rattle.pli_base.specs.declared.code.Code.{Code}
 use Rattle.pli_base.specs.declared.code.Code.TheVariants.{ExpressionExpected, ParenthesisExpected}
-use Rattle.pli_base.specs.declared.code.Code.TheVariants.{NameExpected, EndMissing, NestedTooDeep}
+use Rattle.pli_base.specs.declared.code.Code.TheVariants.{NameExpected, NestedTooDeep}
 use Rattle.pli_base.specs.declared.token.Fault.{Fault}
-use Rattle.pli_base.specs.declared.token.Sign.TheVariants.{OpenParenthesis, CloseParenthesis, Plus, Minus}
+use Rattle.pli_base.specs.declared.token.Sign.TheVariants.{OpenParenthesis, Plus, Minus}
 use Rattle.pli_base.specs.declared.token.Sign.TheVariants.{Not}
 use Rattle.pli_base.specs.declared.token.TokenText.TheVariants.{Word, Decimal, Binary, Characters, Bits, Sign}
 use Rattle.pli_parse_expression.specs.Operators.{operator_limit, level_of, operator_at, joining_at}
@@ -79,6 +78,12 @@ unfoldable pub infix_from : Reader → (bound min count : ℕ) → Expression �
 infix_from operand zero min count left p ts = expected ExpressionExpected p ts
 infix_from operand (suc bound) min count left p ts =
     grouped operand (infix_from operand bound) min count left p ts (operator_at min ts)
+
+-- behind an infix operator: its right operand, which takes all that binds tighter
+abbrev pub right_of : Reader → (bound : ℕ) → InfixOperator → Reader
+right_of operand bound operator count p ts =
+    limited count p (operand_then operand (infix_from operand bound) (level_of operator + 1) (count + 1) (p
+    + 1) ts)
 
 -- the longest expression of such operands
 unfoldable pub expression_of : Reader → Reader

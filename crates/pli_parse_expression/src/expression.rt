@@ -1,8 +1,9 @@
 //! Reading expressions and references.
 ghost use Rattle.std.specs.Prelude.{◌≡◌, ℕ, ◌+◌, ◌<◌, ◌≤◌, length, option_map, IfOk, IfSome, false, true};
+ghost use Rattle.pli_base.specs.Syntax.{Infix};
 ghost use Rattle.pli_base.specs.views.SyntaxView.{expression_view, reference_view};
 ghost use Rattle.pli_parse_expression.specs.Operators.{infix_of, level_of, operator_at, joining_at, begins_expression};
-ghost use Rattle.pli_parse_expression.specs.Reading.{infix_from, operand_at, inside, expression_at, expression_of, argument_of, listed_at, list_at, arguments_at, joined_from, reference_of, reference_at, prefix_of, parenthesis_of, constant_at};
+ghost use Rattle.pli_parse_expression.specs.Reading.{infix_from, right_of, operand_at, inside, expression_at, expression_of, argument_of, listed_at, list_at, arguments_at, joined_from, reference_of, reference_at, prefix_of, parenthesis_of, constant_at};
 ghost use Rattle.pli_base.specs.answers.ReadingAnswers.{Gives};
 ghost use Rattle.pli_parse_expression.specs.answers.Answers.{front_view, Advances, Stays};
 ghost use Rattle.pli_base.specs.views.SyntaxView.{expressions_view, arguments_view, joined_view};
@@ -15,7 +16,7 @@ use pli_base::syntax::{
 use pli_base::{
     Code, ParseError, Sign, TokenText, behind_comma, close_taken, fault, misfit, name_first,
 };
-use std::alloc::Global;
+use std::alloc::{AllocError, Global};
 
 /// The greatest number of operators in an expression (own).
 const OPERATOR_LIMIT: u32 = 1000;
@@ -156,25 +157,8 @@ fn infix_from<'a>(
     let mut next = at;
     let mut rest = texts;
     while let Some((operator, behind)) = operator_at(min, rest) {
-        if operators >= OPERATOR_LIMIT {
-            return Err(fault(Code::NestedTooDeep, next));
-        }
-        let operand = operand_at(alloc, levels, operators + 1, next + 1, behind)?;
-        let right = infix_from(
-            alloc,
-            levels,
-            level_of(operator) + 1,
-            operand.value,
-            operand.operators,
-            operand.next,
-            operand.rest,
-        )?;
-        sum = Expression::Infix {
-            operator,
-            at: next,
-            left: Box::new(alloc, sum)?,
-            right: Box::new(alloc, right.value)?,
-        };
+        let right = right_of(alloc, levels, operator, operators, next, behind)?;
+        sum = infix(alloc, operator, next, sum, right.value)?;
         operators = right.operators;
         next = right.next;
         rest = right.rest;
@@ -184,6 +168,55 @@ fn infix_from<'a>(
         operators,
         next,
         rest,
+    })
+}
+
+/// Behind the infix operator at `at`: its right operand, which takes all that binds tighter.
+#[cycle(expression)]
+#[tactic(auto)]
+fn right_of<'a>(
+    alloc: Global,
+    levels: u32,
+    operator: InfixOperator,
+    operators: u32,
+    at: u32,
+    behind: &'a [TokenText],
+) -> Result<Front<'a, Expression>, ParseError>
+    requires { at + 1 + length behind.now ≤ 200000 }
+    ensures value { (bound : ℕ) → length behind.now < bound → Gives (front_view expression_view) result (right_of (operand_at levels) bound operator operators at behind.now) }
+    ensures place { IfOk result (Advances (at + 1) behind.now) }
+{
+    if operators >= OPERATOR_LIMIT {
+        return Err(fault(Code::NestedTooDeep, at));
+    }
+    let operand = operand_at(alloc, levels, operators + 1, at + 1, behind)?;
+    infix_from(
+        alloc,
+        levels,
+        level_of(operator) + 1,
+        operand.value,
+        operand.operators,
+        operand.next,
+        operand.rest,
+    )
+}
+
+/// An infix operator at `at` between two expressions.
+#[tactic(auto)]
+fn infix(
+    alloc: Global,
+    operator: InfixOperator,
+    at: u32,
+    left: Expression,
+    right: Expression,
+) -> Result<Expression, AllocError>
+    ensures { IfOk result (λ e. expression_view e ≡ Infix operator at (expression_view left) (expression_view right)) }
+{
+    Ok(Expression::Infix {
+        operator,
+        at,
+        left: Box::new(alloc, left)?,
+        right: Box::new(alloc, right)?,
     })
 }
 

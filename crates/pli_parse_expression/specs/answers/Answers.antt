@@ -1,11 +1,8 @@
 -- What the parser answers, against what reading a list of tokens gives.
-use Rattle.std.specs.Prelude.{◌≡◌, ◌+◌, ◌<◌, ◌≤◌, ℕ, Result, Ok, Err, length}
-use Rattle.pli_base.specs.declared.token.Fault.{Fault}
+use Rattle.std.specs.Prelude.{◌≡◌, ◌+◌, ◌<◌, ◌≤◌, ℕ, length}
 use Rattle.pli_parse_expression.specs.Reading as reading
 use Rattle.pli_parse_expression.specs.declared.front.Front.{Front}
-use Rattle.pli_base.specs.declared.reading.ParseError.TheVariants as errors
 use Rattle.pli_base.specs.Words.{Tokens}
-use Rattle.pli_base.specs.declared.reading.ParseError.{ParseError}
 
 -- what was read, apart from where it lies in memory
 abbrev pub front_view : {X Y : Type 0} → (X → Y) → Front X → reading.Front Y

@@ -7,42 +7,42 @@ use Rattle.pli_base.specs.declared.syntax.Part.{roll-Part}
 use Rattle.pli_parse_expression.specs.Reading.{infix_from, operand_at, inside, argument_of, listed_at, joined_from}
 use Rattle.pli_parse_expression.specs.answers.Answers.{front_view}
 use Rattle.pli_base.specs.views.SyntaxView.{arguments_view}
-use Rattle.pli_parse_expression.proofs.Loops.{too_many, operand_fails, right_fails, goes_on, operators_end, no_name, arguments_fail, part_goes_on, parts_begin, parts_end, one_fails, list_goes_on, first_fails, list_begins, close_fails, list_ends, reference_done}
+use Rattle.pli_parse_expression.proofs.Loops.{too_many, operand_fails, right_goes_on, right_fails, goes_on, operators_end, no_name, arguments_fail, part_goes_on, parts_begin, parts_end, one_fails, list_goes_on, first_fails, list_begins, close_fails, list_ends, reference_done}
 use Rattle.pli_parse_expression.proofs.expression.+expression.Goals as goal
 
-pub infix_from-returns-then-operators-ge-OPERATOR_LIMIT-clause-value : goal.infix_from-returns-then-operators-ge-OPERATOR_LIMIT-clause-value
-infix_from-returns-then-operators-ge-OPERATOR_LIMIT-clause-value t c = λ bound small.
-    rw c.fault.ensures
-    (too_many (operand_at c.args.levels) c.args.min c.loop-operator.operators (expression_view c.loop-operator.sum) c.loop-operator.next c.loop-operator.rest.now (c.in-Some.operator, c.in-Some.behind.now)
-    (infix_from (operand_at c.args.levels) bound c.args.min c.args.operators (expression_view c.args.left) c.args.at c.args.texts.now) c.in-Some.ensures.value (omega arith) (c.loop-operator.invariant.value bound small))
+pub right_of-returns-then-operators-ge-OPERATOR_LIMIT-clause-value : goal.right_of-returns-then-operators-ge-OPERATOR_LIMIT-clause-value
+right_of-returns-then-operators-ge-OPERATOR_LIMIT-clause-value t c = λ bound small.
+    rw c.fault.ensures (too_many (operand_at c.args.levels) bound c.args.operator c.args.operators c.args.at c.args.behind.now (omega arith))
 
-pub infix_from-returns-in_err-operand-clause-value : goal.infix_from-returns-in_err-operand-clause-value
-infix_from-returns-in_err-operand-clause-value t c = λ bound small.
+pub right_of-returns-in_err-operand-clause-value : goal.right_of-returns-in_err-operand-clause-value
+right_of-returns-in_err-operand-clause-value t c = λ bound small.
     let p = err_from_is_err_and c.from_residual.result c.from_residual.ensures.1 in
-    rw (p.1, p.2)
-    (operand_fails (operand_at c.args.levels) c.args.min c.loop-operator.operators (expression_view c.loop-operator.sum) c.loop-operator.next c.loop-operator.rest.now (c.in-Some.operator, c.in-Some.behind.now)
-    (infix_from (operand_at c.args.levels) bound c.args.min c.args.operators (expression_view c.args.left) c.args.at c.args.texts.now) c.in-Some.ensures.value
-    c.in_err-operand.field-0.0 (omega arith) c.in_err-operand.ensures.value (c.loop-operator.invariant.value bound small))
+    rw (p.1, p.2) (operand_fails (operand_at c.args.levels) bound c.args.operator c.args.operators c.args.at c.args.behind.now c.in_err-operand.field-0.0 (omega arith) c.in_err-operand.ensures.value)
+
+pub right_of-returns-clause-value : goal.right_of-returns-clause-value
+right_of-returns-clause-value t c = λ bound small.
+    let e = right_goes_on (operand_at c.args.levels) bound c.args.operator c.args.operators c.args.at c.args.behind.now (front_view expression_view c.in_ok-operand.operand) (c.level_of.result + 1) (omega arith)
+    (ap (λ n. n + 1) c.level_of.ensures.value) c.in_ok-operand.ensures.value in
+    rw e (c.infix_from.ensures.value bound (omega (arith, c.in_ok-operand.ensures.place)))
 
 pub infix_from-returns-in_err-right-clause-value : goal.infix_from-returns-in_err-right-clause-value
 infix_from-returns-in_err-right-clause-value t c = λ bound small.
-    let p = err_from_is_err_and c.from_residual-in_err-right.result c.from_residual-in_err-right.ensures.1 in
+    let p = err_from_is_err_and c.from_residual.result c.from_residual.ensures.1 in
     rw (p.1, p.2)
     (right_fails (operand_at c.args.levels) c.args.min c.loop-operator.operators (expression_view c.loop-operator.sum) c.loop-operator.next c.loop-operator.rest.now (c.in-Some.operator, c.in-Some.behind.now)
     (infix_from (operand_at c.args.levels) bound c.args.min c.args.operators (expression_view c.args.left) c.args.at c.args.texts.now) c.in-Some.ensures.value
-    (front_view expression_view c.in_ok-operand.operand) (c.level_of.result + 1) (ap (λ n. n + 1) c.level_of.ensures.value) c.in_ok-operand.ensures.value (omega (arith, c.in_ok-operand.ensures.place, c.in-Some.ensures.place))
-    c.in_err-right.field-0.0 (omega arith) c.in_err-right.ensures.value (c.loop-operator.invariant.value bound small))
+    c.in_err-right.field-0.0 (omega (arith, c.in-Some.ensures.place)) c.in_err-right.ensures.value (c.loop-operator.invariant.value bound small))
 
 pub infix_from-loop-operator-preserved : goal.infix_from-loop-operator-preserved
 infix_from-loop-operator-preserved t c =
     record {
       value = λ bound small.
-          rw (c.in_ok-new.ensures.ok, c.in_ok-new-2.ensures.ok)
+          rw c.in_ok-sum.ensures
           (goes_on (operand_at c.args.levels) c.args.min c.loop-operator.operators (expression_view c.loop-operator.sum) c.loop-operator.next c.loop-operator.rest.now (c.in-Some.operator, c.in-Some.behind.now)
           (infix_from (operand_at c.args.levels) bound c.args.min c.args.operators (expression_view c.args.left) c.args.at c.args.texts.now) c.in-Some.ensures.value
-          (front_view expression_view c.in_ok-operand.operand) (c.level_of.result + 1) (ap (λ n. n + 1) c.level_of.ensures.value) c.in_ok-operand.ensures.value (omega (arith, c.in_ok-operand.ensures.place, c.in-Some.ensures.place))
-          (front_view expression_view c.in_ok-right.right) (omega arith) (omega (arith, c.in_ok-right.ensures.place, c.in_ok-operand.ensures.place, c.in-Some.ensures.place)) c.in_ok-right.ensures.value (c.loop-operator.invariant.value bound small));
-      place = (omega (arith, c.in_ok-right.ensures.place, c.in_ok-operand.ensures.place, c.in-Some.ensures.place), omega (arith, c.in_ok-right.ensures.place, c.in_ok-operand.ensures.place, c.in-Some.ensures.place));
+          (front_view expression_view c.in_ok-right.right) (omega (arith, c.in-Some.ensures.place)) (omega (arith, c.in_ok-right.ensures.place, c.in-Some.ensures.place)) c.in_ok-right.ensures.value
+          (c.loop-operator.invariant.value bound small));
+      place = (omega (arith, c.in_ok-right.ensures.place, c.in-Some.ensures.place), omega (arith, c.in_ok-right.ensures.place, c.in-Some.ensures.place));
     }
 
 pub infix_from-returns-clause-value : goal.infix_from-returns-clause-value

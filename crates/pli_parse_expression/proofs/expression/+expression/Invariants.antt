@@ -17,6 +17,9 @@ decreases-joined_from l = 10 * length l.texts.now
 abbrev pub decreases-infix_from : goal.decreases-infix_from
 decreases-infix_from l = 10 * length l.texts.now
 
+abbrev pub decreases-right_of : goal.decreases-right_of
+decreases-right_of l = 10 * length l.behind.now + 2
+
 abbrev pub decreases-operand_at : goal.decreases-operand_at
 decreases-operand_at l = 10 * length l.texts.now + 1
 
