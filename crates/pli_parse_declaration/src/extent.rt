@@ -1,6 +1,6 @@
 //! Dimensions, lengths and precisions.
 ghost use Rattle.std.specs.Prelude.{◌≡◌, ◌≤◌, ◌+◌, length, IfOk};
-ghost use Rattle.pli_parse_declaration.specs.DeclarationReading.{list_at, integer_at, bounds_at, dimensions_at, length_at, scaled_at, precision_at};
+ghost use Rattle.pli_parse_declaration.specs.DeclarationReading.{list_at, number_at, signed, integer_at, bounds_at, dimensions_at, length_at, scaled_at, precision_at};
 ghost use Rattle.pli_base.specs.answers.ReadingAnswers.{Gives, Advances, Continues, front_view};
 ghost use Rattle.pli_parse_declaration.specs.declared.list.Separator.TheVariants.{Commas};
 ghost use Rattle.pli_base.specs.declared.declaration.Bounds as bounds;
@@ -15,6 +15,21 @@ use pli_base::{
 };
 use std::alloc::Global;
 
+/// A constant behind its sign, if it has one.
+#[tactic(auto)]
+fn signed_at(negative: bool, at: u32, texts: &[TokenText]) -> Result<Front<'_, Integer>, ParseError>
+    requires { at + length texts.now ≤ 200000 }
+    ensures value { Gives (front_view (λ n. n)) result (signed negative (number_at at texts.now)) }
+    ensures place { IfOk result (Advances at texts.now) }
+{
+    let number = number_at(at, texts)?;
+    let integer = Integer {
+        negative,
+        value: number.value,
+    };
+    Ok(Front::new(integer, number.next, number.rest))
+}
+
 /// A constant with or without a sign.
 #[tactic(auto, unfolding(crate::specs::DeclarationReading::integer_at))]
 pub fn integer_at(at: u32, texts: &[TokenText]) -> Result<Front<'_, Integer>, ParseError>
@@ -23,39 +38,9 @@ pub fn integer_at(at: u32, texts: &[TokenText]) -> Result<Front<'_, Integer>, Pa
     ensures place { IfOk result (Advances at texts.now) }
 {
     match texts {
-        [TokenText::Sign(Sign::Plus), rest @ ..] => {
-            let number = number_at(at + 1, rest)?;
-            Ok(Front::new(
-                Integer {
-                    negative: false,
-                    value: number.value,
-                },
-                number.next,
-                number.rest,
-            ))
-        }
-        [TokenText::Sign(Sign::Minus), rest @ ..] => {
-            let number = number_at(at + 1, rest)?;
-            Ok(Front::new(
-                Integer {
-                    negative: true,
-                    value: number.value,
-                },
-                number.next,
-                number.rest,
-            ))
-        }
-        _ => {
-            let number = number_at(at, texts)?;
-            Ok(Front::new(
-                Integer {
-                    negative: false,
-                    value: number.value,
-                },
-                number.next,
-                number.rest,
-            ))
-        }
+        [TokenText::Sign(Sign::Plus), rest @ ..] => signed_at(false, at + 1, rest),
+        [TokenText::Sign(Sign::Minus), rest @ ..] => signed_at(true, at + 1, rest),
+        _ => signed_at(false, at, texts),
     }
 }
 
