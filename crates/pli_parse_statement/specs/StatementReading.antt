@@ -3,7 +3,7 @@
 -- statements are numbered from 1, and k is the number of the next. A part that need not stand is passed over,
 -- so a fault is about what must stand next.
 use Rattle.std.specs.Prelude.{ℕ, zero, suc, ◌+◌, ◌-◌, Bool, true, false, ◌||◌, Option, Some, None, Result, Ok}
-use Rattle.std.specs.Prelude.{Err, List, [], ◌∷◌, length, option_map, codes, if◌then◌else◌}
+use Rattle.std.specs.Prelude.{Err, List, [], ◌∷◌, length, option_map, is_some, codes, if◌then◌else◌}
 use Rattle.pli_base.specs.Name.{Name}
 use Rattle.pli_base.specs.Words.{Tokens, same_name, is_word, is_open, is_semicolon, behind}
 use Rattle.pli_base.specs.Reading.{◌>>=◌, at_fault, Front, misplaced, expected, read_as, mapped, taken}
@@ -12,7 +12,7 @@ use Rattle.pli_base.specs.Syntax.{Expression, Reference}
 use Rattle.pli_base.specs.declared.syntax.Identifier.{Identifier}
 use Rattle.pli_base.specs.declared.code.Code.{Code}
 use Rattle.pli_base.specs.declared.code.Code.TheVariants.{NoProcedure, NotAStatement, ParenthesisExpected}
-use Rattle.pli_base.specs.declared.code.Code.TheVariants.{SemicolonExpected, NameExpected, ThenExpected}
+use Rattle.pli_base.specs.declared.code.Code.TheVariants.{SemicolonExpected, ThenExpected}
 use Rattle.pli_base.specs.declared.code.Code.TheVariants.{WrongEndName, EndMissing, TextAfterEnd, BadDo}
 use Rattle.pli_base.specs.declared.code.Code.TheVariants.{BadLabel, BadCondition, NestedTooDeep}
 use Rattle.pli_base.specs.declared.code.Code.TheVariants.{MisplacedStatement, BadOption}
@@ -204,6 +204,16 @@ placed_by levels more x p ts (Some (SetWord, us)) area None =
     parenthesized (reference_in levels) (p
     + 1) us >>= λ r. more (record { name = x.name; area = area; target = Some r.value }) r.next r.rest
 placed_by levels more x p ts second area target = at_fault BadOption p
+
+-- whether an allocation has what the word begins
+abbrev pub has_place : PlaceWord → (area target : Option Reference) → Bool
+has_place InWord area target = is_some area
+has_place SetWord area target = is_some target
+
+-- an allocation with a reference where the word puts it
+abbrev pub with_place : PlaceWord → Identifier → (area target : Option Reference) → Reference → Allocation
+with_place InWord name area target r = record { name = name; area = Some r; target = target }
+with_place SetWord name area target r = record { name = name; area = area; target = Some r }
 
 -- each takes one of the bound
 unfoldable pub places_from : (levels bound : ℕ) → Allocation → ℕ → Tokens → Result (Front Allocation) Fault

@@ -55,6 +55,20 @@ keyword_of n =
     else if same_name n (codes "PUT") then Some Put
     else None
 
+-- the last words of these, which begin statements with no statement inside
+abbrev pub simple_keyword_of : Name → Option Keyword
+simple_keyword_of n =
+    if same_name n (codes "REVERT") then Some Revert
+    else if same_name n (codes "SIGNAL") then Some Signal
+    else if same_name n (codes "STOP") then Some Stop
+    else if same_name n (codes "ALLOCATE") then Some Allocate
+    else if same_name n (codes "FREE") then Some Free
+    else if same_name n (codes "CALL") then Some Call
+    else if same_name n (codes "GOTO") then Some Goto
+    else if same_name n (codes "RETURN") then Some Return
+    else if same_name n (codes "PUT") then Some Put
+    else None
+
 -- the condition that a name is, behind ON, REVERT and SIGNAL
 unfoldable pub condition_of : Name → Option Condition
 condition_of n =

@@ -172,8 +172,29 @@ impl ReadsOne for EachReference {
     }
 }
 
-/// An expression in parentheses, which are no part of it.
+/// A value in parentheses, which are no part of it.
 #[tactic(auto, unfolding(crate::specs::StatementReading::parenthesized))]
+fn parenthesized<'a, R: ReadsOne>(
+    reader: &R,
+    at: u32,
+    texts: &'a [TokenText],
+) -> Result<Front<'a, R::Value>, ParseError>
+    requires { at + length texts.now ≤ 200000 }
+    ensures value { Gives (front_view R.tree) result (parenthesized (R.one reader.now) at texts.now) }
+    ensures place { IfOk result (Advances at texts.now) }
+{
+    let inside = open_taken(at, texts)?;
+    let read = reader.read(at + 1, inside)?;
+    let rest = close_taken(read.next, read.rest)?;
+    Ok(Front {
+        value: read.value,
+        next: read.next + 1,
+        rest,
+    })
+}
+
+/// An expression in parentheses, which are no part of it.
+#[tactic(auto)]
 pub fn parenthesized_expression<'a>(
     alloc: Global,
     levels: u32,
@@ -184,18 +205,11 @@ pub fn parenthesized_expression<'a>(
     ensures value { Gives (front_view expression_view) result (parenthesized (expression_in levels) at texts.now) }
     ensures place { IfOk result (Advances at texts.now) }
 {
-    let inside = open_taken(at, texts)?;
-    let read = expression_in(alloc, levels, at + 1, inside)?;
-    let rest = close_taken(read.next, read.rest)?;
-    Ok(Front {
-        value: read.value,
-        next: read.next + 1,
-        rest,
-    })
+    parenthesized(&EachExpression { alloc, levels }, at, texts)
 }
 
 /// A reference in parentheses.
-#[tactic(auto, unfolding(crate::specs::StatementReading::parenthesized))]
+#[tactic(auto)]
 pub fn parenthesized_reference<'a>(
     alloc: Global,
     levels: u32,
@@ -206,14 +220,7 @@ pub fn parenthesized_reference<'a>(
     ensures value { Gives (front_view reference_view) result (parenthesized (reference_in levels) at texts.now) }
     ensures place { IfOk result (Advances at texts.now) }
 {
-    let inside = open_taken(at, texts)?;
-    let read = reference_in(alloc, levels, at + 1, inside)?;
-    let rest = close_taken(read.next, read.rest)?;
-    Ok(Front {
-        value: read.value,
-        next: read.next + 1,
-        rest,
-    })
+    parenthesized(&EachReference { alloc, levels }, at, texts)
 }
 
 /// Expressions in parentheses, with commas between.

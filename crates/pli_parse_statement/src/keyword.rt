@@ -1,7 +1,7 @@
 //! The keywords with which statements begin, and where statements stand.
 ghost use Rattle.std.specs.Prelude.{◌≡◌, IfSome};
 ghost use Rattle.pli_parse_declaration.specs.DeclarationWords.{is_either};
-ghost use Rattle.pli_parse_statement.specs.StatementWords.{keyword_of, condition_of};
+ghost use Rattle.pli_parse_statement.specs.StatementWords.{keyword_of, simple_keyword_of, condition_of};
 ghost use Rattle.pli_parse_statement.specs.answers.StatementAnswers.{words};
 
 use pli_base::Name;
@@ -70,7 +70,18 @@ pub fn statement_keyword(name: &Name) -> Option<Keyword>
         Some(Keyword::If)
     } else if name.is(b"ON") {
         Some(Keyword::On)
-    } else if name.is(b"REVERT") {
+    } else {
+        simple_keyword(name)
+    }
+}
+
+/// The keyword of one word that a name is where a statement with no statement inside begins, apart from DECLARE and END.
+#[tactic(auto)]
+fn simple_keyword(name: &Name) -> Option<Keyword>
+    ensures value { result ≡ simple_keyword_of name.now }
+    ensures word { IfSome result (λ keyword. words keyword ≡ 1) }
+{
+    if name.is(b"REVERT") {
         Some(Keyword::Revert)
     } else if name.is(b"SIGNAL") {
         Some(Keyword::Signal)

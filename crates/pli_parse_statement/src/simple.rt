@@ -1,27 +1,27 @@
 //! Statements with no statement inside.
-ghost use Rattle.std.specs.Prelude.{◌≡◌, ◌≤◌, ◌+◌, ◌<◌, length, map, is_some, IfOk, None};
+ghost use Rattle.std.specs.Prelude.{◌≡◌, ◌≤◌, ◌+◌, ◌<◌, length, map, option_map, IfOk, None};
 ghost use Rattle.pli_parse_declaration.specs.DeclarationReading.{list_at, declaration_at, identifier_at};
 ghost use Rattle.pli_base.specs.Words.{is_open, behind};
-ghost use Rattle.pli_base.specs.views.SyntaxView.{expression_view};
+ghost use Rattle.pli_base.specs.views.SyntaxView.{expression_view, reference_view};
 ghost use Rattle.pli_base.specs.Statements as tree;
 ghost use Rattle.pli_base.specs.Statements.{body_count};
 ghost use Rattle.pli_base.specs.views.StatementView.{allocation_view, body_view};
-ghost use Rattle.pli_parse_statement.specs.answers.StatementAnswers.{words};
+ghost use Rattle.pli_parse_statement.specs.answers.StatementAnswers.{words, place_view};
 ghost use Rattle.pli_parse_statement.specs.StatementWords.{the_unit};
-ghost use Rattle.pli_parse_statement.specs.StatementReading.{stopped, closing, condition_at, assignment_at, places_from, allocation_at, put_first, put_from, put_at, call_at, keyed_at, expression_in, reference_in};
+ghost use Rattle.pli_parse_statement.specs.StatementReading.{stopped, closing, condition_at, assignment_at, has_place, with_place, places_from, allocation_at, put_from, put_at, call_at, keyed_at, expression_in, reference_in};
 ghost use Rattle.pli_base.specs.Reading.{if_open, mapped};
 ghost use Rattle.pli_base.specs.answers.ReadingAnswers.{Gives, Advances, Continues, front_view};
 ghost use Rattle.pli_parse_declaration.specs.declared.list.Separator.TheVariants.{Commas};
 ghost use Rattle.std.proofs.Common.{refl};
 
 use crate::cursor::{
-    EachReference, arguments_in, equals_taken, expression_in, is_name, parenthesized_expressions,
+    EachReference, arguments_in, equals_taken, expression_in, parenthesized_expressions,
     parenthesized_reference, reference_in,
 };
 use crate::keyword::{Keyword, named_condition};
-use crate::word::{PlaceWord, place_first};
+use crate::word::{PlaceWord, PutWord, place_first, put_first};
 use pli_base::statement::{Allocation, Body, Condition};
-use pli_base::syntax::{Expression, Identifier};
+use pli_base::syntax::{Expression, Identifier, Reference};
 use pli_base::{
     Code, Front, ParseError, TokenText, behind_open, close_taken, fault, misfit, semicolon_taken,
 };
@@ -93,6 +93,36 @@ pub fn condition_at(at: u32, texts: &[TokenText]) -> Result<Front<'_, Condition>
     }
 }
 
+/// Whether the allocation has what the word begins.
+#[tactic(auto)]
+fn has_place(word: PlaceWord, allocation: &Allocation) -> bool
+    ensures { result ≡ has_place (place_view word) (option_map reference_view allocation.now.area) (option_map reference_view allocation.now.target) }
+{
+    match (word, &allocation.area, &allocation.target) {
+        (PlaceWord::In, Some(_), _) | (PlaceWord::Set, _, Some(_)) => true,
+        _ => false,
+    }
+}
+
+/// The allocation with a reference where the word puts it.
+#[tactic(auto)]
+fn with_place(word: PlaceWord, allocation: Allocation, reference: Reference) -> Allocation
+    ensures { allocation_view result ≡ with_place (place_view word) allocation.name (option_map reference_view allocation.area) (option_map reference_view allocation.target) (reference_view reference) }
+{
+    match word {
+        PlaceWord::In => Allocation {
+            name: allocation.name,
+            area: Some(reference),
+            target: allocation.target,
+        },
+        PlaceWord::Set => Allocation {
+            name: allocation.name,
+            area: allocation.area,
+            target: Some(reference),
+        },
+    }
+}
+
 /// IN and SET of an allocation, each at most once; `bound` is one more than how many of them may stand.
 #[tactic(auto, unfolding(crate::specs::StatementReading::places_from))]
 fn places_from<'a>(
@@ -108,37 +138,31 @@ fn places_from<'a>(
     ensures place { IfOk result (Continues at texts.now) }
 {
     if bound == 0 {
+        drop(allocation);
         return Err(fault(Code::BadOption, at));
     }
-    match (place_first(texts), allocation.area, allocation.target) {
-        (None, area, target) => Ok(Front {
-            value: Allocation {
-                name: allocation.name,
-                area,
-                target,
-            },
+    match place_first(texts) {
+        None => Ok(Front {
+            value: allocation,
             next: at,
             rest: texts,
         }),
-        (Some((PlaceWord::In, rest)), None, target) => {
-            let area = parenthesized_reference(alloc, levels, at + 1, rest)?;
-            let placed = Allocation {
-                name: allocation.name,
-                area: Some(area.value),
-                target,
-            };
-            places_from(alloc, levels, bound - 1, placed, area.next, area.rest)
+        Some((word, rest)) => {
+            if has_place(word, &allocation) {
+                drop(allocation);
+                return Err(fault(Code::BadOption, at));
+            }
+            match parenthesized_reference(alloc, levels, at + 1, rest) {
+                Ok(place) => {
+                    let placed = with_place(word, allocation, place.value);
+                    places_from(alloc, levels, bound - 1, placed, place.next, place.rest)
+                }
+                Err(error) => {
+                    drop(allocation);
+                    Err(error)
+                }
+            }
         }
-        (Some((PlaceWord::Set, rest)), area, None) => {
-            let target = parenthesized_reference(alloc, levels, at + 1, rest)?;
-            let placed = Allocation {
-                name: allocation.name,
-                area,
-                target: Some(target.value),
-            };
-            places_from(alloc, levels, bound - 1, placed, target.next, target.rest)
-        }
-        _ => Err(fault(Code::BadOption, at)),
     }
 }
 
@@ -181,7 +205,7 @@ impl ReadsOne for EachAllocation {
 }
 
 /// SKIP and LIST of PUT, each at most once; `bound` is one more than how many of them may stand.
-#[tactic(auto, unfolding(crate::specs::StatementReading::put_from, crate::specs::StatementReading::put_first, crate::specs::StatementReading::put_word))]
+#[tactic(auto, unfolding(crate::specs::StatementReading::put_from))]
 fn put_from<'a>(
     alloc: Global,
     levels: u32,
@@ -199,53 +223,37 @@ fn put_from<'a>(
     if bound == 0 {
         return Err(fault(Code::BadOption, at));
     }
-    let [TokenText::Word(name), rest @ ..] = texts else {
-        return Ok(Front {
+    match put_first(texts) {
+        None => Ok(Front {
             value: Body::Put { skip, items },
             next: at,
             rest: texts,
-        });
-    };
-    if is_name(name, b"SKIP") {
-        if skip {
-            return Err(fault(Code::BadOption, at));
+        }),
+        Some((PutWord::Skip, rest)) => {
+            if skip {
+                return Err(fault(Code::BadOption, at));
+            }
+            put_from(alloc, levels, bound - 1, true, items, at + 1, rest)
         }
-        put_from(alloc, levels, bound - 1, true, items, at + 1, rest)
-    } else if is_name(name, b"LIST") {
-        if !items.is_empty() {
-            return Err(fault(Code::BadOption, at));
+        Some((PutWord::List, rest)) => {
+            if !items.is_empty() {
+                return Err(fault(Code::BadOption, at));
+            }
+            let list = parenthesized_expressions(alloc, levels, at + 1, rest)?;
+            put_from(
+                alloc,
+                levels,
+                bound - 1,
+                skip,
+                list.value,
+                list.next,
+                list.rest,
+            )
         }
-        let list = parenthesized_expressions(alloc, levels, at + 1, rest)?;
-        put_from(
-            alloc,
-            levels,
-            bound - 1,
-            skip,
-            list.value,
-            list.next,
-            list.rest,
-        )
-    } else {
-        Ok(Front {
-            value: Body::Put { skip, items },
-            next: at,
-            rest: texts,
-        })
     }
 }
 
-/// Whether SKIP or LIST stands first.
-#[tactic(auto, unfolding(crate::specs::StatementReading::put_first, crate::specs::StatementReading::put_word))]
-fn begins_put(texts: &[TokenText]) -> bool
-    ensures { result ≡ is_some (put_first texts.now) }
-{
-    match texts {
-        [TokenText::Word(name), ..] => is_name(name, b"SKIP") || is_name(name, b"LIST"),
-        _ => false,
-    }
-}
-
-/// What stands behind PUT, without its `;`: SKIP, LIST or both.
+/// What stands behind PUT: SKIP, LIST or both.
 #[tactic(auto, unfolding(crate::specs::StatementReading::put_at))]
 fn put_at<'a>(
     alloc: Global,
@@ -254,18 +262,20 @@ fn put_at<'a>(
     texts: &'a [TokenText],
 ) -> Result<Front<'a, Body>, ParseError>
     requires { at + length texts.now ≤ 200000 }
-    ensures value { Gives (front_view body_view) result (put_at levels at texts.now) }
+    ensures value { Gives (front_view body_view) result (closing (λ x. x) (put_at levels at texts.now)) }
     ensures alone { IfOk result (λ x. body_count (body_view x.value) ≡ 0) }
-    ensures place { IfOk result (Continues at texts.now) }
+    ensures place { IfOk result (Advances at texts.now) }
 {
-    if begins_put(texts) {
-        put_from(alloc, levels, 3, false, Vec::new(alloc), at, texts)
-    } else {
-        Err(misfit(Code::BadOption, at, texts))
+    match put_first(texts) {
+        Some(_) => {
+            let put = put_from(alloc, levels, 3, false, Vec::new(alloc), at, texts)?;
+            stopped(put.value, put.next, put.rest)
+        }
+        None => Err(misfit(Code::BadOption, at, texts)),
     }
 }
 
-/// What stands behind CALL, without its `;`.
+/// What stands behind CALL.
 #[tactic(auto, unfolding(crate::specs::StatementReading::call_at, pli_parse_declaration::specs::DeclarationReading::identifier_at, pli_parse_declaration::specs::DeclarationReading::name_at, pli_base::specs::Words::name_first))]
 fn call_at<'a>(
     alloc: Global,
@@ -274,7 +284,7 @@ fn call_at<'a>(
     texts: &'a [TokenText],
 ) -> Result<Front<'a, Body>, ParseError>
     requires { at + length texts.now ≤ 200000 }
-    ensures value { Gives (front_view body_view) result (call_at levels at texts.now) }
+    ensures value { Gives (front_view body_view) result (closing (λ x. x) (call_at levels at texts.now)) }
     ensures alone { IfOk result (λ x. body_count (body_view x.value) ≡ 0) }
     ensures place { IfOk result (Advances at texts.now) }
 {
@@ -282,14 +292,11 @@ fn call_at<'a>(
         return Err(misfit(Code::NameExpected, at, texts));
     };
     let arguments = arguments_in(alloc, levels, at + 1, rest)?;
-    Ok(Front {
-        value: Body::Call {
-            name: Identifier { name: *name, at },
-            arguments: arguments.value,
-        },
-        next: arguments.next,
-        rest: arguments.rest,
-    })
+    let body = Body::Call {
+        name: Identifier { name: *name, at },
+        arguments: arguments.value,
+    };
+    stopped(body, arguments.next, arguments.rest)
 }
 
 /// What stands behind GOTO or GO TO.
@@ -456,16 +463,10 @@ pub fn simple_at<'a>(
         Keyword::Stop => stopped(Body::Stop, at + 1, rest),
         Keyword::Allocate => allocate_at(alloc, levels, at + 1, rest),
         Keyword::Free => free_at(alloc, levels, at + 1, rest),
-        Keyword::Call => {
-            let call = call_at(alloc, levels, at + 1, rest)?;
-            stopped(call.value, call.next, call.rest)
-        }
+        Keyword::Call => call_at(alloc, levels, at + 1, rest),
         Keyword::Goto => goto_at(at + 1, rest),
         Keyword::GoTo => goto_at(at + 2, rest),
         Keyword::Return => return_at(alloc, levels, at + 1, rest),
-        Keyword::Put => {
-            let put = put_at(alloc, levels, at + 1, rest)?;
-            stopped(put.value, put.next, put.rest)
-        }
+        Keyword::Put => put_at(alloc, levels, at + 1, rest),
     }
 }

@@ -1,7 +1,7 @@
 //! Words inside statements. No word is reserved: each is a keyword only where it may stand.
 ghost use Rattle.std.specs.Prelude.{◌≡◌, ◌+◌, length, option_map, IfSome};
-ghost use Rattle.pli_parse_statement.specs.StatementReading.{place_first, range_first, option_first};
-ghost use Rattle.pli_parse_statement.specs.answers.StatementAnswers.{place_view, range_view, option_view};
+ghost use Rattle.pli_parse_statement.specs.StatementReading.{place_first, put_first, range_first, option_first};
+ghost use Rattle.pli_parse_statement.specs.answers.StatementAnswers.{place_view, put_view, range_view, option_view};
 
 use crate::cursor::is_name;
 use pli_base::TokenText;
@@ -11,6 +11,13 @@ use pli_base::TokenText;
 pub enum PlaceWord {
     In,
     Set,
+}
+
+/// A word behind PUT.
+#[derive(Clone, Copy)]
+pub enum PutWord {
+    Skip,
+    List,
 }
 
 /// A word behind the first value of an iteration.
@@ -42,6 +49,24 @@ pub fn place_first(texts: &[TokenText]) -> Option<(PlaceWord, &[TokenText])>
         Some((PlaceWord::In, rest))
     } else if is_name(name, b"SET") {
         Some((PlaceWord::Set, rest))
+    } else {
+        None
+    }
+}
+
+/// SKIP or LIST, if it stands first, and the tokens behind it.
+#[tactic(auto, unfolding(crate::specs::StatementReading::put_first, crate::specs::StatementReading::put_word))]
+pub fn put_first(texts: &[TokenText]) -> Option<(PutWord, &[TokenText])>
+    ensures value { put_first texts.now ≡ option_map (λ x. (put_view x.0, x.1.now)) result }
+    ensures place { IfSome result (λ x. length x.1.now + 1 ≡ length texts.now) }
+{
+    let [TokenText::Word(name), rest @ ..] = texts else {
+        return None;
+    };
+    if is_name(name, b"SKIP") {
+        Some((PutWord::Skip, rest))
+    } else if is_name(name, b"LIST") {
+        Some((PutWord::List, rest))
     } else {
         None
     }

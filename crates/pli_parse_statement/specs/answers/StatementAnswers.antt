@@ -26,6 +26,8 @@ use Rattle.pli_parse_statement.specs.declared.counted.Counted.{Counted}
 use Rattle.pli_parse_statement.specs.declared.counted.Listing.{Listing}
 use Rattle.pli_parse_statement.specs.declared.word.PlaceWord.{PlaceWord}
 use Rattle.pli_parse_statement.specs.declared.word.PlaceWord.TheVariants as places
+use Rattle.pli_parse_statement.specs.declared.word.PutWord.{PutWord}
+use Rattle.pli_parse_statement.specs.declared.word.PutWord.TheVariants as puts
 use Rattle.pli_parse_statement.specs.declared.word.RangeWord.{RangeWord}
 use Rattle.pli_parse_statement.specs.declared.word.RangeWord.TheVariants as ranges
 use Rattle.pli_parse_statement.specs.declared.word.OptionWord.{OptionWord}
@@ -40,6 +42,11 @@ words keyword = 1
 abbrev pub place_view : PlaceWord → reading.PlaceWord
 place_view places.In = reading.InWord
 place_view places.Set = reading.SetWord
+
+-- the word that the code has for it
+abbrev pub put_view : PutWord → reading.PutWord
+put_view puts.Skip = reading.SkipWord
+put_view puts.List = reading.ListWord
 
 -- the word that the code has for it
 abbrev pub range_view : RangeWord → reading.RangeWord
