@@ -13,14 +13,14 @@ use Rattle.pli_gen_tree.specs.declared.naming.NamingInstruction.TheVariants as n
 use Rattle.pli_gen_tree.proofs.JumpLemmas.{behind_is, longer, one_longer, pushed, put_in, count}
 use Rattle.pli_gen_tree.proofs.SimpleCode.{behind_both}
 
--- four instructions behind a part
-pub four_longer : (old placed one two three four : List NamingInstruction) (part : List op.Instruction) (a b c d : NamingInstruction)
-    → naming_code placed ≡ naming_code old ++ part → one ≡ placed ++ a ∷ [] → two ≡ one ++ b ∷ [] → three ≡ two ++ c ∷ [] → four ≡ three ++ d ∷ []
-    → length four ≡ behind (part ++ naming_view a ∷ naming_view b ∷ naming_view c ∷ naming_view d ∷ []) (length old)
-four_longer old placed one two three four part a b c d is e f g h =
-    one_longer three four d h
-    ∙ ap suc (one_longer two three c g ∙ ap suc (one_longer one two b f ∙ ap suc (one_longer placed one a e ∙ ap suc (longer old placed part is))))
-    ∙ sym (behind_both part (naming_view a ∷ naming_view b ∷ naming_view c ∷ naming_view d ∷ []) (length old))
+-- two instructions behind a part and two more
+pub two_longer : (old loaded three four : List NamingInstruction) (part : List op.Instruction) (a b : op.Instruction) (c d : NamingInstruction)
+    → naming_code loaded ≡ naming_code old ++ (part ++ a ∷ b ∷ []) → three ≡ loaded ++ c ∷ [] → four ≡ three ++ d ∷ []
+    → length four ≡ behind (part ++ a ∷ b ∷ naming_view c ∷ naming_view d ∷ []) (length old)
+two_longer old loaded three four part a b c d is e f =
+    one_longer three four d f
+    ∙ ap suc (one_longer loaded three c e ∙ ap suc (longer old loaded (part ++ a ∷ b ∷ []) is ∙ behind_both part (a ∷ b ∷ []) (length old)))
+    ∙ sym (behind_both part (a ∷ b ∷ naming_view c ∷ naming_view d ∷ []) (length old))
 
 -- a jump behind a test gets its target
 landed_in : (code : List NamingInstruction) (test : Option (List op.Instruction)) (front rest : List op.Instruction) (from to p : ℕ)

@@ -1,6 +1,7 @@
 pub mod BlockLemmas
 pub mod CodeFits
 pub mod EmitLemmas
+pub mod EndLemmas
 pub mod IterationCode
 pub mod IterationLemmas
 pub mod JumpLemmas

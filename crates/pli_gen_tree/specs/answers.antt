@@ -1,3 +1,4 @@
 pub mod Answers
 pub mod Digests
+pub mod Ends
 pub mod Pieces

@@ -20,6 +20,17 @@ pub(crate) struct BlockSource<'a> {
     pub statements: &'a [TypedStatement],
 }
 
+/// Appends a block. Its error holds nothing, so that nothing is left to let go of where one is appended.
+fn append_block<'a>(
+    blocks: &mut Vec<BlockSource<'a>>,
+    block: BlockSource<'a>,
+) -> Result<(), AllocError>
+    ensures { OnOk result (blocks.new.items ≡ blocks.old.items ++ block.entry ∷ []) }
+{
+    blocks.push(block)?;
+    Ok(())
+}
+
 /// Appends the BEGIN blocks inside statements of a block.
 #[cycle(collect)]
 fn collect_among<'a>(
@@ -67,27 +78,26 @@ fn collect_of_form<'a>(
         } => {
             collect_in(parent, consequence, blocks)?;
             match alternative {
-                None => {}
-                Some(other) => collect_in(parent, other, blocks)?,
+                None => Ok(()),
+                Some(other) => collect_in(parent, other, blocks),
             }
         }
         Form::Begin { head, statements } => {
             let statements = statements.as_slice();
-            blocks.push(BlockSource {
+            let block = BlockSource {
                 kind: BlockKind::Begin,
                 parent: Some(parent),
                 parameters: 0,
                 head,
                 function_end: None,
                 statements,
-            })?;
-            collect_among(head.number, statements, blocks)?;
+            };
+            append_block(blocks, block)?;
+            collect_among(head.number, statements, blocks)
         }
-        Form::Group(statements) => collect_among(parent, statements.as_slice(), blocks)?,
-        Form::While { statements, .. } => collect_among(parent, statements.as_slice(), blocks)?,
-        Form::Iterate { statements, .. } => {
-            collect_among(parent, statements.as_slice(), blocks)?;
-        }
+        Form::Group(statements) => collect_among(parent, statements.as_slice(), blocks),
+        Form::While { statements, .. } => collect_among(parent, statements.as_slice(), blocks),
+        Form::Iterate { statements, .. } => collect_among(parent, statements.as_slice(), blocks),
         Form::Null
         | Form::Assign { .. }
         | Form::AssignAggregate { .. }
@@ -96,9 +106,8 @@ fn collect_of_form<'a>(
         | Form::Goto { .. }
         | Form::Return { .. }
         | Form::ReturnValue { .. }
-        | Form::Stop => {}
+        | Form::Stop => Ok(()),
     }
-    Ok(())
 }
 
 /// Appends a procedure's block and those inside it.
@@ -110,14 +119,15 @@ fn collect_procedure<'a>(
         (block_trees blocks.new.items ≡ block_trees blocks.old.items ++ blocks_of_procedure (procedure_view procedure.now)) }
 {
     let statements = procedure.statements.as_slice();
-    blocks.push(BlockSource {
+    let block = BlockSource {
         kind: BlockKind::Procedure,
         parent: procedure.parent,
         parameters: procedure.parameters,
         head: &procedure.head,
         function_end: procedure.function_end,
         statements,
-    })?;
+    };
+    append_block(blocks, block)?;
     collect_among(procedure.head.number, statements, blocks)
 }
 

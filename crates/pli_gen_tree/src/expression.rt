@@ -7,7 +7,7 @@ ghost use Rattle.pli_gen_tree.specs.TreeTranslation.{root_code, value_code, plac
 ghost use Rattle.pli_gen_tree.specs.TreeTranslation.{operands_code, subscripts_code, arguments_code};
 ghost use Rattle.pli_gen_tree.specs.views.NamingView.{naming_code};
 
-use crate::naming::NamingInstruction;
+use crate::naming::{NamingInstruction, append};
 use pli_type_tree::{Root, TypedArgument, TypedExpression, TypedReference, TypedSubscript};
 use std::alloc::AllocError;
 
@@ -31,31 +31,28 @@ pub(crate) fn emit_value<'a>(
         (naming_code code.new.items ≡ naming_code code.old.items ++ value_code (expression_view expression.now)) }
 {
     match expression {
-        TypedExpression::Literal(value) => {
-            code.push(NamingInstruction::Constant(value))?;
-            Ok(())
-        }
+        TypedExpression::Literal(value) => { append(code, NamingInstruction::Constant(value)) }
         TypedExpression::Held(variable) => {
             emit_place(variable, code)?;
-            code.push(NamingInstruction::Load)?;
-            Ok(())
+            append(code, NamingInstruction::Load)
         }
         TypedExpression::Calculated {
             operation,
             operands,
         } => {
             emit_operands(operands.as_slice(), code)?;
-            code.push(NamingInstruction::Operate(operation))?;
-            Ok(())
+            append(code, NamingInstruction::Operate(operation))
         }
         TypedExpression::Called { block, arguments } => {
             let arguments = arguments.as_slice();
             emit_arguments(arguments, code)?;
-            code.push(NamingInstruction::Call {
-                block: *block,
-                arguments: arguments.len(),
-            })?;
-            Ok(())
+            append(
+                code,
+                NamingInstruction::Call {
+                    block: *block,
+                    arguments: arguments.len(),
+                },
+            )
         }
     }
 }
@@ -85,23 +82,22 @@ pub(crate) fn emit_place<'a>(
         (naming_code code.new.items ≡ naming_code code.old.items ++ place_code (reference_view reference.now)) }
 {
     match reference {
-        TypedReference::Whole(root) => {
-            code.push(root_instruction(*root))?;
-            Ok(())
-        }
+        TypedReference::Whole(root) => { append(code, root_instruction(*root)) }
         TypedReference::Part {
             root,
             offset,
             description,
             subscripts,
         } => {
-            code.push(root_instruction(*root))?;
-            code.push(NamingInstruction::Field {
-                offset: *offset,
-                description,
-            })?;
-            emit_subscripts(subscripts.as_slice(), code)?;
-            Ok(())
+            append(code, root_instruction(*root))?;
+            append(
+                code,
+                NamingInstruction::Field {
+                    offset: *offset,
+                    description,
+                },
+            )?;
+            emit_subscripts(subscripts.as_slice(), code)
         }
     }
 }
@@ -117,7 +113,7 @@ fn emit_subscripts<'a>(
 {
     for subscript in subscripts {
         emit_value(&subscript.value, code)?;
-        code.push(NamingInstruction::Subscript(subscript.stride))?;
+        append(code, NamingInstruction::Subscript(subscript.stride))?;
     }
     Ok(())
 }
@@ -136,8 +132,7 @@ fn emit_argument<'a>(
         TypedArgument::ByPlace(variable) => emit_place(variable, code),
         TypedArgument::ByDummy { description, value } => {
             emit_value(value, code)?;
-            code.push(NamingInstruction::MakeDummy(description))?;
-            Ok(())
+            append(code, NamingInstruction::MakeDummy(description))
         }
     }
 }

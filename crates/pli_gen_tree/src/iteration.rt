@@ -6,7 +6,7 @@ ghost use Rattle.pli_type_tree.specs.Iterations as plain;
 ghost use Rattle.pli_type_tree.specs.Iterations.{kept_by};
 ghost use Rattle.pli_type_tree.specs.views.TypedView.{expression_view, iteration_view, range_view};
 ghost use Rattle.pli_value.specs.Value as values;
-ghost use Rattle.pli_gen_tree.specs.TreeTranslation.{value_code, keeps_code, conversion_code, start_code};
+ghost use Rattle.pli_gen_tree.specs.TreeTranslation.{value_code, place_code, keeps_code, conversion_code, start_code};
 ghost use Rattle.pli_gen_tree.specs.TreeTranslation.{limit_test, while_test, guarded, tests_code};
 ghost use Rattle.pli_gen_tree.specs.TreeTranslation.{counted_code, advances_code, back_code};
 ghost use Rattle.pli_gen_tree.specs.answers.Pieces.{jump_place, landed, IsTurn};
@@ -14,7 +14,7 @@ ghost use Rattle.pli_gen_tree.specs.views.NamingView.{naming_code};
 
 use crate::expression::{emit_place, emit_value};
 use crate::jump::{land_guard, open_test};
-use crate::naming::NamingInstruction;
+use crate::naming::{NamingInstruction, append};
 use pli_operation::Operation;
 use pli_type_tree::{Iteration, TypedExpression, TypedRange};
 use std::alloc::AllocError;
@@ -38,8 +38,7 @@ fn keep<'a>(
         ≡ naming_code code.old.items ++ (value_code (expression_view value.now) ++ op.SetTemporary number ∷ [])) }
 {
     emit_value(value, code)?;
-    code.push(NamingInstruction::SetTemporary { number })?;
-    Ok(())
+    append(code, NamingInstruction::SetTemporary { number })
 }
 
 /// Appends the code that keeps 1.
@@ -48,9 +47,8 @@ fn keep_one(number: u64, code: &mut Vec<NamingInstruction<'_>>) -> Result<(), Al
         (naming_code code.new.items
         ≡ naming_code code.old.items ++ op.Constant (values.Number (pos 1)) ∷ op.SetTemporary number ∷ []) }
 {
-    code.push(NamingInstruction::One)?;
-    code.push(NamingInstruction::SetTemporary { number })?;
-    Ok(())
+    append(code, NamingInstruction::One)?;
+    append(code, NamingInstruction::SetTemporary { number })
 }
 
 /// Appends the code that keeps TO and BY, behind the temporary of the start.
@@ -66,23 +64,22 @@ fn emit_kept<'a>(
     let first = u64::from(start) + 1;
     let second = u64::from(start) + 2;
     match range {
-        TypedRange::Once | TypedRange::Repeated(_) => {}
+        TypedRange::Once | TypedRange::Repeated(_) => Ok(()),
         TypedRange::ToBy { to, by } => {
             keep(to, first, code)?;
             match by {
-                None => keep_one(second, code)?,
-                Some(by) => keep(by, second, code)?,
+                None => keep_one(second, code),
+                Some(by) => keep(by, second, code),
             }
         }
         TypedRange::ByTo { by, to } => {
             keep(by, first, code)?;
             match to {
-                None => {}
-                Some(to) => keep(to, second, code)?,
+                None => Ok(()),
+                Some(to) => keep(to, second, code),
             }
         }
     }
-    Ok(())
 }
 
 /// Appends operations, one after the other.
@@ -95,7 +92,7 @@ fn emit_conversion<'a>(
         ≡ naming_code code.old.items ++ conversion_code (map operation_view conversion.now)) }
 {
     for operation in conversion {
-        code.push(NamingInstruction::Operate(operation))?;
+        append(code, NamingInstruction::Operate(operation))?;
     }
     Ok(())
 }
@@ -110,8 +107,7 @@ fn emit_store<'a>(
         ≡ naming_code code.old.items ++ (conversion_code (map operation_view conversion.now) ++ op.Store ∷ [])) }
 {
     emit_conversion(conversion, code)?;
-    code.push(NamingInstruction::Store)?;
-    Ok(())
+    append(code, NamingInstruction::Store)
 }
 
 /// Appends what is done before the first turn.
@@ -126,7 +122,7 @@ pub(crate) fn emit_start<'a>(
     keep(&iteration.start, number, code)?;
     emit_kept(&iteration.range, iteration.temporary, code)?;
     emit_place(&iteration.control, code)?;
-    code.push(NamingInstruction::TakeTemporary { number })?;
+    append(code, NamingInstruction::TakeTemporary { number })?;
     emit_store(iteration.conversion.as_slice(), code)
 }
 
@@ -155,6 +151,22 @@ fn step_number(range: &TypedRange) -> u8
     }
 }
 
+/// Appends the control variable's value and a temporary.
+fn emit_loaded<'a>(
+    iteration: &'a Iteration,
+    number: u64,
+    code: &mut Vec<NamingInstruction<'a>>,
+) -> Result<(), AllocError>
+    ensures { OnOk result
+        (naming_code code.new.items
+        ≡ naming_code code.old.items
+        ++ (place_code (iteration_view iteration.now).control ++ op.Load ∷ op.TakeTemporary number ∷ [])) }
+{
+    emit_place(&iteration.control, code)?;
+    append(code, NamingInstruction::Load)?;
+    append(code, NamingInstruction::TakeTemporary { number })
+}
+
 /// Appends the test against the limit, if there is one, and says where its jump stands.
 fn emit_limit<'a>(
     iteration: &'a Iteration,
@@ -170,15 +182,14 @@ fn emit_limit<'a>(
         return Ok(None);
     };
     let first = u64::from(iteration.temporary);
-    emit_place(&iteration.control, code)?;
-    code.push(NamingInstruction::Load)?;
-    code.push(NamingInstruction::TakeTemporary {
-        number: first + u64::from(limit),
-    })?;
-    code.push(NamingInstruction::TakeTemporary {
-        number: first + u64::from(step_number(&iteration.range)),
-    })?;
-    code.push(NamingInstruction::Within)?;
+    emit_loaded(iteration, first + u64::from(limit), code)?;
+    append(
+        code,
+        NamingInstruction::TakeTemporary {
+            number: first + u64::from(step_number(&iteration.range)),
+        },
+    )?;
+    append(code, NamingInstruction::Within)?;
     let test = open_test(code)?;
     Ok(Some(test))
 }
@@ -233,13 +244,10 @@ fn emit_count<'a>(
         (naming_code code.new.items
         ≡ naming_code code.old.items ++ counted_code (iteration_view iteration.now) step) }
 {
+    let number = u64::from(iteration.temporary) + u64::from(step);
     emit_place(&iteration.control, code)?;
-    emit_place(&iteration.control, code)?;
-    code.push(NamingInstruction::Load)?;
-    code.push(NamingInstruction::TakeTemporary {
-        number: u64::from(iteration.temporary) + u64::from(step),
-    })?;
-    code.push(NamingInstruction::Add)?;
+    emit_loaded(iteration, number, code)?;
+    append(code, NamingInstruction::Add)?;
     emit_store(iteration.conversion.as_slice(), code)
 }
 
@@ -254,16 +262,15 @@ fn emit_advance<'a>(
         ++ advances_code (iteration_view iteration.now).range (iteration_view iteration.now)) }
 {
     match &iteration.range {
-        TypedRange::Once => {}
-        TypedRange::ToBy { .. } => emit_count(iteration, 2, code)?,
-        TypedRange::ByTo { .. } => emit_count(iteration, 1, code)?,
+        TypedRange::Once => Ok(()),
+        TypedRange::ToBy { .. } => emit_count(iteration, 2, code),
+        TypedRange::ByTo { .. } => emit_count(iteration, 1, code),
         TypedRange::Repeated(next) => {
             emit_place(&iteration.control, code)?;
             emit_value(next, code)?;
-            code.push(NamingInstruction::Store)?;
+            append(code, NamingInstruction::Store)
         }
     }
-    Ok(())
 }
 
 /// Whether there may be more than one turn.
@@ -288,10 +295,9 @@ pub(crate) fn emit_back<'a>(
     if !is_iterated(&iteration.range) {
         return Ok(());
     }
-    code.push(NamingInstruction::Line { statement: number })?;
+    append(code, NamingInstruction::Line { statement: number })?;
     emit_advance(iteration, code)?;
-    code.push(NamingInstruction::Jump { target: turn })?;
-    Ok(())
+    append(code, NamingInstruction::Jump { target: turn })
 }
 
 /// The targets of the jumps behind the tests are the place behind the code so far.

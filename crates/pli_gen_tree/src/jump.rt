@@ -3,7 +3,7 @@ ghost use Rattle.std.specs.Prelude.{◌≡◌, ◌++◌, ◌∷◌, [], length, 
 ghost use Rattle.pli_gen_tree.specs.answers.Pieces.{landed};
 ghost use Rattle.pli_gen_tree.specs.declared.naming.NamingInstruction.TheVariants as naming;
 
-use crate::naming::NamingInstruction;
+use crate::naming::{NamingInstruction, append};
 use std::alloc::AllocError;
 
 /// Puts an instruction in the place of another, if there is one.
@@ -25,7 +25,7 @@ pub(crate) fn open_test(code: &mut Vec<NamingInstruction<'_>>) -> Result<usize, 
     ensures place { IfOk result (λ place. place ≡ length code.old.items) }
 {
     let place = code.len();
-    code.push(NamingInstruction::JumpUnless { target: 0 })?;
+    append(code, NamingInstruction::JumpUnless { target: 0 })?;
     Ok(place)
 }
 
@@ -48,7 +48,7 @@ pub(crate) fn pass_over(
     ensures place { IfOk result (λ place. place ≡ length code.old.items) }
 {
     let place = code.len();
-    code.push(NamingInstruction::Jump { target: 0 })?;
+    append(code, NamingInstruction::Jump { target: 0 })?;
     land_test(code, test);
     Ok(place)
 }

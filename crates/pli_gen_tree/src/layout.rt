@@ -6,7 +6,7 @@ ghost use Rattle.pli_gen_tree.specs.views.BlockView.{block_tree, block_trees};
 ghost use Rattle.pli_gen_tree.specs.views.NamingView.{naming_code};
 
 use crate::block::BlockSource;
-use crate::naming::NamingInstruction;
+use crate::naming::{NamingInstruction, append};
 use crate::statement::emit_list;
 use pli_code::RunError;
 use std::alloc::AllocError;
@@ -19,13 +19,12 @@ fn emit_end(
     ensures { OnOk result (naming_code code.new.items ≡ naming_code code.old.items ++ end_code function_end) }
 {
     match function_end {
-        None => code.push(NamingInstruction::Return { outward: 0 })?,
+        None => append(code, NamingInstruction::Return { outward: 0 }),
         Some(statement) => {
-            code.push(NamingInstruction::Line { statement })?;
-            code.push(NamingInstruction::Raise(RunError::NoReturnedValue))?;
+            append(code, NamingInstruction::Line { statement })?;
+            append(code, NamingInstruction::Raise(RunError::NoReturnedValue))
         }
     }
-    Ok(())
 }
 
 /// Appends the code of a block.

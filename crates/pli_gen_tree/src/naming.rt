@@ -1,9 +1,12 @@
 //! Instructions before what they name is numbered.
+ghost use Rattle.std.specs.Prelude.{◌≡◌, ◌++◌, ◌∷◌, [], OnOk};
+
 use pli_code::RunError;
 use pli_map::Description;
 use pli_operation::Operation;
 use pli_type_tree::Stride;
 use pli_value::Value;
+use std::alloc::AllocError;
 
 /// An instruction with what it names, as it lies in the typed tree. Targets are places of instructions in their unit,
 /// counted from 0; a GOTO has its label's statement.
@@ -73,4 +76,15 @@ pub enum NamingInstruction<'a> {
     Within,
     Put,
     Skip,
+}
+
+/// Appends an instruction. Its error holds nothing, so that nothing is left to let go of where one is appended.
+pub(crate) fn append<'a>(
+    code: &mut Vec<NamingInstruction<'a>>,
+    instruction: NamingInstruction<'a>,
+) -> Result<(), AllocError>
+    ensures { OnOk result (code.new.items ≡ code.old.items ++ instruction.entry ∷ []) }
+{
+    code.push(instruction)?;
+    Ok(())
 }

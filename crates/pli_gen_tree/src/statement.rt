@@ -7,7 +7,7 @@ ghost use Rattle.pli_gen_tree.specs.views.NamingView.{naming_code};
 use crate::expression::emit_value;
 use crate::iteration::{emit_back, emit_start, emit_tests, land_tests};
 use crate::jump::{land_over, land_test, open_test, pass_over};
-use crate::naming::NamingInstruction;
+use crate::naming::{NamingInstruction, append};
 use crate::simple::emit_simple;
 use pli_type_tree::{Form, TypedStatement};
 use std::alloc::AllocError;
@@ -39,9 +39,8 @@ fn emit_statement<'a>(
         ≡ naming_code code.old.items ++ statement_code (statement_view statement.now) (length code.old.items)) }
 {
     let number = statement.number;
-    code.push(NamingInstruction::Step { statement: number })?;
-    emit_form(number, &statement.form, code)?;
-    Ok(())
+    append(code, NamingInstruction::Step { statement: number })?;
+    emit_form(number, &statement.form, code)
 }
 
 /// Appends the code of what a statement does.
@@ -72,20 +71,22 @@ fn emit_form<'a>(
                     land_over(code, over);
                 }
             }
+            Ok(())
         }
-        Form::Group(statements) => emit_list(statements.as_slice(), code)?,
+        Form::Group(statements) => emit_list(statements.as_slice(), code),
         Form::While {
             condition,
             statements,
         } => {
             let turn = code.len();
-            code.push(NamingInstruction::Line { statement: number })?;
+            append(code, NamingInstruction::Line { statement: number })?;
             emit_value(condition, code)?;
             let test = open_test(code)?;
-            code.push(NamingInstruction::Step { statement: number })?;
+            append(code, NamingInstruction::Step { statement: number })?;
             emit_list(statements.as_slice(), code)?;
-            code.push(NamingInstruction::Jump { target: turn })?;
+            append(code, NamingInstruction::Jump { target: turn })?;
             land_test(code, test);
+            Ok(())
         }
         Form::Iterate {
             iteration,
@@ -93,10 +94,11 @@ fn emit_form<'a>(
         } => {
             emit_start(iteration, code)?;
             let turn = emit_tests(iteration, code)?;
-            code.push(NamingInstruction::Step { statement: number })?;
+            append(code, NamingInstruction::Step { statement: number })?;
             emit_list(statements.as_slice(), code)?;
             emit_back(number, iteration, turn.place, code)?;
             land_tests(code, turn);
+            Ok(())
         }
         Form::Null
         | Form::Assign { .. }
@@ -107,7 +109,6 @@ fn emit_form<'a>(
         | Form::Goto { .. }
         | Form::Return { .. }
         | Form::ReturnValue { .. }
-        | Form::Stop => emit_simple(form, code)?,
+        | Form::Stop => emit_simple(form, code),
     }
-    Ok(())
 }

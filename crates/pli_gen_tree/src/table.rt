@@ -1,5 +1,5 @@
 //! The tables of a unit's code: entries numbered by first use.
-ghost use Rattle.std.specs.Prelude.{◌≡◌, ◌++◌, ◌∷◌, [], map, OnOk, IfOk};
+ghost use Rattle.std.specs.Prelude.{◌≡◌, ◌++◌, ◌∷◌, [], map, OnOk};
 ghost use Rattle.std.specs.List.{flat_map};
 ghost use Rattle.pli_map.specs.Same.{same};
 ghost use Rattle.pli_map.specs.views.DescriptionView.{description_view};
@@ -7,6 +7,7 @@ ghost use Rattle.pli_value.specs.Value.{value_view};
 ghost use Rattle.pli_type_tree.specs.views.TemplateView.{group_view, groups_view, template_view};
 ghost use Rattle.pli_gen_tree.specs.Encoding.{same_value, same_template, numbered, dummy, tables_for, variables_of};
 ghost use Rattle.pli_gen_tree.specs.Encoding.{descriptions_named, templates_named, values_named};
+ghost use Rattle.pli_gen_tree.specs.answers.Ends.{no_tables};
 ghost use Rattle.pli_gen_tree.specs.views.BlockView.{block_trees};
 ghost use Rattle.pli_gen_tree.specs.views.KeyView.{described, templated, valued};
 ghost use Rattle.pli_gen_tree.specs.views.NamingView.{naming_view, naming_code};
@@ -21,7 +22,7 @@ use pli_map::Description;
 use pli_operation::Operation;
 use pli_type_tree::{Template, VariableGroup};
 use pli_value::Value;
-use std::alloc::{AllocError, Global};
+use std::alloc::AllocError;
 
 /// The tables of a unit's code, as they lie in the typed tree.
 #[derive(Drop)]
@@ -159,7 +160,7 @@ fn number_named<'a>(
 {
     match instruction {
         NamingInstruction::Field { description, .. } => {
-            number_description(&mut tables.descriptions, description)?;
+            number_description(&mut tables.descriptions, description)
         }
         NamingInstruction::MakeDummy(description) => {
             number_description(&mut tables.descriptions, description)?;
@@ -167,20 +168,15 @@ fn number_named<'a>(
                 description,
                 initial: &[],
             };
-            number_template(&mut tables.templates, template)?;
+            number_template(&mut tables.templates, template)
         }
         NamingInstruction::Operate(Operation::Fit(description)) => {
-            number_description(&mut tables.descriptions, description)?;
+            number_description(&mut tables.descriptions, description)
         }
-        NamingInstruction::Constant(value) => {
-            number_value(&mut tables.values, value)?;
-        }
-        NamingInstruction::One => {
-            number_value(&mut tables.values, one.value)?;
-        }
-        _ => {}
+        NamingInstruction::Constant(value) => number_value(&mut tables.values, value),
+        NamingInstruction::One => number_value(&mut tables.values, one.value),
+        _ => Ok(()),
     }
-    Ok(())
 }
 
 /// Puts what code names at the end of tables that lack it.
@@ -205,24 +201,20 @@ fn number_code<'a>(
     Ok(())
 }
 
-/// The tables of a unit with these variables, blocks and instructions.
-pub(crate) fn tables_of<'a>(
-    alloc: Global,
+/// Puts what a unit with these variables, blocks and instructions names into tables without entries.
+pub(crate) fn number_unit<'a>(
+    tables: &mut Tables<'a>,
     statics: &'a [VariableGroup],
     blocks: &[BlockSource<'a>],
     one: One<'a>,
     code: &[NamingInstruction<'a>],
-) -> Result<Tables<'a>, AllocError>
-    ensures { IfOk result (λ tables. tables_view tables
+) -> Result<(), AllocError>
+    requires { tables_view tables.old ≡ no_tables }
+    ensures { OnOk result (tables_view tables.new
         ≡ tables_for (variables_of (groups_view statics.now) (block_trees blocks.now)) (naming_code code.now)) }
 {
-    let mut tables = Tables {
-        descriptions: IndexSet::new(alloc),
-        templates: IndexSet::new(alloc),
-        values: IndexSet::new(alloc),
-    };
-    number_variables(&mut tables, statics)?;
-    number_block_variables(&mut tables, blocks)?;
-    number_code(&mut tables, one, code)?;
-    Ok(tables)
+    number_variables(tables, statics)?;
+    number_block_variables(tables, blocks)?;
+    number_code(tables, one, code)?;
+    Ok(())
 }

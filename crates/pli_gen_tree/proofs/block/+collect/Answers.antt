@@ -1,5 +1,6 @@
 use Rattle.std.proofs.Common.{◌++◌, ◌∷◌, [], List, append_assoc, ap, ◌∙◌, sym}
 use Rattle.std.proofs.lemmas.List.{map-append}
+use Rattle.std.proofs.lemmas.Result.{on_ok_weaker}
 use Rattle.pli_type_tree.specs.views.TypedView.{form_view, head_view, statements_view}
 use Rattle.pli_type_tree.specs.laws.TypedTreeLaws.{begin_made, group_made, while_made, iterate_made}
 use Rattle.pli_type_tree.specs.declared.statement.TypedStatement.{TypedStatement}
@@ -7,34 +8,42 @@ use Rattle.pli_gen_tree.specs.TreeTranslation.{BlockTree, blocks_of_form, blocks
 use Rattle.pli_gen_tree.specs.views.BlockView.{block_tree, block_trees}
 use Rattle.pli_gen_tree.proofs.block.+collect.Goals as goal
 
-pub collect_of_form-returns-in_ok-collect_among-in-Begin : goal.collect_of_form-returns-in_ok-collect_among-in-Begin
-collect_of_form-returns-in_ok-collect_among-in-Begin t c =
+pub collect_of_form-returns-in_ok-append_block-in-Begin : goal.collect_of_form-returns-in_ok-append_block-in-Begin
+collect_of_form-returns-in_ok-append_block-in-Begin t c =
     let b = c.in-Begin in
     let old = block_trees c.args.blocks.now.items in
     let inside : List TypedStatement → List BlockTree = λ ss. blocks_among b.head.number (statements_view ss) in
     let here : List TypedStatement → BlockTree = λ ss. begin_block c.args.parent (head_view b.head) (statements_view ss) in
     let same = c.as_slice-statements.ensures.value in
-    c.in_ok-collect_among-in-Begin.ensures
-    ∙ ap (λ xs. block_trees xs ++ inside c.as_slice-statements.result.now) c.in_ok-push-in-Begin.ensures.items
+    on_ok_weaker c.collect_among.result
+    (λ e. e
+    ∙ ap (λ xs. block_trees xs ++ inside c.as_slice-statements.result.now) c.in_ok-append_block-in-Begin.ensures
     ∙ ap (λ xs. xs ++ inside c.as_slice-statements.result.now) (map-append block_tree c.args.blocks.now.items _)
     ∙ ap (λ ss. old ++ here ss ∷ [] ++ inside ss) same
     ∙ append_assoc old (here b.statements.items ∷ []) (inside b.statements.items)
-    ∙ sym (ap (λ f. old ++ blocks_of_form c.args.parent f) (ap form_view b.is ∙ begin_made b.head b.statements))
+    ∙ sym (ap (λ f. old ++ blocks_of_form c.args.parent f) (ap form_view b.is ∙ begin_made b.head b.statements)))
+    c.collect_among.ensures
 
-pub collect_of_form-returns-in_ok-collect_among-in-Group : goal.collect_of_form-returns-in_ok-collect_among-in-Group
-collect_of_form-returns-in_ok-collect_among-in-Group t c =
+pub collect_of_form-returns-in-Group : goal.collect_of_form-returns-in-Group
+collect_of_form-returns-in-Group t c =
     let old = block_trees c.args.blocks.now.items in
-    c.in_ok-collect_among-in-Group.ensures ∙ ap (λ ss. old ++ blocks_among c.args.parent (statements_view ss)) c.as_slice.ensures.value
-    ∙ sym (ap (λ f. old ++ blocks_of_form c.args.parent f) (ap form_view c.in-Group.is ∙ group_made c.in-Group.statements))
+    on_ok_weaker c.collect_among-in-Group.result
+    (λ e. e ∙ ap (λ ss. old ++ blocks_among c.args.parent (statements_view ss)) c.as_slice.ensures.value
+    ∙ sym (ap (λ f. old ++ blocks_of_form c.args.parent f) (ap form_view c.in-Group.is ∙ group_made c.in-Group.statements)))
+    c.collect_among-in-Group.ensures
 
-pub collect_of_form-returns-in_ok-collect_among-in-While : goal.collect_of_form-returns-in_ok-collect_among-in-While
-collect_of_form-returns-in_ok-collect_among-in-While t c =
+pub collect_of_form-returns-in-While : goal.collect_of_form-returns-in-While
+collect_of_form-returns-in-While t c =
     let old = block_trees c.args.blocks.now.items in
-    c.in_ok-collect_among-in-While.ensures ∙ ap (λ ss. old ++ blocks_among c.args.parent (statements_view ss)) c.as_slice-in-While.ensures.value
-    ∙ sym (ap (λ f. old ++ blocks_of_form c.args.parent f) (ap form_view c.in-While.is ∙ while_made c.in-While.condition c.in-While.statements))
+    on_ok_weaker c.collect_among-in-While.result
+    (λ e. e ∙ ap (λ ss. old ++ blocks_among c.args.parent (statements_view ss)) c.as_slice-in-While.ensures.value
+    ∙ sym (ap (λ f. old ++ blocks_of_form c.args.parent f) (ap form_view c.in-While.is ∙ while_made c.in-While.condition c.in-While.statements)))
+    c.collect_among-in-While.ensures
 
-pub collect_of_form-returns-in_ok-collect_among-in-Iterate : goal.collect_of_form-returns-in_ok-collect_among-in-Iterate
-collect_of_form-returns-in_ok-collect_among-in-Iterate t c =
+pub collect_of_form-returns-in-Iterate : goal.collect_of_form-returns-in-Iterate
+collect_of_form-returns-in-Iterate t c =
     let old = block_trees c.args.blocks.now.items in
-    c.in_ok-collect_among-in-Iterate.ensures ∙ ap (λ ss. old ++ blocks_among c.args.parent (statements_view ss)) c.as_slice-in-Iterate.ensures.value
-    ∙ sym (ap (λ f. old ++ blocks_of_form c.args.parent f) (ap form_view c.in-Iterate.is ∙ iterate_made c.in-Iterate.iteration c.in-Iterate.statements))
+    on_ok_weaker c.collect_among-in-Iterate.result
+    (λ e. e ∙ ap (λ ss. old ++ blocks_among c.args.parent (statements_view ss)) c.as_slice-in-Iterate.ensures.value
+    ∙ sym (ap (λ f. old ++ blocks_of_form c.args.parent f) (ap form_view c.in-Iterate.is ∙ iterate_made c.in-Iterate.iteration c.in-Iterate.statements)))
+    c.collect_among-in-Iterate.ensures

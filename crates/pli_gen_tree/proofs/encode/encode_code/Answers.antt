@@ -1,7 +1,23 @@
-use Rattle.std.proofs.Common.{arith}
+use Rattle.std.proofs.Common.{ℕ, ◌++◌, ◌∷◌, [], nat_eq, unwrap_or, map, ap, ◌∙◌, refl, arith}
+use Rattle.std.specs.HashMap.{get}
+use Rattle.pli_gen_tree.specs.Encoding.{instruction_code}
+use Rattle.pli_gen_tree.specs.answers.Pieces.{retargeted}
+use Rattle.pli_gen_tree.specs.views.NamingView.{naming_view, naming_code}
+use Rattle.pli_gen_tree.specs.views.TableView.{tables_view}
 use Rattle.pli_gen_tree.proofs.CodeFits.{fits_at}
+use Rattle.pli_gen_tree.proofs.EndLemmas.{more_mapped}
 use Rattle.pli_gen_tree.proofs.encode.encode_code.Goals as goal
 
 pub encode_instruction-requires : goal.encode_instruction-requires
 encode_instruction-requires c =
     fits_at c.args.code.now c.loop-instruction.instruction-index c.instruction-item.result 65535 (omega arith) c.instruction-item.is c.requires
+
+pub loop-instruction-preserved : goal.loop-instruction-preserved
+loop-instruction-preserved c =
+    let place : ℕ → ℕ = λ n. unwrap_or (get nat_eq c.args.numbers.places.now n) 0 in
+    let coded = instruction_code (tables_view c.args.numbers.tables.now) in
+    let before = c.loop-instruction.instructions.items in
+    more_mapped (λ ns. map coded (map (retargeted place) (naming_code ns))) (λ n. coded (retargeted place (naming_view n))) (λ x xs. refl)
+    c.args.code.now c.loop-instruction.instruction-index c.instruction-item.result before _ _ (omega arith)
+    (c.in_ok-push.ensures.items ∙ ap (λ x. before ++ x ∷ []) (c.encode_instruction.ensures ∙ ap (λ n. coded (retargeted place (naming_view n))) c.instruction-item.is))
+    c.loop-instruction.invariant

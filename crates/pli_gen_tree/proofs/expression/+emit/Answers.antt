@@ -1,4 +1,5 @@
 use Rattle.std.proofs.Common.{◌≡◌, ◌++◌, ◌∷◌, [], get_or, length, arith, ap, ◌∙◌, sym}
+use Rattle.std.proofs.lemmas.Result.{on_ok_weaker}
 use Rattle.pli_machine_step.specs.Program as op
 use Rattle.pli_type_tree.specs.TypedTree.{NoArgument}
 use Rattle.pli_type_tree.specs.views.TypedView.{argument_before, expression_view, reference_view, operands_view, arguments_view, subscripts_view}
@@ -16,24 +17,30 @@ emit_arguments-loop-argument-preserved t c =
     cc (c.in_ok-emit_argument.ensures, c.argument-item.is) in
     more_arguments arguments i argument _ _ _ (omega arith) added c.loop-argument.invariant
 
-pub emit_value-returns-in_ok-push-in-Calculated : goal.emit_value-returns-in_ok-push-in-Calculated
-emit_value-returns-in_ok-push-in-Calculated t c =
+pub emit_value-returns-in_ok-emit_operands-in-Calculated : goal.emit_value-returns-in_ok-emit_operands-in-Calculated
+emit_value-returns-in_ok-emit_operands-in-Calculated t c =
     let b = c.in-Calculated in
-    pushed_behind _ _ _ _ _ _ c.in_ok-push-in-Calculated.ensures.items
+    on_ok_weaker c.append-in-Calculated.result
+    (λ pushes. pushed_behind _ _ _ _ _ _ pushes
     (c.in_ok-emit_operands-in-Calculated.ensures ∙ ap (λ xs. naming_code c.args.code.now.items ++ operands_code (operands_view xs)) c.as_slice.ensures.value)
-    (sym (ap (λ e. value_code (expression_view e)) b.is ∙ operation_code_made b.operation b.operands))
+    (sym (ap (λ e. value_code (expression_view e)) b.is ∙ operation_code_made b.operation b.operands)))
+    c.append-in-Calculated.ensures
 
-pub emit_value-returns-in_ok-push-in-Called : goal.emit_value-returns-in_ok-push-in-Called
-emit_value-returns-in_ok-push-in-Called t c =
+pub emit_value-returns-in_ok-emit_arguments-in-Called : goal.emit_value-returns-in_ok-emit_arguments-in-Called
+emit_value-returns-in_ok-emit_arguments-in-Called t c =
     let b = c.in-Called in
-    pushed_behind _ _ _ _ _ _ c.in_ok-push-in-Called.ensures.items
+    on_ok_weaker c.append-in-Called.result
+    (λ pushes. pushed_behind _ _ _ _ _ _ pushes
     (c.in_ok-emit_arguments-in-Called.ensures ∙ ap (λ xs. naming_code c.args.code.now.items ++ arguments_code (arguments_view xs)) c.as_slice-arguments.ensures.value)
-    (ap (λ n. arguments_code (arguments_view b.arguments.items) ++ op.Call b.block n ∷ []) (ap length c.as_slice-arguments.ensures.value) ∙ sym (ap (λ e. value_code (expression_view e)) b.is ∙ call_code_made b.block b.arguments))
+    (ap (λ n. arguments_code (arguments_view b.arguments.items) ++ op.Call b.block n ∷ []) (ap length c.as_slice-arguments.ensures.value) ∙ sym (ap (λ e. value_code (expression_view e)) b.is ∙ call_code_made b.block b.arguments)))
+    c.append-in-Called.ensures
 
-pub emit_place-returns-in_ok-emit_subscripts-in-Part : goal.emit_place-returns-in_ok-emit_subscripts-in-Part
-emit_place-returns-in_ok-emit_subscripts-in-Part t c =
+pub emit_place-returns-in_ok-append-in-Part-2 : goal.emit_place-returns-in_ok-append-in-Part-2
+emit_place-returns-in_ok-append-in-Part-2 t c =
     let b = c.in-Part in
-    part_behind _ _ _ _ _ _ _ _ _ c.in_ok-push-in-Part.ensures.items c.in_ok-push-in-Part-2.ensures.items
-    (c.in_ok-emit_subscripts-in-Part.ensures ∙ ap (λ xs. naming_code c.push-in-Part-2.new.self.items ++ subscripts_code (subscripts_view xs)) c.as_slice.ensures.value)
+    on_ok_weaker c.emit_subscripts.result
+    (λ more. part_behind _ _ _ _ _ _ _ _ _ c.in_ok-append-in-Part.ensures c.in_ok-append-in-Part-2.ensures
+    (more ∙ ap (λ xs. naming_code c.append-in-Part-2.new.code.items ++ subscripts_code (subscripts_view xs)) c.as_slice.ensures.value)
     c.root_instruction-in-Part.ensures
-    (sym (ap (λ r. place_code (reference_view r)) b.is ∙ part_code_made b.root b.offset b.description b.subscripts))
+    (sym (ap (λ r. place_code (reference_view r)) b.is ∙ part_code_made b.root b.offset b.description b.subscripts)))
+    c.emit_subscripts.ensures

@@ -1,4 +1,5 @@
 use Rattle.std.proofs.Common.{◌≡◌, ◌++◌, subst, ◌∷◌, [], get_or, length, slice_set, refl, arith, ap, ◌∙◌, sym}
+use Rattle.std.proofs.lemmas.Result.{on_ok_weaker}
 use Rattle.pli_type_tree.specs.TypedTree as plain
 use Rattle.pli_type_tree.specs.views.TypedView.{expression_view, iteration_view, form_view, statement_view, statements_view}
 use Rattle.pli_type_tree.specs.laws.TypedTreeLaws.{boxed_view, if_made, group_made, while_made, iterate_made}
@@ -59,28 +60,30 @@ emit_form-returns-in_ok-emit_statement-in-Some t c =
     ∙ sym (ap (λ f. naming_code old ++ form_code c.args.number f (length old))
     (ap form_view b.is ∙ if_made b.condition b.consequence b.alternative ∙ ap (λ a. plain.If (expression_view b.condition) part (boxed_view a)) c.in-Some.is))
 
-pub emit_form-returns-in_ok-emit_list-in-Group : goal.emit_form-returns-in_ok-emit_list-in-Group
-emit_form-returns-in_ok-emit_list-in-Group t c =
+pub emit_form-returns-in-Group : goal.emit_form-returns-in-Group
+emit_form-returns-in-Group t c =
     let old = c.args.code.now.items in
-    c.in_ok-emit_list-in-Group.ensures ∙ ap (λ ss. naming_code old ++ list_code (statements_view ss) (length old)) c.as_slice.ensures.value
-    ∙ sym (ap (λ f. naming_code old ++ form_code c.args.number f (length old)) (ap form_view c.in-Group.is ∙ group_made c.in-Group.statements))
+    on_ok_weaker c.emit_list.result
+    (λ e. e ∙ ap (λ ss. naming_code old ++ list_code (statements_view ss) (length old)) c.as_slice.ensures.value
+    ∙ sym (ap (λ f. naming_code old ++ form_code c.args.number f (length old)) (ap form_view c.in-Group.is ∙ group_made c.in-Group.statements)))
+    c.emit_list.ensures
 
-pub emit_form-returns-in_ok-push-in-While-3 : goal.emit_form-returns-in_ok-push-in-While-3
-emit_form-returns-in_ok-push-in-While-3 t c =
+pub emit_form-returns-in_ok-append-in-While-3 : goal.emit_form-returns-in_ok-append-in-While-3
+emit_form-returns-in_ok-append-in-While-3 t c =
     let b = c.in-While in
     let old = c.args.code.now.items in
-    let lined = c.push.new.self.items in
+    let lined = c.append.new.code.items in
     let tested = c.emit_value-in-While.new.code.items in
     let jumping = c.open_test-in-While.new.code.items in
-    let stepping = c.push-in-While.new.self.items in
+    let stepping = c.append-in-While.new.code.items in
     let done = c.emit_list-in-While.new.code.items in
-    let back = c.push-in-While-2.new.self.items in
+    let back = c.append-in-While-2.new.code.items in
     let test = value_code (expression_view b.condition) in
     let list = statements_view b.statements.items in
     turns_made old lined tested jumping stepping done back _ c.args.number test (list_code list)
-    c.in_ok-push-in-While.ensures.items c.in_ok-emit_value-in-While.ensures c.in_ok-test-in-While.ensures.pushed c.in_ok-push-in-While-2.ensures.items
+    c.in_ok-append-in-While.ensures c.in_ok-emit_value-in-While.ensures c.in_ok-test-in-While.ensures.pushed c.in_ok-append-in-While-2.ensures
     (c.in_ok-emit_list-in-While.ensures ∙ ap (λ ss. naming_code stepping ++ list_code (statements_view ss) (length stepping)) c.as_slice-in-While.ensures.value)
-    (c.in_ok-push-in-While-3.ensures.items ∙ ap (λ n. done ++ naming.Jump n ∷ []) (c.len-turn.ensures ∙ c.args.code.now.ok.0))
+    (c.in_ok-append-in-While-3.ensures ∙ ap (λ n. done ++ naming.Jump n ∷ []) (c.len-turn.ensures ∙ c.args.code.now.ok.0))
     (c.land_test-in-While.ensures ∙ ap (λ k. slice_set back k (naming.JumpUnless (length back))) c.in_ok-test-in-While.ensures.place)
     ∙ sym (ap (λ f. naming_code old ++ form_code c.args.number f (length old)) (ap form_view b.is ∙ while_made b.condition b.statements))
 
@@ -92,7 +95,7 @@ emit_form-returns-in_ok-emit_back-in-Iterate t c =
     let number = c.args.number in
     let started = c.emit_start.new.code.items in
     let tested = c.emit_tests.new.code.items in
-    let stepping = c.push-in-Iterate.new.self.items in
+    let stepping = c.append-in-Iterate.new.code.items in
     let done = c.emit_list-in-Iterate.new.code.items in
     let back = c.emit_back.new.code.items in
     let turn = c.in_ok-turn-in-Iterate.turn in
@@ -101,7 +104,7 @@ emit_form-returns-in_ok-emit_back-in-Iterate t c =
     (c.in_ok-emit_start-in-Iterate.ensures ∙ ap (λ x. naming_code old ++ start_code (iteration_view x)) c.deref-in-Iterate.ensures)
     (c.in_ok-turn-in-Iterate.ensures.code ∙ ap (λ x. naming_code started ++ tests_code (iteration_view x) 0) c.deref-in-Iterate-2.ensures)
     (subst (λ x. IsTurn (iteration_view x) (length started) turn) c.deref-in-Iterate-2.ensures c.in_ok-turn-in-Iterate.ensures.turn)
-    c.in_ok-push-in-Iterate.ensures.items
+    c.in_ok-append-in-Iterate.ensures
     (c.in_ok-emit_list-in-Iterate.ensures ∙ ap (λ ss. naming_code stepping ++ list_code (statements_view ss) (length stepping)) c.as_slice-in-Iterate.ensures.value)
     (c.in_ok-emit_back-in-Iterate.ensures
     ∙ ap (λ x. naming_code done ++ back_code (is_iterated (iteration_view x).range) number (advances_code (iteration_view x).range (iteration_view x)) turn.place) c.deref-in-Iterate-3.ensures)

@@ -1,0 +1,34 @@
+-- The last instructions of forms, and loops that put one thing for each element.
+use Rattle.std.proofs.Common.{◌≡◌, ◌<◌, ◌+◌, ◌++◌, ◌∷◌, [], ℕ, List, Option, Some, None, length, drop, get_or, refl, ap, ◌∙◌, sym}
+use Rattle.std.proofs.lemmas.List.{append-nil, append_assoc, at_drop_more}
+use Rattle.pli_machine_step.specs.Program as op
+use Rattle.pli_type_tree.specs.TypedTree as plain
+use Rattle.pli_gen_tree.specs.TreeTranslation.{skip_code, items_code}
+use Rattle.pli_gen_tree.specs.answers.Ends.{front_code, last_code, option_code}
+use Rattle.pli_gen_tree.specs.answers.Pieces.{simple_code}
+use Rattle.pli_gen_tree.specs.views.NamingView.{naming_view}
+use Rattle.pli_gen_tree.specs.declared.naming.NamingInstruction.{NamingInstruction}
+
+-- a form without jumps: what stands before its last instruction, and that
+simple_apart : (f : plain.Form) → front_code f ++ last_code f ≡ simple_code f
+simple_apart (plain.Put skip items) = append-nil (skip_code skip ++ items_code items)
+simple_apart form = refl
+
+pub simple_ends : (f : plain.Form) (o : Option NamingInstruction) (i : NamingInstruction) → option_code o ≡ last_code f → o ≡ Some i
+    → front_code f ++ naming_view i ∷ [] ≡ simple_code f
+simple_ends f o i is some = ap (λ xs. front_code f ++ xs) (ap option_code (sym some) ∙ is) ∙ simple_apart f
+
+pub simple_ended : (before : List op.Instruction) (f : plain.Form) (o : Option NamingInstruction) → option_code o ≡ last_code f → o ≡ None
+    → before ++ front_code f ≡ before ++ simple_code f
+simple_ended before f o is none =
+    ap (λ xs. before ++ xs) (sym (append-nil (front_code f)) ∙ ap (λ xs. front_code f ++ xs) (ap option_code (sym none) ∙ is) ∙ simple_apart f)
+
+-- what stands for one element more is one thing more
+pub more_mapped : {X Y : Type 0} (all : List X → List Y) (one : X → Y) → ((x : X) (xs : List X) → all (x ∷ xs) ≡ one x ∷ all xs)
+    → (xs : List X) (i : ℕ) (d : X) (before here whole : List Y) → i < length xs → here ≡ before ++ one (get_or xs i d) ∷ []
+    → before ++ all (drop i xs) ≡ whole → here ++ all (drop (i + 1) xs) ≡ whole
+more_mapped all one splits xs i d before here whole lt added was =
+    let x = get_or xs i d in
+    let rest = drop (i + 1) xs in
+    let step : before ++ all (drop i xs) ≡ before ++ all (x ∷ rest) = at_drop_more (λ ys. before ++ all ys) xs i d lt in
+    ap (λ h. h ++ all rest) added ∙ append_assoc before (one x ∷ []) (all rest) ∙ ap (λ ys. before ++ ys) (sym (splits x rest)) ∙ sym step ∙ was
