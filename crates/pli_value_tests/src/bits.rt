@@ -109,17 +109,44 @@ static ASSIGNED: [(&str, usize, &str); 5] = [
     ("1", 0, ""),
 ];
 
+static CONDITIONS: [(&str, bool); 6] = [
+    ("", false),
+    ("0", false),
+    ("1", true),
+    ("00000000", false),
+    ("000000001", true),
+    ("1000000000", true),
+];
+
+/// Whether there is a string, and a text shows it, or there is neither.
+fn are(alloc: Global, part: Option<&Bits>, text: Option<&str>) -> Result<bool, AllocError> {
+    match (part, text) {
+        (Some(bits), Some(text)) => is(alloc, bits, text),
+        (None, None) => Ok(true),
+        _ => Ok(false),
+    }
+}
+
 #[test]
 fn orders(rt: HostRuntime) -> Result<(), Fail> {
-    let alloc = rt.alloc();
     for &(left, right, wanted) in &ORDERS {
-        assert_eq!(rt;
-            compare(&bits(alloc, left)?, &bits(alloc, right)?),
-            wanted,
-            "{left} and {right}"
-        );
+        let string = bits(rt.alloc(), left)?;
+        if compare(&string, &bits(rt.alloc(), right)?) != wanted {
+            return Err((left, right).into());
+        }
     }
     Ok(())
+}
+
+/// Whether `&` and `|` give what these texts show.
+fn are_joined(
+    alloc: Global,
+    x: &Bits,
+    y: &Bits,
+    both: &str,
+    joined: &str,
+) -> Result<bool, AllocError> {
+    Ok(is(alloc, &and(alloc, x, y)?, both)? && is(alloc, &or(alloc, x, y)?, joined)?)
 }
 
 #[test]
@@ -127,113 +154,169 @@ fn operators(rt: HostRuntime) -> Result<(), Fail> {
     let alloc = rt.alloc();
     for &(left, right, both, joined, after) in &PAIRS {
         let (x, y) = (bits(alloc, left)?, bits(alloc, right)?);
-        assert!(rt; is(alloc, &and(alloc, &x, &y)?, both)?, "{left} & {right}");
-        assert!(rt; is(alloc, &or(alloc, &x, &y)?, joined)?, "{left} | {right}");
-        let whole = concat(alloc, &x, &y)?.ok_or("a short string")?;
-        assert!(rt; is(alloc, &whole, after)?, "{left} || {right}");
-    }
-    for &(string, turned) in &TURNED {
-        assert!(rt;
-            is(alloc, &not(alloc, &bits(alloc, string)?)?, turned)?,
-            "^ {string}"
-        );
+        let right_bits = are_joined(alloc, &x, &y, both, joined)?;
+        let whole = concat(alloc, &x, &y)?;
+        if !right_bits || !are(alloc, whole.as_ref(), Some(after))? {
+            return Err((left, right).into());
+        }
     }
     Ok(())
 }
 
 #[test]
+fn negations(rt: HostRuntime) -> Result<(), Fail> {
+    for &(string, turned) in &TURNED {
+        let negated = not(rt.alloc(), &bits(rt.alloc(), string)?)?;
+        if !is(rt.alloc(), &negated, turned)? {
+            return Err(string.into());
+        }
+    }
+    Ok(())
+}
+
+/// Whether SUBSTR of a string is what a text shows, or nothing. Without a count, the part goes to the end.
+fn is_part(
+    alloc: Global,
+    string: &str,
+    first: i64,
+    count: Option<i64>,
+    wanted: Option<&str>,
+) -> Result<bool, AllocError> {
+    let string = bits(alloc, string)?;
+    let part = match count {
+        Some(count) => substr(alloc, &string, first, count)?,
+        None => rest(alloc, &string, first)?,
+    };
+    are(alloc, part.as_ref(), wanted)
+}
+
+#[test]
 fn parts(rt: HostRuntime) -> Result<(), Fail> {
-    let alloc = rt.alloc();
     for &(string, first, count, wanted) in &PARTS {
-        let found = match (substr(alloc, &bits(alloc, string)?, first, count)?, wanted) {
-            (Some(part), Some(text)) => is(alloc, &part, text)?,
-            (None, None) => true,
-            _ => false,
-        };
-        assert!(rt; found, "SUBSTR({string}, {first}, {count})");
+        if !is_part(rt.alloc(), string, first, Some(count), wanted)? {
+            return Err((string, first, count).into());
+        }
     }
     for &(string, first, wanted) in &RESTS {
-        let found = match (rest(alloc, &bits(alloc, string)?, first)?, wanted) {
-            (Some(part), Some(text)) => is(alloc, &part, text)?,
-            (None, None) => true,
-            _ => false,
-        };
-        assert!(rt; found, "SUBSTR({string}, {first})");
+        if !is_part(rt.alloc(), string, first, None, wanted)? {
+            return Err((string, first).into());
+        }
     }
     Ok(())
 }
 
 #[test]
 fn assignments(rt: HostRuntime) -> Result<(), Fail> {
-    let alloc = rt.alloc();
     for &(string, size, wanted) in &ASSIGNED {
-        let new = fit(alloc, &bits(alloc, string)?, size.min(32_767))?;
-        assert!(rt; is(alloc, &new, wanted)?, "{string} in {size}");
+        let new = fit(rt.alloc(), &bits(rt.alloc(), string)?, size.min(32_767))?;
+        if !is(rt.alloc(), &new, wanted)? {
+            return Err((string, size).into());
+        }
     }
     Ok(())
 }
 
 #[test]
-fn bytes_and_lengths(rt: HostRuntime) -> Result<(), Fail> {
+fn bytes_of_strings(rt: HostRuntime) -> Result<(), Fail> {
     let alloc = rt.alloc();
     let string = bits(alloc, "1000000001")?.copy(alloc)?;
-    assert_eq!(rt; string.length(), 10);
-    assert!(rt; string.bytes() == [0x80, 0x40].as_slice());
+    assert!(rt; string.length() == 10 && string.bytes() == [0x80, 0x40].as_slice());
     assert!(rt; string.at(0) && string.at(9) && !string.at(1) && !string.at(10));
+    Ok(())
+}
+
+#[test]
+fn bytes_are_unpacked(rt: HostRuntime) -> Result<(), Fail> {
+    let alloc = rt.alloc();
+    let none = Bits::unpack(alloc, &[], 0)?.length();
     let unpacked = Bits::unpack(alloc, &[0x80, 0x7f], 10)?;
-    assert!(rt; is(alloc, &unpacked, "1000000001")?);
-    assert!(rt; unpacked.bytes() == [0x80, 0x40].as_slice());
-    assert_eq!(rt; Bits::unpack(alloc, &[], 0)?.length(), 0);
-    let longest = fit(alloc, &string, 32_767)?;
-    assert_eq!(rt; longest.bytes().len(), 4_096);
-    assert!(rt; concat(alloc, &longest, &Bits::new(alloc))?.is_some());
-    assert!(rt; concat(alloc, &string, &longest)?.is_none());
+    let shown = is(alloc, &unpacked, "1000000001")?;
+    assert!(rt; none == 0 && shown && unpacked.bytes() == [0x80, 0x40].as_slice());
+    Ok(())
+}
+
+/// The length of a string, and whether `||` gives one of it and another of this length.
+static LENGTHS: [(usize, usize, bool); 2] = [(32_767, 0, true), (10, 32_767, false)];
+
+/// The bits of a string with this length.
+fn of_length(alloc: Global, length: usize) -> Result<Bits, AllocError> {
+    let string = bits(alloc, "1000000001")?;
+    fit(alloc, &string, length.min(32_767))
+}
+
+/// Whether `||` of two strings of these lengths gives a string.
+fn joins(alloc: Global, left: usize, right: usize) -> Result<bool, AllocError> {
+    let left = of_length(alloc, left)?;
+    let right = of_length(alloc, right)?;
+    Ok(concat(alloc, &left, &right)?.is_some())
+}
+
+#[test]
+fn long_concatenations(rt: HostRuntime) -> Result<(), Fail> {
+    for &(left, right, wanted) in &LENGTHS {
+        if joins(rt.alloc(), left, right)? != wanted {
+            return Err((left, right).into());
+        }
+    }
+    Ok(())
+}
+
+#[test]
+fn longest_strings(rt: HostRuntime) -> Result<(), Fail> {
+    let longest = of_length(rt.alloc(), 32_767)?;
+    assert!(rt; longest.bytes().len() == 4_096 && index(&longest, &longest) == 1);
+    let zeros = fit(rt.alloc(), &Bits::new(rt.alloc()), 32_767)?;
+    assert!(rt; index(&zeros, &zeros) == 1);
     Ok(())
 }
 
 #[test]
 fn conditions(rt: HostRuntime) -> Result<(), Fail> {
-    let alloc = rt.alloc();
-    for &(string, wanted) in &[
-        ("", false),
-        ("0", false),
-        ("1", true),
-        ("00000000", false),
-        ("000000001", true),
-        ("1000000000", true),
-    ] {
-        assert_eq!(rt; is_true(&bits(alloc, string)?), wanted, "{string}");
+    for &(string, wanted) in &CONDITIONS {
+        if is_true(&bits(rt.alloc(), string)?) != wanted {
+            return Err(string.into());
+        }
     }
     Ok(())
 }
 
 #[test]
 fn places(rt: HostRuntime) -> Result<(), Fail> {
-    let alloc = rt.alloc();
     for &(string, sought, wanted) in &PLACES {
-        assert_eq!(rt;
-            index(&bits(alloc, string)?, &bits(alloc, sought)?),
-            wanted,
-            "INDEX({string}, {sought})"
-        );
+        let whole = bits(rt.alloc(), string)?;
+        if index(&whole, &bits(rt.alloc(), sought)?) != wanted {
+            return Err((string, sought).into());
+        }
     }
-    let longest = fit(alloc, &Bits::new(alloc), 32_767)?;
-    assert_eq!(rt; index(&longest, &longest), 1);
     Ok(())
+}
+
+/// Whether a copy of a value is this number, these characters, or the bits that this text shows.
+fn is_copied(alloc: Global, value: &Value, number: i64, text: &str) -> Result<bool, AllocError> {
+    match value.copy(alloc)? {
+        Value::Number(copied) => Ok(copied == number),
+        Value::Characters(copied) => Ok(copied.as_slice() == text.as_bytes()),
+        Value::Bits(copied) => is(alloc, &copied, text),
+    }
+}
+
+/// Whether a copy of the characters `AB` is these characters.
+fn characters_are_copied(alloc: Global) -> Result<bool, AllocError> {
+    let value = Value::Characters(b"AB".to_vec(alloc)?);
+    let kept = is_copied(alloc, &value, 0, "AB")?;
+    Ok(kept && matches!(value.copy(alloc)?, Value::Characters(_)))
+}
+
+/// Whether a copy of the bits `101` is these bits.
+fn bits_are_copied(alloc: Global) -> Result<bool, AllocError> {
+    let value = Value::Bits(bits(alloc, "101")?);
+    let kept = is_copied(alloc, &value, 0, "101")?;
+    Ok(kept && matches!(value.copy(alloc)?, Value::Bits(_)))
 }
 
 #[test]
 fn copies_of_values(rt: HostRuntime) -> Result<(), Fail> {
-    let alloc = rt.alloc();
-    let number = Value::Number(-5).copy(alloc)?;
-    assert!(rt; matches!(&number, Value::Number(-5)));
-    let Value::Characters(characters) = Value::Characters(b"AB".to_vec(alloc)?).copy(alloc)? else {
-        return Err("characters".into());
-    };
-    assert!(rt; characters.as_slice() == b"AB".as_slice());
-    let Value::Bits(string) = Value::Bits(bits(alloc, "101")?).copy(alloc)? else {
-        return Err("bits".into());
-    };
-    assert!(rt; is(alloc, &string, "101")?);
+    assert!(rt; is_copied(rt.alloc(), &Value::Number(-5), -5, "")?);
+    assert!(rt; characters_are_copied(rt.alloc())? && bits_are_copied(rt.alloc())?);
     Ok(())
 }

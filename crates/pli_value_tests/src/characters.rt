@@ -2,6 +2,7 @@ use pli_value::character::{
     STRING_LIMIT, compare, concat, fit, fit_varying, index, is_held, rest, substr, to_char,
 };
 use pli_value::{index_is_the_first_place, string_examples};
+use std::alloc::{AllocError, Global};
 use std::cmp::Ordering::{self, Equal, Greater, Less};
 use std::test::*;
 
@@ -92,81 +93,111 @@ static NUMBERS: [(i64, usize, &str); 6] = [
     (-9_223_372_036_854_775_807, 20, "-9223372036854775807"),
 ];
 
-#[test]
-fn orders_and_places(rt: HostRuntime) {
-    for &(left, right, wanted) in &ORDERS {
-        assert_eq!(rt;
-            compare(left.as_bytes(), right.as_bytes()),
-            wanted,
-            "{left:?} and {right:?}"
-        );
-    }
-    for &(string, sought, wanted) in &PLACES {
-        assert_eq!(rt;
-            index(string.as_bytes(), sought.as_bytes()),
-            wanted,
-            "INDEX({string:?}, {sought:?})"
-        );
+/// How long two strings are, and how long `||` of them is.
+static LENGTHS: [(usize, usize, Option<usize>); 4] = [
+    (STRING_LIMIT - 1, 1, Some(32_767)),
+    (STRING_LIMIT, 0, Some(32_767)),
+    (STRING_LIMIT - 1, 2, None),
+    (1, STRING_LIMIT, None),
+];
+
+/// How long `||` of two strings of these lengths is.
+fn joined(alloc: Global, left: usize, right: usize) -> Result<Option<usize>, AllocError> {
+    let left = fit(alloc, b"A", left.min(STRING_LIMIT))?;
+    let right = fit(alloc, b"B", right.min(STRING_LIMIT))?;
+    match concat(alloc, &left, &right)? {
+        Some(string) => Ok(Some(string.len())),
+        None => Ok(None),
     }
 }
 
+/// The length of what CHARACTER of this length holds of a string.
+fn fitted(alloc: Global, string: &[u8], size: usize) -> Result<usize, AllocError> {
+    Ok(fit(alloc, string, size)?.len())
+}
+
 #[test]
-fn parts(rt: HostRuntime) {
+fn orders_and_places() -> Result<(), Fail> {
+    for &(left, right, wanted) in &ORDERS {
+        if compare(left.as_bytes(), right.as_bytes()) != wanted {
+            return Err((left, right).into());
+        }
+    }
+    for &(string, sought, wanted) in &PLACES {
+        if index(string.as_bytes(), sought.as_bytes()) != wanted {
+            return Err((string, sought).into());
+        }
+    }
+    Ok(())
+}
+
+#[test]
+fn parts() -> Result<(), Fail> {
     for &(string, first, count, wanted) in &PARTS {
-        assert!(rt;
-            substr(string.as_bytes(), first, count) == wanted.map(|part| part.as_bytes()),
-            "SUBSTR({string:?}, {first}, {count})"
-        );
+        if substr(string.as_bytes(), first, count) != wanted.map(|part| part.as_bytes()) {
+            return Err((string, first, count).into());
+        }
     }
     for &(string, first, wanted) in &RESTS {
-        assert!(rt;
-            rest(string.as_bytes(), first) == wanted.map(|part| part.as_bytes()),
-            "SUBSTR({string:?}, {first})"
-        );
+        if rest(string.as_bytes(), first) != wanted.map(|part| part.as_bytes()) {
+            return Err((string, first, -1).into());
+        }
     }
+    Ok(())
 }
 
 #[test]
 fn assignments(rt: HostRuntime) -> Result<(), Fail> {
     for &(string, size, fixed, varying) in &ASSIGNED {
         let new = fit(rt.alloc(), string.as_bytes(), size)?;
-        assert!(rt; new.as_slice() == fixed.as_bytes(), "{string:?} in {size}");
-        assert!(rt;
-            fit_varying(string.as_bytes(), size) == varying.as_bytes(),
-            "{string:?} in at most {size}"
-        );
+        let held = fit_varying(string.as_bytes(), size);
+        if new.as_slice() != fixed.as_bytes() || held != varying.as_bytes() {
+            return Err((string, size).into());
+        }
     }
     Ok(())
 }
 
 #[test]
 fn concatenations(rt: HostRuntime) -> Result<(), Fail> {
-    let both = concat(rt.alloc(), b"AB", b"C")?.ok_or("AB || C")?;
-    assert!(rt; both.as_slice() == b"ABC".as_slice());
-    let longest = fit(rt.alloc(), b"A", STRING_LIMIT - 1)?;
-    let both = concat(rt.alloc(), &longest, b"B")?.ok_or("a result of 32,767")?;
-    assert_eq!(rt; both.len(), 32_767);
-    assert!(rt; concat(rt.alloc(), &both, b"")?.is_some());
-    assert!(rt; concat(rt.alloc(), &longest, b"BC")?.is_none());
-    assert!(rt; concat(rt.alloc(), b"C", &both)?.is_none());
+    let both = concat(rt.alloc(), b"AB", b"C")?;
+    assert!(rt; both.as_deref() == Some(b"ABC".as_slice()));
     Ok(())
+}
+
+#[test]
+fn long_concatenations(rt: HostRuntime) -> Result<(), Fail> {
+    for &(left, right, wanted) in &LENGTHS {
+        if joined(rt.alloc(), left, right)? != wanted {
+            return Err((left, right).into());
+        }
+    }
+    Ok(())
+}
+
+/// Whether the places and parts of a string are right that has one `A`, its last character, the last that a string can have.
+fn places_are_right(longest: &[u8]) -> bool {
+    index(longest, b"A") == 32_767
+        && index(longest, longest) == 1
+        && substr(longest, 32_767, 1) == Some(b"A".as_slice())
+        && substr(longest, 32_768, 0) == Some(b"".as_slice())
+        && substr(longest, 32_767, 2).is_none()
+        && substr(longest, 32_768, 1).is_none()
+        && rest(longest, 32_768).is_some()
+        && rest(longest, 32_769).is_none()
 }
 
 #[test]
 fn longest_strings(rt: HostRuntime) -> Result<(), Fail> {
     let mut longest = fit(rt.alloc(), b"", STRING_LIMIT)?;
-    assert!(rt; compare(&longest, b"").is_eq() && compare(b" ", &longest).is_eq());
+    let equal = compare(&longest, b"").is_eq() && compare(b" ", &longest).is_eq();
     if let Some(last) = longest.last_mut() {
         *last = b'A';
     }
-    assert!(rt; compare(&longest, b"").is_gt() && compare(b"", &longest).is_lt());
-    assert_eq!(rt; index(&longest, b"A"), 32_767);
-    assert_eq!(rt; index(&longest, &longest), 1);
-    assert!(rt; substr(&longest, 32_767, 1) == Some(b"A".as_slice()));
-    assert!(rt; substr(&longest, 32_768, 0) == Some(b"".as_slice()));
-    assert!(rt; substr(&longest, 32_767, 2).is_none() && substr(&longest, 32_768, 1).is_none());
-    assert!(rt; rest(&longest, 32_768).is_some() && rest(&longest, 32_769).is_none());
-    assert_eq!(rt; fit(rt.alloc(), &longest, 1)?.len(), 1);
+    let greater = compare(&longest, b"").is_gt() && compare(b"", &longest).is_lt();
+    let places = places_are_right(&longest);
+    let one = fitted(rt.alloc(), &longest, 1)?;
+    assert_eq!(rt; (equal, greater, places, one), (true, true, true, 1));
     Ok(())
 }
 
@@ -177,9 +208,11 @@ fn searches_are_linear(rt: HostRuntime) -> Result<(), Fail> {
     let mut sought = fit(rt.alloc(), b"", STRING_LIMIT / 2)?;
     sought.fill(b'A');
     sought.push(b'B')?;
+    let mut found = 0;
     for _ in 0..10 {
-        assert_eq!(rt; index(&string, &sought), 0);
+        found |= index(&string, &sought);
     }
+    assert!(rt; found == 0);
     Ok(())
 }
 
@@ -192,13 +225,15 @@ fn laws_of_strings() {
 #[test]
 fn numbers_as_characters(rt: HostRuntime) -> Result<(), Fail> {
     for &(number, width, wanted) in &NUMBERS {
-        assert!(rt; is_held(number, width), "{number} in {width}");
-        assert!(rt;
-            !is_held(number, wanted.trim_start().len().saturating_sub(1)),
-            "{number} in less"
-        );
+        let held = is_held(number, width);
+        let less = is_held(number, wanted.trim_start().len().saturating_sub(1));
+        if !held || less {
+            return Err((number, width).into());
+        }
         let text = to_char(rt.alloc(), number, width)?;
-        assert!(rt; text.as_slice() == wanted.as_bytes(), "{number} in {width}");
+        if text.as_slice() != wanted.as_bytes() {
+            return Err((number, width).into());
+        }
     }
     Ok(())
 }

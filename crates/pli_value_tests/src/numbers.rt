@@ -112,68 +112,66 @@ static ORDERS: [(i64, i64, Ordering, i64, i64); 5] = [
 ];
 
 #[test]
-fn sums_differences_products(rt: HostRuntime) {
+fn sums_differences_products() -> Result<(), Fail> {
     for &(left, right, greatest, wanted) in &SUMS {
-        assert_eq!(rt;
-            add(left, right, greatest.min(63)),
-            wanted,
-            "{left} + {right} at {greatest}"
-        );
+        if add(left, right, greatest.min(63)) != wanted {
+            return Err(("+", left, right, greatest).into());
+        }
     }
     for &(left, right, greatest, wanted) in &DIFFERENCES {
-        assert_eq!(rt;
-            subtract(left, right, greatest.min(63)),
-            wanted,
-            "{left} - {right} at {greatest}"
-        );
+        if subtract(left, right, greatest.min(63)) != wanted {
+            return Err(("-", left, right, greatest).into());
+        }
     }
     for &(left, right, greatest, wanted) in &PRODUCTS {
-        assert_eq!(rt;
-            multiply(left, right, greatest.min(63)),
-            wanted,
-            "{left} * {right} at {greatest}"
-        );
+        if multiply(left, right, greatest.min(63)) != wanted {
+            return Err(("*", left, right, greatest).into());
+        }
     }
+    Ok(())
 }
 
 #[test]
-fn quotients_and_remainders(rt: HostRuntime) {
+fn quotients_and_remainders() -> Result<(), Fail> {
     for &(left, right, precision, wanted) in &QUOTIENTS {
-        assert_eq!(rt;
-            divide(left, right, precision.min(63)),
-            wanted,
-            "{left} / {right} at {precision}"
-        );
+        if divide(left, right, precision.min(63)) != wanted {
+            return Err(("/", left, right, precision).into());
+        }
     }
     for &(left, right, wanted) in &REMAINDERS {
-        assert_eq!(rt; modulo(left, right), wanted, "MOD({left}, {right})");
+        if modulo(left, right) != wanted {
+            return Err(("MOD", left, right, 63).into());
+        }
     }
+    Ok(())
 }
 
 #[test]
-fn assignments(rt: HostRuntime) {
+fn assignments() -> Result<(), Fail> {
     for &(number, precision, wanted) in &ASSIGNED {
-        assert_eq!(rt;
-            fit(number, precision.min(63)),
-            wanted,
-            "{number} at {precision}"
-        );
+        if fit(number, precision.min(63)) != wanted {
+            return Err(("=", number, 0, precision).into());
+        }
     }
+    Ok(())
 }
 
 #[test]
-fn signs_and_orders(rt: HostRuntime) {
+fn signs_and_orders() -> Result<(), Fail> {
     for &(number, signed, turned, magnitude) in &TURNED {
         let number = number.max(-WIDE);
-        assert_eq!(rt; sign(number), signed, "SIGN({number})");
-        assert_eq!(rt; negate(number), turned, "-{number}");
-        assert_eq!(rt; absolute(number), magnitude, "ABS({number})");
+        if (sign(number), negate(number), absolute(number)) != (signed, turned, magnitude) {
+            return Err(("SIGN, -, ABS", number, 0, 63).into());
+        }
     }
     for &(left, right, order, most, fewest) in &ORDERS {
-        assert_eq!(rt; compare(left, right), order, "{left} and {right}");
-        assert_eq!(rt; greatest(left, right), most, "MAX({left}, {right})");
-        assert_eq!(rt; least(left, right), fewest, "MIN({left}, {right})");
+        if compare(left, right) != order
+            || (greatest(left, right), least(left, right)) != (most, fewest)
+        {
+            return Err(("order, MAX, MIN", left, right, 63).into());
+        }
     }
+    Ok(())
 }
 
 #[test]
