@@ -26,7 +26,7 @@ use pli_map::{Bounds, Description, size};
 use std::alloc::{AllocError, Global};
 
 /// Why there is nothing to which an item's attributes are completed.
-#[derive(Debug, Drop)]
+#[derive(Drop)]
 pub enum AttributeError {
     /// The least fault of the item.
     Faulty(Code),

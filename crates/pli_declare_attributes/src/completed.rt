@@ -8,7 +8,7 @@ use pli_map::{Bounds, Description};
 use std::alloc::{AllocError, Global};
 
 /// Where the generations of a variable come from.
-#[derive(Clone, Copy, Debug, PartialEq, Eq)]
+#[derive(Clone, Copy, PartialEq, Eq)]
 pub enum Storage {
     Automatic,
     Static,
@@ -17,7 +17,7 @@ pub enum Storage {
 }
 
 /// Whether a name means the same in every unit.
-#[derive(Clone, Copy, Debug, PartialEq, Eq)]
+#[derive(Clone, Copy, PartialEq, Eq)]
 pub enum Scope {
     Internal,
     External,
@@ -81,12 +81,14 @@ impl Variable {
     pub fn copy(&self, alloc: Global) -> Result<Variable, AllocError>
         ensures { IfOk result (λ copied. variable_view copied ≡ variable_view self.now) }
     {
+        let bounds = Vec::from_slice(alloc, self.bounds.as_slice())?;
+        let initial = copied_values(alloc, self.initial.as_slice())?;
         Ok(Variable {
             description: copied_description(alloc, &self.description)?,
-            bounds: Vec::from_slice(alloc, self.bounds.as_slice())?,
+            bounds,
             storage: self.storage,
             scope: self.scope,
-            initial: copied_values(alloc, self.initial.as_slice())?,
+            initial,
         })
     }
 }

@@ -8,7 +8,7 @@ use bitflags::{Flag, Flags, bitflag_items};
 use pli_base::declaration::{Attribute, DescribedAttribute, SimpleAttribute};
 
 /// The attributes that stand beside a name. A precision counts as one beside FIXED or BINARY.
-#[derive(Clone, Copy, PartialEq, Eq, Debug)]
+#[derive(Clone, Copy, PartialEq, Eq)]
 pub(crate) struct AttributeSet(u32);
 
 bitflag_items! {
