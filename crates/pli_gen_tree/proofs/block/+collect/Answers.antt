@@ -1,12 +1,20 @@
-use Rattle.std.proofs.Common.{◌++◌, ◌∷◌, [], List, append_assoc, ap, ◌∙◌, sym}
+use Rattle.std.proofs.Common.{◌++◌, ◌∷◌, [], List, append_assoc, ap, ◌∙◌, sym, refl, arith}
 use Rattle.std.proofs.lemmas.List.{map-append}
 use Rattle.std.proofs.lemmas.Result.{on_ok_weaker}
-use Rattle.pli_type_tree.specs.views.TypedView.{form_view, head_view, statements_view}
+use Rattle.pli_type_tree.specs.views.TypedView.{form_view, head_view, statement_view, statements_view}
 use Rattle.pli_type_tree.specs.laws.TypedTreeLaws.{begin_made, group_made, while_made, iterate_made}
 use Rattle.pli_type_tree.specs.declared.statement.TypedStatement.{TypedStatement}
-use Rattle.pli_gen_tree.specs.TreeTranslation.{BlockTree, blocks_of_form, blocks_among, begin_block}
+use Rattle.pli_gen_tree.specs.TreeTranslation.{BlockTree, blocks_in, blocks_of_form, blocks_among, begin_block}
 use Rattle.pli_gen_tree.specs.views.BlockView.{block_tree, block_trees}
+use Rattle.pli_gen_tree.proofs.EndLemmas.{more_joined}
 use Rattle.pli_gen_tree.proofs.block.+collect.Goals as goal
+
+pub collect_among-loop-statement-preserved : goal.collect_among-loop-statement-preserved
+collect_among-loop-statement-preserved t c =
+    let before = block_trees c.loop-statement.blocks.items in
+    more_joined (λ ss. blocks_among c.args.parent (statements_view ss)) (λ s. blocks_in c.args.parent (statement_view s)) (λ x xs. refl)
+    c.args.statements.now c.loop-statement.statement-index c.statement-item.result before _ _ (omega arith)
+    (c.in_ok-collect_in.ensures ∙ ap (λ s. before ++ blocks_in c.args.parent (statement_view s)) c.statement-item.is) c.loop-statement.invariant
 
 pub collect_of_form-returns-in_ok-append_block-in-Begin : goal.collect_of_form-returns-in_ok-append_block-in-Begin
 collect_of_form-returns-in_ok-append_block-in-Begin t c =

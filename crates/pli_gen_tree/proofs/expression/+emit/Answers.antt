@@ -1,4 +1,4 @@
-use Rattle.std.proofs.Common.{◌≡◌, ◌++◌, ◌∷◌, [], get_or, length, arith, ap, ◌∙◌, sym}
+use Rattle.std.proofs.Common.{◌≡◌, ◌++◌, ◌∷◌, [], get_or, length, arith, ap, ◌∙◌, sym, refl}
 use Rattle.std.proofs.lemmas.Result.{on_ok_weaker}
 use Rattle.pli_machine_step.specs.Program as op
 use Rattle.pli_type_tree.specs.TypedTree.{NoArgument}
@@ -6,6 +6,7 @@ use Rattle.pli_type_tree.specs.views.TypedView.{argument_before, expression_view
 use Rattle.pli_gen_tree.specs.TreeTranslation.{arguments_code, operands_code, subscripts_code, value_code, place_code}
 use Rattle.pli_gen_tree.specs.views.NamingView.{naming_code}
 use Rattle.pli_gen_tree.proofs.EmitLemmas.{more_arguments, pushed_behind, part_behind, operation_code_made, call_code_made, part_code_made}
+use Rattle.pli_gen_tree.proofs.EndLemmas.{more_joined}
 use Rattle.pli_gen_tree.proofs.expression.+emit.Goals as goal
 
 pub emit_arguments-loop-argument-preserved : goal.emit_arguments-loop-argument-preserved
@@ -16,6 +17,13 @@ emit_arguments-loop-argument-preserved t c =
     let added : naming_code c.emit_argument.new.code.items ≡ naming_code c.loop-argument.code.items ++ arguments_code (argument_before (get_or arguments i argument) NoArgument) =
     cc (c.in_ok-emit_argument.ensures, c.argument-item.is) in
     more_arguments arguments i argument _ _ _ (omega arith) added c.loop-argument.invariant
+
+pub emit_operands-loop-operand-preserved : goal.emit_operands-loop-operand-preserved
+emit_operands-loop-operand-preserved t c =
+    let before = naming_code c.loop-operand.code.items in
+    more_joined (λ es. operands_code (operands_view es)) (λ e. value_code (expression_view e)) (λ x xs. refl)
+    c.args.operands.now c.loop-operand.operand-index c.operand-item.result before _ _ (omega arith)
+    (c.in_ok-emit_value.ensures ∙ ap (λ e. before ++ value_code (expression_view e)) c.operand-item.is) c.loop-operand.invariant
 
 pub emit_value-returns-in_ok-emit_operands-in-Calculated : goal.emit_value-returns-in_ok-emit_operands-in-Calculated
 emit_value-returns-in_ok-emit_operands-in-Calculated t c =
