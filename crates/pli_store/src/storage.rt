@@ -1,5 +1,5 @@
 //! Storage: the generations that live.
-ghost use Rattle.std.specs.Prelude.{◌≡◌, ◌≤◌, ◌++◌, ◌∷◌, [], map, true, None, MatchOption, MatchResult, OnErr};
+ghost use Rattle.std.specs.Prelude.{◌≡◌, ◌≤◌, ◌++◌, ◌∷◌, [], map, true, None, IfSome, MatchOption, MatchResult, OnErr};
 ghost use Rattle.pli_map.specs.views.DescriptionView.{description_view};
 ghost use Rattle.pli_store.specs.Storage.{generation_in, live_bytes, without};
 ghost use Rattle.pli_store.specs.World.{World, Yields, held, stored, copied, made_of, dummy_of, in_newest};
@@ -7,7 +7,7 @@ ghost use Rattle.pli_store.specs.answers.Answered.{Answered};
 ghost use Rattle.pli_store.specs.answers.Found.{StandsAt, Leads};
 ghost use Rattle.pli_store.specs.answers.Kept.{rise};
 ghost use Rattle.pli_store.specs.views.GenerationView.{generation_view, made_view};
-ghost use Rattle.pli_value.specs.Value.{value_view};
+ghost use Rattle.pli_value.specs.Value.{value_view, Number};
 
 use crate::fault::StoreFault;
 use crate::generation::{Generation, Made};
@@ -55,6 +55,7 @@ impl<'m> Storage<'m> {
     }
 
     /// Where the generation of a number stands among those that live; a right guess saves the search.
+    #[inline]
     fn find(&self, number: u32, guess: usize) -> Option<usize>
         ensures { MatchOption result (generation_in (storage_view self.now) number ≡ None)
             (StandsAt (storage_view self.now) number) }
@@ -68,6 +69,7 @@ impl<'m> Storage<'m> {
     }
 
     /// The generation and the scalar to which a place leads.
+    #[inline]
     fn part(&self, place: Place<'_>) -> Result<Part, StoreFault>
         ensures { Leads (storage_view self.now) (place_view place.entry) result }
     {
@@ -83,9 +85,10 @@ impl<'m> Storage<'m> {
         }
     }
 
-    /// What the place of a scalar holds. Only a string takes memory.
-    pub fn held(&self, alloc: Global, place: Place<'_>) -> Result<Value, StoreFault>
-        ensures { (w : World) → Answered value_view result (with_storage self.now w) (with_storage self.now w)
+    /// The value at the place of a scalar.
+    #[inline]
+    fn value_at(&self, place: Place<'_>) -> Result<&Value, StoreFault>
+        ensures { (w : World) → Answered (λ v. value_view v.now) result (with_storage self.now w) (with_storage self.now w)
             (held (place_view place.entry) (with_storage self.now w)) }
     {
         let part = self.part(place)?;
@@ -93,12 +96,36 @@ impl<'m> Storage<'m> {
             return Err(StoreFault::NoRule);
         }
         match self.generations[part.at].values.get(part.first) {
-            Some(value) => Ok(value.copy(alloc)?),
+            Some(value) => Ok(value),
             None => Err(StoreFault::NoRule),
         }
     }
 
+    /// What the place of a scalar holds. Only a string takes memory.
+    pub fn held(&self, alloc: Global, place: Place<'_>) -> Result<Value, StoreFault>
+        ensures { (w : World) → Answered value_view result (with_storage self.now w) (with_storage self.now w)
+            (held (place_view place.entry) (with_storage self.now w)) }
+    {
+        match self.value_at(place) {
+            Ok(value) => Ok(value.copy(alloc)?),
+            Err(fault) => Err(fault),
+        }
+    }
+
+    /// The number that the place of a scalar holds, where it holds one; `held` tells of any other.
+    #[inline]
+    pub fn number_at(&self, place: Place<'_>) -> Option<i64>
+        ensures { (w : World) → IfSome result (λ x. held (place_view place.entry) (with_storage self.now w)
+            ≡ Yields (Number x) (with_storage self.now w)) }
+    {
+        match self.value_at(place) {
+            Ok(Value::Number(number)) => Some(*number),
+            _ => None,
+        }
+    }
+
     /// A value put at the place of a scalar.
+    #[inline]
     pub fn stored(&mut self, place: Place<'_>, value: Value) -> Result<(), StoreFault>
         ensures answer { (w : World) → Answered (λ _. tt) result (with_storage self.old w) (with_storage self.new w)
             (stored (place_view place.entry) (value_view value) (with_storage self.old w)) }

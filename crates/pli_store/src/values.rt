@@ -41,6 +41,7 @@ pub fn one_value(alloc: Global, value: Value) -> Result<Vec<Value>, AllocError>
 
 /// Puts a value in the place of the one of this number, or behind the last where there are not so many. Takes memory
 /// only there.
+#[inline]
 pub fn put_value(values: &mut Vec<Value>, first: usize, value: Value) -> Result<(), AllocError>
     ensures ok { OnOk result (values.new.items ≡ take first values.old.items ++ value ∷ [] ++ drop (first + 1) values.old.items) }
     ensures err { OnErr result (values.new.items ≡ values.old.items) }

@@ -1,5 +1,5 @@
 //! Operations on values: operators, built-in functions and conversions.
-ghost use Rattle.std.specs.Prelude.{◌≡◌, ℤ, pos, Result, IfOk, MatchOption, None, Some};
+ghost use Rattle.std.specs.Prelude.{◌≡◌, ◌∷◌, [], ℤ, pos, Result, IfOk, MatchOption, None, Some};
 ghost use Rattle.pli_map.specs.views.DescriptionView.{description_view};
 ghost use Rattle.pli_operation.specs.Operations as calculate;
 ghost use Rattle.pli_operation.specs.Operations.{calculated_from, calculated_with, calculated_by, as_number, stands, fitted_to};
@@ -8,7 +8,7 @@ ghost use Rattle.std.specs.Option.{option_copied};
 ghost use Rattle.pli_value.specs.Numbers.{within, quotient};
 ghost use Rattle.pli_value.specs.Value as plain;
 ghost use Rattle.pli_value.specs.Value.{value_view};
-ghost use Rattle.pli_unit_operate.specs.views.CalculationView.{calculation_view, prefix_view, infix_view, ternary_view};
+ghost use Rattle.pli_unit_operate.specs.views.CalculationView.{calculation_view, immediate_view, prefix_view, infix_view, ternary_view};
 
 use pli_map::Description;
 use pli_operation::Relation;
@@ -35,6 +35,16 @@ pub enum Calculation {
     GivesBit(bool),
     RaisesCondition(Raised),
     OutOfString,
+    Misfits,
+}
+
+/// What an operation comes to that takes no memory and holds none: a number, or a bit; a condition; or nothing, where
+/// operands are not of its kinds.
+#[derive(Clone, Copy)]
+pub enum Immediate {
+    Number(i64),
+    Bit(bool),
+    Raises(Raised),
     Misfits,
 }
 
@@ -79,12 +89,25 @@ pub enum Ternary {
 
 /// A number, or the condition that is raised.
 #[inline]
-fn as_number(number: Result<i64, Raised>) -> Calculation
-    ensures { calculation_view result ≡ as_number number }
+fn as_number(number: Result<i64, Raised>) -> Immediate
+    ensures { immediate_view result ≡ as_number number }
 {
     match number {
-        Ok(number) => Calculation::Gives(Value::Number(number)),
-        Err(raised) => Calculation::RaisesCondition(raised),
+        Ok(number) => Immediate::Number(number),
+        Err(raised) => Immediate::Raises(raised),
+    }
+}
+
+/// The same as any operation comes to it.
+#[inline]
+fn as_calculation(immediate: Immediate) -> Calculation
+    ensures { calculation_view result ≡ immediate_view immediate }
+{
+    match immediate {
+        Immediate::Number(number) => Calculation::Gives(Value::Number(number)),
+        Immediate::Bit(bit) => Calculation::GivesBit(bit),
+        Immediate::Raises(raised) => Calculation::RaisesCondition(raised),
+        Immediate::Misfits => Calculation::Misfits,
     }
 }
 
@@ -149,15 +172,15 @@ fn as_place(place: usize) -> Result<Calculation, AllocError>
 }
 
 /// A quotient of at most so many binary digits. Want of memory is answered where it has more than 64 bits.
-fn divide(left: i64, right: i64, precision: u8) -> Result<Calculation, AllocError>
-    ensures { IfOk result (λ c. calculation_view c ≡ as_number (quotient precision left right)) }
+fn divide(left: i64, right: i64, precision: u8) -> Result<Immediate, AllocError>
+    ensures { IfOk result (λ i. immediate_view i ≡ as_number (quotient precision left right)) }
 {
     if precision <= WIDEST_PRECISION {
         return Ok(as_number(number::divide(left, right, precision)));
     }
     match number::divide(left, right, WIDEST_PRECISION) {
-        Ok(number) => Ok(Calculation::Gives(Value::Number(number))),
-        Err(Raised::ZeroDivide) => Ok(Calculation::RaisesCondition(Raised::ZeroDivide)),
+        Ok(number) => Ok(Immediate::Number(number)),
+        Err(Raised::ZeroDivide) => Ok(Immediate::Raises(Raised::ZeroDivide)),
         Err(Raised::Overflow) => Err(AllocError),
     }
 }
@@ -239,6 +262,17 @@ pub fn calculate_from(
     }
 }
 
+/// A number fitted to a description.
+#[inline]
+pub fn fit_number(description: &Description, number: i64) -> Immediate
+    ensures { immediate_view result ≡ fitted_to (description_view description.now) (plain.Number number) }
+{
+    match description {
+        Description::FixedBinary(precision) => as_number(fitted(*precision, number)),
+        _ => Immediate::Misfits,
+    }
+}
+
 /// A value fitted to a description. Want of memory is answered also where it has more than 32,767 bits.
 pub fn fit(
     alloc: Global,
@@ -248,9 +282,7 @@ pub fn fit(
     ensures { IfOk result (λ c. calculation_view c ≡ fitted_to (description_view description.now) (value_view value.now)) }
 {
     match (description, value) {
-        (Description::FixedBinary(precision), Value::Number(number)) => Ok(as_number(fitted(
-            *precision, *number,
-        ))),
+        (_, Value::Number(number)) => Ok(as_calculation(fit_number(description, *number))),
         (Description::Character(size), Value::Characters(text)) => Ok(Calculation::Gives(
             Value::Characters(character::fit(alloc, text, *size as usize)?),
         )),
@@ -268,9 +300,10 @@ pub fn fit(
     }
 }
 
-/// An operation on two numbers. Want of memory is answered also where the result has more than 64 bits.
-fn of_numbers(operation: Infix, left: i64, right: i64) -> Result<Calculation, AllocError>
-    ensures { IfOk result (λ c. calculation_view c
+/// An operation on two numbers. Want of memory is answered where the result has more than 64 bits.
+#[inline]
+pub fn calculate_numbers(operation: Infix, left: i64, right: i64) -> Result<Immediate, AllocError>
+    ensures { IfOk result (λ i. immediate_view i
         ≡ calculated_with 31 (infix_view operation) (plain.Number left) (plain.Number right)) }
 {
     match operation {
@@ -278,18 +311,18 @@ fn of_numbers(operation: Infix, left: i64, right: i64) -> Result<Calculation, Al
         Infix::Subtract => Ok(as_number(number::subtract(left, right, GREATEST_PRECISION))),
         Infix::Multiply => Ok(as_number(number::multiply(left, right, GREATEST_PRECISION))),
         Infix::Modulo => Ok(as_number(number::modulo(left, right))),
-        Infix::Greatest => Ok(Calculation::Gives(Value::Number(number::greatest(left, right)))),
-        Infix::Least => Ok(Calculation::Gives(Value::Number(number::least(left, right)))),
+        Infix::Greatest => Ok(Immediate::Number(number::greatest(left, right))),
+        Infix::Least => Ok(Immediate::Number(number::least(left, right))),
         Infix::Divide { precision } => divide(left, right, precision),
-        Infix::Compare(relation) => Ok(Calculation::GivesBit(stands(
+        Infix::Compare(relation) => Ok(Immediate::Bit(stands(
             relation,
             number::compare(left, right),
         ))),
-        Infix::Concatenate => Ok(Calculation::Misfits),
-        Infix::And => Ok(Calculation::Misfits),
-        Infix::Or => Ok(Calculation::Misfits),
-        Infix::Index => Ok(Calculation::Misfits),
-        Infix::Rest => Ok(Calculation::Misfits),
+        Infix::Concatenate => Ok(Immediate::Misfits),
+        Infix::And => Ok(Immediate::Misfits),
+        Infix::Or => Ok(Immediate::Misfits),
+        Infix::Index => Ok(Immediate::Misfits),
+        Infix::Rest => Ok(Immediate::Misfits),
     }
 }
 
@@ -384,7 +417,9 @@ pub fn calculate_with(
         ≡ calculated_with 31 (infix_view operation) (value_view left.now) (value_view right.now)) }
 {
     match (left, right) {
-        (Value::Number(left), Value::Number(right)) => of_numbers(operation, *left, *right),
+        (Value::Number(left), Value::Number(right)) => {
+            Ok(as_calculation(calculate_numbers(operation, *left, *right)?))
+        }
         (Value::Characters(left), Value::Characters(right)) => of_texts(
             alloc, operation, left, right,
         ),
@@ -421,17 +456,26 @@ fn substring(
 }
 
 /// Whether a number has not passed a limit: it is at most the limit where the step is not negative, else at least.
+#[inline]
+pub fn is_within(number: i64, limit: i64, step: i64) -> bool
+    ensures { calculate.Calculates (plain.Bits (result ∷ []))
+        ≡ calculated_by calculate.Within (plain.Number number) (plain.Number limit) (plain.Number step) }
+{
+    if step >= 0 {
+        number <= limit
+    } else {
+        limit <= number
+    }
+}
+
+/// The same of values.
 fn within_limit(number: &Value, limit: &Value, step: &Value) -> Calculation
     ensures { calculation_view result
         ≡ calculated_by calculate.Within (value_view number.now) (value_view limit.now) (value_view step.now) }
 {
     match (number, limit, step) {
         (Value::Number(number), Value::Number(limit), Value::Number(step)) => {
-            Calculation::GivesBit(if *step >= 0 {
-                *number <= *limit
-            } else {
-                *limit <= *number
-            })
+            Calculation::GivesBit(is_within(*number, *limit, *step))
         }
         _ => Calculation::Misfits,
     }

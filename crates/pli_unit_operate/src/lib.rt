@@ -5,6 +5,10 @@ mod calculation;
 mod operand;
 
 pub use calculation::{
-    Calculation, Infix, Prefix, Ternary, calculate_by, calculate_from, calculate_with, fit,
+    Calculation, Immediate, Infix, Prefix, Ternary, calculate_by, calculate_from,
+    calculate_numbers, calculate_with, fit, fit_number, is_within,
 };
-pub use operand::{Operand, pop_number, pop_place, pop_three, pop_truth, pop_two, pop_value, push};
+pub use operand::{
+    Operand, pop_number, pop_place, pop_three, pop_truth, pop_two, pop_value, push,
+    take_three_numbers, take_two_numbers,
+};
