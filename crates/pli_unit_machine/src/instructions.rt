@@ -1,7 +1,7 @@
 //! Instructions on the operands of the newest activation.
 ghost use Rattle.std.specs.Prelude.{ℕ, map, slice_get, IfOk};
 ghost use Rattle.pli_map.specs.views.DescriptionView.{description_view};
-ghost use Rattle.pli_operation.specs.Operations.{Fit};
+ghost use Rattle.pli_operation.specs.Operations.{Fit, Within};
 ghost use Rattle.pli_machine_step.specs.Program.{Jump, JumpUnless, Load, Store, Copy, Field, Subscript, Operate};
 ghost use Rattle.pli_unit_code.specs.CodeTables.{looked_up};
 ghost use Rattle.pli_unit_code.specs.declared.instruction.Instruction.TheVariants as coded;
@@ -11,7 +11,7 @@ ghost use Rattle.pli_unit_machine.specs.views.MachineView.{Does};
 
 use crate::keeping::put_constant;
 use crate::machine::{Machine, Stop};
-use crate::operate::{operate_by, operate_fit, operate_from, operate_with};
+use crate::operate::{operate_by, operate_fit, operate_from, operate_with, operate_within};
 use crate::variables::template_of;
 use crate::{dummies, jumping, places, storing};
 use pli_map::Description;
@@ -44,7 +44,7 @@ fn field_at<'m>(
 ) -> Result<Option<Stop>, AllocError>
     ensures { IfOk result (Does (Field offset (description_view description.now)) machine.old machine.new) }
 {
-    places::field(&mut machine.here.operands, offset, Some(description))
+    places::field(&mut machine.here.operands, offset, description)
 }
 
 /// Leads the newest place on to a part of a description of the tables.
@@ -140,7 +140,7 @@ fn fit_at(
 ) -> Result<Option<Stop>, AllocError>
     ensures { IfOk result (Does (Operate (Fit (description_view description.now))) machine.old machine.new) }
 {
-    operate_fit(alloc, &mut machine.here.operands, Some(description))
+    operate_fit(alloc, &mut machine.here.operands, description)
 }
 
 /// Fits the newest operand to a description of the tables.
@@ -192,4 +192,12 @@ pub fn from_three(
     ensures { IfOk result (Does (Operate (ternary_view operation)) machine.old machine.new) }
 {
     operate_by(alloc, &mut machine.here.operands, operation)
+}
+
+/// Whether the newest number has not passed a limit, with the step that it is counted on by.
+#[inline]
+pub fn within(alloc: Global, machine: &mut Machine) -> Result<Option<Stop>, AllocError>
+    ensures { IfOk result (Does (Operate Within) machine.old machine.new) }
+{
+    operate_within(alloc, &mut machine.here.operands)
 }

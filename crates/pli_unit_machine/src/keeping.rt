@@ -9,6 +9,17 @@ use pli_unit_operate::{Operand, pop_value, push};
 use pli_value::Value;
 use std::alloc::{AllocError, Global};
 
+/// A copy of a value. A number takes the short way.
+#[inline]
+fn copied(alloc: Global, value: &Value) -> Result<Value, AllocError>
+    ensures { IfOk result (λ copy. value_view copy ≡ value_view value.now) }
+{
+    match value {
+        Value::Number(number) => Ok(Value::Number(*number)),
+        _ => value.copy(alloc),
+    }
+}
+
 /// Puts a copy of a constant upon the operands.
 #[inline]
 pub fn put_constant(
@@ -18,7 +29,7 @@ pub fn put_constant(
 ) -> Result<Option<Stop>, AllocError>
     ensures { IfOk result (Does (Constant (value_view value.now)) machine.old machine.new) }
 {
-    let copy = value.copy(alloc)?;
+    let copy = copied(alloc, value)?;
     push(&mut machine.here.operands, Operand::OfValue(copy))?;
     Ok(None)
 }
@@ -50,6 +61,7 @@ pub fn set_temporary(
 }
 
 /// Puts a copy of a temporary upon the operands, if it was set.
+#[inline]
 pub fn take_temporary(
     alloc: Global,
     machine: &mut Machine,
@@ -58,7 +70,7 @@ pub fn take_temporary(
     ensures { IfOk result (Does (TakeTemporary number) machine.old machine.new) }
 {
     let copy = match machine.here.temporaries.get(number) {
-        Some(Some(value)) => value.copy(alloc)?,
+        Some(Some(value)) => copied(alloc, value)?,
         _ => return Ok(Some(Stop::Fault)),
     };
     push(&mut machine.here.operands, Operand::OfValue(copy))?;

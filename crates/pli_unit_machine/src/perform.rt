@@ -6,7 +6,7 @@ ghost use Rattle.pli_unit_machine.specs.views.MachineView.{Performs};
 use crate::calling::{begin, call};
 use crate::instructions::{
     constant, copy, field, fit, from_one, from_three, from_two, jump, jump_unless, load,
-    make_dummy, store, subscript,
+    make_dummy, store, subscript, within,
 };
 use crate::keeping::{set_temporary, take_temporary};
 use crate::landing::go_to;
@@ -84,7 +84,7 @@ pub fn perform<'m>(
         Instruction::Index => from_two(alloc, machine, Infix::Index),
         Instruction::Rest => from_two(alloc, machine, Infix::Rest),
         Instruction::Substring => from_three(alloc, machine, Ternary::Substring),
-        Instruction::Within => from_three(alloc, machine, Ternary::Within),
+        Instruction::Within => within(alloc, machine),
         Instruction::Put => put(alloc, machine),
         Instruction::Skip => skip(machine),
         Instruction::SetTemporary { number } => set_temporary(alloc, machine, number as usize),

@@ -1,9 +1,7 @@
 //! Instructions that lead a place on.
-ghost use Rattle.std.specs.Prelude.{◌≡◌, ◌&&◌, ◌≤ℤ◌, int_le, true, false, IfOk, MatchOption, Option, option_map};
-ghost use Rattle.std.specs.Option.{option_copied};
+ghost use Rattle.std.specs.Prelude.{◌≡◌, ◌&&◌, ◌≤ℤ◌, int_le, true, false, IfOk, MatchOption};
 ghost use Rattle.pli_map.specs.views.DescriptionView.{description_view};
-ghost use Rattle.pli_machine_step.specs.Machine.{subscripts};
-ghost use Rattle.pli_unit_machine.specs.views.ActView.{fielded_as};
+ghost use Rattle.pli_machine_step.specs.Machine.{fielded, subscripts};
 ghost use Rattle.pli_unit_machine.specs.views.MachineView.{Acts};
 
 use crate::machine::Stop;
@@ -17,13 +15,10 @@ use std::alloc::AllocError;
 pub fn field<'m>(
     operands: &mut Vec<Operand<'m>>,
     offset: u32,
-    description: Option<&'m Description>,
+    description: &'m Description,
 ) -> Result<Option<Stop>, AllocError>
-    ensures { IfOk result (Acts (fielded_as offset (option_map description_view (option_copied description.entry))) operands.old.items operands.new.items) }
+    ensures { IfOk result (Acts (fielded offset (description_view description.now)) operands.old.items operands.new.items) }
 {
-    let Some(description) = description else {
-        return Ok(Some(Stop::Fault));
-    };
     let Some(place) = pop_place(operands) else {
         return Ok(Some(Stop::Fault));
     };

@@ -1,11 +1,15 @@
 //! Instructions on storage.
 ghost use Rattle.std.specs.Prelude.{IfOk};
 ghost use Rattle.pli_machine_step.specs.Machine.{loaded, kept, copies};
+ghost use Rattle.pli_store.specs.views.StorageView.{place_view};
+ghost use Rattle.pli_value.specs.Value.{value_view};
+ghost use Rattle.pli_unit_machine.specs.views.ActView.{held_as, kept_as};
 ghost use Rattle.pli_unit_machine.specs.views.MachineView.{Works, StopsAs};
 
 use crate::machine::Stop;
-use pli_store::{Storage, StoreFault};
-use pli_unit_operate::{Operand, pop_place, pop_value, push};
+use pli_store::{Place, Storage, StoreFault};
+use pli_unit_operate::{Operand, pop_number, pop_place, pop_value, push};
+use pli_value::Value;
 use std::alloc::{AllocError, Global};
 
 /// Why a run stops where storage gives nothing.
@@ -20,7 +24,7 @@ pub fn stop_at(fault: StoreFault) -> Result<Stop, AllocError>
     }
 }
 
-/// Takes a place and gives what it holds.
+/// Takes a place and gives what it holds. A number takes the short way.
 #[inline]
 pub fn load(
     alloc: Global,
@@ -32,6 +36,24 @@ pub fn load(
     let Some(place) = pop_place(operands) else {
         return Ok(Some(Stop::Fault));
     };
+    match storage.number_at(place) {
+        Some(number) => {
+            push(operands, Operand::OfValue(Value::Number(number)))?;
+            Ok(None)
+        }
+        None => load_value(alloc, operands, storage, place),
+    }
+}
+
+/// Gives what a place holds.
+fn load_value(
+    alloc: Global,
+    operands: &mut Vec<Operand>,
+    storage: &Storage,
+    place: Place<'_>,
+) -> Result<Option<Stop>, AllocError>
+    ensures { IfOk result (Works (held_as (place_view place.entry)) operands.old.items operands.new.items storage.now storage.now) }
+{
     match storage.held(alloc, place) {
         Ok(value) => {
             push(operands, Operand::OfValue(value))?;
@@ -41,9 +63,23 @@ pub fn load(
     }
 }
 
-/// Takes a value and a place, and puts the value there.
+/// Takes a value and a place, and puts the value there. A number takes the short way.
 #[inline]
 pub fn store(
+    alloc: Global,
+    operands: &mut Vec<Operand>,
+    storage: &mut Storage,
+) -> Result<Option<Stop>, AllocError>
+    ensures { IfOk result (Works kept operands.old.items operands.new.items storage.old storage.new) }
+{
+    match pop_number(operands) {
+        Some(number) => store_value(operands, storage, Value::Number(number)),
+        None => store_newest(alloc, operands, storage),
+    }
+}
+
+/// The same of any value.
+fn store_newest(
     alloc: Global,
     operands: &mut Vec<Operand>,
     storage: &mut Storage,
@@ -53,6 +89,18 @@ pub fn store(
     let Some(value) = pop_value(alloc, operands)? else {
         return Ok(Some(Stop::Fault));
     };
+    store_value(operands, storage, value)
+}
+
+/// Takes a place, and puts a value there.
+#[inline]
+fn store_value(
+    operands: &mut Vec<Operand>,
+    storage: &mut Storage,
+    value: Value,
+) -> Result<Option<Stop>, AllocError>
+    ensures { IfOk result (Works (kept_as (value_view value)) operands.old.items operands.new.items storage.old storage.new) }
+{
     let Some(place) = pop_place(operands) else {
         return Ok(Some(Stop::Fault));
     };

@@ -2,7 +2,7 @@ use Rattle.std.proofs.Common.{[], ◌∷◌, ◌∙◌}
 use Rattle.pli_value.specs.Value.{value_view}
 use Rattle.pli_unit_operate.specs.views.CalculationView.{calculation_view, infix_view}
 use Rattle.pli_unit_machine.proofs.Operating.{operates, infix_two, of_two}
-use Rattle.pli_unit_machine.proofs.operate.operate_with.Goals as goal
+use Rattle.pli_unit_machine.proofs.operate.operate_with_values.Goals as goal
 
 pub returns : goal.returns
 returns c =

@@ -178,7 +178,7 @@ returns-in-Substring c =
 
 pub returns-in-Within : goal.returns-in-Within
 returns-in-Within c =
-    does_performs (module_view c.args.«module».now) c.args.instruction coded.Within c.args.machine.now c.from_three-in-Within.new.machine c.from_three-in-Within.result c.in-Within.is c.from_three-in-Within.ensures
+    does_performs (module_view c.args.«module».now) c.args.instruction coded.Within c.args.machine.now c.within.new.machine c.within.result c.in-Within.is c.within.ensures
 
 pub returns-in-Put : goal.returns-in-Put
 returns-in-Put c =
