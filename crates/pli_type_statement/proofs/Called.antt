@@ -12,7 +12,7 @@ use Rattle.pli_base.specs.declared.syntax.Reference.{out-Reference}
 use Rattle.pli_base.specs.laws.SyntaxLaws.{reference_out}
 use Rattle.pli_base.specs.views.SyntaxView.{reference_view as reference_in}
 use Rattle.pli_type.specs.ExpressionTypes.{TypedValue}
-use Rattle.pli_type.specs.References.{AsLocator}
+use Rattle.pli_type.specs.References.{AsLocator, Referent}
 use Rattle.pli_type.specs.Typing.{first_token, referred, value_of}
 use Rattle.pli_type_statement.specs.Iterations.{iteration_with}
 use Rattle.pli_base.specs.declared.code.Code.TheVariants.{NotCallableHere}
@@ -102,6 +102,20 @@ pub iteration_fails : (n : Naming) (temporary : ℕ) (v : syntax.Reference) (equ
     → Fails e (iteration n temporary (reference_in v) equals first range tested)
 iteration_fails n temporary v equals first range tested a k d errors.OutOfMemory x y z h = tt
 iteration_fails n temporary v equals first range tested a k d (errors.Fault f) x y z h =
+    let at = first_token (Referred (reference_in v)) in
+    ap (λ r. r >>= λ a. limits n range >>= λ k. referred n AsLocator (reference_in v) >>= λ d. controls at k d >>= λ r. iteration_with n temporary equals a k r range tested) x
+    ∙ ap (λ r. r >>= λ k. referred n AsLocator (reference_in v) >>= λ d. controls at k d >>= λ r. iteration_with n temporary equals a k r range tested) y
+    ∙ ap (λ r. r >>= λ d. controls at k d >>= λ r. iteration_with n temporary equals a k r range tested) z
+    ∙ ap (λ at. controls at k d >>= λ r. iteration_with n temporary equals a k r range tested) (token_of v)
+    ∙ ap (λ r. r >>= λ r. iteration_with n temporary equals a k r range tested) h
+
+-- one that may
+pub iteration_goes_on : (n : Naming) (temporary : ℕ) (v : syntax.Reference) (equals : ℕ) (first : Expression) (range : Option Range)
+    (tested : Option Expression) (a : TypedValue) (k : typed.TypedRange) (d : Denoted) (r : Referent)
+    → value_of n first ≡ Ok a → limits n range ≡ Ok k → referred n AsLocator (reference_in v) ≡ Ok d
+    → controls (out-Reference v).first.name.at k d ≡ Ok r
+    → iteration n temporary (reference_in v) equals first range tested ≡ iteration_with n temporary equals a k r range tested
+iteration_goes_on n temporary v equals first range tested a k d r x y z h =
     let at = first_token (Referred (reference_in v)) in
     ap (λ r. r >>= λ a. limits n range >>= λ k. referred n AsLocator (reference_in v) >>= λ d. controls at k d >>= λ r. iteration_with n temporary equals a k r range tested) x
     ∙ ap (λ r. r >>= λ k. referred n AsLocator (reference_in v) >>= λ d. controls at k d >>= λ r. iteration_with n temporary equals a k r range tested) y

@@ -158,13 +158,6 @@ made_walked make old new after r x w = record {
   procedures = adds_made make r (finished old) (finished new) w.procedures;
 }
 
--- a result that was put together of it
-pub of_part : {A X E : Type 0} (old new : Walk) (after : Next) (r : Typed A) (x : Option A) (view : X → A)
-    (result : Result (Option X) E) → Walks A old new after r x → IfOk result (λ part. option_map view part ≡ x)
-    → IfOk result (λ part. Walks A old new after r (option_map view part))
-of_part old new after r x view (Ok part) w is = as_typed old new after after r r x (option_map view part) refl refl is w
-of_part old new after r x view (Err e) w is = tt
-
 -- what stands in the surroundings here stands in equal ones
 pub moved : {A : Type 0} (typed : NamedUnit → Surroundings → Next → Typed A) (old mid : Walk) (next : Next)
     → IsBack old mid → next_at mid ≡ next

@@ -21,6 +21,20 @@ pub(crate) fn numbered(number: u32, form: Option<Form>) -> Option<TypedStatement
     }
 }
 
+/// A statement in a box, if it has no fault.
+pub(crate) fn boxed(
+    alloc: Global,
+    statement: Option<TypedStatement>,
+) -> Result<Option<Box<TypedStatement>>, AllocError>
+    ensures { IfOk result (λ made. option_map (λ s. statement_view s.value) made
+        ≡ option_map statement_view statement) }
+{
+    match statement {
+        Some(statement) => Ok(Some(Box::new(alloc, statement)?)),
+        None => Ok(None),
+    }
+}
+
 /// What stands behind ELSE, if it has no fault.
 pub(crate) fn otherwise(
     alloc: Global,
@@ -37,29 +51,34 @@ pub(crate) fn otherwise(
 
 /// An IF of its three parts, if none has a fault.
 pub(crate) fn if_form(
-    alloc: Global,
-    tested: Option<TypedExpression>,
-    consequence: Option<TypedStatement>,
+    tested: Option<Box<TypedExpression>>,
+    consequence: Option<Box<TypedStatement>>,
     alternative: Option<Option<Box<TypedStatement>>>,
-) -> Result<Option<Form>, AllocError>
-    ensures { IfOk result (λ form. option_map form_view form
-        ≡ if_of (option_map expression_view tested) (option_map statement_view consequence)
-        (option_map boxed_view alternative)) }
+) -> Option<Form>
+    ensures { option_map form_view result
+        ≡ if_of (option_map (λ x. expression_view x.value) tested) (option_map (λ s. statement_view s.value) consequence)
+        (option_map boxed_view alternative) }
 {
     let Some(condition) = tested else {
-        return Ok(None);
+        drop(consequence);
+        drop(alternative);
+        return None;
     };
     let Some(consequence) = consequence else {
-        return Ok(None);
+        drop(condition);
+        drop(alternative);
+        return None;
     };
     let Some(alternative) = alternative else {
-        return Ok(None);
+        drop(condition);
+        drop(consequence);
+        return None;
     };
-    Ok(Some(Form::If {
-        condition,
-        consequence: Box::new(alloc, consequence)?,
+    Some(Form::If {
+        condition: Box::into_inner(condition),
+        consequence,
         alternative,
-    }))
+    })
 }
 
 /// A BEGIN block of its list, if that has no fault.
@@ -74,30 +93,28 @@ pub(crate) fn begin_form(head: BlockHead, list: Option<Vec<TypedStatement>>) -> 
 }
 
 /// A group of what controls it and its list, if neither has a fault.
-pub(crate) fn group_form(
-    alloc: Global,
-    header: Option<Header>,
-    list: Option<Vec<TypedStatement>>,
-) -> Result<Option<Form>, AllocError>
-    ensures { IfOk result (λ form. option_map form_view form
-        ≡ both group_of (option_map header_view header) (option_map (λ list. statements_view list.items) list)) }
+pub(crate) fn group_form(header: Option<Header>, list: Option<Vec<TypedStatement>>) -> Option<Form>
+    ensures { option_map form_view result
+        ≡ both group_of (option_map header_view header) (option_map (λ list. statements_view list.items) list) }
 {
     let Some(header) = header else {
-        return Ok(None);
+        drop(list);
+        return None;
     };
     let Some(statements) = list else {
-        return Ok(None);
+        drop(header);
+        return None;
     };
     match header {
-        Header::Plain => Ok(Some(Form::Group(statements))),
-        Header::While(condition) => Ok(Some(Form::While {
-            condition,
+        Header::Plain => Some(Form::Group(statements)),
+        Header::While(condition) => Some(Form::While {
+            condition: Box::into_inner(condition),
             statements,
-        })),
-        Header::Iterate(iteration) => Ok(Some(Form::Iterate {
-            iteration: Box::new(alloc, iteration)?,
+        }),
+        Header::Iterate(iteration) => Some(Form::Iterate {
+            iteration,
             statements,
-        })),
+        }),
     }
 }
 
@@ -114,7 +131,9 @@ pub(crate) fn keep(
     let Some(statement) = statement else {
         return Ok(false);
     };
-    if !leaves_nothing {
+    if leaves_nothing {
+        drop(statement);
+    } else {
         statements.push(statement)?;
     }
     Ok(true)

@@ -20,8 +20,8 @@ use std::alloc::{AllocError, Global};
 #[derive(Drop)]
 pub(crate) enum Header {
     Plain,
-    While(TypedExpression),
-    Iterate(Iteration),
+    While(Box<TypedExpression>),
+    Iterate(Box<Iteration>),
 }
 
 /// How many numbers a group keeps of what limits it: those of TO and BY, and 1 where TO stands without BY.
@@ -76,7 +76,8 @@ pub(crate) fn specified(
                 range,
                 condition,
             };
-            Ok(Header::Iterate(iteration(alloc, naming, temporary, text)?))
+            let iteration = iteration(alloc, naming, temporary, text)?;
+            Ok(Header::Iterate(Box::new(alloc, iteration)?))
         }
     }
 }

@@ -22,15 +22,18 @@ pub(crate) fn condition(
     alloc: Global,
     naming: &Naming<'_>,
     expression: &Expression,
-) -> Result<TypedExpression, TypeError>
+) -> Result<Box<TypedExpression>, TypeError>
     requires { later_expression (compiled_in naming.now) (syntax.expression_view expression.now) ≡ false }
-    ensures { Gives expression_view result
+    ensures { Gives (λ x. expression_view x.value) result
         (spec.condition (naming_in naming.now) (syntax.expression_view expression.now)) }
 {
     let value = value_of(alloc, naming, expression)?;
     match value.kind {
-        ExpressionType::Bits => Ok(value.expression),
-        _ => Err(fault(Code::WrongOperandType, first_token(expression))),
+        ExpressionType::Bits => Ok(Box::new(alloc, value.expression)?),
+        _ => {
+            drop(value);
+            Err(fault(Code::WrongOperandType, first_token(expression)))
+        }
     }
 }
 

@@ -3,13 +3,14 @@ ghost use Rattle.std.specs.Prelude.{◌≡◌, false, map, option_map};
 ghost use Rattle.pli_base.specs.views.StatementView.{range_view};
 ghost use Rattle.pli_base.specs.views.SyntaxView as syntax;
 ghost use Rattle.pli_map.specs.views.DescriptionView.{description_view};
+ghost use Rattle.pli_operation.specs.views.OperationView.{operation_view};
 ghost use Rattle.pli_type.specs.StatementTyping as spec;
 ghost use Rattle.pli_type.specs.Unbuilt.{later_expression, later_part, later_range, later_reference};
 ghost use Rattle.pli_type.specs.views.ValueView.{value_view};
 ghost use Rattle.pli_type_expression.specs.answers.TypingAnswers.{Gives};
 ghost use Rattle.pli_type_expression.specs.views.TypingView.{denoted_view, referent_view};
 ghost use Rattle.pli_type_names.specs.UnitNaming.{compiled_in, naming_in};
-ghost use Rattle.pli_type_statement.specs.Iterations.{iteration_with};
+ghost use Rattle.pli_type_statement.specs.Iterations.{iteration_of, iteration_with};
 ghost use Rattle.pli_type_tree.specs.views.TypedView as typed;
 
 use crate::items::condition;
@@ -17,6 +18,7 @@ use pli_base::Code;
 use pli_base::statement::Range;
 use pli_base::syntax::{Expression, Reference};
 use pli_map::Description;
+use pli_operation::Operation;
 use pli_type::{TypedValue, conversions, converted};
 use pli_type_expression::{
     Denoted, Referent, Role, TypeError, fault, first_token, referred, value_of,
@@ -38,7 +40,10 @@ fn limit(
     let value = value_of(alloc, naming, expression)?;
     match value.kind.precision(naming.greatest()) {
         Some(_) => Ok(value.expression),
-        None => Err(fault(Code::WrongOperandType, first_token(expression))),
+        None => {
+            drop(value);
+            Err(fault(Code::WrongOperandType, first_token(expression)))
+        }
     }
 }
 
@@ -68,14 +73,22 @@ fn limits(
     ensures { Gives typed.range_view result (spec.limits (naming_in naming.now) (option_map range_view range.now)) }
 {
     match range {
-        Some(Range::To { to, by }) => Ok(TypedRange::ToBy {
-            to: limit(alloc, naming, to)?,
-            by: possible_limit(alloc, naming, by)?,
-        }),
-        Some(Range::By { by, to }) => Ok(TypedRange::ByTo {
-            by: limit(alloc, naming, by)?,
-            to: possible_limit(alloc, naming, to)?,
-        }),
+        Some(Range::To { to, by }) => {
+            let to = Box::new(alloc, limit(alloc, naming, to)?)?;
+            let by = possible_limit(alloc, naming, by)?;
+            Ok(TypedRange::ToBy {
+                to: Box::into_inner(to),
+                by,
+            })
+        }
+        Some(Range::By { by, to }) => {
+            let by = Box::new(alloc, limit(alloc, naming, by)?)?;
+            let to = possible_limit(alloc, naming, to)?;
+            Ok(TypedRange::ByTo {
+                by: Box::into_inner(by),
+                to,
+            })
+        }
         Some(Range::Repeat(_)) | None => Ok(TypedRange::Once),
     }
 }
@@ -103,22 +116,25 @@ fn suits_range(description: &Description, range: &TypedRange) -> bool
 /// The control variable at the token `at`: a variable without subscripts, and a number where TO or BY stands; T12 there
 /// where it is not (X3.74; that subscripts are refused, own).
 fn controls<'a>(
+    alloc: Global,
     at: u32,
     range: &TypedRange,
     variable: Denoted<'a>,
-) -> Result<Referent<'a>, TypeError>
-    ensures { Gives referent_view result (spec.controls at (typed.range_view range.now) (denoted_view variable.entry)) }
+) -> Result<Box<Referent<'a>>, TypeError>
+    ensures { Gives (λ r. referent_view r.value) result (spec.controls at (typed.range_view range.now) (denoted_view variable.entry)) }
 {
     let Denoted::Variable(referent) = variable else {
         return Err(fault(Code::NotAVariable, at));
     };
     if !is_without_subscripts(&referent.reference) {
+        drop(referent);
         return Err(fault(Code::BadControlVariable, at));
     }
     if !suits_range(referent.description, range) {
+        drop(referent);
         return Err(fault(Code::BadControlVariable, at));
     }
-    Ok(referent)
+    Ok(Box::new(alloc, referent)?)
 }
 
 /// WHILE behind them, if it stands there.
@@ -126,9 +142,9 @@ fn possible_condition(
     alloc: Global,
     naming: &Naming<'_>,
     expression: &Option<Expression>,
-) -> Result<Option<TypedExpression>, TypeError>
+) -> Result<Option<Box<TypedExpression>>, TypeError>
     requires { later_part (later_expression (compiled_in naming.now)) (option_map syntax.expression_view expression.now) ≡ false }
-    ensures { Gives (option_map typed.expression_view) result
+    ensures { Gives (option_map (λ x. typed.expression_view x.value)) result
         (spec.possible_condition (naming_in naming.now) (option_map syntax.expression_view expression.now)) }
 {
     match expression {
@@ -143,14 +159,14 @@ fn next_value(
     naming: &Naming<'_>,
     description: &Description,
     expression: &Expression,
-) -> Result<TypedRange, TypeError>
+) -> Result<Box<TypedRange>, TypeError>
     requires { later_expression (compiled_in naming.now) (syntax.expression_view expression.now) ≡ false }
-    ensures { Gives typed.range_view result
+    ensures { Gives (λ range. typed.range_view range.value) result
         (spec.next_value (naming_in naming.now) (description_view description.now) (syntax.expression_view expression.now)) }
 {
     let value = value_of(alloc, naming, expression)?;
     match converted(alloc, naming.greatest(), description, value)? {
-        Some(next) => Ok(TypedRange::Repeated(next)),
+        Some(next) => Ok(Box::new(alloc, TypedRange::Repeated(next))?),
         None => Err(fault(Code::CannotAssign, first_token(expression))),
     }
 }
@@ -160,12 +176,12 @@ fn with_repeat(
     alloc: Global,
     naming: &Naming<'_>,
     description: &Description,
-    kept: TypedRange,
+    kept: Box<TypedRange>,
     range: &Option<Range>,
-) -> Result<TypedRange, TypeError>
+) -> Result<Box<TypedRange>, TypeError>
     requires { later_part (later_range (compiled_in naming.now)) (option_map range_view range.now) ≡ false }
-    ensures { Gives typed.range_view result
-        (spec.with_repeat (naming_in naming.now) (description_view description.now) (typed.range_view kept)
+    ensures { Gives (λ range. typed.range_view range.value) result
+        (spec.with_repeat (naming_in naming.now) (description_view description.now) (typed.range_view kept.value)
         (option_map range_view range.now)) }
 {
     match range {
@@ -185,6 +201,42 @@ pub(crate) struct IterationText<'s> {
     pub condition: &'s Option<Expression>,
 }
 
+/// A condition, if it stands there, out of its box.
+fn unboxed(condition: Option<Box<TypedExpression>>) -> Option<TypedExpression>
+    ensures { option_map typed.expression_view result
+        ≡ option_map (λ x. typed.expression_view x.value) condition }
+{
+    match condition {
+        Some(condition) => Some(Box::into_inner(condition)),
+        None => None,
+    }
+}
+
+/// A group with a control variable of its parts.
+fn of_parts(
+    variable: Box<Referent<'_>>,
+    conversion: Vec<Operation>,
+    start: Box<TypedValue>,
+    range: Box<TypedRange>,
+    condition: Option<Box<TypedExpression>>,
+    temporary: u32,
+) -> Iteration
+    ensures { typed.iteration_view result
+        ≡ iteration_of (referent_view variable.entry.value) (map operation_view conversion.items) (value_view start.value)
+        (typed.range_view range.value) (option_map (λ x. typed.expression_view x.value) condition) temporary }
+{
+    let variable = Box::into_inner(variable);
+    let start = Box::into_inner(start);
+    Iteration {
+        control: variable.reference,
+        conversion,
+        start: start.expression,
+        range: Box::into_inner(range),
+        condition: unboxed(condition),
+        temporary,
+    }
+}
+
 /// The group of its first value, what limits it and its variable: T5 at `=` where the value does not suit the variable,
 /// then the faults of WHILE, and those of REPEAT (own).
 fn iterated(
@@ -192,16 +244,16 @@ fn iterated(
     naming: &Naming<'_>,
     temporary: u32,
     text: IterationText<'_>,
-    start: TypedValue,
-    kept: TypedRange,
-    variable: Referent<'_>,
+    start: Box<TypedValue>,
+    kept: Box<TypedRange>,
+    variable: Box<Referent<'_>>,
 ) -> Result<Iteration, TypeError>
     requires range { later_part (later_range (compiled_in naming.now)) (option_map range_view text.range.now) ≡ false }
     requires condition { later_part (later_expression (compiled_in naming.now))
         (option_map syntax.expression_view text.condition.now) ≡ false }
     ensures { Gives typed.iteration_view result
-        (iteration_with (naming_in naming.now) temporary text.entry.equals (value_view start)
-        (typed.range_view kept) (referent_view variable.entry) (option_map range_view text.entry.range.now)
+        (iteration_with (naming_in naming.now) temporary text.entry.equals (value_view start.value)
+        (typed.range_view kept.value) (referent_view variable.entry.value) (option_map range_view text.entry.range.now)
         (option_map syntax.expression_view text.entry.condition.now)) }
 {
     let Some(conversion) = conversions(alloc, naming.greatest(), variable.description, start.kind)?
@@ -210,14 +262,7 @@ fn iterated(
     };
     let condition = possible_condition(alloc, naming, text.condition)?;
     let range = with_repeat(alloc, naming, variable.description, kept, text.range)?;
-    Ok(Iteration {
-        control: variable.reference,
-        conversion,
-        start: start.expression,
-        range,
-        condition,
-        temporary,
-    })
+    Ok(of_parts(variable, conversion, start, range, condition, temporary))
 }
 
 /// What `DO v = a ..` says, whose temporaries begin with this one, or its first fault: those of a, of TO and BY, of v,
@@ -238,9 +283,11 @@ pub(crate) fn iteration(
         (syntax.expression_view text.entry.first.now) (option_map range_view text.entry.range.now)
         (option_map syntax.expression_view text.entry.condition.now)) }
 {
-    let start = value_of(alloc, naming, text.first)?;
-    let kept = limits(alloc, naming, text.range)?;
+    let first = value_of(alloc, naming, text.first)?;
+    let start = Box::new(alloc, first)?;
+    let range = limits(alloc, naming, text.range)?;
+    let kept = Box::new(alloc, range)?;
     let variable = referred(alloc, naming, Role::Locator, text.variable)?;
-    let variable = controls(text.variable.first.name.at, &kept, variable)?;
+    let variable = controls(alloc, text.variable.first.name.at, &kept, variable)?;
     iterated(alloc, naming, temporary, text, start, kept, variable)
 }

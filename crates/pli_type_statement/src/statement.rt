@@ -17,7 +17,7 @@ ghost use Rattle.pli_type_tree.specs.TypedTree as plain;
 ghost use Rattle.pli_type_tree.specs.views.TypedView.{expression_view, form_view, statement_view, statements_view};
 
 use crate::answer::noted;
-use crate::forms::{begin_form, group_form, if_form, keep, numbered, otherwise};
+use crate::forms::{begin_form, boxed, group_form, if_form, keep, numbered, otherwise};
 use crate::headers::{Header, kept_by, specified};
 use crate::items::condition;
 use crate::labels::{labels_of, leaves_nothing};
@@ -71,12 +71,12 @@ fn type_condition(
     alloc: Global,
     walk: &mut Walk<'_>,
     expression: &Expression,
-) -> Result<Option<TypedExpression>, AllocError>
+) -> Result<Option<Box<TypedExpression>>, AllocError>
     requires placed { IsPlaced walk.old }
     requires built { later_expression (compiled_in walk.old.naming) (syntax.expression_view expression.now) ≡ false }
     ensures { IfOk result (λ tested. Walks plain.TypedExpression walk.old walk.new (next_at walk.old)
         (spec.of_own (spec.condition (spec.naming_at (unit_at walk.old) (around walk.old)) (syntax.expression_view expression.now)))
-        (option_map expression_view tested)) }
+        (option_map (λ x. expression_view x.value) tested)) }
 {
     let tested = condition(alloc, &walk.naming, expression);
     noted(tested, &mut walk.faults)
@@ -196,7 +196,7 @@ fn type_body<'a>(
         } => {
             let header = type_header(alloc, walk, control)?;
             let list = type_group(alloc, walk, statements.as_slice())?;
-            group_form(alloc, header, list)
+            Ok(group_form(header, list))
         }
         Body::If {
             condition,
@@ -204,13 +204,14 @@ fn type_body<'a>(
             alternative,
         } => {
             let tested = type_condition(alloc, walk, condition)?;
-            let consequence = type_statement(alloc, walk, consequence)?;
+            let typed = type_statement(alloc, walk, consequence)?;
+            let consequence = boxed(alloc, typed)?;
             match alternative {
-                None => if_form(alloc, tested, consequence, Some(None)),
+                None => Ok(if_form(tested, consequence, Some(None))),
                 Some(statement) => {
                     let other = type_statement(alloc, walk, statement)?;
                     let other = otherwise(alloc, other)?;
-                    if_form(alloc, tested, consequence, other)
+                    Ok(if_form(tested, consequence, other))
                 }
             }
         }

@@ -6,5 +6,5 @@ use Rattle.pli_type_tree.specs.views.TypedView.{expression_view, iteration_view}
 
 abbrev pub header_view : Header → plain.Header
 header_view headers.Plain = plain.Plain
-header_view (headers.While condition) = plain.While (expression_view condition)
-header_view (headers.Iterate iteration) = plain.Iterate (iteration_view iteration)
+header_view (headers.While condition) = plain.While (expression_view condition.value)
+header_view (headers.Iterate iteration) = plain.Iterate (iteration_view iteration.value)

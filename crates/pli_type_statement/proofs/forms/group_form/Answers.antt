@@ -2,7 +2,7 @@ use Rattle.std.proofs.Common.{Vec, Global, Some, option_map, ap, sym, ◌∙◌}
 use Rattle.pli_type_tree.specs.TypedTree as plain
 use Rattle.pli_type_tree.specs.declared.statement.TypedStatement.{TypedStatement}
 use Rattle.pli_type_tree.specs.laws.TypedTreeLaws.{group_made, while_made, iterate_made}
-use Rattle.pli_type_tree.specs.views.TypedView.{iteration_view, statements_view}
+use Rattle.pli_type_tree.specs.views.TypedView.{expression_view, statements_view}
 use Rattle.pli_type_statement.specs.Headers.{group_of}
 use Rattle.pli_type_statement.specs.Parts.{both}
 use Rattle.pli_type_statement.specs.views.HeaderView.{header_view}
@@ -17,13 +17,13 @@ returns-in-Plain c =
 
 pub returns-in-While : goal.returns-in-While
 returns-in-While c =
-    ap Some (while_made c.in-While.condition c.in-Some-list.statements)
+    ap Some (while_made c.into_inner.result c.in-Some-list.statements
+    ∙ ap (λ x. plain.While (expression_view x) (statements_view c.in-Some-list.statements.items)) c.into_inner.ensures)
     ∙ sym (ap (λ h. both group_of (option_map header_view h) (option_map (λ (list : Vec TypedStatement Global). statements_view list.items) c.args.list)) (c.in-Some.is ∙ ap Some c.in-While.is)
     ∙ ap (λ l. both group_of (Some (header_view (headers.While c.in-While.condition))) (option_map (λ (list : Vec TypedStatement Global). statements_view list.items) l)) c.in-Some-list.is)
 
-pub returns-in_ok-new-in-Iterate : goal.returns-in_ok-new-in-Iterate
-returns-in_ok-new-in-Iterate c =
-    ap Some (iterate_made c.in_ok-new-in-Iterate.field-0 c.in-Some-list.statements
-    ∙ ap (λ i. plain.Iterate (iteration_view i) (statements_view c.in-Some-list.statements.items)) c.in_ok-new-in-Iterate.ensures.ok)
+pub returns-in-Iterate : goal.returns-in-Iterate
+returns-in-Iterate c =
+    ap Some (iterate_made c.in-Iterate.iteration c.in-Some-list.statements)
     ∙ sym (ap (λ h. both group_of (option_map header_view h) (option_map (λ (list : Vec TypedStatement Global). statements_view list.items) c.args.list)) (c.in-Some.is ∙ ap Some c.in-Iterate.is)
     ∙ ap (λ l. both group_of (Some (header_view (headers.Iterate c.in-Iterate.iteration))) (option_map (λ (list : Vec TypedStatement Global). statements_view list.items) l)) c.in-Some-list.is)

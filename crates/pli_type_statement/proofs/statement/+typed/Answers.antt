@@ -12,10 +12,8 @@ use Rattle.pli_type.specs.Unbuilt.{later_alternative, later_body, later_statemen
 use Rattle.pli_type_names.specs.UnitNaming.{Names, compiled_in, procedure_in}
 use Rattle.pli_type_tree.specs.TypedTree as plain
 use Rattle.pli_type_tree.specs.declared.statement.TypedStatement.{TypedStatement}
-use Rattle.pli_type_tree.specs.laws.TypedTreeLaws as typed_laws
 use Rattle.pli_type_tree.specs.views.TypedView.{expression_view, form_view, head_view, statement_view, statements_view}
-use Rattle.pli_type_statement.specs.Headers.{group_of}
-use Rattle.pli_type_statement.specs.Parts.{both, if_of, main_in}
+use Rattle.pli_type_statement.specs.Parts.{main_in}
 use Rattle.pli_type_statement.specs.Walking.{WalksBody, WalksList, around, next_at, unit_at}
 use Rattle.pli_type_statement.specs.views.AroundView.{around_view}
 use Rattle.pli_type_statement.specs.views.HeaderView.{header_view}
@@ -23,7 +21,7 @@ use Rattle.pli_type_statement.proofs.Blocks.{begin_walked, block_placed, block_w
 use Rattle.pli_type_statement.proofs.Built.{statement_built, procedure_built, do_built, if_built}
 use Rattle.pli_type_statement.proofs.Sizes.{statement_size, body_size, list_size, alternative_size, item_size}
 use Rattle.pli_type_statement.proofs.Turns.{all_walked, do_walked, goes_on_first, goes_on_next, if_next_none, if_next_some, in_front, next_built, none_walked, simple_answer}
-use Rattle.pli_type_statement.proofs.Walked.{as_typed, if_walked, made_walked, back_then, moved, nothing_walked, of_part}
+use Rattle.pli_type_statement.proofs.Walked.{as_typed, if_walked, made_walked, back_then, moved, nothing_walked}
 use Rattle.pli_type_statement.proofs.statement.+typed.Goals as goal
 use Rattle.pli_type_statement.proofs.statement.+typed.Goals.{type_statements-then-complete, type_statements-else-complete, type_statements-then-complete-2, type_statements-else-complete-2}
 
@@ -158,11 +156,10 @@ type_body-returns-in_ok-list-in-Do t c =
     let is : source.body_view c.args.body.now ≡ tree.Do control ss b.end =
     ap source.body_view b.is ∙ laws.do_made b.control b.statements b.end
     ∙ ap (λ xs. tree.Do control (source.statements_view xs) b.end) (sym c.as_slice-in-Do.ensures.value) in
-    of_part w c.type_group.new.walk _ _ _ form_view c.group_form.result
-    (subst (λ x. WalksBody w c.type_group.new.walk c.args.number c.args.at x (both group_of (option_map header_view c.in_ok-header-in-Do.header) (option_map (λ (list : Vec TypedStatement Global). statements_view list.items) c.in_ok-list-in-Do.list))) (sym is)
+    subst (λ x. WalksBody w c.type_group.new.walk c.args.number c.args.at x (option_map form_view c.group_form.result)) (sym is)
+    (as_typed _ _ _ _ _ _ _ _ refl refl c.group_form.ensures
     (do_walked w _ _ c.args.number c.args.at control ss b.end (option_map header_view c.in_ok-header-in-Do.header)
     (option_map (λ (list : Vec TypedStatement Global). statements_view list.items) c.in_ok-list-in-Do.list) c.in_ok-header-in-Do.ensures c.in_ok-list-in-Do.ensures))
-    c.group_form.ensures
 
 pub type_group-type_statements-requires : goal.type_group-type_statements-requires
 type_group-type_statements-requires t c = (
@@ -216,10 +213,10 @@ type_body-type_statement-requires-in-Some t c =
     let is = ap source.body_view b.is ∙ laws.if_made b.condition b.consequence b.alternative in
     let parts = if_built (compiled_in n) (main_in n.unit) c.requires.built.0 (syntax.expression_view b.condition) (source.statement_view b.consequence.value) (laws.boxed_view b.alternative)
     (ap (later_body (compiled_in n) (main_in n.unit) c.requires.built.0) (sym is) ∙ c.requires.built.1) in
-    let naming = c.in_ok-consequence-in-If.ensures.back.naming ∙ c.in_ok-tested-in-If.ensures.back.naming in (
+    let naming = c.in_ok-typed-in-If.ensures.back.naming ∙ c.in_ok-tested-in-If.ensures.back.naming in (
       omega (arith, c.decreases, ap body_size is, ap (λ a. alternative_size (laws.boxed_view a)) c.in-Some.is, ap (λ s. statement_size (source.statement_view s)) c.deref-in-Some.ensures),
       (
-        c.in_ok-consequence-in-If.ensures.back.placed,
+        c.in_ok-typed-in-If.ensures.back.placed,
         ap (λ (n : Names). later_statement (compiled_in n) (main_in n.unit) (source.statement_view c.deref-in-Some.result.now)) naming ∙ ap (λ s. later_statement (compiled_in n) (main_in n.unit) (source.statement_view s)) c.deref-in-Some.ensures ∙ ap (λ a. later_alternative (compiled_in n) (main_in n.unit) (laws.boxed_view a)) (sym c.in-Some.is) ∙ parts.alternative,
       ),
     )
@@ -295,18 +292,15 @@ type_body-returns-in-None t c =
     let is : source.body_view c.args.body.now ≡ tree.If e s tree.NoElse =
     ap source.body_view b.is ∙ laws.if_made b.condition b.consequence b.alternative ∙ ap (λ a. tree.If e s (laws.boxed_view a)) c.in-None.is in
     let tested = c.in_ok-tested-in-If.ensures in
-    let done = c.in_ok-consequence-in-If.ensures in
+    let done = as_typed _ _ _ _ _ _ _ _ refl refl c.in_ok-consequence-in-If.ensures c.in_ok-typed-in-If.ensures in
     let mid = c.type_condition.new.walk in
     let new = c.type_statement.new.walk in
-    let part = if_of (option_map expression_view c.in_ok-tested-in-If.tested) (option_map statement_view c.in_ok-consequence-in-If.consequence) (Some plain.NoElse) in
-    of_part w new _ _ part form_view c.if_form.result
-    (subst (λ x. WalksBody w new c.args.number c.args.at x part) (sym is)
-    (as_typed w new _ _ _ _ _ _ (if_next_none w mid new s s' (ap source.statement_view c.deref.ensures) e tested.next done.next) refl refl
+    subst (λ x. WalksBody w new c.args.number c.args.at x (option_map form_view c.if_form.result)) (sym is)
+    (as_typed w new _ _ _ _ _ _ (if_next_none w mid new s s' (ap source.statement_view c.deref.ensures) e tested.next done.next) refl c.if_form.ensures
     (if_walked w mid new new _ _ (next_at new) (spec.condition (spec.naming_at (unit_at w) (around w)) e) _ _ _ _ _ _ _ tested done
     (nothing_walked new (next_at new) plain.NoElse done.back.placed refl)
     (moved (λ u a x. spec.statement_typed u a x s') w mid _ tested.back tested.next
-    ∙ ap (λ s. spec.statement_typed (unit_at w) (around w) (next_at w) (source.statement_view s)) c.deref.ensures) refl)))
-    c.if_form.ensures
+    ∙ ap (λ s. spec.statement_typed (unit_at w) (around w) (next_at w) (source.statement_view s)) c.deref.ensures) refl))
 
 pub type_body-returns-in_ok-other-in-Some-2 : goal.type_body-returns-in_ok-other-in-Some-2
 type_body-returns-in_ok-other-in-Some-2 t c =
@@ -320,21 +314,18 @@ type_body-returns-in_ok-other-in-Some-2 t c =
     let is : source.body_view c.args.body.now ≡ tree.If e s (tree.Else o) =
     ap source.body_view b.is ∙ laws.if_made b.condition b.consequence b.alternative ∙ ap (λ a. tree.If e s (laws.boxed_view a)) c.in-Some.is in
     let tested = c.in_ok-tested-in-If.ensures in
-    let done = c.in_ok-consequence-in-If.ensures in
+    let done = as_typed _ _ _ _ _ _ _ _ refl refl c.in_ok-consequence-in-If.ensures c.in_ok-typed-in-If.ensures in
     let other = c.in_ok-other-in-Some.ensures in
     let mid = c.type_condition.new.walk in
     let there = c.type_statement.new.walk in
     let new = c.type_statement-in-Some.new.walk in
-    let part = if_of (option_map expression_view c.in_ok-tested-in-If.tested) (option_map statement_view c.in_ok-consequence-in-If.consequence) (option_map typed_laws.boxed_view c.in_ok-other-in-Some-2.other) in
-    of_part w new _ _ part form_view c.if_form-in-Some.result
-    (subst (λ x. WalksBody w new c.args.number c.args.at x part) (sym is)
+    subst (λ x. WalksBody w new c.args.number c.args.at x (option_map form_view c.if_form-in-Some.result)) (sym is)
     (as_typed w new _ _ _ _ _ _ (sym other.next ∙ if_next_some w mid there new s s' o o'
-    (ap source.statement_view c.deref.ensures) (ap source.statement_view c.deref-in-Some.ensures) e tested.next done.next other.next) refl refl
+    (ap source.statement_view c.deref.ensures) (ap source.statement_view c.deref-in-Some.ensures) e tested.next done.next other.next) refl c.if_form-in-Some.ensures
     (if_walked w mid there new _ _ _ (spec.condition (spec.naming_at (unit_at w) (around w)) e) _ _ _ _ _ _ _ tested done
     (as_typed there new _ _ _ _ _ _ refl refl c.in_ok-other-in-Some-2.ensures (made_walked plain.Else there new _ _ _ other))
     (moved (λ u a x. spec.statement_typed u a x s') w mid _ tested.back tested.next
     ∙ ap (λ s. spec.statement_typed (unit_at w) (around w) (next_at w) (source.statement_view s)) c.deref.ensures)
     (ap (spec.made plain.Else) (moved (λ u a x. spec.statement_typed u a x o') w there (behind (next_at w) s) (back_then w mid there tested.back done.back)
     (done.next ∙ ap (λ s. behind (next_at mid) (source.statement_view s)) c.deref.ensures ∙ ap (λ n. behind n s) tested.next)
-    ∙ ap (λ z. spec.statement_typed (unit_at w) (around w) (behind (next_at w) s) (source.statement_view z)) c.deref-in-Some.ensures)))))
-    c.if_form-in-Some.ensures
+    ∙ ap (λ z. spec.statement_typed (unit_at w) (around w) (behind (next_at w) s) (source.statement_view z)) c.deref-in-Some.ensures))))

@@ -1,6 +1,7 @@
-use Rattle.std.proofs.Common.{refl}
+use Rattle.std.proofs.Common.{Box, Global, refl}
 use Rattle.pli_base.specs.views.SyntaxView as syntax
 use Rattle.pli_type.specs.StatementTyping as spec
+use Rattle.pli_type_tree.specs.declared.expression.TypedExpression.{TypedExpression}
 use Rattle.pli_type_tree.specs.views.TypedView.{expression_view}
 use Rattle.pli_type_statement.proofs.Walked.{own_walked}
 use Rattle.pli_type_statement.proofs.statement.type_condition.Goals as goal
@@ -10,7 +11,7 @@ condition-tested-requires c = c.requires.built
 
 pub returns : goal.returns
 returns c =
-    own_walked c.args.walk.now _ expression_view (λ n. spec.condition n (syntax.expression_view c.args.expression.now)) c.condition-tested.result c.noted.result _
+    own_walked c.args.walk.now _ (λ (x : Box TypedExpression Global). expression_view x.value) (λ n. spec.condition n (syntax.expression_view c.args.expression.now)) c.condition-tested.result c.noted.result _
     c.requires.placed c.condition-tested.ensures c.noted.ensures.part c.noted.ensures.faults c.noted.ensures.known
     (record { naming = refl; around = refl; statics = refl; placed = record { blocks = c.requires.placed.blocks; templates = c.requires.placed.templates } })
     refl refl
