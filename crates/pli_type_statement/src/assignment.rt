@@ -23,21 +23,24 @@ use std::alloc::Global;
 /// `=`.
 fn aggregate_assigned(
     equals: u32,
-    target: Referent<'_>,
+    target: Box<Referent<'_>>,
     source: Meant<'_>,
 ) -> Result<Form, TypeError>
     ensures { Gives form_view result
-        (spec.aggregate_assigned equals (referent_view target.entry) (meant_view source.entry)) }
+        (spec.aggregate_assigned equals (referent_view target.entry.value) (meant_view source.entry)) }
 {
     let Meant::Aggregate(source) = source else {
+        drop(source);
         return Err(fault(Code::CannotAssign, equals));
     };
     if *target.description == *source.description {
+        let target = Box::into_inner(target);
         Ok(Form::AssignAggregate {
             target: target.reference,
             source: source.reference,
         })
     } else {
+        drop(source);
         Err(fault(Code::CannotAssign, equals))
     }
 }
@@ -47,20 +50,23 @@ fn scalar_assigned(
     alloc: Global,
     naming: &Naming<'_>,
     equals: u32,
-    target: Referent<'_>,
+    target: Box<Referent<'_>>,
     value: &Expression,
 ) -> Result<Form, TypeError>
     requires { later_expression (compiled_in naming.now) (syntax.expression_view value.now) ≡ false }
     ensures { Gives form_view result
-        (spec.scalar_assigned (naming_in naming.now) equals (referent_view target.entry).reference
-        (referent_view target.entry).description (syntax.expression_view value.now)) }
+        (spec.scalar_assigned (naming_in naming.now) equals (referent_view target.entry.value).reference
+        (referent_view target.entry.value).description (syntax.expression_view value.now)) }
 {
     let value = value_of(alloc, naming, value)?;
     match converted(alloc, naming.greatest(), target.description, value)? {
-        Some(value) => Ok(Form::Assign {
-            target: target.reference,
-            value,
-        }),
+        Some(value) => {
+            let target = Box::into_inner(target);
+            Ok(Form::Assign {
+                target: target.reference,
+                value,
+            })
+        }
         None => Err(fault(Code::CannotAssign, equals)),
     }
 }
@@ -79,8 +85,10 @@ fn assigned<'a>(
         (spec.assigned (naming_in naming.now) at equals (denoted_view target.entry) (syntax.expression_view value.now)) }
 {
     let Denoted::Variable(target) = target else {
+        drop(target);
         return Err(fault(Code::NotAVariable, at));
     };
+    let target = Box::new(alloc, target)?;
     if is_scalar(target.description) {
         scalar_assigned(alloc, naming, equals, target, value)
     } else {

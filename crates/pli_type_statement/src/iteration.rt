@@ -124,6 +124,7 @@ fn controls<'a>(
     ensures { Gives (λ r. referent_view r.value) result (spec.controls at (typed.range_view range.now) (denoted_view variable.entry)) }
 {
     let Denoted::Variable(referent) = variable else {
+        drop(variable);
         return Err(fault(Code::NotAVariable, at));
     };
     if !is_without_subscripts(&referent.reference) {

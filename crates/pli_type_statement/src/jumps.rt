@@ -56,6 +56,7 @@ fn returned_value(
         (spec.returned_value greatest at first around.now.begins (around_view around.now).value (value_view value)) }
 {
     let Some(description) = around.value else {
+        drop(value);
         return Err(fault(Code::WrongReturn, at));
     };
     match converted(alloc, greatest, description, value)? {
