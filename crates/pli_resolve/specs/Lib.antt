@@ -6,3 +6,4 @@ pub mod ResolvedUnits
 pub mod TreeBlocks
 pub mod laws
 pub mod views
+pub mod BuiltInGroups

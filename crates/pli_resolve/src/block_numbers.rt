@@ -7,7 +7,7 @@ use pli_declare_outline::{Region, RegionKind};
 use std::alloc::{AllocError, Global};
 
 /// What a block is (X3.74).
-#[derive(Clone, Copy, Debug, PartialEq, Eq)]
+#[derive(Clone, Copy, PartialEq, Eq)]
 pub enum ResolvedBlockKind {
     Procedure,
     /// A BEGIN block.
