@@ -1,6 +1,6 @@
 -- Calls of built-in functions.
 use Rattle.std.proofs.Common.{◌≡◌, ℕ, ◌<◌, ◌-◌, true, List, [], ◌∷◌, length, Option, Some, None, refl, ap, ◌∙◌, sym}
-use Rattle.std.proofs.Common.{arith, option_map, if◌then◌else◌, ℤ}
+use Rattle.std.proofs.Common.{arith, option_map, if◌then◌else◌, take, ℤ}
 use Rattle.std.specs.Prelude.{option_and_then}
 use Rattle.std.specs.Prelude.{slice_get}
 use Rattle.std.proofs.lemmas.Bool.{le-leb, false≢true}
@@ -10,11 +10,12 @@ use Rattle.pli_map.specs.declared.description.Bounds.{Bounds}
 use Rattle.pli_type.specs.ExpressionTypes.{TypedValue}
 use Rattle.pli_resolve.specs.declared.built_in.BuiltInFunction.{BuiltInFunction}
 use Rattle.pli_resolve.specs.declared.built_in.BuiltInFunction.TheVariants as functions
-use Rattle.pli_type.specs.FunctionCalls.{Meant, OneValue, WholeAggregate, meant_by, bound_value, bound_in}
-use Rattle.pli_type.specs.FunctionCalls.{the_bound, Argument, of_values, of_arguments, values_in}
+use Rattle.pli_type.specs.FunctionCalls.{Meant, OneValue, WholeAggregate, meant_by, meant_as, bound_value, bound_in}
+use Rattle.pli_type.specs.FunctionCalls.{the_bound, value_in, divided, Argument, of_values, of_arguments, values_in}
 use Rattle.pli_type.specs.References.{Referent}
 use Rattle.pli_type_tree.specs.TypedTree.{TypedReference}
 use Rattle.pli_type_expression.specs.Bounded.{is_bound}
+use Rattle.pli_type_expression.specs.Quotients.{precision_written, quotient_of}
 
 -- the bounds of a dimension, counted from 1
 pub bound_found : (which : Bounds → ℤ) (number : ℕ) (bounds : List Bounds) (element : Description)
@@ -108,3 +109,49 @@ no_quotient greatest (a ∷ []) h = quotient_of_values greatest (values_in (a �
 no_quotient greatest (a ∷ b ∷ []) h = quotient_of_values greatest (values_in (a ∷ b ∷ []))
 no_quotient greatest (a ∷ b ∷ c ∷ []) h = absurd (h refl)
 no_quotient greatest (a ∷ b ∷ c ∷ d ∷ gs) h = quotient_of_values greatest (values_in (a ∷ b ∷ c ∷ d ∷ gs))
+
+-- and of the values of the first two
+abbrev alone : Meant → Option (List TypedValue)
+alone y = option_and_then (λ v. option_map (λ vs. v ∷ vs) (Some [])) (value_in y)
+
+quotient_by : (greatest : ℕ) (x y : Meant) (written : Option ℕ)
+    → divided greatest x y written
+    ≡ option_and_then (λ vs. quotient_of greatest vs written)
+    (option_and_then (λ v. option_map (λ vs. v ∷ vs) (alone y)) (value_in x))
+quotient_by greatest (OneValue x) (OneValue y) written = refl
+quotient_by greatest (OneValue x) (WholeAggregate r) written = refl
+quotient_by greatest (WholeAggregate r) (OneValue y) written = refl
+quotient_by greatest (WholeAggregate r) (WholeAggregate q) written = refl
+
+pub quotient_by_values : (greatest : ℕ) (gs : List Argument) (written : Option ℕ)
+    → precision_written gs ≡ Some written
+    → of_arguments greatest functions.Divide gs
+    ≡ option_and_then (λ vs. quotient_of greatest vs written) (values_in (take 2 gs))
+quotient_by_values greatest [] written h = cc
+quotient_by_values greatest (a ∷ []) written h = cc
+quotient_by_values greatest (a ∷ b ∷ []) written h = cc
+quotient_by_values greatest (a ∷ b ∷ p ∷ []) written h =
+    quotient_by greatest (meant_as a.denoted) (meant_as b.denoted) p.written
+    ∙ ap (λ w. option_and_then (λ vs. quotient_of greatest vs w) (values_in (a ∷ b ∷ []))) (some_same h)
+  where
+    some_same : {v w : Option ℕ} → Some v ≡ Some w → v ≡ w
+    some_same e = cc
+quotient_by_values greatest (a ∷ b ∷ p ∷ q ∷ gs) written h = cc
+
+pub no_precision : (gs : List Argument) → (length gs ≡ 3 → ⊥) → None ≡ precision_written gs
+no_precision [] h = refl
+no_precision (a ∷ []) h = refl
+no_precision (a ∷ b ∷ []) h = refl
+no_precision (a ∷ b ∷ c ∷ []) h = absurd (h refl)
+no_precision (a ∷ b ∷ c ∷ d ∷ gs) h = refl
+
+pub no_quotient_without : (greatest : ℕ) (gs : List Argument) → precision_written gs ≡ None
+    → None ≡ of_arguments greatest functions.Divide gs
+no_quotient_without greatest gs h = no_quotient greatest gs (three gs h)
+  where
+    three : (gs : List Argument) → precision_written gs ≡ None → length gs ≡ 3 → ⊥
+    three [] h e = omega (arith, e)
+    three (a ∷ []) h e = omega (arith, e)
+    three (a ∷ b ∷ []) h e = omega (arith, e)
+    three (a ∷ b ∷ c ∷ []) h e = cc
+    three (a ∷ b ∷ c ∷ d ∷ gs) h e = omega (arith, e)

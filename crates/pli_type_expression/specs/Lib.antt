@@ -3,3 +3,4 @@ pub mod Literals
 pub mod Segments
 pub mod answers
 pub mod views
+pub mod Quotients

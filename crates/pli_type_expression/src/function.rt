@@ -5,6 +5,7 @@ ghost use Rattle.pli_map.specs.views.DescriptionView.{description_view};
 ghost use Rattle.pli_type.specs.FunctionCalls as spec;
 ghost use Rattle.pli_type.specs.views.ValueView.{value_view};
 ghost use Rattle.pli_type_expression.specs.Bounded.{is_bound};
+ghost use Rattle.pli_type_expression.specs.Quotients.{precision_written, quotient_of};
 ghost use Rattle.pli_type_expression.specs.answers.TypingAnswers.{Gives};
 ghost use Rattle.pli_type_expression.specs.views.TypingView.{argument_view, denoted_view, meant_view, role_view};
 
@@ -94,22 +95,32 @@ fn of_values(
 }
 
 /// What DIVIDE gives of two values, and of the precision that is written.
-fn divided(
+fn quotient_of(
     alloc: Global,
     greatest: u8,
-    left: Meant<'_>,
-    right: Meant<'_>,
+    values: Vec<TypedValue>,
     written: Option<u32>,
 ) -> Result<Option<TypedValue>, AllocError>
-    ensures { IfOk result (λ given. option_map value_view given
-        ≡ spec.divided greatest (meant_view left.entry) (meant_view right.entry) written) }
+    ensures { IfOk result (λ given. option_map value_view given ≡ quotient_of greatest (map value_view values.items) written) }
 {
-    match (left, right) {
-        (Meant::Value(left), Meant::Value(right)) => {
-            quotient(alloc, greatest, left, right, written)
-        }
-        _ => Ok(None),
-    }
+    let mut values = values.into_iter();
+    let Some(left) = values.next() else {
+        return Ok(None);
+    };
+    let Some(right) = values.next() else {
+        return Ok(None);
+    };
+    quotient(alloc, greatest, left, right, written)
+}
+
+/// The number that the third of three arguments is, if it is one.
+fn precision_written(arguments: &[Argument<'_>]) -> Option<Option<u32>>
+    ensures { result ≡ precision_written (map argument_view arguments.now) }
+{
+    let [_left, _right, precision] = arguments else {
+        return None;
+    };
+    Some(precision.written)
 }
 
 /// A number that LBOUND or HBOUND gives.
@@ -182,24 +193,14 @@ fn divide_called(
     ensures { IfOk result (λ given. option_map value_view given
         ≡ spec.of_arguments greatest BuiltInFunction.Divide (map argument_view arguments.entry.items)) }
 {
-    if arguments.len() != 3 {
+    let Some(written) = precision_written(arguments.as_slice()) else {
         return Ok(None);
-    }
+    };
     let mut arguments = arguments;
-    let last = arguments.pop();
-    let right = arguments.pop();
-    let left = arguments.pop();
-    match (left, right, last) {
-        (Some(left), Some(right), Some(last)) => {
-            divided(
-                alloc,
-                greatest,
-                left.denoted.as_expression(),
-                right.denoted.as_expression(),
-                last.written,
-            )
-        }
-        _ => Ok(None),
+    arguments.truncate(2);
+    match values_in(alloc, arguments)? {
+        Some(values) => quotient_of(alloc, greatest, values, written),
+        None => Ok(None),
     }
 }
 

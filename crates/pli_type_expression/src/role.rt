@@ -4,7 +4,7 @@ ghost use Rattle.pli_type.specs.References.{wants_scalar, AsArgument};
 ghost use Rattle.pli_type_expression.specs.views.TypingView.{role_view};
 
 /// For what a reference or an expression stands.
-#[derive(Clone, Copy, Debug, PartialEq, Eq)]
+#[derive(Clone, Copy, PartialEq, Eq)]
 pub enum Role {
     /// For one value.
     Value,
