@@ -18,13 +18,13 @@ const LINE_DIGITS: usize = 9;
 const STEP_DIGITS: usize = 18;
 
 /// The member that a command names.
-#[derive(Clone, Copy, Debug)]
+#[derive(Clone, Copy)]
 pub struct MemberName {
     pub name: Name,
 }
 
 /// A command of the session (own).
-#[derive(Clone, Copy, Debug)]
+#[derive(Clone, Copy)]
 pub enum Command<'a> {
     /// A new member of this kind, without lines.
     Add {
