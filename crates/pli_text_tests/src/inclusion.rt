@@ -1,4 +1,5 @@
 use crate::members::name;
+use crate::{Shown, agree};
 use pli_base::{Name, Origin, TokenText};
 use pli_include::{
     Expander, Expansion, TraceEntry, level_is_never_met, texts_have_origins, trace_decides,
@@ -6,7 +7,6 @@ use pli_include::{
 };
 use pli_members::{EditError, MemberKind, Members};
 use std::alloc::{AllocError, Global};
-use std::fmt::Write;
 use std::process::Abort;
 use std::test::*;
 
@@ -26,50 +26,66 @@ fn put(
     Ok(())
 }
 
+/// Writes a place.
+fn show_origin(shown: &mut Shown, origin: Origin) {
+    shown.put_bytes(origin.member.bytes());
+    shown.put_number(":", u64::from(origin.line));
+}
+
 /// Writes a token and its place: a name, a number, or `;` for any other.
-fn show_text(shown: &mut String, text: &TokenText, origin: Origin) -> Result<(), AllocError> {
+fn show_text(shown: &mut Shown, text: &TokenText, origin: Origin) {
     match text {
-        TokenText::Word(word) => write!(shown, "{word:?}")?,
-        TokenText::Decimal { value, .. } => write!(shown, "{value}")?,
-        _ => shown.push(';')?,
+        TokenText::Word(word) => shown.put_bytes(word.bytes()),
+        TokenText::Decimal { value, .. } => shown.put_number("", u64::from(*value)),
+        _ => shown.put(";"),
     }
-    let (member, line) = (origin.member, origin.line);
-    write!(shown, "@{member:?}:{line} ")?;
-    Ok(())
+    shown.put("@");
+    show_origin(shown, origin);
+    shown.put(" ");
 }
 
 /// Writes a name that was looked up, and its version.
-fn show_looked(shown: &mut String, looked: TraceEntry) -> Result<(), AllocError> {
-    let member = looked.name;
+fn show_looked(shown: &mut Shown, looked: TraceEntry) {
+    shown.put(" ");
+    shown.put_bytes(looked.name.bytes());
     match looked.version {
-        Some(version) => write!(shown, " {member:?} {version}")?,
-        None => write!(shown, " {member:?} -")?,
+        Some(version) => shown.put_number(" ", version),
+        None => shown.put(" -"),
     }
-    Ok(())
+}
+
+/// Writes the fault of an expansion, if it has one.
+fn show_fault(shown: &mut Shown, expansion: &Expansion) {
+    if let Some(fault) = expansion.fault() {
+        shown.put(fault.code.label());
+        shown.put(" at ");
+        show_origin(shown, fault.origin);
+    }
 }
 
 /// What an expansion gives: its names, words and signs with their places, or its fault, and behind a bar each name
 /// that was looked up, with its version.
-fn shown(alloc: Global, expansion: &Expansion) -> Result<String, AllocError> {
-    let mut shown = String::new(alloc);
+fn told(alloc: Global, expansion: &Expansion) -> Result<String, AllocError> {
+    let mut shown = Shown::new(alloc);
     for (text, origin) in expansion.texts().iter().zip(expansion.origins()) {
-        show_text(&mut shown, text, *origin)?;
+        show_text(&mut shown, text, *origin);
     }
-    if let Some(fault) = expansion.fault() {
-        let (label, member, line) = (fault.code.label(), fault.origin.member, fault.origin.line);
-        write!(shown, "{label} at {member:?}:{line} ")?;
-    }
-    shown.push('|')?;
+    show_fault(&mut shown, expansion);
+    shown.put(if expansion.fault().is_some() {
+        " |"
+    } else {
+        "|"
+    });
     for looked in expansion.trace() {
-        show_looked(&mut shown, *looked)?;
+        show_looked(&mut shown, *looked);
     }
-    Ok(shown)
+    shown.into_text()
 }
 
 /// What the expansion of a member gives.
 fn expanded(alloc: Global, members: &Members, unit: Name) -> Result<String, AllocError> {
     let expansion = Expander::new(alloc).expand(members, unit)?;
-    shown(alloc, &expansion)
+    told(alloc, &expansion)
 }
 
 // The line of member A, and what its expansion gives beside the members of `with_others`.
@@ -109,10 +125,10 @@ fn with_others(rt: &impl Abort, alloc: Global, line: &str) -> Result<Members, Ed
 
 #[test]
 fn directives(rt: HostRuntime) -> Result<(), Fail> {
+    let a = name(&rt, "A");
     for (line, wanted) in &DIRECTIVES {
         let members = with_others(&rt, rt.alloc(), line)?;
-        let found = expanded(rt.alloc(), &members, name(&rt, "A"))?;
-        assert_eq!(rt; found.as_str(), *wanted, "at {line}");
+        agree(line, &expanded(rt.alloc(), &members, a)?, wanted)?;
     }
     Ok(())
 }
@@ -137,36 +153,46 @@ fn chain(rt: &impl Abort, alloc: Global) -> Result<Members, EditError> {
     Ok(members)
 }
 
-/// Compares an expansion of the chain.
-fn reaches_the_last(rt: &impl Abort, expansion: &Expansion) {
-    assert!(rt; expansion.fault().is_none());
-    assert_eq!(rt; expansion.texts().len(), 999);
-    assert_eq!(rt; expansion.trace().len(), 999);
-    let last = expansion.origins().last().expect(rt, "an origin");
-    assert!(rt; last.member == name(rt, "M999") && last.line == 1);
+/// Whether an expansion of the chain reaches its last member.
+fn reaches_the_last(expansion: &Expansion, member: Name) -> bool {
+    let (texts, trace) = (expansion.texts().len(), expansion.trace().len());
+    match expansion.origins().last() {
+        Some(last) => {
+            expansion.fault().is_none()
+                && texts == 999
+                && trace == 999
+                && last.member == member
+                && last.line == 1
+        }
+        None => false,
+    }
 }
 
-/// Compares an expansion of the chain that is closed behind its last member.
-fn is_closed(rt: &impl Abort, expansion: &Expansion) {
-    assert!(rt; expansion.texts().is_empty() && expansion.origins().is_empty());
-    let fault = expansion.fault().expect(rt, "a fault");
-    assert_eq!(rt; fault.code.label(), "I2");
-    assert!(rt; fault.origin.member == name(rt, "M999") && fault.origin.line == 2);
+/// Whether an expansion of the chain is one that is closed behind its last member.
+fn is_closed(expansion: &Expansion, member: Name) -> bool {
+    match expansion.fault() {
+        Some(fault) => {
+            expansion.texts().is_empty()
+                && expansion.origins().is_empty()
+                && fault.code.label() == "I2"
+                && fault.origin.member == member
+                && fault.origin.line == 2
+        }
+        None => false,
+    }
 }
 
 #[test]
 fn many_members(rt: HostRuntime) -> Result<(), Fail> {
     let mut members = chain(&rt, rt.alloc())?;
-    let first = name(&rt, "M1");
+    let (first, last) = (name(&rt, "M1"), name(&rt, "M999"));
     let mut expander = Expander::new(rt.alloc());
-    assert_eq!(rt; expander.count(), 0);
-    let expansion = expander.expand(&members, first)?;
-    assert_eq!(rt; expander.count(), 1);
-    reaches_the_last(&rt, &expansion);
-    members.insert_line(name(&rt, "M999"), 1, b"%INCLUDE M1;")?;
-    let expansion = expander.expand(&members, first)?;
-    assert_eq!(rt; expander.count(), 2);
-    is_closed(&rt, &expansion);
+    assert!(rt; expander.count() == 0);
+    let reached = reaches_the_last(&expander.expand(&members, first)?, last);
+    assert!(rt; reached && expander.count() == 1);
+    members.insert_line(last, 1, b"%INCLUDE M1;")?;
+    let closed = is_closed(&expander.expand(&members, first)?, last);
+    assert!(rt; closed && expander.count() == 2);
     Ok(())
 }
 
@@ -204,11 +230,7 @@ fn diamond(rt: &impl Abort, alloc: Global) -> Result<Members, EditError> {
 fn diamonds(rt: HostRuntime) -> Result<(), Fail> {
     let members = diamond(&rt, rt.alloc())?;
     let found = expanded(rt.alloc(), &members, name(&rt, "A"))?;
-    assert_eq!(rt;
-        found.as_str(),
-        "B@B:1 D@D:2 D@D:2 C@C:2 | A 3 B 6 D 12 C 9"
-    );
-    Ok(())
+    agree("A", &found, "B@B:1 D@D:2 D@D:2 C@C:2 | A 3 B 6 D 12 C 9")
 }
 
 // A hundred tokens.
@@ -242,17 +264,12 @@ fn many_tokens(
 /// How many tokens the expansion of A gives, or its fault and the place of that.
 fn counted(alloc: Global, members: &Members, unit: Name) -> Result<String, AllocError> {
     let expansion = Expander::new(alloc).expand(members, unit)?;
-    match expansion.fault() {
-        None => {
-            let count = expansion.texts().len();
-            format!(in alloc; "{count}")
-        }
-        Some(fault) => {
-            let label = fault.code.label();
-            let (member, line) = (fault.origin.member, fault.origin.line);
-            format!(in alloc; "{label} at {member:?}:{line}")
-        }
+    let mut shown = Shown::new(alloc);
+    if expansion.fault().is_none() {
+        shown.put_number("", expansion.texts().len() as u64);
     }
+    show_fault(&mut shown, &expansion);
+    shown.into_text()
 }
 
 // What A has behind two inclusions of K, how many `;` the last line of K has, and what its expansion gives. 1 + 4 + 99,995 + 4 + 99,995 tokens that
@@ -267,12 +284,12 @@ static LIMITS: [(&str, usize, &str); 5] = [
 
 #[test]
 fn the_limit_of_tokens(rt: HostRuntime) -> Result<(), Fail> {
+    let a = name(&rt, "A");
     for (more, semicolons, wanted) in &LIMITS {
         let line = format!(in rt.alloc(); "%INCLUDE K; %INCLUDE K;{more}")?;
         let last = FULL.get(..*semicolons).ok_or("too short")?;
         let members = many_tokens(&rt, rt.alloc(), line.as_str(), 999, last)?;
-        let found = counted(rt.alloc(), &members, name(&rt, "A"))?;
-        assert_eq!(rt; found.as_str(), *wanted);
+        agree(more, &counted(rt.alloc(), &members, a)?, wanted)?;
     }
     Ok(())
 }

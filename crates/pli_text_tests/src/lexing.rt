@@ -1,9 +1,7 @@
-use crate::tokens_of;
+use crate::{Shown, agree, tokens_of};
 use pli_base::{Line, Sign, Token, TokenText};
 use pli_lex::{LexError, lex};
 use std::alloc::{AllocError, Global};
-use std::fmt::Write;
-use std::process::Abort;
 use std::test::*;
 
 fn spelling(sign: Sign) -> &'static str {
@@ -32,69 +30,79 @@ fn spelling(sign: Sign) -> &'static str {
     }
 }
 
-/// The tokens with a `/` behind each and a line's number before its first. A decimal constant is its value, `#` and its digits, a binary one its value,
-/// `B` and its digits; a character constant stands in double quotes, and the bits of a bit constant stand behind `!`.
-fn shown(alloc: Global, tokens: &[Token]) -> Result<String, AllocError> {
-    let mut shown = String::new(alloc);
+/// Puts what a token says.
+fn show_text(shown: &mut Shown, text: &TokenText) {
+    match text {
+        TokenText::Word(name) => shown.put_bytes(name.bytes()),
+        TokenText::Decimal { value, digits } => {
+            shown.put_number("", u64::from(*value));
+            shown.put_number("#", u64::from(*digits));
+        }
+        TokenText::Binary { value, digits } => {
+            shown.put_number("", u64::from(*value));
+            shown.put_number("B", u64::from(*digits));
+        }
+        TokenText::Characters(string) => {
+            shown.put("\"");
+            shown.put_bytes(string.bytes());
+            shown.put("\"");
+        }
+        TokenText::Bits(string) => {
+            shown.put("!");
+            for bit in string.bits() {
+                shown.put(if *bit { "1" } else { "0" });
+            }
+        }
+        TokenText::Sign(sign) => shown.put(spelling(*sign)),
+    }
+}
+
+/// Puts the tokens with a `/` behind each and a line's number before its first. A decimal constant is its value, `#` and its digits, a
+/// binary one its value, `B` and its digits; a character constant stands in double quotes, and the bits of a bit constant stand behind `!`.
+fn show_tokens(shown: &mut Shown, tokens: &[Token]) {
     let mut line = 0;
     for token in tokens {
         if token.line != line {
             line = token.line;
-            write!(shown, "{line}>")?;
+            shown.put_number("", u64::from(line));
+            shown.put(">");
         }
-        match &token.text {
-            TokenText::Word(name) => {
-                for byte in name.bytes() {
-                    shown.push(char::from(*byte))?;
-                }
-            }
-            TokenText::Decimal { value, digits } => write!(shown, "{value}#{digits}")?,
-            TokenText::Binary { value, digits } => write!(shown, "{value}B{digits}")?,
-            TokenText::Characters(string) => {
-                shown.push('"')?;
-                for byte in string.bytes() {
-                    shown.push(char::from(*byte))?;
-                }
-                shown.push('"')?;
-            }
-            TokenText::Bits(string) => {
-                shown.push('!')?;
-                for bit in string.bits() {
-                    shown.push(if *bit { '1' } else { '0' })?;
-                }
-            }
-            TokenText::Sign(sign) => shown.push_str(spelling(*sign))?,
-        }
-        shown.push('/')?;
+        show_text(shown, &token.text);
+        shown.put("/");
     }
-    Ok(shown)
 }
 
 /// The tokens of lines, or the fault, as `X3 at 1`.
 fn answered(alloc: Global, lines: &[Line]) -> Result<String, AllocError> {
+    let mut shown = Shown::new(alloc);
     if lines.len() > 9999 {
         return String::from_str(alloc, "TOO MANY LINES");
     }
     match lex(alloc, lines) {
-        Ok(tokens) => shown(alloc, &tokens),
+        Ok(tokens) => show_tokens(&mut shown, &tokens),
         Err(LexError::Fault(fault)) => {
-            let label = fault.code.label();
-            let line = fault.line;
-            format!(in alloc; "{label} at {line}")
+            shown.put(fault.code.label());
+            shown.put_number(" at ", u64::from(fault.line));
         }
-        Err(LexError::OutOfMemory) => Err(AllocError),
+        Err(LexError::OutOfMemory) => return Err(AllocError),
     }
+    shown.into_text()
 }
 
-/// Lexes the texts of a table, whose lines end at each `\n`, and compares.
-fn agrees(rt: &impl Abort, alloc: Global, table: &[(&str, &str)]) -> Result<(), AllocError> {
+/// The lines of a text, which end at each `\n`.
+fn lines_of(alloc: Global, text: &str) -> Result<Vec<Line>, AllocError> {
+    let mut lines = Vec::new(alloc);
+    for line in text.split('\n') {
+        lines.push(Line::new(alloc, line.as_bytes())?)?;
+    }
+    Ok(lines)
+}
+
+/// Fails at the first text of a table that is not lexed as wanted.
+fn are_lexed(alloc: Global, table: &[(&str, &str)]) -> Result<(), Fail> {
     for (text, wanted) in table {
-        let mut lines = Vec::new(alloc);
-        for line in text.split('\n') {
-            lines.push(Line::new(alloc, line.as_bytes())?)?;
-        }
-        let found = answered(alloc, &lines)?;
-        assert_eq!(rt; found.as_str(), *wanted, "at {text}");
+        let shown = answered(alloc, &lines_of(alloc, text)?)?;
+        agree(text, &shown, wanted)?;
     }
     Ok(())
 }
@@ -117,12 +125,6 @@ static NUMBERS: [(&str, &str); 16] = [
     ("101B'1'", "1>5B3/\"1\"/"),
     ("1/**/2", "1>1#1/2#1/"),
 ];
-
-#[test]
-fn numbers(rt: HostRuntime) -> Result<(), Fail> {
-    agrees(&rt, rt.alloc(), &NUMBERS)?;
-    Ok(())
-}
 
 static BAD_NUMBERS: [(&str, &str); 19] = [
     ("00000000001", "X4 at 1"),
@@ -147,9 +149,9 @@ static BAD_NUMBERS: [(&str, &str); 19] = [
 ];
 
 #[test]
-fn bad_numbers(rt: HostRuntime) -> Result<(), Fail> {
-    agrees(&rt, rt.alloc(), &BAD_NUMBERS)?;
-    Ok(())
+fn numbers(rt: HostRuntime) -> Result<(), Fail> {
+    are_lexed(rt.alloc(), &NUMBERS)?;
+    are_lexed(rt.alloc(), &BAD_NUMBERS)
 }
 
 static NAMES: [(&str, &str); 6] = [
@@ -164,12 +166,6 @@ static NAMES: [(&str, &str); 6] = [
     ("IF=IF+1;;", "1>IF/=/IF/+/1#1/;/;/"),
 ];
 
-#[test]
-fn names(rt: HostRuntime) -> Result<(), Fail> {
-    agrees(&rt, rt.alloc(), &NAMES)?;
-    Ok(())
-}
-
 static BAD_NAMES_AND_CHARACTERS: [(&str, &str); 7] = [
     ("abcdefghijklmnopqrstuvwxyz_$3456", "X5 at 1"),
     ("abcdefghijklmnopqrstuvwxyz_$3456? 1A", "X5 at 1"),
@@ -181,9 +177,9 @@ static BAD_NAMES_AND_CHARACTERS: [(&str, &str); 7] = [
 ];
 
 #[test]
-fn bad_names_and_characters(rt: HostRuntime) -> Result<(), Fail> {
-    agrees(&rt, rt.alloc(), &BAD_NAMES_AND_CHARACTERS)?;
-    Ok(())
+fn names_and_characters(rt: HostRuntime) -> Result<(), Fail> {
+    are_lexed(rt.alloc(), &NAMES)?;
+    are_lexed(rt.alloc(), &BAD_NAMES_AND_CHARACTERS)
 }
 
 static CHARACTER_CONSTANTS: [(&str, &str); 13] = [
@@ -202,12 +198,6 @@ static CHARACTER_CONSTANTS: [(&str, &str); 13] = [
     ("'A'||'B'", "1>\"A\"/||/\"B\"/"),
 ];
 
-#[test]
-fn character_constants(rt: HostRuntime) -> Result<(), Fail> {
-    agrees(&rt, rt.alloc(), &CHARACTER_CONSTANTS)?;
-    Ok(())
-}
-
 static UNENDED_STRINGS: [(&str, &str); 6] = [
     ("'", "X2 at 1"),
     ("X = 'AB", "X2 at 1"),
@@ -216,12 +206,6 @@ static UNENDED_STRINGS: [(&str, &str); 6] = [
     ("'A''B", "X2 at 1"),
     ("'1'' B", "X2 at 1"),
 ];
-
-#[test]
-fn unended_strings(rt: HostRuntime) -> Result<(), Fail> {
-    agrees(&rt, rt.alloc(), &UNENDED_STRINGS)?;
-    Ok(())
-}
 
 static BIT_CONSTANTS: [(&str, &str); 11] = [
     ("'101'B", "1>!101/"),
@@ -236,12 +220,6 @@ static BIT_CONSTANTS: [(&str, &str); 11] = [
     ("'1'B'0'B", "1>!1/!0/"),
     ("'101'B='5'B3", "1>!101/=/!101/"),
 ];
-
-#[test]
-fn bit_constants(rt: HostRuntime) -> Result<(), Fail> {
-    agrees(&rt, rt.alloc(), &BIT_CONSTANTS)?;
-    Ok(())
-}
 
 static BAD_BIT_CONSTANTS: [(&str, &str); 14] = [
     ("'12'B", "X6 at 1"),
@@ -261,9 +239,11 @@ static BAD_BIT_CONSTANTS: [(&str, &str); 14] = [
 ];
 
 #[test]
-fn bad_bit_constants(rt: HostRuntime) -> Result<(), Fail> {
-    agrees(&rt, rt.alloc(), &BAD_BIT_CONSTANTS)?;
-    Ok(())
+fn character_and_bit_constants(rt: HostRuntime) -> Result<(), Fail> {
+    are_lexed(rt.alloc(), &CHARACTER_CONSTANTS)?;
+    are_lexed(rt.alloc(), &UNENDED_STRINGS)?;
+    are_lexed(rt.alloc(), &BIT_CONSTANTS)?;
+    are_lexed(rt.alloc(), &BAD_BIT_CONSTANTS)
 }
 
 static SIGNS: [(&str, &str); 17] = [
@@ -286,12 +266,6 @@ static SIGNS: [(&str, &str); 17] = [
     ("<>", "1></>/"),
 ];
 
-#[test]
-fn signs(rt: HostRuntime) -> Result<(), Fail> {
-    agrees(&rt, rt.alloc(), &SIGNS)?;
-    Ok(())
-}
-
 static NO_SIGNS: [(&str, &str); 6] = [
     ("*/", "X3 at 1"),
     ("/", "X3 at 1"),
@@ -300,12 +274,6 @@ static NO_SIGNS: [(&str, &str); 6] = [
     ("!", "X3 at 1"),
     ("A @", "X3 at 1"),
 ];
-
-#[test]
-fn no_signs(rt: HostRuntime) -> Result<(), Fail> {
-    agrees(&rt, rt.alloc(), &NO_SIGNS)?;
-    Ok(())
-}
 
 static COMMENTS: [(&str, &str); 12] = [
     ("A/**/B", "1>A/B/"),
@@ -323,9 +291,10 @@ static COMMENTS: [(&str, &str); 12] = [
 ];
 
 #[test]
-fn comments(rt: HostRuntime) -> Result<(), Fail> {
-    agrees(&rt, rt.alloc(), &COMMENTS)?;
-    Ok(())
+fn signs_and_comments(rt: HostRuntime) -> Result<(), Fail> {
+    are_lexed(rt.alloc(), &SIGNS)?;
+    are_lexed(rt.alloc(), &NO_SIGNS)?;
+    are_lexed(rt.alloc(), &COMMENTS)
 }
 
 static LINES: [(&str, &str); 19] = [
@@ -352,29 +321,29 @@ static LINES: [(&str, &str); 19] = [
 
 #[test]
 fn lines(rt: HostRuntime) -> Result<(), Fail> {
-    let none = answered(rt.alloc(), &[])?;
-    assert_eq!(rt; none.as_str(), "");
-    agrees(&rt, rt.alloc(), &LINES)?;
-    Ok(())
+    agree("no lines", &answered(rt.alloc(), &[])?, "")?;
+    are_lexed(rt.alloc(), &LINES)
+}
+
+/// Texts of which the lexer reads no tokens, or finds a fault.
+static WITHOUT_TOKENS: [&str; 4] = ["", "\n", "A ?", "A\n'B\n'"];
+
+/// What is shown of the texts of tokens that other crates test.
+fn texts_shown(alloc: Global, text: &str) -> Result<String, AllocError> {
+    let mut shown = Shown::new(alloc);
+    for text in &tokens_of(alloc, text)? {
+        show_text(&mut shown, text);
+        shown.put("/");
+    }
+    shown.into_text()
 }
 
 #[test]
 fn texts_for_tests(rt: HostRuntime) -> Result<(), Fail> {
-    let texts = tokens_of(rt.alloc(), "a 07 /* b\n*/ ;")?;
-    match texts.as_slice() {
-        [
-            TokenText::Word(name),
-            TokenText::Decimal { value, digits },
-            TokenText::Sign(sign),
-        ] => {
-            assert!(rt; name.is(b"A") && *sign == Sign::Semicolon);
-            assert!(rt; *value == 7 && *digits == 2);
-        }
-        _ => assert!(rt; false),
-    }
-    for text in ["", "\n", "A ?", "A\n'B\n'"] {
-        let texts = tokens_of(rt.alloc(), text)?;
-        assert!(rt; texts.is_empty(), "at {text}");
+    let shown = texts_shown(rt.alloc(), "a 07 /* b\n*/ ;")?;
+    agree("a 07", &shown, "A/7#2/;/")?;
+    for text in &WITHOUT_TOKENS {
+        agree(text, &texts_shown(rt.alloc(), text)?, "")?;
     }
     Ok(())
 }

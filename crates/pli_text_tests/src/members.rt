@@ -1,10 +1,10 @@
+use crate::{Shown, agree};
 use pli_base::Name;
 use pli_members::{
     EditError, MemberKind, Members, Refusal, deletion_keeps_others, deletion_takes,
     edit_gives_next, edit_keeps_others, next_is_new, runs_keep, worked_examples,
 };
 use std::alloc::{AllocError, Global};
-use std::fmt::Write;
 use std::process::Abort;
 use std::test::Fail;
 
@@ -36,13 +36,12 @@ pub(crate) fn name(rt: &impl Abort, text: &str) -> Name {
 /// Does an edit.
 fn edited(members: &mut Members, name: Name, edit: Edit) -> Result<(), EditError> {
     match edit {
-        Edit::Add(kind) => members.add(name, kind)?,
-        Edit::Insert(after, text) => members.insert_line(name, after, text.as_bytes())?,
-        Edit::Replace(number, text) => members.replace_line(name, number, text.as_bytes())?,
-        Edit::Remove(first, last) => members.remove_lines(name, first, last)?,
-        Edit::Delete => members.delete(name)?,
+        Edit::Add(kind) => members.add(name, kind),
+        Edit::Insert(after, text) => members.insert_line(name, after, text.as_bytes()),
+        Edit::Replace(number, text) => members.replace_line(name, number, text.as_bytes()),
+        Edit::Remove(first, last) => Ok(members.remove_lines(name, first, last)?),
+        Edit::Delete => Ok(members.delete(name)?),
     }
-    Ok(())
 }
 
 /// Does an edit. Answers `ok`, or the label of the refusal.
@@ -55,53 +54,48 @@ fn answer(members: &mut Members, name: Name, edit: Edit) -> Result<&'static str,
 }
 
 /// Writes the bytes of a line; `120*X` where it is the same letter over and over.
-fn show_line(shown: &mut String, text: &[u8]) -> Result<(), AllocError> {
-    if let Some(first) = text.first() {
-        if text.len() > 9 && text.iter().all(|byte| byte == first) {
-            let (count, letter) = (text.len(), char::from(*first));
-            write!(shown, "{count}*{letter}")?;
-            return Ok(());
+fn show_line(shown: &mut Shown, text: &[u8]) {
+    match text.first() {
+        Some(first) if text.len() > 9 && text.iter().all(|byte| byte == first) => {
+            shown.put_number("", text.len() as u64);
+            shown.put("*");
+            shown.put_bytes(&[*first]);
         }
+        _ => shown.put_bytes(text),
     }
-    for byte in text {
-        shown.push(char::from(*byte))?;
-    }
-    Ok(())
 }
 
-/// The kind of a member, its version, and its lines with a bar before each; `-` where there is no member.
-fn shown(alloc: Global, members: &Members, name: Name) -> Result<String, AllocError> {
-    let mut shown = String::new(alloc);
+/// Writes the kind of a member, its version, and its lines with a bar before each; `-` where there is no member.
+fn show_member(shown: &mut Shown, members: &Members, name: Name) {
     let (Some(kind), Some(version), Some(lines)) = (
         members.kind(name),
         members.version(name),
         members.lines(name),
     ) else {
-        shown.push('-')?;
-        return Ok(shown);
+        return shown.put("-");
     };
-    shown.push(if kind == MemberKind::Source { 'S' } else { 'I' })?;
-    write!(shown, "{version}")?;
+    shown.put_number(if kind == MemberKind::Source { "S" } else { "I" }, version);
     for line in lines {
-        shown.push('|')?;
-        show_line(&mut shown, line.text())?;
+        shown.put("|");
+        show_line(shown, line.text());
     }
-    Ok(shown)
 }
 
-/// Does the edits of a table, in turn, and compares.
-fn agrees(
-    rt: &impl Abort,
-    alloc: Global,
-    members: &mut Members,
-    rows: &[Row],
-) -> Result<(), AllocError> {
-    for (text, edit, wanted) in rows {
+/// What an edit of a member answers, and the member then.
+fn told(alloc: Global, answer: &str, members: &Members, name: Name) -> Result<String, AllocError> {
+    let mut shown = Shown::new(alloc);
+    shown.put(answer);
+    shown.put(" ");
+    show_member(&mut shown, members, name);
+    shown.into_text()
+}
+
+/// Does the edits of a table, in turn. Fails at the first that gives something else than is wanted.
+fn agrees(rt: &impl Abort, alloc: Global, members: &mut Members, rows: &[Row]) -> Result<(), Fail> {
+    for &(text, edit, wanted) in rows {
         let name = name(rt, text);
-        let answer = answer(members, name, *edit)?;
-        let member = shown(alloc, members, name)?;
-        let found = format!(in alloc; "{answer} {member}")?;
-        assert_eq!(rt; found.as_str(), *wanted);
+        let answer = answer(members, name, edit)?;
+        agree(text, &told(alloc, answer, members, name)?, wanted)?;
     }
     Ok(())
 }
@@ -110,9 +104,9 @@ fn agrees(
 fn member_of(rt: &impl Abort, alloc: Global, lines: &[&str]) -> Members {
     let mut members = Members::new(alloc, 1);
     let a = name(rt, "A");
-    assert_eq!(rt; members.add(a, MemberKind::Source), Ok(()));
+    assert!(rt; members.add(a, MemberKind::Source).is_ok());
     for (after, line) in lines.iter().enumerate() {
-        assert_eq!(rt; members.insert_line(a, after, line.as_bytes()), Ok(()));
+        assert!(rt; members.insert_line(a, after, line.as_bytes()).is_ok());
     }
     members
 }
@@ -130,23 +124,27 @@ static DELETIONS: [Row; 2] = [
     ("A", Edit::Add(MemberKind::Source), "ok S6"),
 ];
 
+/// Whether there are two members, A and B, with entries that tell the same of them, and none has lines but an included one.
+fn are_a_and_b(members: &Members, a: Name, b: Name) -> bool {
+    let mut names = members.names();
+    let both = names.next() == Some(a) && names.next() == Some(b) && names.next().is_none();
+    for entry in members.entries() {
+        let source = entry.kind() == MemberKind::Source;
+        if members.version(entry.name()) != Some(entry.version())
+            || entry.lines().is_empty() != source
+        {
+            return false;
+        }
+    }
+    both && members.count() == 2
+}
+
 #[test]
 fn edits(rt: HostRuntime) -> Result<(), Fail> {
     let mut members = Members::new(rt.alloc(), 1);
     agrees(&rt, rt.alloc(), &mut members, &EDITS)?;
-    assert_eq!(rt; members.count(), 2);
-    let (a, b) = (name(&rt, "A"), name(&rt, "B"));
-    let mut names = members.names();
-    assert!(rt; names.next() == Some(a) && names.next() == Some(b) && names.next().is_none());
-    for entry in members.entries() {
-        assert_eq!(rt; members.version(entry.name()), Some(entry.version()));
-        assert_eq!(rt;
-            entry.kind() == MemberKind::Source,
-            entry.lines().is_empty()
-        );
-    }
-    agrees(&rt, rt.alloc(), &mut members, &DELETIONS)?;
-    Ok(())
+    assert!(rt; are_a_and_b(&members, name(&rt, "A"), name(&rt, "B")));
+    agrees(&rt, rt.alloc(), &mut members, &DELETIONS)
 }
 
 static VERSIONS: [Row; 5] = [
@@ -179,8 +177,7 @@ fn versions(rt: HostRuntime) -> Result<(), Fail> {
     let mut members = Members::new(rt.alloc(), 18_446_744_073_709_551_615);
     agrees(&rt, rt.alloc(), &mut members, &VERSIONS)?;
     let mut members = Members::new(rt.alloc(), 18_446_744_073_709_551_614);
-    agrees(&rt, rt.alloc(), &mut members, &LAST_VERSIONS)?;
-    Ok(())
+    agrees(&rt, rt.alloc(), &mut members, &LAST_VERSIONS)
 }
 
 #[test]
@@ -211,9 +208,8 @@ static REFUSALS: [Row; 10] = [
 fn refusals(rt: HostRuntime) -> Result<(), Fail> {
     let mut members = Members::new(rt.alloc(), 1);
     agrees(&rt, rt.alloc(), &mut members, &REFUSALS)?;
-    assert_eq!(rt; Refusal::TooManyLines.label(), "M6");
-    assert_eq!(rt; Refusal::TooManyLines.text(), "TOO MANY LINES");
-    Ok(())
+    agree("the label", Refusal::TooManyLines.label(), "M6")?;
+    agree("the text", Refusal::TooManyLines.text(), "TOO MANY LINES")
 }
 
 static REPLACEMENTS: [Row; 9] = [
@@ -231,8 +227,7 @@ static REPLACEMENTS: [Row; 9] = [
 #[test]
 fn replacements(rt: HostRuntime) -> Result<(), Fail> {
     let mut members = member_of(&rt, rt.alloc(), &["1", "2", "3"]);
-    agrees(&rt, rt.alloc(), &mut members, &REPLACEMENTS)?;
-    Ok(())
+    agrees(&rt, rt.alloc(), &mut members, &REPLACEMENTS)
 }
 
 static REMOVALS: [Row; 7] = [
@@ -266,25 +261,33 @@ fn removals(rt: HostRuntime) -> Result<(), Fail> {
         agrees(&rt, rt.alloc(), &mut members, &[*row])?;
     }
     let mut members = member_of(&rt, rt.alloc(), &lines);
-    agrees(&rt, rt.alloc(), &mut members, &REFUSED_REMOVALS)?;
-    Ok(())
+    agrees(&rt, rt.alloc(), &mut members, &REFUSED_REMOVALS)
+}
+
+/// As many members as there may be.
+fn full(rt: &impl Abort, alloc: Global) -> Result<Members, AllocError> {
+    let mut members = Members::new(alloc, 1);
+    for number in 0..999 {
+        let text = format!(in alloc; "N{number}")?;
+        assert!(rt; members.add(name(rt, &text), MemberKind::Source).is_ok());
+    }
+    Ok(members)
 }
 
 #[test]
 fn the_limit_of_members(rt: HostRuntime) -> Result<(), Fail> {
-    let mut members = Members::new(rt.alloc(), 1);
-    for number in 0..999 {
-        let text = format!(in rt.alloc(); "N{number}")?;
-        assert_eq!(rt;
-            members.add(name(&rt, text.as_str()), MemberKind::Source),
-            Ok(())
-        );
-    }
-    for (text, wanted) in [("A", "M7"), ("N0", "M1")] {
-        let answer = answer(&mut members, name(&rt, text), Edit::Add(MemberKind::Source))?;
-        assert_eq!(rt; answer, wanted);
-    }
-    Ok(())
+    let mut members = full(&rt, rt.alloc())?;
+    let (new, known) = (name(&rt, "A"), name(&rt, "N0"));
+    agree(
+        "A",
+        answer(&mut members, new, Edit::Add(MemberKind::Source))?,
+        "M7",
+    )?;
+    agree(
+        "N0",
+        answer(&mut members, known, Edit::Add(MemberKind::Source))?,
+        "M1",
+    )
 }
 
 static LIMITS: [(Edit, &str); 4] = [
@@ -305,20 +308,26 @@ fn line_at(members: &Members, name: Name, place: usize) -> &[u8] {
     }
 }
 
+/// Member A with as many lines as there may be.
+fn longest(rt: &impl Abort, alloc: Global) -> Members {
+    let mut members = member_of(rt, alloc, &[]);
+    let a = name(rt, "A");
+    for number in 0..9999 {
+        assert!(rt; members.insert_line(a, number, b"X = 1;").is_ok());
+    }
+    members
+}
+
 #[test]
 fn the_limit_of_lines(rt: HostRuntime) -> Result<(), Fail> {
-    let mut members = member_of(&rt, rt.alloc(), &[]);
     let a = name(&rt, "A");
-    for number in 0..9999 {
-        assert_eq!(rt; members.insert_line(a, number, b"X = 1;"), Ok(()));
+    let mut members = longest(&rt, rt.alloc());
+    for &(edit, wanted) in &LIMITS {
+        agree("an edit", answer(&mut members, a, edit)?, wanted)?;
     }
-    for (edit, wanted) in &LIMITS {
-        assert_eq!(rt; answer(&mut members, a, *edit)?, *wanted);
-    }
-    assert_eq!(rt; line_at(&members, a, 9998), b"Y".as_slice());
+    assert!(rt; line_at(&members, a, 9998) == b"Y".as_slice());
     let rows = [("A", Edit::Remove(2, 9999), "ok S10002|X = 1;")];
-    agrees(&rt, rt.alloc(), &mut members, &rows)?;
-    Ok(())
+    agrees(&rt, rt.alloc(), &mut members, &rows)
 }
 
 /// Adds a member, a second time where memory is refused.
@@ -329,7 +338,7 @@ fn add_again(rt: &impl Abort, members: &mut Members, name: Name) {
         assert!(rt; members.count() == count && members.version(name).is_none());
         answer = members.add(name, MemberKind::Source);
     }
-    assert_eq!(rt; answer, Ok(()));
+    assert!(rt; answer.is_ok());
 }
 
 /// An edit, a place, and the line there before and after it.
@@ -348,16 +357,22 @@ fn edit_again(rt: &impl Abort, members: &mut Members, name: Name, growth: Growth
     let version = members.version(name);
     let mut answer = edited(members, name, edit);
     if answer == Err(EditError::OutOfMemory) {
-        assert_eq!(rt; members.version(name), version);
-        assert_eq!(rt; line_at(members, name, place), before.as_bytes());
+        let kept = members.version(name) == version;
+        assert!(rt; kept && line_at(members, name, place) == before.as_bytes());
         answer = edited(members, name, edit);
     }
-    assert_eq!(rt; answer, Ok(()));
-    assert_eq!(rt; line_at(members, name, place), after.as_bytes());
+    assert!(rt; answer.is_ok() && line_at(members, name, place) == after.as_bytes());
+}
+
+/// Whether a member has these two lines.
+fn has_lines(members: &Members, name: Name, first: &[u8], second: &[u8]) -> bool {
+    members.lines(name).is_some_and(|lines| lines.len() == 2)
+        && line_at(members, name, 0) == first
+        && line_at(members, name, 1) == second
 }
 
 #[test]
-fn refused_growths(rt: HostRuntime) -> Result<(), Fail> {
+fn refused_growths(rt: HostRuntime) {
     let mut members = Members::new(rt.alloc(), 1);
     for text in ["C", "A", "D", "B", "E"] {
         let name = name(&rt, text);
@@ -365,10 +380,7 @@ fn refused_growths(rt: HostRuntime) -> Result<(), Fail> {
         for growth in &GROWTHS {
             edit_again(&rt, &mut members, name, *growth);
         }
-        assert_eq!(rt; members.remove_lines(name, 1, 1), Ok(()));
-        assert!(rt; members.lines(name).is_some_and(|lines| lines.len() == 2));
-        assert_eq!(rt; line_at(&members, name, 0), b"W = 4;".as_slice());
-        assert_eq!(rt; line_at(&members, name, 1), b"X = 1;".as_slice());
+        assert!(rt; members.remove_lines(name, 1, 1).is_ok());
+        assert!(rt; has_lines(&members, name, b"W = 4;", b"X = 1;"));
     }
-    Ok(())
 }

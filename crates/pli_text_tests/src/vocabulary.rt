@@ -1,5 +1,6 @@
 ghost use Rattle.std.specs.Prelude.{Some};
 
+use crate::agree;
 use pli_base::{
     BitString, CharacterString, Code, Device, Failed, Line, NAME_LIMIT, Name, Sink, Source,
     TokenText, code_order, one_code, put_all, take_all,
@@ -9,30 +10,38 @@ use std::collections::HashMap;
 use std::io::Cursor;
 use std::test::Fail;
 
+static NO_NAMES: [&str; 5] = ["", "1a", "_a", "a-b", "a "];
+
 #[test]
 fn names(rt: HostRuntime) -> Result<(), Fail> {
     let name = Name::read(b"Sum_1$").ok_or("a name")?;
-    assert_eq!(rt; name.bytes(), b"SUM_1$".as_slice());
-    assert!(rt; name.is(b"SUM_1$") && !name.is(b"Sum_1$"));
-    assert_eq!(rt; format!(in rt.alloc(); "{name:?}")?.as_str(), "SUM_1$");
+    assert!(rt; name.bytes() == b"SUM_1$".as_slice() && name.is(b"SUM_1$") && !name.is(b"Sum_1$"));
     let long = [b'a'; NAME_LIMIT + 1];
-    assert!(rt; Name::read(&long[1..]).is_some());
-    for text in [b"".as_slice(), b"1a", b"_a", b"a-b", b"a ", long.as_slice()] {
-        assert!(rt; Name::read(text).is_none());
+    assert!(rt; Name::read(&long[1..]).is_some() && Name::read(long.as_slice()).is_none());
+    for text in &NO_NAMES {
+        if Name::read(text.as_bytes()).is_some() {
+            return Err(text.into());
+        }
     }
-    Ok(())
+    agree("a name", &format!(in rt.alloc(); "{name:?}")?, "SUM_1$")
+}
+
+/// The values of three names, of which the last is the first in other letters.
+fn valued(alloc: Global, a: Name, b: Name, other: Name) -> Result<HashMap<Name, i32>, AllocError> {
+    let mut values = HashMap::new(alloc);
+    values.insert(a, 1)?;
+    values.insert(b, 2)?;
+    values.insert(other, 3)?;
+    Ok(values)
 }
 
 #[test]
 fn names_as_keys(rt: HostRuntime) -> Result<(), Fail> {
-    let mut values = HashMap::new(rt.alloc());
     let (a, b) = (Name::read(b"A").ok_or("A")?, Name::read(b"ab").ok_or("AB")?);
-    values.insert(a, 1)?;
-    values.insert(b, 2)?;
-    values.insert(Name::read(b"a").ok_or("a")?, 3)?;
-    assert_eq!(rt; values.len(), 2);
-    assert_eq!(rt; values.get(&a).copied(), Some(3));
+    let other = Name::read(b"a").ok_or("a")?;
     assert!(rt; a < b && a == a);
+    let values = valued(rt.alloc(), a, b, other)?;
+    assert!(rt; values.len() == 2 && values.get(&a).copied() == Some(3));
     Ok(())
 }
 
@@ -40,34 +49,33 @@ fn names_as_keys(rt: HostRuntime) -> Result<(), Fail> {
 fn codes(rt: HostRuntime) {
     one_code();
     code_order();
-    assert_eq!(rt; Code::EndMissing.label(), "P9");
-    assert_eq!(rt; Code::EndMissing.text(), "END MISSING");
+    assert!(rt; Code::EndMissing.label() == "P9" && Code::EndMissing.text() == "END MISSING");
     assert!(rt; Code::BadInclude < Code::NoProcedure && Code::BadOption < Code::NotDeclared);
-    assert_eq!(rt; Code::NotYetBuilt.label(), "Z1");
-    assert!(rt; Code::NotYetBuilt < Code::NotAVariable);
+    assert!(rt; Code::NotYetBuilt.label() == "Z1" && Code::NotYetBuilt < Code::NotAVariable);
 }
 
 #[test]
 fn lines(rt: HostRuntime) -> Result<(), Fail> {
     let line = Line::new(rt.alloc(), b"a = 1;")?;
-    assert_eq!(rt; line.text(), b"a = 1;".as_slice());
+    assert!(rt; line.text() == b"a = 1;".as_slice());
     Ok(())
 }
 
 #[test]
-fn devices(rt: HostRuntime) -> Result<(), Fail> {
+fn sources(rt: HostRuntime) {
     let mut source = Device::over(Cursor::new(b"one two".as_slice()));
     let mut word = [0u8; 4];
-    assert_eq!(rt; source.take(&mut word[..2]), Ok(2));
-    assert_eq!(rt; take_all(&mut source, &mut word), Ok(4));
-    assert_eq!(rt; word.as_slice(), b"e tw".as_slice());
-    assert_eq!(rt; take_all(&mut source, &mut word), Ok(1));
-    assert_eq!(rt; source.take(&mut word), Ok(0));
+    assert!(rt; source.take(&mut word[..2]) == Ok(2) && take_all(&mut source, &mut word) == Ok(4));
+    assert!(rt; word.as_slice() == b"e tw".as_slice());
+    assert!(rt; take_all(&mut source, &mut word) == Ok(1) && source.take(&mut word) == Ok(0));
+}
+
+#[test]
+fn sinks(rt: HostRuntime) {
     let mut sink = Device::over(Vec::new(rt.alloc()));
-    assert_eq!(rt; put_all(&mut sink, b"one "), Ok(()));
-    assert_eq!(rt; put_all(&mut sink, b"two"), Ok(()));
-    assert_eq!(rt; sink.into_inner().as_slice(), b"one two".as_slice());
-    Ok(())
+    let kept = put_all(&mut sink, b"one ").is_ok() && put_all(&mut sink, b"two").is_ok();
+    let bytes = sink.into_inner();
+    assert!(rt; kept && bytes.as_slice() == b"one two".as_slice());
 }
 
 /// A device that moves one byte at a call, and fails after some calls.
@@ -101,21 +109,23 @@ impl Sink for Faulty {
 }
 
 #[test]
-fn failures(rt: HostRuntime) -> Result<(), Fail> {
+fn failures(rt: HostRuntime) {
     let mut sink = Faulty {
         bytes: Vec::new(rt.alloc()),
         calls: 3,
         failed: false,
     };
-    assert_eq!(rt; put_all(&mut sink, b"ab"), Ok(()));
-    assert_eq!(rt; put_all(&mut sink, b"cd"), Err(Failed));
-    assert_eq!(rt; put_all(&mut sink, b""), Err(Failed));
-    assert_eq!(rt; sink.bytes.as_slice(), b"abc".as_slice());
+    let first = put_all(&mut sink, b"ab") == Ok(());
+    let second = put_all(&mut sink, b"cd") == Err(Failed) && put_all(&mut sink, b"") == Err(Failed);
+    assert!(rt; first && second && sink.bytes.as_slice() == b"abc".as_slice());
+}
+
+#[test]
+fn failures_of_narrow_devices(rt: HostRuntime) {
     let mut room = [0u8; 2];
     let mut narrow = Device::over(room.as_mut_slice());
-    assert_eq!(rt; put_all(&mut narrow, b"abc"), Err(Failed));
-    assert_eq!(rt; narrow.put(b""), Err(Failed));
-    Ok(())
+    let failed = put_all(&mut narrow, b"abc") == Err(Failed) && narrow.put(b"") == Err(Failed);
+    assert!(rt; failed);
 }
 
 /// The bytes of a copy of a character constant.
@@ -140,8 +150,8 @@ fn copied_bits(alloc: Global, bits: &[bool]) -> Result<Vec<bool>, AllocError> {
 #[test]
 fn strings(rt: HostRuntime) -> Result<(), Fail> {
     let characters = copied_characters(rt.alloc(), b"it's")?;
-    assert_eq!(rt; characters.as_slice(), b"it's".as_slice());
+    assert!(rt; characters.as_slice() == b"it's".as_slice());
     let bits = copied_bits(rt.alloc(), &[true, false])?;
-    assert_eq!(rt; bits.as_slice(), [true, false].as_slice());
+    assert!(rt; bits.as_slice() == [true, false].as_slice());
     Ok(())
 }
