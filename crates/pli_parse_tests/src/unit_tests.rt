@@ -1,328 +1,279 @@
-use crate::repeating::push_times;
-use crate::showing::show_fault;
-use crate::showing::statement::show_unit;
+use crate::answers::{Asked, all};
 use pli_base::Name;
 use pli_base::statement::Condition;
-use pli_parse::{parse, worked_examples};
+use pli_parse::worked_examples;
 use pli_parse_statement::{Keyword, named_condition, statement_keyword};
-use pli_text_tests::tokens_of;
-use std::alloc::{AllocError, Global};
 use std::test::Fail;
 
-/// What parsing a text gives.
-fn parsed(alloc: Global, text: &str) -> Result<String, AllocError> {
-    let tokens = tokens_of(alloc, text)?;
-    match parse(alloc, &tokens) {
-        Ok(unit) => show_unit(alloc, &unit),
-        Err(error) => show_fault(alloc, error),
+/// Which of some keywords of statements a word is.
+fn keyword(word: &str) -> &'static str {
+    match Name::read(word.as_bytes()) {
+        None => "no name",
+        Some(name) => match statement_keyword(&name) {
+            Some(Keyword::Procedure) => "PROCEDURE",
+            Some(Keyword::Declare) => "DECLARE",
+            Some(_) => "another",
+            None => "none",
+        },
     }
 }
 
-/// What parsing a unit gives that has these statements, of which the first begins at token 4.
-fn inside(alloc: Global, text: &str) -> Result<String, AllocError> {
-    let whole = format!(in alloc; "M : PROC ; {text} END ;")?;
-    parsed(alloc, &whole)
-}
+static WORDS: [(&str, &str); 9] = [
+    ("proc", "PROCEDURE"),
+    ("PROCEDURE", "PROCEDURE"),
+    ("dcl", "DECLARE"),
+    ("DECLARE", "DECLARE"),
+    ("GO", "none"),
+    ("THEN", "none"),
+    ("ELSE", "none"),
+    ("WHILE", "none"),
+    ("X", "none"),
+];
 
 #[test]
-fn keywords(rt: HostRuntime) -> Result<(), Fail> {
+fn keywords() -> Result<(), Fail> {
     worked_examples();
-    for word in [b"proc".as_slice(), b"PROCEDURE"] {
-        let name = Name::read(word).ok_or("a name")?;
-        assert!(rt; matches!(statement_keyword(&name), Some(Keyword::Procedure)));
-    }
-    for word in [b"dcl".as_slice(), b"DECLARE"] {
-        let name = Name::read(word).ok_or("a name")?;
-        assert!(rt; matches!(statement_keyword(&name), Some(Keyword::Declare)));
-    }
-    for word in [b"GO".as_slice(), b"THEN", b"ELSE", b"WHILE", b"X"] {
-        let name = Name::read(word).ok_or("a name")?;
-        assert!(rt; statement_keyword(&name).is_none());
+    for (word, wanted) in &WORDS {
+        if keyword(word) != *wanted {
+            return Err(word.into());
+        }
     }
     Ok(())
 }
 
+/// Whether a word names the condition of a zero divisor; nothing where it names none.
+fn is_of_zero(word: &str) -> Option<bool> {
+    let condition = named_condition(&Name::read(word.as_bytes())?)?;
+    Some(matches!(condition, Condition::ZeroDivide))
+}
+
 #[test]
-fn conditions(rt: HostRuntime) -> Result<(), Fail> {
-    for word in [b"ZERODIVIDE".as_slice(), b"ZDIV"] {
-        let name = Name::read(word).ok_or("a name")?;
-        assert!(rt; matches!(named_condition(&name), Some(Condition::ZeroDivide)));
-    }
-    let other = Name::read(b"CONVERSION").ok_or("a name")?;
-    assert!(rt; named_condition(&other).is_none());
-    Ok(())
+fn conditions(rt: HostRuntime) {
+    assert!(rt; is_of_zero("ZERODIVIDE") == Some(true) && is_of_zero("ZDIV") == Some(true));
+    assert!(rt; Name::read(b"CONVERSION").is_some() && is_of_zero("CONVERSION").is_none());
 }
 
 /// No word is reserved.
-#[test]
-fn keywords_are_names(rt: HostRuntime) -> Result<(), Fail> {
-    for (text, want) in [
-        (
-            "IF IF = THEN THEN THEN = ELSE ; ELSE ELSE = IF ;",
-            "M@0 #1 { 2@4 IF (IF@5=THEN@7) THEN 3@9 THEN@9 =10 ELSE@11 ELSE 4@14 ELSE@14 =15 IF@16 FI }5",
-        ),
-        (
-            "DO DO = 1 TO TO ; END ;",
-            "M@0 #1 { 2@4 DO DO@5 =6 1 TO TO@9 { }3 }4",
-        ),
-        ("PUT LIST ( LIST ) ;", "M@0 #1 { 2@4 PUT(LIST@7;) }3"),
-        ("END : ;", "M@0 #1 { END@4: 2@6 ; }3"),
-        ("DECLARE ( 1 ) = 2 ;", "M@0 #1 { 2@4 DECLARE@4{1;} =8 2 }3"),
-        ("CALL = 1 ;", "M@0 #1 { 2@4 CALL@4 =5 1 }3"),
-        ("GO = 1 ;", "M@0 #1 { 2@4 GO@4 =5 1 }3"),
-        ("END = 1 ;", "M@0 #1 { 2@4 END@4 =5 1 }3"),
-        ("RETURN ( 1 ) = 2 ;", "M@0 #1 { 2@4 RETURN@4{1;} =8 2 }3"),
-        (
-            "PROC = 1 ; BEGIN = 2 ; ON = 3 ;",
-            "M@0 #1 { 2@4 PROC@4 =5 1 3@8 BEGIN@8 =9 2 4@12 ON@12 =13 3 }5",
-        ),
-        ("IF : IF = 1 ;", "M@0 #1 { IF@4: 2@6 IF@6 =7 1 }3"),
-        (
-            "S . IF = P -> THEN ;",
-            "M@0 #1 { 2@4 S@4.IF@6 =7 P@8->THEN@10 }3",
-        ),
-        (
-            "DO WHILE = 1 BY 2 TO 3 WHILE ( B ) ; END ;",
-            "M@0 #1 { 2@4 DO WHILE@5 =6 1 BY 2 TO 3 WHILE B@14 { }3 }4",
-        ),
-        (
-            "ALLOCATE IN IN ( SET ) SET ( IN ) ;",
-            "M@0 #1 { 2@4 ALLOCATE IN@5 IN SET@8 SET IN@12 }3",
-        ),
-    ] {
-        let answer = inside(rt.alloc(), text)?;
-        assert_eq!(rt; answer.as_str(), want, "{text}");
-    }
-    Ok(())
-}
+static NAMES: [(&str, &str); 14] = [
+    (
+        "IF IF = THEN THEN THEN = ELSE ; ELSE ELSE = IF ;",
+        "M@0 #1 { 2@4 IF (IF@5=THEN@7) THEN 3@9 THEN@9 =10 ELSE@11 ELSE 4@14 ELSE@14 =15 IF@16 FI }5",
+    ),
+    (
+        "DO DO = 1 TO TO ; END ;",
+        "M@0 #1 { 2@4 DO DO@5 =6 1 TO TO@9 { }3 }4",
+    ),
+    ("PUT LIST ( LIST ) ;", "M@0 #1 { 2@4 PUT(LIST@7;) }3"),
+    ("END : ;", "M@0 #1 { END@4: 2@6 ; }3"),
+    ("DECLARE ( 1 ) = 2 ;", "M@0 #1 { 2@4 DECLARE@4{1;} =8 2 }3"),
+    ("CALL = 1 ;", "M@0 #1 { 2@4 CALL@4 =5 1 }3"),
+    ("GO = 1 ;", "M@0 #1 { 2@4 GO@4 =5 1 }3"),
+    ("END = 1 ;", "M@0 #1 { 2@4 END@4 =5 1 }3"),
+    ("RETURN ( 1 ) = 2 ;", "M@0 #1 { 2@4 RETURN@4{1;} =8 2 }3"),
+    (
+        "PROC = 1 ; BEGIN = 2 ; ON = 3 ;",
+        "M@0 #1 { 2@4 PROC@4 =5 1 3@8 BEGIN@8 =9 2 4@12 ON@12 =13 3 }5",
+    ),
+    ("IF : IF = 1 ;", "M@0 #1 { IF@4: 2@6 IF@6 =7 1 }3"),
+    (
+        "S . IF = P -> THEN ;",
+        "M@0 #1 { 2@4 S@4.IF@6 =7 P@8->THEN@10 }3",
+    ),
+    (
+        "DO WHILE = 1 BY 2 TO 3 WHILE ( B ) ; END ;",
+        "M@0 #1 { 2@4 DO WHILE@5 =6 1 BY 2 TO 3 WHILE B@14 { }3 }4",
+    ),
+    (
+        "ALLOCATE IN IN ( SET ) SET ( IN ) ;",
+        "M@0 #1 { 2@4 ALLOCATE IN@5 IN SET@8 SET IN@12 }3",
+    ),
+];
 
 /// Each form of statement.
-#[test]
-fn statements_are_read(rt: HostRuntime) -> Result<(), Fail> {
-    for (text, want) in [
-        (
-            "X = ( A + 1 ) - - B ;",
-            "M@0 #1 { 2@4 X@4 =5 ([(A@7+1)]-(-B@13)) }3",
-        ),
-        (
-            "GO TO L ; GOTO L ;",
-            "M@0 #1 { 2@4 GOTO L@6 3@8 GOTO L@9 }4",
-        ),
-        (
-            "RETURN ; RETURN ( A ) ;",
-            "M@0 #1 { 2@4 RETURN 3@6 RETURN A@8 }4",
-        ),
-        ("ON ZDIV GO TO L ;", "M@0 #1 { 2@4 ON ZDIV 3@6 GOTO L@8 }4"),
-        (
-            "ON AREA ; REVERT FOFL ; SIGNAL AREA ;",
-            "M@0 #1 { 2@4 ON AREA 3@6 ; 4@7 REVERT FOFL 5@10 SIGNAL AREA }6",
-        ),
-        (
-            "ALLOCATE X IN ( A ) SET ( P ) , Y ;",
-            "M@0 #1 { 2@4 ALLOCATE X@5 IN A@8 SET P@12 Y@15 }3",
-        ),
-        ("FREE P -> X , Y ;", "M@0 #1 { 2@4 FREE P@5->X@7 Y@9 }3"),
-        (
-            "CALL F ; CALL F ( ) ; CALL F ( 1 , A ) ;",
-            "M@0 #1 { 2@4 CALL F@5 3@7 CALL F@8() 4@12 CALL F@13(1;A@17;) }5",
-        ),
-        (
-            "PUT SKIP ; PUT SKIP LIST ( 1 ) ; PUT LIST ( 1 , 2 ) SKIP ;",
-            "M@0 #1 { 2@4 PUT SKIP() 3@7 PUT SKIP(1;) 4@14 PUT SKIP(1;2;) }5",
-        ),
-        (
-            "L : BEGIN ; DCL X BIT , Y BIT ; STOP ; END L ;",
-            "M@0 #1 { L@4: 2@6 BEGIN { 3@8 DECLARE 2 4@15 STOP }5 }6",
-        ),
-        (
-            "DO WHILE ( A ) ; END ;",
-            "M@0 #1 { 2@4 DO WHILE A@7 { }3 }4",
-        ),
-        (
-            "DO I = 1 REPEAT I + 1 ; END ;",
-            "M@0 #1 { 2@4 DO I@5 =6 1 REPEAT (I@9+1) { }3 }4",
-        ),
-        (
-            "DO ; END ; BEGIN ; END ;",
-            "M@0 #1 { 2@4 DO { }3 4@8 BEGIN { }5 }6",
-        ),
-        (
-            "DO ; BEGIN ; END ; END ;",
-            "M@0 #1 { 2@4 DO { 3@6 BEGIN { }4 }5 }6",
-        ),
-        (
-            "F : PROC ( A , B ) RETURNS ( BIT ) RECURSIVE ; RETURN ( A ) ; END F ;",
-            "M@0 #1 { F@4: 2@6 PROC F@4 #2 A@8 B@10 RETURNS RECURSIVE { 3@18 RETURN A@20 }4 }5",
-        ),
-        (
-            "ON AREA BEGIN ; F : PROC ; RETURN ; END ; END ;",
-            "M@0 #1 { 2@4 ON AREA 3@6 BEGIN { F@8: 4@10 PROC F@8 #4 { 5@12 RETURN }6 }7 }8",
-        ),
-    ] {
-        let answer = inside(rt.alloc(), text)?;
-        assert_eq!(rt; answer.as_str(), want, "{text}");
-    }
-    Ok(())
-}
+static STATEMENTS: [(&str, &str); 16] = [
+    (
+        "X = ( A + 1 ) - - B ;",
+        "M@0 #1 { 2@4 X@4 =5 ([(A@7+1)]-(-B@13)) }3",
+    ),
+    (
+        "GO TO L ; GOTO L ;",
+        "M@0 #1 { 2@4 GOTO L@6 3@8 GOTO L@9 }4",
+    ),
+    (
+        "RETURN ; RETURN ( A ) ;",
+        "M@0 #1 { 2@4 RETURN 3@6 RETURN A@8 }4",
+    ),
+    ("ON ZDIV GO TO L ;", "M@0 #1 { 2@4 ON ZDIV 3@6 GOTO L@8 }4"),
+    (
+        "ON AREA ; REVERT FOFL ; SIGNAL AREA ;",
+        "M@0 #1 { 2@4 ON AREA 3@6 ; 4@7 REVERT FOFL 5@10 SIGNAL AREA }6",
+    ),
+    (
+        "ALLOCATE X IN ( A ) SET ( P ) , Y ;",
+        "M@0 #1 { 2@4 ALLOCATE X@5 IN A@8 SET P@12 Y@15 }3",
+    ),
+    ("FREE P -> X , Y ;", "M@0 #1 { 2@4 FREE P@5->X@7 Y@9 }3"),
+    (
+        "CALL F ; CALL F ( ) ; CALL F ( 1 , A ) ;",
+        "M@0 #1 { 2@4 CALL F@5 3@7 CALL F@8() 4@12 CALL F@13(1;A@17;) }5",
+    ),
+    (
+        "PUT SKIP ; PUT SKIP LIST ( 1 ) ; PUT LIST ( 1 , 2 ) SKIP ;",
+        "M@0 #1 { 2@4 PUT SKIP() 3@7 PUT SKIP(1;) 4@14 PUT SKIP(1;2;) }5",
+    ),
+    (
+        "L : BEGIN ; DCL X BIT , Y BIT ; STOP ; END L ;",
+        "M@0 #1 { L@4: 2@6 BEGIN { 3@8 DECLARE 2 4@15 STOP }5 }6",
+    ),
+    (
+        "DO WHILE ( A ) ; END ;",
+        "M@0 #1 { 2@4 DO WHILE A@7 { }3 }4",
+    ),
+    (
+        "DO I = 1 REPEAT I + 1 ; END ;",
+        "M@0 #1 { 2@4 DO I@5 =6 1 REPEAT (I@9+1) { }3 }4",
+    ),
+    (
+        "DO ; END ; BEGIN ; END ;",
+        "M@0 #1 { 2@4 DO { }3 4@8 BEGIN { }5 }6",
+    ),
+    (
+        "DO ; BEGIN ; END ; END ;",
+        "M@0 #1 { 2@4 DO { 3@6 BEGIN { }4 }5 }6",
+    ),
+    (
+        "F : PROC ( A , B ) RETURNS ( BIT ) RECURSIVE ; RETURN ( A ) ; END F ;",
+        "M@0 #1 { F@4: 2@6 PROC F@4 #2 A@8 B@10 RETURNS RECURSIVE { 3@18 RETURN A@20 }4 }5",
+    ),
+    (
+        "ON AREA BEGIN ; F : PROC ; RETURN ; END ; END ;",
+        "M@0 #1 { 2@4 ON AREA 3@6 BEGIN { F@8: 4@10 PROC F@8 #4 { 5@12 RETURN }6 }7 }8",
+    ),
+];
 
 /// To which IF an ELSE belongs, and where it is none.
+static NEAREST: [(&str, &str); 4] = [
+    (
+        "IF A THEN IF B THEN ; ELSE ;",
+        "M@0 #1 { 2@4 IF A@5 THEN 3@7 IF B@8 THEN 4@10 ; ELSE 5@12 ; FI FI }6",
+    ),
+    (
+        "IF A THEN IF B THEN ; ELSE ; ELSE STOP ;",
+        "M@0 #1 { 2@4 IF A@5 THEN 3@7 IF B@8 THEN 4@10 ; ELSE 5@12 ; FI ELSE 6@14 STOP FI }7",
+    ),
+    (
+        "IF A THEN ; ELSE = 1 ;",
+        "M@0 #1 { 2@4 IF A@5 THEN 3@7 ; FI 4@8 ELSE@8 =9 1 }5",
+    ),
+    (
+        "IF A THEN ; ELSE : ;",
+        "M@0 #1 { 2@4 IF A@5 THEN 3@7 ; FI ELSE@8: 4@10 ; }5",
+    ),
+];
+
 #[test]
-fn else_is_of_the_nearest_if(rt: HostRuntime) -> Result<(), Fail> {
-    for (text, want) in [
-        (
-            "IF A THEN IF B THEN ; ELSE ;",
-            "M@0 #1 { 2@4 IF A@5 THEN 3@7 IF B@8 THEN 4@10 ; ELSE 5@12 ; FI FI }6",
-        ),
-        (
-            "IF A THEN IF B THEN ; ELSE ; ELSE STOP ;",
-            "M@0 #1 { 2@4 IF A@5 THEN 3@7 IF B@8 THEN 4@10 ; ELSE 5@12 ; FI ELSE 6@14 STOP FI }7",
-        ),
-        (
-            "IF A THEN ; ELSE = 1 ;",
-            "M@0 #1 { 2@4 IF A@5 THEN 3@7 ; FI 4@8 ELSE@8 =9 1 }5",
-        ),
-        (
-            "IF A THEN ; ELSE : ;",
-            "M@0 #1 { 2@4 IF A@5 THEN 3@7 ; FI ELSE@8: 4@10 ; }5",
-        ),
-    ] {
-        let answer = inside(rt.alloc(), text)?;
-        assert_eq!(rt; answer.as_str(), want, "{text}");
-    }
-    Ok(())
+fn statements_are_read(rt: HostRuntime) -> Result<(), Fail> {
+    all(rt.alloc(), Asked::Statements, &NAMES)?;
+    all(rt.alloc(), Asked::Statements, &STATEMENTS)?;
+    all(rt.alloc(), Asked::Statements, &NEAREST)
 }
 
 /// Each code of a statement, at its token.
+static FAULTS: [(&str, &str); 43] = [
+    ("X = ;", "P2 at 4"),
+    ("GO L ;", "P2 at 4"),
+    ("ELSE ;", "P2 at 4"),
+    ("1 ;", "P2 at 4"),
+    ("PUT LIST ( ) ;", "P3 at 7"),
+    ("RETURN ( ) ;", "P3 at 6"),
+    ("PUT LIST ( 1 ;", "P4 at 8"),
+    ("PUT LIST 1 ;", "P4 at 6"),
+    ("CALL F ( ;", "P4 at 7"),
+    ("DO 5 ;", "P5 at 5"),
+    ("STOP 1 ;", "P5 at 5"),
+    ("DO WHILE ( A ) = 1 ; END ;", "P5 at 9"),
+    ("GOTO 5 ;", "P6 at 5"),
+    ("GO TO = 1 ;", "P6 at 6"),
+    ("CALL ;", "P6 at 5"),
+    ("IF X PUT LIST ( 1 ) ;", "P7 at 6"),
+    ("IF THEN ;", "P7 at 6"),
+    ("BEGIN ; END Q ;", "P8 at 7"),
+    ("L : DO ; BEGIN ; END L ; END L ;", "P8 at 11"),
+    ("DO I 1 TO 3 ; END ;", "P11 at 6"),
+    ("F : PROC RETURNS ( ) ; END F ;", "P12 at 9"),
+    ("DCL X ( A ) BIT ;", "P13 at 7"),
+    ("A : B : ;", "P14 at 6"),
+    ("L : END ;", "P14 at 4"),
+    ("PROC ;", "P14 at 4"),
+    ("L : DCL X BIT ;", "P14 at 4"),
+    ("IF A THEN L : ;", "P14 at 7"),
+    ("ON AREA L : ;", "P14 at 6"),
+    ("ON FOO ;", "P15 at 5"),
+    ("IF X THEN DCL Y BIT ;", "P17 at 7"),
+    ("IF A THEN END ;", "P17 at 7"),
+    ("ON AREA BEGIN ; RETURN ; END ;", "P17 at 8"),
+    ("ON AREA IF A THEN ;", "P17 at 6"),
+    ("DO ; F : PROC ; END ; END ;", "P17 at 6"),
+    ("DO ; PROC ; END ; END ;", "P17 at 6"),
+    ("PUT ;", "P18 at 5"),
+    ("PUT FILE ( F ) ;", "P18 at 5"),
+    ("PUT SKIP SKIP ;", "P18 at 6"),
+    ("IF = ;", "P3 at 5"),
+    ("DO WHILE ;", "P11 at 6"),
+    ("DO I ;", "P11 at 6"),
+    ("DO ; A : B : PROC ; END ; END ;", "P14 at 8"),
+    ("ALLOCATE X IN ( A ) IN ( B ) ;", "P18 at 10"),
+];
+
 #[test]
 fn statements_are_at_fault(rt: HostRuntime) -> Result<(), Fail> {
-    for (text, want) in [
-        ("X = ;", "P2 at 4"),
-        ("GO L ;", "P2 at 4"),
-        ("ELSE ;", "P2 at 4"),
-        ("1 ;", "P2 at 4"),
-        ("PUT LIST ( ) ;", "P3 at 7"),
-        ("RETURN ( ) ;", "P3 at 6"),
-        ("PUT LIST ( 1 ;", "P4 at 8"),
-        ("PUT LIST 1 ;", "P4 at 6"),
-        ("CALL F ( ;", "P4 at 7"),
-        ("DO 5 ;", "P5 at 5"),
-        ("STOP 1 ;", "P5 at 5"),
-        ("DO WHILE ( A ) = 1 ; END ;", "P5 at 9"),
-        ("GOTO 5 ;", "P6 at 5"),
-        ("GO TO = 1 ;", "P6 at 6"),
-        ("CALL ;", "P6 at 5"),
-        ("IF X PUT LIST ( 1 ) ;", "P7 at 6"),
-        ("IF THEN ;", "P7 at 6"),
-        ("BEGIN ; END Q ;", "P8 at 7"),
-        ("L : DO ; BEGIN ; END L ; END L ;", "P8 at 11"),
-        ("DO I 1 TO 3 ; END ;", "P11 at 6"),
-        ("F : PROC RETURNS ( ) ; END F ;", "P12 at 9"),
-        ("DCL X ( A ) BIT ;", "P13 at 7"),
-        ("A : B : ;", "P14 at 6"),
-        ("L : END ;", "P14 at 4"),
-        ("PROC ;", "P14 at 4"),
-        ("L : DCL X BIT ;", "P14 at 4"),
-        ("IF A THEN L : ;", "P14 at 7"),
-        ("ON AREA L : ;", "P14 at 6"),
-        ("ON FOO ;", "P15 at 5"),
-        ("IF X THEN DCL Y BIT ;", "P17 at 7"),
-        ("IF A THEN END ;", "P17 at 7"),
-        ("ON AREA BEGIN ; RETURN ; END ;", "P17 at 8"),
-        ("ON AREA IF A THEN ;", "P17 at 6"),
-        ("DO ; F : PROC ; END ; END ;", "P17 at 6"),
-        ("DO ; PROC ; END ; END ;", "P17 at 6"),
-        ("PUT ;", "P18 at 5"),
-        ("PUT FILE ( F ) ;", "P18 at 5"),
-        ("PUT SKIP SKIP ;", "P18 at 6"),
-        ("IF = ;", "P3 at 5"),
-        ("DO WHILE ;", "P11 at 6"),
-        ("DO I ;", "P11 at 6"),
-        ("DO ; A : B : PROC ; END ; END ;", "P14 at 8"),
-        ("ALLOCATE X IN ( A ) IN ( B ) ;", "P18 at 10"),
-    ] {
-        let answer = inside(rt.alloc(), text)?;
-        assert_eq!(rt; answer.as_str(), want, "{text}");
-    }
-    Ok(())
+    all(rt.alloc(), Asked::Statements, &FAULTS)
 }
 
 /// Units, and the codes of what no statement is.
+static UNITS: [(&str, &str); 17] = [
+    ("M : PROC ; END ;", "M@0 #1 { }2"),
+    (
+        "M : PROCEDURE OPTIONS ( MAIN ) ; END M ;",
+        "M@0 #1 MAIN { }2",
+    ),
+    (
+        "M : PROC ( A ) RETURNS ( BIT ) ; RETURN ( A ) ; END M ;",
+        "M@0 #1 A@4 RETURNS { 2@11 RETURN A@13 }3",
+    ),
+    ("", "P1 at 0"),
+    ("1 : PROC ; END ;", "P1 at 0"),
+    ("M ; END ;", "P1 at 1"),
+    ("M : FOO", "P1 at 2"),
+    ("M : PROC FOO ;", "P5 at 3"),
+    ("M : PROC OPTIONS MAIN ;", "P4 at 4"),
+    ("M : PROC OPTIONS ( X ) ;", "P18 at 5"),
+    ("M : PROC ; END M 5 ;", "P5 at 6"),
+    ("M", "P9 at 0"),
+    ("M : PROC FOO", "P9 at 3"),
+    ("M : PROC ; X = 1", "P9 at 6"),
+    ("M : PROC ; END M", "P9 at 5"),
+    ("M : PROC ; BEGIN ; END ;", "P9 at 7"),
+    ("M : PROC ; END ; X", "P10 at 6"),
+];
+
 #[test]
 fn units_are_parsed(rt: HostRuntime) -> Result<(), Fail> {
-    for (text, want) in [
-        ("M : PROC ; END ;", "M@0 #1 { }2"),
-        (
-            "M : PROCEDURE OPTIONS ( MAIN ) ; END M ;",
-            "M@0 #1 MAIN { }2",
-        ),
-        (
-            "M : PROC ( A ) RETURNS ( BIT ) ; RETURN ( A ) ; END M ;",
-            "M@0 #1 A@4 RETURNS { 2@11 RETURN A@13 }3",
-        ),
-        ("", "P1 at 0"),
-        ("1 : PROC ; END ;", "P1 at 0"),
-        ("M ; END ;", "P1 at 1"),
-        ("M : FOO", "P1 at 2"),
-        ("M : PROC FOO ;", "P5 at 3"),
-        ("M : PROC OPTIONS MAIN ;", "P4 at 4"),
-        ("M : PROC OPTIONS ( X ) ;", "P18 at 5"),
-        ("M : PROC ; END M 5 ;", "P5 at 6"),
-        ("M", "P9 at 0"),
-        ("M : PROC FOO", "P9 at 3"),
-        ("M : PROC ; X = 1", "P9 at 6"),
-        ("M : PROC ; END M", "P9 at 5"),
-        ("M : PROC ; BEGIN ; END ;", "P9 at 7"),
-        ("M : PROC ; END ; X", "P10 at 6"),
-    ] {
-        let answer = parsed(rt.alloc(), text)?;
-        assert_eq!(rt; answer.as_str(), want, "{text}");
-    }
-    Ok(())
+    all(rt.alloc(), Asked::Unit, &UNITS)
 }
 
-/// A unit of so many groups, each inside the one before it.
-fn nested(alloc: Global, depth: u32) -> Result<String, AllocError> {
-    let mut text = String::from_str(alloc, "M : PROC ;")?;
-    push_times(&mut text, " DO ;", depth)?;
-    push_times(&mut text, " END ;", depth)?;
-    text.push_str(" END ;")?;
-    parsed(alloc, &text)
-}
+/// Units of groups inside each other, of values in parentheses inside each other, and of many statements in one list: their faults, or
+/// the ends of their trees. The unit is the first of 64 levels.
+static LONG: [(&str, &str); 6] = [
+    ("M : PROC ; [63 DO ; ] [63 END ; ] END ;", " }126 }127 }128"),
+    ("M : PROC ; [64 DO ; ] [64 END ; ] END ;", "P16 at 130"),
+    ("M : PROC ; X = [63 ( ] A [63 ) ] ; END ;", " }3"),
+    ("M : PROC ; X = [64 ( ] A [64 ) ] ; END ;", "P16 at 69"),
+    ("M : PROC ; [50000 ; ] END", "P9 at 50004"),
+    ("M : PROC ; [50000 ; ] END ;", " 50001@50003 ; }50002"),
+];
 
-/// A unit of an assignment whose value stands in so many parentheses.
-fn enclosed(alloc: Global, depth: u32) -> Result<String, AllocError> {
-    let mut text = String::from_str(alloc, "M : PROC ; X =")?;
-    push_times(&mut text, " (", depth)?;
-    text.push_str(" A")?;
-    push_times(&mut text, " )", depth)?;
-    text.push_str(" ; END ;")?;
-    parsed(alloc, &text)
-}
-
-/// The unit is the first of 64 levels.
 #[test]
-fn levels_are_limited(rt: HostRuntime) -> Result<(), Fail> {
-    let answer = nested(rt.alloc(), 63)?;
-    assert!(rt; answer.ends_with(" }126 }127 }128"));
-    let answer = nested(rt.alloc(), 64)?;
-    assert_eq!(rt; answer.as_str(), "P16 at 130");
-    let answer = enclosed(rt.alloc(), 63)?;
-    assert!(rt; answer.ends_with(" }3"));
-    let answer = enclosed(rt.alloc(), 64)?;
-    assert_eq!(rt; answer.as_str(), "P16 at 69");
-    Ok(())
-}
-
-/// Many statements in one list.
-#[test]
-fn lists_are_long(rt: HostRuntime) -> Result<(), Fail> {
-    let mut text = String::from_str(rt.alloc(), "M : PROC ;")?;
-    push_times(&mut text, " ;", 50000)?;
-    text.push_str(" END")?;
-    let answer = parsed(rt.alloc(), &text)?;
-    assert_eq!(rt; answer.as_str(), "P9 at 50004");
-    text.push_str(" ;")?;
-    let answer = parsed(rt.alloc(), &text)?;
-    assert!(rt; answer.ends_with(" 50001@50003 ; }50002"));
-    Ok(())
+fn units_are_deep_and_long(rt: HostRuntime) -> Result<(), Fail> {
+    all(rt.alloc(), Asked::EndOfUnit, &LONG)
 }

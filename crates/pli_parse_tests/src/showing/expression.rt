@@ -3,17 +3,12 @@
 use pli_base::syntax::{
     ConstantValue, Expression, Identifier, InfixOperator, Joining, Part, PrefixOperator, Reference,
 };
-use std::alloc::AllocError;
-use std::fmt::Write;
+use pli_text_tests::Shown;
 
 /// `A@4` for a name at token 4.
-pub fn show_name(shown: &mut String, identifier: &Identifier) -> Result<(), AllocError> {
-    for byte in identifier.name.bytes() {
-        shown.push(char::from(*byte))?;
-    }
-    let at = identifier.at;
-    write!(shown, "@{at}")?;
-    Ok(())
+pub fn show_name(shown: &mut Shown, identifier: &Identifier) {
+    shown.put_bytes(identifier.name.bytes());
+    shown.put_number("@", u64::from(identifier.at));
 }
 
 /// How an operator between two operands is written.
@@ -36,33 +31,30 @@ fn sign_of(operator: &InfixOperator) -> &'static str {
 
 /// Appends the expression, each operator's operands in parentheses, and the expression's own parentheses as brackets.
 #[cycle(show_value)]
-pub fn show_expression(shown: &mut String, expression: &Expression) -> Result<(), AllocError> {
+pub fn show_expression(shown: &mut Shown, expression: &Expression) {
     match expression {
-        Expression::Reference(reference) => show_reference(shown, reference)?,
+        Expression::Reference(reference) => show_reference(shown, reference),
         Expression::Constant { value, .. } => match value {
-            ConstantValue::Decimal { value, .. } => {
-                let value = *value;
-                write!(shown, "{value}")?;
-            }
-            _ => shown.push('?')?,
+            ConstantValue::Decimal { value, .. } => shown.put_number("", u64::from(*value)),
+            _ => shown.put("?"),
         },
         Expression::Parenthesized { inner, .. } => {
-            shown.push('[')?;
-            show_expression(shown, inner)?;
-            shown.push(']')?;
+            shown.put("[");
+            show_expression(shown, inner);
+            shown.put("]");
         }
         Expression::Prefix {
             operator,
             operand,
             ..
         } => {
-            shown.push_str(match operator {
+            shown.put(match operator {
                 PrefixOperator::Plus => "(+",
                 PrefixOperator::Minus => "(-",
                 PrefixOperator::Not => "(^",
-            })?;
-            show_expression(shown, operand)?;
-            shown.push(')')?;
+            });
+            show_expression(shown, operand);
+            shown.put(")");
         }
         Expression::Infix {
             operator,
@@ -70,41 +62,38 @@ pub fn show_expression(shown: &mut String, expression: &Expression) -> Result<()
             right,
             ..
         } => {
-            shown.push('(')?;
-            show_expression(shown, left)?;
-            shown.push_str(sign_of(operator))?;
-            show_expression(shown, right)?;
-            shown.push(')')?;
+            shown.put("(");
+            show_expression(shown, left);
+            shown.put(sign_of(operator));
+            show_expression(shown, right);
+            shown.put(")");
         }
     }
-    Ok(())
 }
 
 /// Appends a reference.
 #[cycle(show_value)]
-pub fn show_reference(shown: &mut String, reference: &Reference) -> Result<(), AllocError> {
-    show_part(shown, &reference.first)?;
+pub fn show_reference(shown: &mut Shown, reference: &Reference) {
+    show_part(shown, &reference.first);
     for joined in &reference.joined {
-        shown.push_str(match joined.joining {
+        shown.put(match joined.joining {
             Joining::Member => ".",
             Joining::Located => "->",
-        })?;
-        show_part(shown, &joined.part)?;
+        });
+        show_part(shown, &joined.part);
     }
-    Ok(())
 }
 
 /// Appends a name and the list behind it.
 #[cycle(show_value)]
-fn show_part(shown: &mut String, part: &Part) -> Result<(), AllocError> {
-    show_name(shown, &part.name)?;
+fn show_part(shown: &mut Shown, part: &Part) {
+    show_name(shown, &part.name);
     if let Some(list) = &part.arguments {
-        shown.push('{')?;
+        shown.put("{");
         for argument in list {
-            show_expression(shown, argument)?;
-            shown.push(';')?;
+            show_expression(shown, argument);
+            shown.put(";");
         }
-        shown.push('}')?;
+        shown.put("}");
     }
-    Ok(())
 }

@@ -7,85 +7,75 @@ use pli_base::declaration::{
     SimpleAttribute,
 };
 use pli_base::syntax::Identifier;
-use std::alloc::{AllocError, Global};
-use std::fmt::Write;
+use pli_text_tests::Shown;
 
-fn show_integer(shown: &mut String, integer: &Integer) -> Result<(), AllocError> {
-    let value = integer.value;
+fn show_integer(shown: &mut Shown, integer: &Integer) {
     if integer.negative {
-        shown.push('-')?;
+        shown.put("-");
     }
-    write!(shown, "{value}")?;
-    Ok(())
+    shown.put_number("", u64::from(integer.value));
 }
 
 /// ` (0:9,-1:1)`, or nothing.
-fn show_dimensions(shown: &mut String, dimensions: &[Bounds]) -> Result<(), AllocError> {
+fn show_dimensions(shown: &mut Shown, dimensions: &[Bounds]) {
     let mut before = "(";
     for bounds in dimensions {
-        shown.push_str(before)?;
+        shown.put(before);
         if let Some(low) = bounds.low {
-            show_integer(shown, &low)?;
-            shown.push(':')?;
+            show_integer(shown, &low);
+            shown.put(":");
         }
-        show_integer(shown, &bounds.high)?;
+        show_integer(shown, &bounds.high);
         before = ",";
     }
     if !dimensions.is_empty() {
-        shown.push(')')?;
+        shown.put(")");
     }
-    Ok(())
 }
 
-fn show_numbered(shown: &mut String, word: &str, number: Option<u32>) -> Result<(), AllocError> {
-    shown.push_str(word)?;
+fn show_numbered(shown: &mut Shown, word: &str, number: Option<u32>) {
+    shown.put(word);
     if let Some(number) = number {
-        write!(shown, "({number})")?;
+        shown.put_number("(", u64::from(number));
+        shown.put(")");
     }
-    Ok(())
 }
 
-fn show_value(shown: &mut String, value: &InitialValue) -> Result<(), AllocError> {
+fn show_value(shown: &mut Shown, value: &InitialValue) {
     match value {
         InitialValue::Integer { factor, value } => {
             if let Some(factor) = factor {
-                let factor = *factor;
-                write!(shown, "({factor})")?;
+                shown.put_number("(", u64::from(*factor));
+                shown.put(")");
             }
             show_integer(shown, value)
         }
         InitialValue::Characters(string) => {
-            shown.push('\'')?;
-            for byte in string.bytes() {
-                shown.push(char::from(*byte))?;
-            }
-            shown.push('\'')?;
-            Ok(())
+            shown.put("'");
+            shown.put_bytes(string.bytes());
+            shown.put("'");
         }
         InitialValue::Bits(string) => {
-            shown.push('\'')?;
+            shown.put("'");
             for bit in string.bits() {
-                shown.push(if *bit { '1' } else { '0' })?;
+                shown.put(if *bit { "1" } else { "0" });
             }
-            shown.push_str("'B")?;
-            Ok(())
+            shown.put("'B");
         }
         InitialValue::Null => {
-            shown.push_str("NULL")?;
-            Ok(())
+            shown.put("NULL");
         }
     }
 }
 
-fn show_locator(shown: &mut String, names: &[Name]) -> Result<(), AllocError> {
+fn show_locator(shown: &mut Shown, names: &[Name]) {
     let mut before = "(";
     for name in names {
-        shown.push_str(before)?;
-        write!(shown, "{name:?}")?;
+        shown.put(before);
+        shown.put_bytes(name.bytes());
         before = ".";
     }
-    shown.push(')')?;
-    Ok(())
+    shown.put(")");
 }
 
 /// A keyword alone.
@@ -103,18 +93,17 @@ fn word_of(attribute: &SimpleAttribute) -> &'static str {
     }
 }
 
-fn show_values(shown: &mut String, values: &[InitialValue]) -> Result<(), AllocError> {
+fn show_values(shown: &mut Shown, values: &[InitialValue]) {
     let mut before = "INITIAL(";
     for value in values {
-        shown.push_str(before)?;
-        show_value(shown, value)?;
+        shown.put(before);
+        show_value(shown, value);
         before = ",";
     }
-    shown.push(')')?;
-    Ok(())
+    shown.put(")");
 }
 
-fn show_simple(shown: &mut String, attribute: &SimpleAttribute) -> Result<(), AllocError> {
+fn show_simple(shown: &mut Shown, attribute: &SimpleAttribute) {
     match attribute {
         SimpleAttribute::Fixed(number) => show_numbered(shown, "FIXED", *number),
         SimpleAttribute::Binary(number) => show_numbered(shown, "BINARY", *number),
@@ -122,121 +111,107 @@ fn show_simple(shown: &mut String, attribute: &SimpleAttribute) -> Result<(), Al
         SimpleAttribute::Bit(number) => show_numbered(shown, "BIT", *number),
         SimpleAttribute::Area(number) => show_numbered(shown, "AREA", *number),
         SimpleAttribute::Offset(area) => {
-            shown.push_str("OFFSET")?;
+            shown.put("OFFSET");
             if let Some(name) = area {
-                write!(shown, "({name:?})")?;
+                shown.put("(");
+                shown.put_bytes(name.bytes());
+                shown.put(")");
             }
-            Ok(())
         }
         SimpleAttribute::Based(locator) => {
-            shown.push_str("BASED")?;
+            shown.put("BASED");
             if let Some(names) = locator {
-                show_locator(shown, names)?;
+                show_locator(shown, names);
             }
-            Ok(())
         }
         SimpleAttribute::Initial(values) => show_values(shown, values),
         _ => {
-            shown.push_str(word_of(attribute))?;
-            Ok(())
+            shown.put(word_of(attribute));
         }
     }
 }
 
-pub fn show_described(
-    shown: &mut String,
-    attributes: &[DescribedAttribute],
-) -> Result<(), AllocError> {
+pub fn show_described(shown: &mut Shown, attributes: &[DescribedAttribute]) {
     let mut before = "";
     for attribute in attributes {
-        shown.push_str(before)?;
+        shown.put(before);
         match attribute {
-            DescribedAttribute::Simple(simple) => show_simple(shown, simple)?,
-            DescribedAttribute::Entry => shown.push_str("ENTRY")?,
-            DescribedAttribute::Returns => shown.push_str("RETURNS")?,
+            DescribedAttribute::Simple(simple) => show_simple(shown, simple),
+            DescribedAttribute::Entry => shown.put("ENTRY"),
+            DescribedAttribute::Returns => shown.put("RETURNS"),
         }
         before = " ";
     }
-    Ok(())
 }
 
-fn show_parameters(
-    shown: &mut String,
-    parameters: &[ParameterDescription],
-) -> Result<(), AllocError> {
+fn show_parameters(shown: &mut Shown, parameters: &[ParameterDescription]) {
     let mut before = "";
-    shown.push('(')?;
+    shown.put("(");
     for parameter in parameters {
-        shown.push_str(before)?;
-        show_dimensions(shown, &parameter.dimensions)?;
+        shown.put(before);
+        show_dimensions(shown, &parameter.dimensions);
         if !parameter.dimensions.is_empty() {
-            shown.push(' ')?;
+            shown.put(" ");
         }
-        show_described(shown, &parameter.attributes)?;
+        show_described(shown, &parameter.attributes);
         before = ",";
     }
-    shown.push(')')?;
-    Ok(())
+    shown.put(")");
 }
 
-fn show_attribute(shown: &mut String, attribute: &Attribute) -> Result<(), AllocError> {
+fn show_attribute(shown: &mut Shown, attribute: &Attribute) {
     match attribute {
         Attribute::Simple(simple) => show_simple(shown, simple),
         Attribute::Entry(parameters) => {
-            shown.push_str("ENTRY")?;
+            shown.put("ENTRY");
             if let Some(parameters) = parameters {
-                show_parameters(shown, parameters)?;
+                show_parameters(shown, parameters);
             }
-            Ok(())
         }
         Attribute::Returns(attributes) => {
-            shown.push_str("RETURNS(")?;
-            show_described(shown, attributes)?;
-            shown.push(')')?;
-            Ok(())
+            shown.put("RETURNS(");
+            show_described(shown, attributes);
+            shown.put(")");
         }
     }
 }
 
 /// `X@9` for a name at token 9.
-fn show_names(shown: &mut String, names: &[Identifier]) -> Result<(), AllocError> {
+fn show_names(shown: &mut Shown, names: &[Identifier]) {
     let several = names.len() > 1;
     let mut before = if several { "(" } else { "" };
     for identifier in names {
-        shown.push_str(before)?;
-        show_name(shown, identifier)?;
+        shown.put(before);
+        show_name(shown, identifier);
         before = ",";
     }
     if several {
-        shown.push(')')?;
+        shown.put(")");
     }
-    Ok(())
 }
 
-fn show_item(shown: &mut String, item: &Item) -> Result<(), AllocError> {
+fn show_item(shown: &mut Shown, item: &Item) {
     if let Some(level) = item.level {
-        write!(shown, "{level} ")?;
+        shown.put_number("", u64::from(level));
+        shown.put(" ");
     }
-    show_names(shown, &item.names)?;
+    show_names(shown, &item.names);
     if !item.dimensions.is_empty() {
-        shown.push(' ')?;
+        shown.put(" ");
     }
-    show_dimensions(shown, &item.dimensions)?;
+    show_dimensions(shown, &item.dimensions);
     for attribute in &item.attributes {
-        shown.push(' ')?;
-        show_attribute(shown, attribute)?;
+        shown.put(" ");
+        show_attribute(shown, attribute);
     }
-    Ok(())
 }
 
 /// The items with a comma and a blank between.
-pub fn show_items(alloc: Global, items: &[Item]) -> Result<String, AllocError> {
-    let mut shown = String::new(alloc);
+pub fn show_items(shown: &mut Shown, items: &[Item]) {
     let mut before = "";
     for item in items {
-        shown.push_str(before)?;
-        show_item(&mut shown, item)?;
+        shown.put(before);
+        show_item(shown, item);
         before = ", ";
     }
-    Ok(shown)
 }

@@ -5,45 +5,39 @@ use pli_base::statement::{
     Allocation, Body, Condition, Control, Procedure, ProcedureOption, Range, Statement,
 };
 use pli_base::syntax::{Expression, Identifier};
-use std::alloc::{AllocError, Global};
-use std::fmt::Write;
+use pli_text_tests::Shown;
 
 /// ` WORD expression`, if it is there.
-fn show_optional(
-    shown: &mut String,
-    word: &str,
-    value: &Option<Expression>,
-) -> Result<(), AllocError> {
+fn show_optional(shown: &mut Shown, word: &str, value: &Option<Expression>) {
     if let Some(value) = value {
-        shown.push_str(word)?;
-        show_expression(shown, value)?;
+        shown.put(word);
+        show_expression(shown, value);
     }
-    Ok(())
 }
 
-fn show_range(shown: &mut String, range: &Range) -> Result<(), AllocError> {
+fn show_range(shown: &mut Shown, range: &Range) {
     match range {
         Range::To { to, by } => {
-            shown.push_str(" TO ")?;
-            show_expression(shown, to)?;
+            shown.put(" TO ");
+            show_expression(shown, to);
             show_optional(shown, " BY ", by)
         }
         Range::By { by, to } => {
-            shown.push_str(" BY ")?;
-            show_expression(shown, by)?;
+            shown.put(" BY ");
+            show_expression(shown, by);
             show_optional(shown, " TO ", to)
         }
         Range::Repeat(next) => {
-            shown.push_str(" REPEAT ")?;
+            shown.put(" REPEAT ");
             show_expression(shown, next)
         }
     }
 }
 
-fn show_control(shown: &mut String, control: &Control) -> Result<(), AllocError> {
+fn show_control(shown: &mut Shown, control: &Control) {
     match control {
         Control::While(condition) => {
-            shown.push_str(" WHILE ")?;
+            shown.put(" WHILE ");
             show_expression(shown, condition)
         }
         Control::Iterate {
@@ -53,13 +47,13 @@ fn show_control(shown: &mut String, control: &Control) -> Result<(), AllocError>
             range,
             condition,
         } => {
-            shown.push(' ')?;
-            show_reference(shown, variable)?;
-            let equals = *equals;
-            write!(shown, " ={equals} ")?;
-            show_expression(shown, first)?;
+            shown.put(" ");
+            show_reference(shown, variable);
+            shown.put_number(" =", u64::from(*equals));
+            shown.put(" ");
+            show_expression(shown, first);
             if let Some(range) = range {
-                show_range(shown, range)?;
+                show_range(shown, range);
             }
             show_optional(shown, " WHILE ", condition)
         }
@@ -74,117 +68,106 @@ fn word_of(condition: Condition) -> &'static str {
     }
 }
 
-fn show_allocation(shown: &mut String, allocation: &Allocation) -> Result<(), AllocError> {
-    shown.push(' ')?;
-    show_name(shown, &allocation.name)?;
+fn show_allocation(shown: &mut Shown, allocation: &Allocation) {
+    shown.put(" ");
+    show_name(shown, &allocation.name);
     if let Some(area) = &allocation.area {
-        shown.push_str(" IN ")?;
-        show_reference(shown, area)?;
+        shown.put(" IN ");
+        show_reference(shown, area);
     }
     if let Some(target) = &allocation.target {
-        shown.push_str(" SET ")?;
-        show_reference(shown, target)?;
+        shown.put(" SET ");
+        show_reference(shown, target);
     }
-    Ok(())
 }
 
-fn show_list(shown: &mut String, list: &[Expression]) -> Result<(), AllocError> {
-    shown.push('(')?;
+fn show_list(shown: &mut Shown, list: &[Expression]) {
+    shown.put("(");
     for value in list {
-        show_expression(shown, value)?;
-        shown.push(';')?;
+        show_expression(shown, value);
+        shown.put(";");
     }
-    shown.push(')')?;
-    Ok(())
+    shown.put(")");
 }
 
-fn show_heading(
-    shown: &mut String,
-    parameters: &[Identifier],
-    options: &[ProcedureOption],
-) -> Result<(), AllocError> {
+fn show_heading(shown: &mut Shown, parameters: &[Identifier], options: &[ProcedureOption]) {
     for parameter in parameters {
-        shown.push(' ')?;
-        show_name(shown, parameter)?;
+        shown.put(" ");
+        show_name(shown, parameter);
     }
     for option in options {
-        shown.push_str(match option {
+        shown.put(match option {
             ProcedureOption::Main => " MAIN",
             ProcedureOption::Returns(_) => " RETURNS",
             ProcedureOption::Recursive => " RECURSIVE",
-        })?;
+        });
     }
-    Ok(())
 }
 
 /// A statement about conditions or storage, or what ends the program.
-fn show_effect(shown: &mut String, body: &Body) -> Result<(), AllocError> {
+fn show_effect(shown: &mut Shown, body: &Body) {
     match body {
         Body::Revert(condition) => {
-            shown.push_str("REVERT ")?;
-            shown.push_str(word_of(*condition))
+            shown.put("REVERT ");
+            shown.put(word_of(*condition))
         }
         Body::Signal(condition) => {
-            shown.push_str("SIGNAL ")?;
-            shown.push_str(word_of(*condition))
+            shown.put("SIGNAL ");
+            shown.put(word_of(*condition))
         }
-        Body::Stop => shown.push_str("STOP"),
+        Body::Stop => shown.put("STOP"),
         Body::Allocate(allocations) => {
-            shown.push_str("ALLOCATE")?;
+            shown.put("ALLOCATE");
             for allocation in allocations {
-                show_allocation(shown, allocation)?;
+                show_allocation(shown, allocation);
             }
-            Ok(())
         }
         Body::Free(references) => {
-            shown.push_str("FREE")?;
+            shown.put("FREE");
             for reference in references {
-                shown.push(' ')?;
-                show_reference(shown, reference)?;
+                shown.put(" ");
+                show_reference(shown, reference);
             }
-            Ok(())
         }
-        _ => Ok(()),
+        _ => {},
     }
 }
 
 /// A statement with none inside.
-fn show_simple(shown: &mut String, body: &Body) -> Result<(), AllocError> {
+fn show_simple(shown: &mut Shown, body: &Body) {
     match body {
-        Body::Null => shown.push(';'),
+        Body::Null => shown.put(";"),
         Body::Assign {
             target,
             equals,
             value,
         } => {
-            show_reference(shown, target)?;
-            let equals = *equals;
-            write!(shown, " ={equals} ")?;
+            show_reference(shown, target);
+            shown.put_number(" =", u64::from(*equals));
+            shown.put(" ");
             show_expression(shown, value)
         }
         Body::Declare(items) => {
-            let count = items.len();
-            write!(shown, "DECLARE {count}")?;
-            Ok(())
+            shown.put_number("DECLARE ", items.len() as u64);
         }
         Body::Call { name, arguments } => {
-            shown.push_str("CALL ")?;
-            show_name(shown, name)?;
+            shown.put("CALL ");
+            show_name(shown, name);
             match arguments {
                 Some(list) => show_list(shown, list),
-                None => Ok(()),
+                None => {},
             }
         }
         Body::Goto(label) => {
-            shown.push_str("GOTO ")?;
+            shown.put("GOTO ");
             show_name(shown, label)
         }
         Body::Return(value) => {
-            shown.push_str("RETURN")?;
+            shown.put("RETURN");
             show_optional(shown, " ", value)
         }
         Body::Put { skip, items } => {
-            shown.push_str(if *skip { "PUT SKIP" } else { "PUT" })?;
+            shown.put(if *skip { "PUT SKIP" } else { "PUT" });
             show_list(shown, items)
         }
         _ => show_effect(shown, body),
@@ -193,35 +176,33 @@ fn show_simple(shown: &mut String, body: &Body) -> Result<(), AllocError> {
 
 /// ` {..} 9`: the statements, and the number of their END.
 #[cycle(show_tree)]
-fn show_ended(shown: &mut String, statements: &[Statement], end: u32) -> Result<(), AllocError> {
-    shown.push_str(" {")?;
+fn show_ended(shown: &mut Shown, statements: &[Statement], end: u32) {
+    shown.put(" {");
     for statement in statements {
-        shown.push(' ')?;
-        show_statement(shown, statement)?;
+        shown.put(" ");
+        show_statement(shown, statement);
     }
-    write!(shown, " }}{end}")?;
-    Ok(())
+    shown.put_number(" }", u64::from(end));
 }
 
 /// `F@4 #2 ..`: the name, the number, the heading and what stands inside.
 #[cycle(show_tree)]
-fn show_procedure(shown: &mut String, procedure: &Procedure) -> Result<(), AllocError> {
-    show_name(shown, &procedure.name)?;
-    let number = procedure.number;
-    write!(shown, " #{number}")?;
-    show_heading(shown, &procedure.parameters, &procedure.options)?;
+fn show_procedure(shown: &mut Shown, procedure: &Procedure) {
+    show_name(shown, &procedure.name);
+    shown.put_number(" #", u64::from(procedure.number));
+    show_heading(shown, &procedure.parameters, &procedure.options);
     show_ended(shown, &procedure.statements, procedure.end)
 }
 
 #[cycle(show_tree)]
-fn show_body(shown: &mut String, body: &Body) -> Result<(), AllocError> {
+fn show_body(shown: &mut Shown, body: &Body) {
     match body {
         Body::Procedure(procedure) => {
-            shown.push_str("PROC ")?;
+            shown.put("PROC ");
             show_procedure(shown, procedure)
         }
         Body::Begin { statements, end } => {
-            shown.push_str("BEGIN")?;
+            shown.put("BEGIN");
             show_ended(shown, statements, *end)
         }
         Body::Do {
@@ -229,9 +210,9 @@ fn show_body(shown: &mut String, body: &Body) -> Result<(), AllocError> {
             statements,
             end,
         } => {
-            shown.push_str("DO")?;
+            shown.put("DO");
             if let Some(control) = control {
-                show_control(shown, control)?;
+                show_control(shown, control);
             }
             show_ended(shown, statements, *end)
         }
@@ -240,20 +221,20 @@ fn show_body(shown: &mut String, body: &Body) -> Result<(), AllocError> {
             consequence,
             alternative,
         } => {
-            shown.push_str("IF ")?;
-            show_expression(shown, condition)?;
-            shown.push_str(" THEN ")?;
-            show_statement(shown, consequence)?;
+            shown.put("IF ");
+            show_expression(shown, condition);
+            shown.put(" THEN ");
+            show_statement(shown, consequence);
             if let Some(alternative) = alternative {
-                shown.push_str(" ELSE ")?;
-                show_statement(shown, alternative)?;
+                shown.put(" ELSE ");
+                show_statement(shown, alternative);
             }
-            shown.push_str(" FI")
+            shown.put(" FI")
         }
         Body::On { condition, unit } => {
-            shown.push_str("ON ")?;
-            shown.push_str(word_of(*condition))?;
-            shown.push(' ')?;
+            shown.put("ON ");
+            shown.put(word_of(*condition));
+            shown.put(" ");
             show_statement(shown, unit)
         }
         _ => show_simple(shown, body),
@@ -262,20 +243,18 @@ fn show_body(shown: &mut String, body: &Body) -> Result<(), AllocError> {
 
 /// `L@4: 2@6 ..`: the label, the number, the first token behind the label, and what the statement says.
 #[cycle(show_tree)]
-pub fn show_statement(shown: &mut String, statement: &Statement) -> Result<(), AllocError> {
+pub fn show_statement(shown: &mut Shown, statement: &Statement) {
     if let Some(label) = &statement.label {
-        show_name(shown, label)?;
-        shown.push_str(": ")?;
+        show_name(shown, label);
+        shown.put(": ");
     }
-    let number = statement.number;
-    let at = statement.at;
-    write!(shown, "{number}@{at} ")?;
+    shown.put_number("", u64::from(statement.number));
+    shown.put_number("@", u64::from(statement.at));
+    shown.put(" ");
     show_body(shown, &statement.body)
 }
 
 /// The unit as text.
-pub fn show_unit(alloc: Global, unit: &Procedure) -> Result<String, AllocError> {
-    let mut shown = String::new(alloc);
-    show_procedure(&mut shown, unit)?;
-    Ok(shown)
+pub fn show_unit(shown: &mut Shown, unit: &Procedure) {
+    show_procedure(shown, unit);
 }
