@@ -11,12 +11,12 @@ ghost use Rattle.pli_value.specs.Value.{value_view, Number};
 
 use crate::fault::StoreFault;
 use crate::generation::{Generation, Made};
-use crate::part::Part;
+use crate::part::{Part, scalar_of};
 use crate::place::Place;
 use crate::putting::{put_many, put_one};
-use crate::values::{copy_values, one_value, values_from};
+use crate::values::{copy_values, holds_number, one_value, values_from};
 use pli_code::RunError;
-use pli_map::{Description, far_size, first_scalar, holds, is_scalar, scalars_in};
+use pli_map::{Description, far_size, holds, is_scalar, scalars_in};
 use pli_value::Value;
 use std::alloc::Global;
 
@@ -40,7 +40,7 @@ pub struct Storage<'m> {
 }
 
 impl<'m> Storage<'m> {
-    ghost use Rattle.pli_store.specs.views.StorageView.{place_view, storage_view, made_count, with_storage, SameStorage};
+    ghost use Rattle.pli_store.specs.views.StorageView.{place_view, storage_view, made_count, with_storage, NumberPut, SameStorage};
 
     /// Storage in which nothing lives, before anything was made.
     pub fn new(alloc: Global) -> Storage<'m>
@@ -79,7 +79,7 @@ impl<'m> Storage<'m> {
         let Ok(offset) = u32::try_from(place.offset) else {
             return Err(StoreFault::NoRule);
         };
-        match first_scalar(self.generations[at].description, offset, place.description) {
+        match scalar_of(self.generations[at].description, offset, place.description) {
             Some(first) => Ok(Part { at, first }),
             None => Err(StoreFault::NoRule),
         }
@@ -137,6 +137,23 @@ impl<'m> Storage<'m> {
         }
         put_one(&mut self.generations, part, value)?;
         Ok(())
+    }
+
+    /// A number put at the place of a scalar; where it is not, nothing has changed, and `stored` tells why.
+    #[inline]
+    pub fn put_number(&mut self, place: Place<'_>, number: i64) -> bool
+        ensures { NumberPut result self.old self.new (place_view place.entry) number }
+    {
+        let Ok(part) = self.part(place) else {
+            return false;
+        };
+        if !holds_number(place.description, number) {
+            return false;
+        }
+        match put_one(&mut self.generations, part, Value::Number(number)) {
+            Ok(()) => true,
+            Err(_) => false,
+        }
     }
 
     /// What one place holds put at another of an equal description.

@@ -1,8 +1,12 @@
 //! Values of scalars, one behind the other.
 ghost use Rattle.std.specs.Prelude.{◌≡◌, ◌+◌, ◌-◌, ◌≤◌, ◌<◌, ◌++◌, ◌∷◌, [], map, length, take, drop, IfOk, OnOk, OnErr};
-ghost use Rattle.pli_value.specs.Value.{value_view};
+ghost use Rattle.std.specs.Prelude.{true};
+ghost use Rattle.pli_map.specs.Values.{holds};
+ghost use Rattle.pli_map.specs.views.DescriptionView.{description_view};
+ghost use Rattle.pli_value.specs.Value.{value_view, Number};
 
-use pli_value::Value;
+use pli_map::Description;
+use pli_value::{Value, number};
 use std::alloc::{AllocError, Global};
 
 /// So many of the values, from one on; fewer where there are fewer.
@@ -94,4 +98,17 @@ fn replace_behind(
     values.reserve(new.len())?;
     values.truncate(first);
     values.append(&mut new)
+}
+
+/// Whether a description holds a number.
+#[inline]
+pub fn holds_number(description: &Description, number: i64) -> bool
+    ensures { result ≡ true → holds (description_view description.now) (Number number) ≡ true }
+{
+    match description {
+        Description::FixedBinary(precision) => {
+            *precision <= 63 && number::fit(number, *precision).is_ok()
+        }
+        _ => false,
+    }
 }

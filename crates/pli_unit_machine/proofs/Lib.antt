@@ -1,15 +1,3 @@
-pub mod Beginnings
-pub mod DummyArguments
-pub mod Ends
-pub mod EnteredBlocks
-pub mod GivenPlaces
-pub mod Links
-pub mod MadeVariables
-pub mod Operating
-pub mod Performed
+pub mod Passing
 pub mod RunLemmas
-pub mod SlotPlaces
 pub mod StepsEnd
-pub mod StorageAnswers
-pub mod Walks
-pub mod Worlds

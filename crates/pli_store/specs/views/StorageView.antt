@@ -1,9 +1,10 @@
 -- What storage of the program says.
-use Rattle.std.specs.Prelude.{◌≡◌, ℕ, List, map}
+use Rattle.std.specs.Prelude.{◌≡◌, ℕ, ℤ, Bool, true, false, List, map}
 use Rattle.pli_map.specs.views.DescriptionView.{description_view}
-use Rattle.pli_store.specs.World.{World}
+use Rattle.pli_store.specs.World.{World, Yields, stored}
 use Rattle.pli_store.specs.Storage as plain
 use Rattle.pli_store.specs.views.GenerationView.{generation_view}
+use Rattle.pli_value.specs.Value.{Number}
 use Rattle.pli_store.specs.declared.place.Place.{Place}
 use Rattle.pli_store.specs.declared.storage.Storage.{Storage}
 
@@ -33,3 +34,9 @@ with_storage s w = record w { storage = storage_view s; made = made_count s }
 pub record SameStorage (old new : Storage) : Type 0 where
   pub storage : storage_view new ≡ storage_view old
   pub made : made_count new ≡ made_count old
+
+-- a number is put at a place, or nothing has changed
+abbrev pub NumberPut : Bool → (old new : Storage) → plain.Place → ℤ → Type 0
+NumberPut true old new p x =
+    (w : World) → stored p (Number x) (with_storage old w) ≡ Yields tt (with_storage new w)
+NumberPut false old new p x = SameStorage old new

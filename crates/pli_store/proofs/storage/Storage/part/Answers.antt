@@ -17,12 +17,12 @@ index-requires c =
     let inside = within_store c.args.self.now.generations.items c.args.place.generation c.in-Some.at c.in-Some.ensures in
     omega (arith, inside)
 
-pub returns-in-Some-first_scalar : goal.returns-in-Some-first_scalar
-returns-in-Some-first_scalar c =
+pub returns-in-Some-scalar_of : goal.returns-in-Some-scalar_of
+returns-in-Some-scalar_of c =
     let items = c.args.self.now.generations.items in
     let inside = within_store items c.args.place.generation c.in-Some.at c.in-Some.ensures in
     let here : slice_get items c.in-Some.at ≡ Some c.index.result.now = slice_get_read items (length items) c.in-Some.at c.index.result.now refl inside c.index.ensures in
-    leads_to items (place_view c.args.place) c.in-Some.at c.in-Some.ensures refl c.index.result.now here c.in-Some-first_scalar.first (rw (← c.in-Ok.ensures.1) c.in-Some-first_scalar.ensures)
+    leads_to items (place_view c.args.place) c.in-Some.at c.in-Some.ensures refl c.index.result.now here c.in-Some-scalar_of.first (rw (← c.in-Ok.ensures.1) c.in-Some-scalar_of.ensures)
 
 pub returns-in-None : goal.returns-in-None
 returns-in-None c =

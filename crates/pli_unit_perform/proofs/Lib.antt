@@ -1,0 +1,14 @@
+pub mod Beginnings
+pub mod DummyArguments
+pub mod Ends
+pub mod EnteredBlocks
+pub mod GivenPlaces
+pub mod Links
+pub mod MadeVariables
+pub mod Operating
+pub mod Performed
+pub mod SlotPlaces
+pub mod States
+pub mod StorageAnswers
+pub mod Walks
+pub mod Worlds

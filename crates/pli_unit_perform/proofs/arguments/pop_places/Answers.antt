@@ -1,0 +1,15 @@
+use Rattle.std.proofs.Common.{◌∙◌, ◌-◌, ◌+◌, arith}
+use Rattle.pli_unit_operate.specs.views.OperandView.{stack}
+use Rattle.pli_unit_perform.proofs.GivenPlaces.{none_off, one_off}
+use Rattle.pli_unit_perform.proofs.arguments.pop_places.Goals as goal
+
+pub returns-in_default : goal.returns-in_default
+returns-in_default c =
+    c.loop-taken.invariant
+    ∙ none_off (c.args.count - c.loop-taken._taken) (c.args.count - (c.loop-taken._taken + 1)) _ _ (omega arith) c.in_default.ensures
+
+pub loop-taken-preserved : goal.loop-taken-preserved
+loop-taken-preserved c =
+    c.loop-taken.invariant
+    ∙ one_off (c.args.count - c.loop-taken._taken) (c.args.count - (c.loop-taken._taken + 1)) c.loop-taken.places.items c.push.new.self.items c.in-Some.place
+    (stack c.loop-taken.operands.items) (stack c.pop_place.new.operands.items) (omega arith) c.in-Some.ensures c.in_ok-push.ensures.items

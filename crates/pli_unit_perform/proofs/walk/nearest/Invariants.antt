@@ -1,0 +1,17 @@
+use Rattle.std.proofs.Common.{◌≡◌, ◌≤◌, length, map}
+use Rattle.pli_base.specs.Name.{Name}
+use Rattle.pli_store.specs.Activations.{nearest_of}
+use Rattle.pli_unit_perform.specs.views.MachineView.{activation_view, activations_of}
+use Rattle.pli_unit_perform.proofs.Walks.{first_of}
+use Rattle.pli_unit_perform.proofs.walk.nearest.Given as goal
+
+-- from the height that is reached the nearest is the nearest of all
+abbrev pub invariant-loop-height : goal.invariant-loop-height
+invariant-loop-height l = record {
+  within : l.count ≤ length l.waiting;
+  way : (unit : Name) → nearest_of unit l.block (activations_of unit l.waiting) l.link
+      ≡ nearest_of unit l.block (first_of (map (activation_view unit) l.waiting) l.count) l.height;
+}
+
+abbrev pub decreases-loop-height : goal.decreases-loop-height
+decreases-loop-height l = l.count

@@ -1,0 +1,3 @@
+pub mod Activated
+pub mod Begun
+pub mod Making

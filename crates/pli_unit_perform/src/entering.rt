@@ -1,0 +1,112 @@
+//! Beginnings of activations.
+ghost use Rattle.std.specs.Prelude.{◌≡◌, ◌<◌, ℕ, List, [], ◌∷◌, map, length, replicate, None, IfOk, OnOk};
+ghost use Rattle.pli_base.specs.Name.{Name};
+ghost use Rattle.pli_store.specs.views.StorageView.{place_view};
+ghost use Rattle.pli_machine_step.specs.Machine.{enters, fresh};
+ghost use Rattle.pli_machine_step.specs.Program.{head_of};
+ghost use Rattle.pli_unit_code.specs.CodeTables.{program_of, block_looked_up};
+ghost use Rattle.pli_unit_code.specs.views.CodeView.{code_view, block_view};
+ghost use Rattle.pli_unit_perform.specs.answers.Activated.{HasBegun};
+ghost use Rattle.pli_unit_perform.specs.views.MachineView.{Moves, activation_view, frame_view};
+
+use crate::arguments::hand_over;
+use crate::machine::{Activation, Machine, Stop};
+use crate::storing::stop_at;
+use crate::variables::make_variables;
+use pli_store::Place;
+use pli_unit_code::{Block, Code};
+use pli_value::Value;
+use std::alloc::{AllocError, Global};
+use std::mem;
+
+/// So many temporaries, of which none is set.
+fn unset(alloc: Global, count: u32) -> Result<Vec<Option<Value>>, AllocError>
+    ensures { IfOk result (λ temporaries. temporaries.items ≡ replicate count None) }
+{
+    let mut temporaries = Vec::new(alloc);
+    for _unset in 0..count {
+        temporaries.push(None)?;
+    }
+    Ok(temporaries)
+}
+
+/// The activation of a block before its first instruction and before its variables are made: its first slots are its
+/// arguments, and it owns these generations.
+pub fn activation<'m>(
+    alloc: Global,
+    number: u32,
+    block: &Block,
+    link: u32,
+    slots: Vec<Place<'m>>,
+    owned: Vec<u32>,
+) -> Result<Activation<'m>, AllocError>
+    ensures { IfOk result (λ a. (frame_view a ≡ record { unit = 0; next = block.now.entry; operands = []; locals = fresh block.now.temporaries })
+        × ((unit : Name) → activation_view unit a ≡ record {
+          unit = unit;
+          block = number;
+          statement = block.now.statement;
+          link = link;
+          slots = map place_view slots.entry.items;
+          pending = [];
+          owned = owned.items;
+        })) }
+{
+    let temporaries = unset(alloc, block.temporaries)?;
+    Ok(Activation {
+        block: number,
+        statement: block.statement,
+        link,
+        slots,
+        pending: Vec::new(alloc),
+        owned,
+        next: block.entry as usize,
+        operands: Vec::new(alloc),
+        temporaries,
+        jumps: 0,
+        stamp: 0,
+    })
+}
+
+/// Lets the newest activation wait, with what it hands over, and begins one of a block, whose variables are not made
+/// yet.
+fn begin_block<'m>(
+    alloc: Global,
+    machine: &mut Machine<'m>,
+    number: u32,
+    block: &Block,
+    link: u32,
+    places: Vec<Place<'m>>,
+) -> Result<(), AllocError>
+    requires { length machine.old.waiting.items < 1000 }
+    ensures { OnOk result ((unit : Name) (put : List ℕ) →
+        HasBegun unit put number block.now.statement block.now.entry block.now.temporaries link (map place_view places.entry.items) machine.old machine.new) }
+{
+    let (handed, others) = hand_over(alloc, &machine.here.pending, &places)?;
+    machine.here.pending = others;
+    let new = activation(alloc, number, block, link, places, handed)?;
+    let before = mem::replace(&mut machine.here, new);
+    machine.waiting.push(before)?;
+    Ok(())
+}
+
+/// Enters a block, while the newest activation waits. There is room for one activation more.
+pub fn enter<'m>(
+    alloc: Global,
+    code: &'m Code,
+    machine: &mut Machine<'m>,
+    number: u32,
+    block: &Block,
+    link: u32,
+    places: Vec<Place<'m>>,
+) -> Result<Option<Stop>, AllocError>
+    requires { length machine.old.waiting.items < 1000 }
+    ensures { IfOk result (λ stop. (unit : Name) → Moves unit
+        (λ here frames w. enters (head_of (program_of (code_view code.now) unit) number (block_looked_up (code_view code.now) (block_view block.now)))
+        0 (block_looked_up (code_view code.now) (block_view block.now)) link (map place_view places.entry.items) (here ∷ frames) w) machine.old machine.new stop) }
+{
+    begin_block(alloc, machine, number, block, link, places)?;
+    match make_variables(alloc, code, machine, &block.variables) {
+        Ok(()) => Ok(None),
+        Err(fault) => Ok(Some(stop_at(fault)?)),
+    }
+}

@@ -1,0 +1,93 @@
+//! One instruction.
+ghost use Rattle.std.specs.Prelude.{IfOk};
+ghost use Rattle.pli_unit_code.specs.views.CodeView.{module_view};
+ghost use Rattle.pli_unit_perform.specs.views.MachineView.{Performs};
+
+use crate::calling::{begin, call};
+use crate::instructions::{
+    constant, copy, field, fit, from_one, from_three, from_two, jump, jump_unless, load,
+    make_dummy, store, subscript, within,
+};
+use crate::keeping::{set_temporary, take_temporary};
+use crate::landing::go_to;
+use crate::leaving::{return_from, return_value};
+use crate::machine::{Machine, Stop};
+use crate::printing::{put, skip};
+use crate::slots::{global, local};
+use crate::stepping::{line, step};
+use pli_unit_code::{Instruction, Module};
+use pli_unit_operate::{Infix, Prefix, Ternary};
+use std::alloc::{AllocError, Global};
+
+/// Performs an instruction, and answers why the run stops there, if it does. The next instruction is known already.
+#[inline]
+pub fn perform<'m>(
+    alloc: Global,
+    module: &'m Module,
+    instruction: Instruction,
+    machine: &mut Machine<'m>,
+) -> Result<Option<Stop>, AllocError>
+    ensures { IfOk result (Performs (module_view «module».now) instruction machine.old machine.new) }
+{
+    let code = &module.code;
+    match instruction {
+        Instruction::Step { statement } => Ok(step(machine, statement)),
+        Instruction::Line { statement } => Ok(line(machine, statement)),
+        Instruction::Jump { target } => Ok(jump(machine, target)),
+        Instruction::JumpUnless { target } => Ok(jump_unless(machine, target)),
+        Instruction::Goto { outward, target } => Ok(go_to(machine, outward, target as usize)),
+        Instruction::Call { block, arguments } => call(alloc, code, machine, block, arguments),
+        Instruction::Begin { block } => begin(alloc, code, machine, block),
+        Instruction::Return { outward } => Ok(return_from(machine, outward)),
+        Instruction::ReturnValue { outward } => return_value(alloc, machine, outward),
+        Instruction::Raise(error) => Ok(Some(Stop::Raised(error))),
+        Instruction::Stop => Ok(Some(Stop::Ended)),
+        Instruction::Local { outward, slot } => local(machine, outward, slot as usize),
+        Instruction::Global { number } => global(machine, number as usize),
+        Instruction::Field {
+            offset,
+            description,
+        } => field(code, machine, offset, description),
+        Instruction::Subscript {
+            low,
+            high,
+            multiplier,
+        } => subscript(machine, low, high, multiplier),
+        Instruction::Constant { value } => constant(alloc, code, machine, value),
+        Instruction::Load => load(alloc, machine),
+        Instruction::Store => store(alloc, machine),
+        Instruction::Copy => copy(alloc, machine),
+        Instruction::MakeDummy { template } => make_dummy(alloc, code, machine, template),
+        Instruction::Fit { description } => fit(alloc, code, machine, description),
+        Instruction::ToCharacters { width } => from_one(
+            alloc,
+            machine,
+            Prefix::ToCharacters { width },
+        ),
+        Instruction::FromBits => from_one(alloc, machine, Prefix::FromBits),
+        Instruction::Negate => from_one(alloc, machine, Prefix::Negate),
+        Instruction::Absolute => from_one(alloc, machine, Prefix::Absolute),
+        Instruction::Sign => from_one(alloc, machine, Prefix::Sign),
+        Instruction::Not => from_one(alloc, machine, Prefix::Not),
+        Instruction::LengthOf => from_one(alloc, machine, Prefix::LengthOf),
+        Instruction::Add => from_two(alloc, machine, Infix::Add),
+        Instruction::Subtract => from_two(alloc, machine, Infix::Subtract),
+        Instruction::Multiply => from_two(alloc, machine, Infix::Multiply),
+        Instruction::Modulo => from_two(alloc, machine, Infix::Modulo),
+        Instruction::Greatest => from_two(alloc, machine, Infix::Greatest),
+        Instruction::Least => from_two(alloc, machine, Infix::Least),
+        Instruction::Divide { precision } => from_two(alloc, machine, Infix::Divide { precision }),
+        Instruction::Compare(relation) => from_two(alloc, machine, Infix::Compare(relation)),
+        Instruction::Concatenate => from_two(alloc, machine, Infix::Concatenate),
+        Instruction::And => from_two(alloc, machine, Infix::And),
+        Instruction::Or => from_two(alloc, machine, Infix::Or),
+        Instruction::Index => from_two(alloc, machine, Infix::Index),
+        Instruction::Rest => from_two(alloc, machine, Infix::Rest),
+        Instruction::Substring => from_three(alloc, machine, Ternary::Substring),
+        Instruction::Within => within(alloc, machine),
+        Instruction::Put => put(alloc, machine),
+        Instruction::Skip => skip(machine),
+        Instruction::SetTemporary { number } => set_temporary(alloc, machine, number as usize),
+        Instruction::TakeTemporary { number } => take_temporary(alloc, machine, number as usize),
+    }
+}
