@@ -1,6 +1,8 @@
 pub mod Answered
 pub mod Blocks
+pub mod LevelsLead
 pub mod Lists
+pub mod MembersPassed
 pub mod Names
 pub mod Outward
 pub mod Owns

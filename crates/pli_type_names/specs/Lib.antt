@@ -2,6 +2,7 @@ pub mod BlockEntries
 pub mod BlockFacts
 pub mod Meant
 pub mod Numbered
+pub mod OnWays
 pub mod OwnVariables
 pub mod Seen
 pub mod UnitNaming

@@ -4,12 +4,15 @@
 mod around;
 mod descriptions;
 mod entries;
+mod level;
+mod levels;
 mod meanings;
 mod naming;
 mod own_variable;
 mod own_variables;
 mod parameters;
 mod part;
+mod passed_members;
 mod place;
 mod seen;
 mod unit_symbols;

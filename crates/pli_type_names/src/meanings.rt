@@ -1,11 +1,15 @@
 //! What the symbols of blocks mean, wherever their names are used.
 ghost use Rattle.std.specs.Prelude.{◌≡◌, ◌+◌, IfOk, None, length, map, option_map, get_or};
+ghost use Rattle.std.specs.List.{All};
 ghost use Rattle.pli_resolve.specs.views.SymbolView.{symbol_view, symbol_kind_view};
 ghost use Rattle.pli_type.specs.NamedUnits.{is_static, such_before};
+ghost use Rattle.pli_type_names.specs.OnWays.{IsLevel};
 ghost use Rattle.pli_type_names.specs.Seen.{kept_symbols, kind_kept, on_way};
 ghost use Rattle.pli_type_names.specs.views.MeaningView.{AreMeanings, meant_view};
 ghost use Rattle.pli_type_names.specs.views.VariableView.{own_view};
 
+use crate::level::Level;
+use crate::levels::{part_on_way, variable_at};
 use crate::own_variable::OwnVariable;
 use crate::own_variables::own_variables;
 use crate::parameters::parameter_numbers;
@@ -35,30 +39,24 @@ pub(crate) enum Meant<'a> {
 /// The part of a variable of its own on this way.
 fn meant_on_way<'a>(
     alloc: Global,
-    variable: Option<OwnVariable<'a>>,
-    path: &[usize],
+    variables: &[Option<OwnVariable<'a>>],
+    root: usize,
+    path: &'a [usize],
+    levels: &mut Vec<Level<'a>>,
 ) -> Result<Meant<'a>, AllocError>
-    ensures { IfOk result (λ meant. meant_view meant ≡ on_way (option_map own_view variable.entry) path.now) }
+    requires { All (IsLevel (map (option_map own_view) variables.now)) levels.old.items }
+    ensures meaning { IfOk result (λ meant. meant_view meant ≡ on_way (get_or (map (option_map own_view) variables.now) root None) path.now) }
+    ensures levels { IfOk result (λ _. All (IsLevel (map (option_map own_view) variables.now)) levels.new.items) }
 {
-    let Some(variable) = variable else {
+    let Some(variable) = variable_at(variables, root) else {
         return Ok(Meant::Untyped);
     };
-    let part = StridedPart::whole(alloc, variable.description).into_part(path)?;
+    let part = part_on_way(alloc, variables, root, path, levels)?;
     Ok(Meant::Variable {
         begins: variable.begins,
         is_member: !path.is_empty(),
         part,
     })
-}
-
-/// The variable that is the symbol of this number, if it is one.
-fn variable_at<'a>(variables: &[Option<OwnVariable<'a>>], number: usize) -> Option<OwnVariable<'a>>
-    ensures { option_map own_view result ≡ get_or (map (option_map own_view) variables.now) number None }
-{
-    let Some(variable) = variables.get(number) else {
-        return None;
-    };
-    *variable
 }
 
 /// What the symbol of this number means. Want of memory where it is the procedure of a block whose number is more than
@@ -67,15 +65,16 @@ fn symbol_meaning<'a>(
     alloc: Global,
     variables: &[Option<OwnVariable<'a>>],
     number: usize,
-    kind: SymbolKind<'_>,
+    kind: SymbolKind<'a>,
+    levels: &mut Vec<Level<'a>>,
 ) -> Result<Meant<'a>, AllocError>
-    ensures { IfOk result (λ meant. meant_view meant ≡ kind_kept (map (option_map own_view) variables.now) number (symbol_kind_view kind.entry)) }
+    requires { All (IsLevel (map (option_map own_view) variables.now)) levels.old.items }
+    ensures meaning { IfOk result (λ meant. meant_view meant ≡ kind_kept (map (option_map own_view) variables.now) number (symbol_kind_view kind.entry)) }
+    ensures levels { IfOk result (λ _. All (IsLevel (map (option_map own_view) variables.now)) levels.new.items) }
 {
     match kind {
-        SymbolKind::Variable { .. } => meant_on_way(alloc, variable_at(variables, number), &[]),
-        SymbolKind::Member { root, path, .. } => {
-            meant_on_way(alloc, variable_at(variables, root), path)
-        }
+        SymbolKind::Variable { .. } => meant_on_way(alloc, variables, number, &[], levels),
+        SymbolKind::Member { root, path, .. } => meant_on_way(alloc, variables, root, path, levels),
         SymbolKind::Procedure { block, .. } => {
             let Ok(block) = u32::try_from(block) else {
                 return Err(AllocError);
@@ -100,9 +99,11 @@ fn symbol_meanings<'a>(
         ≡ statics.old + such_before (is_static 31) (map symbol_view symbols.now) (length symbols.now)) }
 {
     let variables = own_variables(alloc, symbols, parameters, statics)?;
+    let mut levels = Vec::new(alloc);
     let mut meanings = Vec::new(alloc);
     for (number, symbol) in symbols.iter().enumerate() {
-        meanings.push(symbol_meaning(alloc, &variables, number, symbol.kind)?)?;
+        let meaning = symbol_meaning(alloc, &variables, number, symbol.kind, &mut levels)?;
+        meanings.push(meaning)?;
     }
     Ok(meanings)
 }

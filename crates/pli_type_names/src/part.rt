@@ -115,11 +115,24 @@ impl<'a> StridedPart<'a> {
         let Some(member) = member_at(element.description, number) else {
             return Ok(None);
         };
-        Ok(Some(StridedPart {
-            offset: element.offset + member.offset,
+        Ok(Some(element.into_placed(member)))
+    }
+
+    /// A member of it that stands there, where it is a structure.
+    pub(crate) fn into_placed(self, member: PlacedPart<'a>) -> StridedPart<'a>
+        requires plain { is_plain 31 (description_view member.description.now) ≡ true }
+        requires within { member.offset + size_of (description_view member.description.now) ≤ size_of (description_view self.description.now) }
+        ensures { part_view result ≡ record {
+          offset = self.entry.offset + member.entry.offset;
+          description = description_view member.entry.description.now;
+          strides = map stride_view self.entry.strides.items;
+        } }
+    {
+        StridedPart {
+            offset: self.offset + member.offset,
             description: member.description,
-            strides: element.strides,
-        }))
+            strides: self.strides,
+        }
     }
 
     /// The part that the members on a way lead to, each counted from 0; none where one is not there.
