@@ -1,7 +1,7 @@
--- Names that were seen, and the faults of parameters.
-use Rattle.std.proofs.Common.{◌≡◌, ℕ, ◌+◌, ◌<◌, Bool, true, false, not, ◌||◌, List, [], ◌∷◌, ◌++◌, map, length, get_or, take, drop, if◌then◌else◌, refl, sym, ap, ◌∙◌, append_assoc}
+-- The names of parameters, and their faults.
+use Rattle.std.proofs.Common.{◌≡◌, ℕ, ◌+◌, ◌<◌, Bool, not, List, [], ◌∷◌, ◌++◌, map, length, get_or, take, drop, sym, ap, ◌∙◌, append_assoc}
 use Rattle.std.specs.List.{list_any}
-use Rattle.std.specs.Cmp.Lexicographic.{same_text}
+use Rattle.std.proofs.Math.Bool.{not-not}
 use Rattle.std.proofs.lemmas.List.{take_more, drop_more, map-append}
 use Rattle.pli_base.specs.Name.{Name}
 use Rattle.pli_base.specs.Words.{same_name}
@@ -12,51 +12,9 @@ use Rattle.pli_declare_tables.specs.Tables.{entries_in}
 use Rattle.pli_declare.specs.Resolution.{at_token, is_item_named, parameter_code, parameter_codes}
 use Rattle.pli_declare.specs.answers.Walks.{code_of_parameter}
 
-any_both : {A : Type 0} (test : A → Bool) (xs ys : List A) → list_any test (xs ++ ys) ≡ (list_any test xs || list_any test ys)
-any_both test [] ys = refl
-any_both test (x ∷ xs) ys = ap (λ b. test x || b) (any_both test xs ys) ∙ by (test x) (list_any test xs) (list_any test ys)
-  where
-    by : (a b c : Bool) → (a || (b || c)) ≡ ((a || b) || c)
-    by true b c = refl
-    by false b c = refl
-
-or_last : (a b : Bool) → (a || (b || false)) ≡ (a || b)
-or_last a true = refl
-or_last a false = refl
-
-or_true : (a : Bool) → (a || true) ≡ true
-or_true true = refl
-or_true false = refl
-
-or_false : (a : Bool) → (a || false) ≡ a
-or_false true = refl
-or_false false = refl
-
+-- under a name that a tactic can name
 pub not_not : (b : Bool) → not (not b) ≡ b
-not_not true = refl
-not_not false = refl
-
--- one more name is seen
-module _ (keys before : List Name) (x : Name) (seen : (i : Name) → list_any (same_name i) keys ≡ list_any (same_name i) before) where
-  behind : (i : Name) → list_any (same_name i) (before ++ x ∷ []) ≡ (list_any (same_name i) keys || same_name i x)
-  behind i = any_both (same_name i) before (x ∷ []) ∙ or_last (list_any (same_name i) before) (same_name i x) ∙ ap (λ b. b || same_name i x) (sym (seen i))
-
-  kept : (i : Name) → list_any (same_name x) keys ≡ true → list_any (same_name i) keys ≡ (list_any (same_name i) keys || same_name i x)
-  kept i there = by (same_name i x) refl
-    where
-      by : (b : Bool) → same_name i x ≡ b → list_any (same_name i) keys ≡ (list_any (same_name i) keys || b)
-      by true e = ap (λ (j : Name). list_any (same_name j) keys) (same_text i x (sym e)) ∙ there ∙ sym (or_true (list_any (same_name i) keys))
-      by false e = sym (or_false (list_any (same_name i) keys))
-
-  pub seen_more : (next : List Name) → next ≡ (if list_any (same_name x) keys then keys else keys ++ x ∷ [])
-      → (i : Name) → list_any (same_name i) next ≡ list_any (same_name i) (before ++ x ∷ [])
-  seen_more next e i = by (list_any (same_name x) keys) refl ∙ sym (behind i)
-    where
-      by : (b : Bool) → list_any (same_name x) keys ≡ b → list_any (same_name i) next ≡ (list_any (same_name i) keys || same_name i x)
-      by true f = ap (list_any (same_name i)) (e ∙ ap (λ b. if b then keys else keys ++ x ∷ []) f) ∙ kept i f
-      by false f =
-          ap (list_any (same_name i)) (e ∙ ap (λ b. if b then keys else keys ++ x ∷ []) f)
-          ∙ any_both (same_name i) keys (x ∷ []) ∙ or_last (list_any (same_name i) keys) (same_name i x)
+not_not = not-not
 
 abbrev pub names_to : List Identifier → ℕ → List Name
 names_to parameters n = map (λ i. i.name) (take n parameters)

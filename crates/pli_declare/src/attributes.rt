@@ -2,37 +2,31 @@
 ghost use Rattle.std.specs.Prelude.{◌≡◌, ◌++◌, map, IfOk, OnOk};
 ghost use Rattle.std.specs.List.{flat_map};
 ghost use Rattle.pli_base.specs.views.DeclarationView.{item_view};
-ghost use Rattle.pli_declare_outline.specs.views.OutlineView.{outline_view, regions_view, marks_view, mark_view};
-ghost use Rattle.pli_declare_tables.specs.answers.Answers.{AreOf};
+ghost use Rattle.pli_declare_outline.specs.views.OutlineView.{outline_view, marks_view, mark_view};
 ghost use Rattle.pli_declare.specs.Resolved.{of_marks, areas_at, locators_at, area_in, locator_in, item_names, named_at};
 
 use crate::block::{Target, Use};
 use crate::heading::options_of;
 use crate::look_up::{Looked, look_up};
 use crate::named::{area_of, locator_of, returned_area};
+use crate::scopes::Scopes;
 use pli_base::Name;
 use pli_base::declaration::Item;
 use pli_base::syntax::Identifier;
-use pli_declare_constructs::Nesting;
-use pli_declare_outline::{Mark, Outline, Placed};
-use pli_declare_tables::Tables;
+use pli_declare_outline::{Mark, Placed};
 use std::alloc::{AllocError, Global};
 
 /// What names in a region mean, at each of these identifiers, behind other uses.
 fn add_uses(
-    outline: &Outline,
-    nesting: &Nesting,
-    tables: &Tables,
+    scopes: &Scopes,
     here: usize,
     names: &[Name],
     identifiers: &[Identifier],
     uses: &mut Vec<Use>,
 ) -> Result<(), AllocError>
-    requires nested { nesting.now ≡ regions_view outline.now.regions.items }
-    requires tabled { AreOf tables.now (outline_view outline.now) }
-    ensures { OnOk result (uses.new.items ≡ uses.old.items ++ flat_map (named_at (outline_view outline.now) here names.now) identifiers.now) }
+    ensures { OnOk result (uses.new.items ≡ uses.old.items ++ flat_map (named_at (outline_view scopes.now.outline.now) here names.now) identifiers.now) }
 {
-    let Looked::Found { block, number } = look_up(outline, nesting, tables, here, names) else {
+    let Looked::Found { block, number } = look_up(scopes, here, names) else {
         return Ok(());
     };
     for identifier in identifiers {
@@ -46,59 +40,35 @@ fn add_uses(
 
 /// The areas of the names of items, behind others.
 fn add_item_areas(
-    outline: &Outline,
-    nesting: &Nesting,
-    tables: &Tables,
+    scopes: &Scopes,
     here: usize,
     items: &[Item],
     areas: &mut Vec<Use>,
 ) -> Result<(), AllocError>
-    requires nested { nesting.now ≡ regions_view outline.now.regions.items }
-    requires tabled { AreOf tables.now (outline_view outline.now) }
-    ensures { OnOk result (areas.new.items ≡ areas.old.items ++ flat_map (item_names (outline_view outline.now) here area_in) (map item_view items.now)) }
+    ensures { OnOk result (areas.new.items ≡ areas.old.items ++ flat_map (item_names (outline_view scopes.now.outline.now) here area_in) (map item_view items.now)) }
 {
     for item in items {
         let area = area_of(&item.attributes);
-        add_uses(
-            outline,
-            nesting,
-            tables,
-            here,
-            area.as_slice(),
-            &item.names,
-            areas,
-        )?;
+        add_uses(scopes, here, area.as_slice(), &item.names, areas)?;
     }
     Ok(())
 }
 
 /// The areas of the names that a mark declares, behind others.
 fn add_areas(
-    outline: &Outline,
-    nesting: &Nesting,
-    tables: &Tables,
+    scopes: &Scopes,
     here: usize,
     mark: &Mark,
     areas: &mut Vec<Use>,
 ) -> Result<(), AllocError>
-    requires nested { nesting.now ≡ regions_view outline.now.regions.items }
-    requires tabled { AreOf tables.now (outline_view outline.now) }
-    ensures { OnOk result (areas.new.items ≡ areas.old.items ++ areas_at (outline_view outline.now) here (mark_view mark.now)) }
+    ensures { OnOk result (areas.new.items ≡ areas.old.items ++ areas_at (outline_view scopes.now.outline.now) here (mark_view mark.now)) }
 {
     match mark {
-        Mark::Declared(items) => add_item_areas(outline, nesting, tables, here, items, areas),
+        Mark::Declared(items) => add_item_areas(scopes, here, items, areas),
         Mark::Entered { procedure, .. } => {
             let area = returned_area(options_of(procedure));
             let names = area.as_slice();
-            add_uses(
-                outline,
-                nesting,
-                tables,
-                here,
-                names,
-                &[procedure.name],
-                areas,
-            )
+            add_uses(scopes, here, names, &[procedure.name], areas)
         }
         Mark::Labelled(_) | Mark::Used(_) | Mark::Jumped(_) => Ok(()),
     }
@@ -107,64 +77,45 @@ fn add_areas(
 /// The area that each name declared by marks has in its OFFSET, or in that of its RETURNS.
 pub(crate) fn areas(
     alloc: Global,
-    outline: &Outline,
-    nesting: &Nesting,
-    tables: &Tables,
+    scopes: &Scopes,
     marks: &[Placed],
 ) -> Result<Vec<Use>, AllocError>
-    requires nested { nesting.now ≡ regions_view outline.now.regions.items }
-    requires tabled { AreOf tables.now (outline_view outline.now) }
-    ensures { IfOk result (λ uses. uses.items ≡ of_marks (areas_at (outline_view outline.now)) (marks_view marks.now)) }
+    ensures { IfOk result (λ uses. uses.items ≡ of_marks (areas_at (outline_view scopes.now.outline.now)) (marks_view marks.now)) }
 {
     let mut areas = Vec::new(alloc);
     for placed in marks {
-        add_areas(
-            outline,
-            nesting,
-            tables,
-            placed.region,
-            &placed.mark,
-            &mut areas,
-        )?;
+        add_areas(scopes, placed.region, &placed.mark, &mut areas)?;
     }
     Ok(areas)
 }
 
 /// The locators of the names of items, behind others.
 fn add_item_locators(
-    outline: &Outline,
-    nesting: &Nesting,
-    tables: &Tables,
+    scopes: &Scopes,
     here: usize,
     items: &[Item],
     locators: &mut Vec<Use>,
 ) -> Result<(), AllocError>
-    requires nested { nesting.now ≡ regions_view outline.now.regions.items }
-    requires tabled { AreOf tables.now (outline_view outline.now) }
-    ensures { OnOk result (locators.new.items ≡ locators.old.items ++ flat_map (item_names (outline_view outline.now) here locator_in) (map item_view items.now)) }
+    ensures { OnOk result (locators.new.items ≡ locators.old.items ++ flat_map (item_names (outline_view scopes.now.outline.now) here locator_in) (map item_view items.now)) }
 {
     for item in items {
         let names = locator_of(&item.attributes);
-        add_uses(outline, nesting, tables, here, names, &item.names, locators)?;
+        add_uses(scopes, here, names, &item.names, locators)?;
     }
     Ok(())
 }
 
 /// The locators of the names that a mark declares, behind others.
 fn add_locators(
-    outline: &Outline,
-    nesting: &Nesting,
-    tables: &Tables,
+    scopes: &Scopes,
     here: usize,
     mark: &Mark,
     locators: &mut Vec<Use>,
 ) -> Result<(), AllocError>
-    requires nested { nesting.now ≡ regions_view outline.now.regions.items }
-    requires tabled { AreOf tables.now (outline_view outline.now) }
-    ensures { OnOk result (locators.new.items ≡ locators.old.items ++ locators_at (outline_view outline.now) here (mark_view mark.now)) }
+    ensures { OnOk result (locators.new.items ≡ locators.old.items ++ locators_at (outline_view scopes.now.outline.now) here (mark_view mark.now)) }
 {
     match mark {
-        Mark::Declared(items) => add_item_locators(outline, nesting, tables, here, items, locators),
+        Mark::Declared(items) => add_item_locators(scopes, here, items, locators),
         Mark::Entered { .. } | Mark::Labelled(_) | Mark::Used(_) | Mark::Jumped(_) => Ok(()),
     }
 }
@@ -172,19 +123,15 @@ fn add_locators(
 /// The locator that each name declared by marks has in its BASED.
 pub(crate) fn locators(
     alloc: Global,
-    outline: &Outline,
-    nesting: &Nesting,
-    tables: &Tables,
+    scopes: &Scopes,
     marks: &[Placed],
 ) -> Result<Vec<Use>, AllocError>
-    requires nested { nesting.now ≡ regions_view outline.now.regions.items }
-    requires tabled { AreOf tables.now (outline_view outline.now) }
-    ensures { IfOk result (λ uses. uses.items ≡ of_marks (locators_at (outline_view outline.now)) (marks_view marks.now)) }
+    ensures { IfOk result (λ uses. uses.items ≡ of_marks (locators_at (outline_view scopes.now.outline.now)) (marks_view marks.now)) }
 {
     let mut locators = Vec::new(alloc);
     for placed in marks {
         let here = placed.region;
-        add_locators(outline, nesting, tables, here, &placed.mark, &mut locators)?;
+        add_locators(scopes, here, &placed.mark, &mut locators)?;
     }
     Ok(locators)
 }

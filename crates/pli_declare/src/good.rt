@@ -17,10 +17,10 @@ impl Known<'_> {
     /// What is known of what names in a region mean, if a block of the unit declares it.
     #[tactic(auto, using(crate::proofs::Goodness::found_fits, crate::proofs::Goodness::several_fit, crate::proofs::Goodness::nothing_fits, crate::proofs::Goodness::unit_is_no_locator, crate::proofs::Goodness::unit_is_no_area))]
     fn meant(&self, region: usize, names: &[Name]) -> Option<Judged>
-        ensures locator { unwrap_or (option_map (λ j. j.is_locator) result) false ≡ is_good (outline_view self.now.outline.now) region is_locator names.now }
-        ensures area { unwrap_or (option_map (λ j. j.is_area) result) false ≡ is_good (outline_view self.now.outline.now) region is_area names.now }
+        ensures locator { unwrap_or (option_map (λ j. j.is_locator) result) false ≡ is_good (outline_view self.now.scopes.outline.now) region is_locator names.now }
+        ensures area { unwrap_or (option_map (λ j. j.is_area) result) false ≡ is_good (outline_view self.now.scopes.outline.now) region is_area names.now }
     {
-        match look_up(self.outline, self.nesting, self.tables, region, names) {
+        match look_up(&self.scopes, region, names) {
             Looked::Found {
                 block: Some(block),
                 number,
@@ -31,7 +31,7 @@ impl Known<'_> {
 
     /// Whether names mean a locator that BASED may name.
     fn means_locator(&self, block: usize, names: &[Name]) -> bool
-        ensures { result ≡ is_good (outline_view self.now.outline.now) block is_locator names.now }
+        ensures { result ≡ is_good (outline_view self.now.scopes.outline.now) block is_locator names.now }
     {
         match self.meant(block, names) {
             Some(item) => item.is_locator,
@@ -41,7 +41,7 @@ impl Known<'_> {
 
     /// Whether names mean an area that OFFSET may name.
     fn means_area(&self, block: usize, names: &[Name]) -> bool
-        ensures { result ≡ is_good (outline_view self.now.outline.now) block is_area names.now }
+        ensures { result ≡ is_good (outline_view self.now.scopes.outline.now) block is_area names.now }
     {
         match self.meant(block, names) {
             Some(item) => item.is_area,
@@ -51,7 +51,7 @@ impl Known<'_> {
 
     /// Whether the name in OFFSET or the names in BASED are good.
     fn simple_is_good(&self, block: usize, attribute: &SimpleAttribute) -> bool
-        ensures { result ≡ simple_is_good (outline_view self.now.outline.now) block (simple_view attribute.now) }
+        ensures { result ≡ simple_is_good (outline_view self.now.scopes.outline.now) block (simple_view attribute.now) }
     {
         match attribute {
             SimpleAttribute::Offset(Some(name)) => self.means_area(block, &[*name]),
@@ -62,7 +62,7 @@ impl Known<'_> {
 
     /// Whether the names in an attribute of a description are good.
     fn described_is_good(&self, block: usize, attribute: &DescribedAttribute) -> bool
-        ensures { result ≡ described_is_good (outline_view self.now.outline.now) block (described_view attribute.now) }
+        ensures { result ≡ described_is_good (outline_view self.now.scopes.outline.now) block (described_view attribute.now) }
     {
         match attribute {
             DescribedAttribute::Simple(attribute) => self.simple_is_good(block, attribute),
@@ -72,7 +72,7 @@ impl Known<'_> {
 
     /// Whether the names in the attributes of a description are good.
     pub(crate) fn described_are_good(&self, block: usize, attributes: &[DescribedAttribute]) -> bool
-        ensures { result ≡ list_all (described_is_good (outline_view self.now.outline.now) block) (map described_view attributes.now) }
+        ensures { result ≡ list_all (described_is_good (outline_view self.now.scopes.outline.now) block) (map described_view attributes.now) }
     {
         for attribute in attributes {
             if !self.described_is_good(block, attribute) {
@@ -84,7 +84,7 @@ impl Known<'_> {
 
     /// Whether the names in descriptions of parameters are good.
     fn descriptions_are_good(&self, block: usize, descriptions: &[ParameterDescription]) -> bool
-        ensures { result ≡ list_all (λ d. list_all (described_is_good (outline_view self.now.outline.now) block) d.attributes) (map parameter_view descriptions.now) }
+        ensures { result ≡ list_all (λ d. list_all (described_is_good (outline_view self.now.scopes.outline.now) block) d.attributes) (map parameter_view descriptions.now) }
     {
         for description in descriptions {
             if !self.described_are_good(block, description.attributes.as_slice()) {
@@ -96,7 +96,7 @@ impl Known<'_> {
 
     /// Whether the names in an attribute of an item are good.
     fn attribute_is_good(&self, block: usize, attribute: &Attribute) -> bool
-        ensures { result ≡ attribute_is_good (outline_view self.now.outline.now) block (attribute_view attribute.now) }
+        ensures { result ≡ attribute_is_good (outline_view self.now.scopes.outline.now) block (attribute_view attribute.now) }
     {
         match attribute {
             Attribute::Simple(attribute) => self.simple_is_good(block, attribute),
@@ -112,7 +112,7 @@ impl Known<'_> {
 
     /// Whether the names in the attributes of an item are good.
     pub(crate) fn attributes_are_good(&self, block: usize, attributes: &[Attribute]) -> bool
-        ensures { result ≡ list_all (attribute_is_good (outline_view self.now.outline.now) block) (map attribute_view attributes.now) }
+        ensures { result ≡ list_all (attribute_is_good (outline_view self.now.scopes.outline.now) block) (map attribute_view attributes.now) }
     {
         for attribute in attributes {
             if !self.attribute_is_good(block, attribute) {

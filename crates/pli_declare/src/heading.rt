@@ -122,7 +122,7 @@ pub(crate) fn returned_name_nothing(procedure: &Procedure) -> bool
 impl Known<'_> {
     /// Whether the names of areas in the RETURNS of a procedure are good, where a block declares it.
     pub(crate) fn returned_are_good(&self, block: usize, procedure: &Procedure) -> bool
-        ensures { result ≡ returned_are (list_all (described_is_good (outline_view self.now.outline.now) block)) (unit_view procedure.now).heading }
+        ensures { result ≡ returned_are (list_all (described_is_good (outline_view self.now.scopes.outline.now) block)) (unit_view procedure.now).heading }
     {
         for option in options_of(procedure) {
             if let ProcedureOption::Returns(attributes) = option {

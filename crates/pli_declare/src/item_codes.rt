@@ -26,8 +26,8 @@ impl Known<'_> {
         entity: Entity,
         is_good: bool,
     ) -> Option<Code>
-        requires { is_good ≡ entity_is_good (outline_view self.now.outline.now) block (entity_view entity) }
-        ensures { result ≡ least_of (entity_codes (outline_view self.now.outline.now) block judged.code judged.is_too_large (entity_view entity.entry)) }
+        requires { is_good ≡ entity_is_good (outline_view self.now.scopes.outline.now) block (entity_view entity) }
+        ensures { result ≡ least_of (entity_codes (outline_view self.now.scopes.outline.now) block judged.code judged.is_too_large (entity_view entity.entry)) }
     {
         match entity {
             Entity::Item {
@@ -46,11 +46,11 @@ impl Known<'_> {
 
     /// The least code of the name of this number in a block, where the names in its attributes are known to be good or not.
     fn item_code(&self, block: usize, number: usize, is_good: bool) -> Option<Code>
-        requires block { block < length self.now.outline.now.regions.items + 1 }
-        requires number { number < length (entries_in (outline_view self.now.outline.now) block) }
-        requires good { let o = outline_view self.now.outline.now in
+        requires block { block < length self.now.scopes.outline.now.regions.items + 1 }
+        requires number { number < length (entries_in (outline_view self.now.scopes.outline.now) block) }
+        requires good { let o = outline_view self.now.scopes.outline.now in
             is_good ≡ entity_is_good o block (get_or (entries_in o block) number no_entry).entity }
-        ensures { result ≡ item_code (outline_view self.now.outline.now) block number }
+        ensures { result ≡ item_code (outline_view self.now.scopes.outline.now) block number }
     {
         let table = self.table(block);
         let entity = table.entries[number].entity;
@@ -69,10 +69,10 @@ impl Known<'_> {
         block: usize,
         good: &[bool],
     ) -> Result<Vec<Option<Code>>, AllocError>
-        requires block { block < length self.now.outline.now.regions.items + 1 }
-        requires good { good.now ≡ block_goodness (outline_view self.now.outline.now) block }
+        requires block { block < length self.now.scopes.outline.now.regions.items + 1 }
+        requires good { good.now ≡ block_goodness (outline_view self.now.scopes.outline.now) block }
         ensures { IfOk result (λ codes. codes.items
-            ≡ map (item_code (outline_view self.now.outline.now) block) (numbers_from 0 (length (entries_in (outline_view self.now.outline.now) block)))) }
+            ≡ map (item_code (outline_view self.now.scopes.outline.now) block) (numbers_from 0 (length (entries_in (outline_view self.now.scopes.outline.now) block)))) }
     {
         let count = self.table(block).entries.len();
         let mut codes = Vec::new(alloc);

@@ -19,6 +19,7 @@ mod parameters;
 mod references;
 mod resolved;
 mod resolving;
+mod scopes;
 mod told;
 mod unit;
 mod uses;

@@ -1,14 +1,14 @@
 //! What names mean where they stand.
 ghost use Rattle.std.specs.Prelude.{◌≡◌};
-ghost use Rattle.pli_declare_outline.specs.views.OutlineView.{outline_view, regions_view};
+ghost use Rattle.pli_declare_outline.specs.views.OutlineView.{outline_view};
 ghost use Rattle.pli_declare_scopes.specs.Scopes.{found_in};
 ghost use Rattle.pli_declare_tables.specs.answers.Answers.{AreOf};
 ghost use Rattle.pli_declare_tables.specs.views.TableView.{entries_view};
 ghost use Rattle.pli_declare.specs.answers.Answers.{IsLookedUp, IsWithin, entries_at};
 ghost use Rattle.pli_declare.specs.answers.Looking.{looked_there};
 
+use crate::scopes::Scopes;
 use pli_base::Name;
-use pli_declare_constructs::Nesting;
 use pli_declare_outline::Outline;
 use pli_declare_scopes::{Block, Found};
 use pli_declare_tables::{Table, Tables};
@@ -37,30 +37,22 @@ fn decided(items: &Block, names: &[Name], block: Option<usize>) -> Looked
 
 /// What names that stand in a region mean: the innermost block round it that declares the first of them decides (X3.74), and at
 /// last the outermost, which declares the unit's own name.
-pub(crate) fn look_up(
-    outline: &Outline,
-    nesting: &Nesting,
-    tables: &Tables,
-    region: usize,
-    names: &[Name],
-) -> Looked
-    requires nested { nesting.now ≡ regions_view outline.now.regions.items }
-    requires tabled { AreOf tables.now (outline_view outline.now) }
-    ensures { IsLookedUp result (outline_view outline.now) region names.now }
+pub(crate) fn look_up(scopes: &Scopes, region: usize, names: &[Name]) -> Looked
+    ensures { IsLookedUp result (outline_view scopes.now.outline.now) region names.now }
 {
     let Some(first) = names.first() else {
         return Looked::NotDeclared;
     };
-    let mut here = nesting.innermost(region);
+    let mut here = scopes.nesting.innermost(region);
     while let Some(block) = here {
-        let items = &tables.blocks[block].block;
+        let items = &scopes.tables.blocks[block].block;
         if items.declares(*first) {
             return decided(items, names, here);
         }
-        here = nesting.outward(block);
+        here = scopes.nesting.outward(block);
     }
-    if tables.unit.block.declares(*first) {
-        return decided(&tables.unit.block, names, None);
+    if scopes.tables.unit.block.declares(*first) {
+        return decided(&scopes.tables.unit.block, names, None);
     }
     Looked::NotDeclared
 }

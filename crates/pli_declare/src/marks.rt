@@ -6,20 +6,19 @@ ghost use Rattle.pli_declare_outline.specs.Outlines.{Used};
 ghost use Rattle.pli_declare_outline.specs.views.OutlineView.{mark_view, marks_view, regions_view, outline_view};
 ghost use Rattle.pli_declare_constructs.specs.Regions.{block_of};
 ghost use Rattle.pli_declare_tables.specs.Tables.{inner_marks};
-ghost use Rattle.pli_declare_tables.specs.answers.Answers.{AreOf};
 ghost use Rattle.pli_declare.specs.Resolution.{parameter_faults, used_faults, faults_after};
 ghost use Rattle.pli_declare.specs.answers.Walks.{AreCodes, declared_names, name_faults};
 
 use crate::jumps::jump_code;
 use crate::parameters::tell_parameters;
 use crate::references::reference_code;
+use crate::scopes::Scopes;
 use crate::told::tell;
 use pli_base::declaration::Item;
 use pli_base::syntax::Identifier;
 use pli_base::{Code, Fault};
 use pli_declare_constructs::Nesting;
 use pli_declare_outline::{Mark, Outline, Placed};
-use pli_declare_tables::Tables;
 use std::alloc::{AllocError, Global};
 
 /// The faults of names that have these numbers in a block of these codes, from the first on. Gives the number behind them.
@@ -81,36 +80,28 @@ fn tell_declared(
 /// The fault of a reference, at its first name.
 fn tell_reference(
     alloc: Global,
-    outline: &Outline,
-    nesting: &Nesting,
-    tables: &Tables,
+    scopes: &Scopes,
     here: usize,
     names: &[Identifier],
     faults: &mut Vec<Fault>,
 ) -> Result<(), AllocError>
-    requires nested { nesting.now ≡ regions_view outline.now.regions.items }
-    requires tabled { AreOf tables.now (outline_view outline.now) }
-    ensures { OnOk result (faults.new.items ≡ faults.old.items ++ used_faults (outline_view outline.now) here (Used names.now)) }
+    ensures { OnOk result (faults.new.items ≡ faults.old.items ++ used_faults (outline_view scopes.now.outline.now) here (Used names.now)) }
 {
     let Some(first) = names.first() else {
         return Ok(());
     };
-    let code = reference_code(alloc, outline, nesting, tables, here, names)?;
+    let code = reference_code(alloc, scopes, here, names)?;
     tell(faults, first.at, code)
 }
 
 /// The faults of the parameters of a mark, and of what it uses.
 fn tell_used(
     alloc: Global,
-    outline: &Outline,
-    nesting: &Nesting,
-    tables: &Tables,
+    scopes: &Scopes,
     placed: &Placed,
     faults: &mut Vec<Fault>,
 ) -> Result<(), AllocError>
-    requires nested { nesting.now ≡ regions_view outline.now.regions.items }
-    requires tabled { AreOf tables.now (outline_view outline.now) }
-    ensures { OnOk result (let o = outline_view outline.now in let mark = mark_view placed.now.mark in
+    ensures { OnOk result (let o = outline_view scopes.now.outline.now in let mark = mark_view placed.now.mark in
         faults.new.items ≡ faults.old.items ++ parameter_faults o mark ++ used_faults o placed.now.region mark) }
 {
     let here = placed.region;
@@ -119,16 +110,16 @@ fn tell_used(
         Mark::Entered { procedure, region } => {
             tell_parameters(
                 alloc,
-                outline,
-                tables,
+                scopes.outline,
+                scopes.tables,
                 *region,
                 &procedure.parameters,
                 faults,
             )
         }
-        Mark::Used(names) => tell_reference(alloc, outline, nesting, tables, here, names, faults),
+        Mark::Used(names) => tell_reference(alloc, scopes, here, names, faults),
         Mark::Jumped(label) => {
-            let code = jump_code(outline, nesting, tables, here, label.name);
+            let code = jump_code(scopes, here, label.name);
             tell(faults, label.at, code)
         }
     }
@@ -148,24 +139,20 @@ pub(crate) fn block_of(outline: &Outline, nesting: &Nesting, region: usize) -> u
 /// The faults of the marks behind the first, in their order, where codes are those of each name of each block.
 pub(crate) fn tell_marks(
     alloc: Global,
-    outline: &Outline,
-    nesting: &Nesting,
-    tables: &Tables,
+    scopes: &Scopes,
     codes: &[Vec<Option<Code>>],
     marks: &[Placed],
     faults: &mut Vec<Fault>,
 ) -> Result<(), AllocError>
-    requires nested { nesting.now ≡ regions_view outline.now.regions.items }
-    requires tabled { AreOf tables.now (outline_view outline.now) }
-    requires codes { AreCodes (map (λ list. list.items) codes.now) (outline_view outline.now) }
-    requires marks { marks_view marks.now ≡ inner_marks (outline_view outline.now).marks }
-    ensures { OnOk result (faults.new.items ≡ faults.old.items ++ faults_after (outline_view outline.now) [] (marks_view marks.now)) }
+    requires codes { AreCodes (map (λ list. list.items) codes.now) (outline_view scopes.now.outline.now) }
+    requires marks { marks_view marks.now ≡ inner_marks (outline_view scopes.now.outline.now).marks }
+    ensures { OnOk result (faults.new.items ≡ faults.old.items ++ faults_after (outline_view scopes.now.outline.now) [] (marks_view marks.now)) }
 {
     let mut next = Vec::from_elem(alloc, 0, codes.len())?;
     for placed in marks {
-        let block = block_of(outline, nesting, placed.region);
+        let block = block_of(scopes.outline, scopes.nesting, placed.region);
         next[block] = tell_declared(&codes[block], next[block], &placed.mark, faults)?;
-        tell_used(alloc, outline, nesting, tables, placed, faults)?;
+        tell_used(alloc, scopes, placed, faults)?;
     }
     Ok(())
 }

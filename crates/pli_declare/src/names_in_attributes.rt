@@ -46,7 +46,7 @@ impl Known<'_> {
         items: &[Item],
         answers: &mut Vec<bool>,
     ) -> Result<(), AllocError>
-        ensures { OnOk result (answers.new.items ≡ answers.old.items ++ flat_map (item_goodness (outline_view self.now.outline.now) block) (map item_view items.now)) }
+        ensures { OnOk result (answers.new.items ≡ answers.old.items ++ flat_map (item_goodness (outline_view self.now.scopes.outline.now) block) (map item_view items.now)) }
     {
         for item in items {
             let is_good = self.attributes_are_good(block, item.attributes.as_slice());
@@ -62,7 +62,7 @@ impl Known<'_> {
         mark: &Mark,
         answers: &mut Vec<bool>,
     ) -> Result<(), AllocError>
-        ensures { OnOk result (answers.new.items ≡ answers.old.items ++ mark_goodness (outline_view self.now.outline.now) block (mark_view mark.now)) }
+        ensures { OnOk result (answers.new.items ≡ answers.old.items ++ mark_goodness (outline_view self.now.scopes.outline.now) block (mark_view mark.now)) }
     {
         match mark {
             Mark::Declared(items) => self.append_items(block, items, answers)?,
@@ -85,7 +85,7 @@ impl Known<'_> {
         ensures { OnOk result (
             let before = map (λ list. list.items) all.old.items in
             map (λ list. list.items) all.new.items
-            ≡ slice_set before block (get_or before block [] ++ mark_goodness (outline_view self.now.outline.now) block (mark_view mark.now))) }
+            ≡ slice_set before block (get_or before block [] ++ mark_goodness (outline_view self.now.scopes.outline.now) block (mark_view mark.now))) }
     {
         let Some(answers) = all.get_mut(block) else {
             return Ok(());
@@ -95,14 +95,14 @@ impl Known<'_> {
 
     /// For each name of each block whether the names of locators and areas in its attributes are good.
     pub(crate) fn goodness(&self, alloc: Global) -> Result<Vec<Vec<bool>>, AllocError>
-        ensures { IfOk result (λ all. AreGoodness (map (λ list. list.items) all.items) (outline_view self.now.outline.now)) }
+        ensures { IfOk result (λ all. AreGoodness (map (λ list. list.items) all.items) (outline_view self.now.scopes.outline.now)) }
     {
-        let mut all = no_answers(alloc, self.outline.regions.len() + 1)?;
-        let Some((_, marks)) = self.outline.marks.split_first() else {
+        let mut all = no_answers(alloc, self.scopes.outline.regions.len() + 1)?;
+        let Some((_, marks)) = self.scopes.outline.marks.split_first() else {
             return Ok(all);
         };
         for placed in marks {
-            let block = block_of(self.outline, self.nesting, placed.region);
+            let block = block_of(self.scopes.outline, self.scopes.nesting, placed.region);
             self.append_at(&mut all, block, &placed.mark)?;
         }
         Ok(all)

@@ -1,17 +1,14 @@
 //! The faults of references.
 ghost use Rattle.std.specs.Prelude.{◌≡◌, IfOk};
-ghost use Rattle.pli_declare_outline.specs.views.OutlineView.{outline_view, regions_view};
+ghost use Rattle.pli_declare_outline.specs.views.OutlineView.{outline_view};
 ghost use Rattle.pli_declare_scopes.specs.Scopes.{meant};
 ghost use Rattle.pli_declare_tables.specs.Tables.{scope_of};
-ghost use Rattle.pli_declare_tables.specs.answers.Answers.{AreOf};
 ghost use Rattle.pli_declare.specs.Resolution.{is_function, names_of, reference_code};
 
 use crate::look_up::{Looked, look_up};
+use crate::scopes::Scopes;
 use pli_base::syntax::Identifier;
 use pli_base::{Code, Name};
-use pli_declare_constructs::Nesting;
-use pli_declare_outline::Outline;
-use pli_declare_tables::Tables;
 use pli_declare_variables::is_built_in;
 use std::alloc::{AllocError, Global};
 
@@ -38,18 +35,14 @@ pub(crate) fn names_of(alloc: Global, identifiers: &[Identifier]) -> Result<Vec<
 /// The code of a reference in a region, by the names that are joined in it.
 pub(crate) fn reference_code(
     alloc: Global,
-    outline: &Outline,
-    nesting: &Nesting,
-    tables: &Tables,
+    scopes: &Scopes,
     here: usize,
     names: &[Identifier],
 ) -> Result<Option<Code>, AllocError>
-    requires nested { nesting.now ≡ regions_view outline.now.regions.items }
-    requires tabled { AreOf tables.now (outline_view outline.now) }
-    ensures { IfOk result (λ code. code ≡ reference_code names.now (meant (scope_of (outline_view outline.now) here) (names_of names.now))) }
+    ensures { IfOk result (λ code. code ≡ reference_code names.now (meant (scope_of (outline_view scopes.now.outline.now) here) (names_of names.now))) }
 {
     let joined = names_of(alloc, names)?;
-    Ok(match look_up(outline, nesting, tables, here, &joined) {
+    Ok(match look_up(scopes, here, &joined) {
         Looked::Found { .. } => None,
         Looked::Ambiguous => Some(Code::Ambiguous),
         Looked::NotDeclared if is_function(names) => None,

@@ -19,6 +19,7 @@ use crate::block::Block;
 use crate::meanings::meanings;
 use crate::parameters::parameters;
 use crate::resolved::Resolved;
+use crate::scopes::Scopes;
 use crate::unit::faults_told;
 use crate::uses::uses;
 use pli_base::statement::Procedure;
@@ -111,25 +112,21 @@ fn outermost(
 fn resolved<'a>(
     alloc: Global,
     unit: &'a Procedure,
-    outline: &Outline,
-    nesting: &Nesting,
-    tables: &Tables,
+    scopes: &Scopes,
 ) -> Result<Resolved<'a>, AllocError>
-    requires outlined { outline_view outline.now ≡ outline_of (unit_view unit.now) }
-    requires nested { nesting.now ≡ regions_view outline.now.regions.items }
-    requires tabled { AreOf tables.now (outline_view outline.now) }
-    requires faultless { outline_faults (outline_view outline.now) (outline_view outline.now).marks ≡ [] }
+    requires outlined { outline_view scopes.now.outline.now ≡ outline_of (unit_view unit.now) }
+    requires faultless { outline_faults (outline_view scopes.now.outline.now) (outline_view scopes.now.outline.now).marks ≡ [] }
     ensures { IfOk result (λ r. r ≡ unit.now) }
 {
-    let marks = marks_behind(outline);
-    let uses = uses(alloc, outline, nesting, tables, marks)?;
-    let areas = areas(alloc, outline, nesting, tables, marks)?;
-    let locators = locators(alloc, outline, nesting, tables, marks)?;
+    let marks = marks_behind(scopes.outline);
+    let uses = uses(alloc, scopes, marks)?;
+    let areas = areas(alloc, scopes, marks)?;
+    let locators = locators(alloc, scopes, marks)?;
     Ok(Resolved {
         unit,
-        regions: Vec::from_slice(alloc, &outline.regions)?,
-        outermost: outermost(alloc, outline, tables)?,
-        blocks: blocks(alloc, outline, tables)?,
+        regions: Vec::from_slice(alloc, &scopes.outline.regions)?,
+        outermost: outermost(alloc, scopes.outline, scopes.tables)?,
+        blocks: blocks(alloc, scopes.outline, scopes.tables)?,
         meanings: meanings(alloc, &uses)?,
         areas: meanings(alloc, &areas)?,
         locators: meanings(alloc, &locators)?,
@@ -150,9 +147,14 @@ fn resolve_told<'a>(
     requires tabled { AreOf tables.now (outline_view outline.now) }
     ensures { IsResolved result (unit_view unit.now) }
 {
-    let faults = faults_told(alloc, outline, nesting, tables)?;
+    let scopes = Scopes {
+        outline,
+        nesting,
+        tables,
+    };
+    let faults = faults_told(alloc, &scopes)?;
     if faults.is_empty() {
-        Ok(resolved(alloc, unit, outline, nesting, tables)?)
+        Ok(resolved(alloc, unit, &scopes)?)
     } else {
         Err(ResolveError::Faulty(faults))
     }

@@ -1,37 +1,31 @@
 //! What the names that a unit uses mean.
 ghost use Rattle.std.specs.Prelude.{◌≡◌, ℕ, ◌++◌, IfOk, OnOk};
 ghost use Rattle.pli_declare_outline.specs.Outlines.{Used};
-ghost use Rattle.pli_declare_outline.specs.views.OutlineView.{outline_view, regions_view, mark_view, marks_view};
+ghost use Rattle.pli_declare_outline.specs.views.OutlineView.{outline_view, mark_view, marks_view};
 ghost use Rattle.pli_declare_scopes.specs.Scopes.{meant};
 ghost use Rattle.pli_declare_tables.specs.Tables.{scope_of};
-ghost use Rattle.pli_declare_tables.specs.answers.Answers.{AreOf};
 ghost use Rattle.pli_declare.specs.Resolved.{of_marks, used_as, uses_at};
 ghost use Rattle.pli_declare.specs.answers.Targets.{target_uses};
 
 use crate::block::{Target, Use};
 use crate::look_up::{Looked, look_up};
 use crate::references::{is_function, names_of};
+use crate::scopes::Scopes;
 use pli_base::Name;
 use pli_base::syntax::Identifier;
-use pli_declare_constructs::Nesting;
-use pli_declare_outline::{Mark, Outline, Placed};
-use pli_declare_tables::Tables;
+use pli_declare_outline::{Mark, Placed};
 use std::alloc::{AllocError, Global};
 
 /// What names in a region mean, or this where they are not declared. Ambiguous names mean nothing.
 pub(crate) fn target_of(
-    outline: &Outline,
-    nesting: &Nesting,
-    tables: &Tables,
+    scopes: &Scopes,
     here: usize,
     names: &[Name],
     otherwise: Option<Target>,
 ) -> Option<Target>
-    requires nested { nesting.now ≡ regions_view outline.now.regions.items }
-    requires tabled { AreOf tables.now (outline_view outline.now) }
-    ensures { (at : ℕ) → target_uses at result ≡ used_as (outline_view outline.now) here at (target_uses at otherwise) (meant (scope_of (outline_view outline.now) here) names.now) }
+    ensures { (at : ℕ) → target_uses at result ≡ used_as (outline_view scopes.now.outline.now) here at (target_uses at otherwise) (meant (scope_of (outline_view scopes.now.outline.now) here) names.now) }
 {
-    match look_up(outline, nesting, tables, here, names) {
+    match look_up(scopes, here, names) {
         Looked::Found { block, number } => Some(Target::Name { block, number }),
         Looked::Ambiguous => None,
         Looked::NotDeclared => otherwise,
@@ -55,65 +49,49 @@ pub(crate) fn add_use(
 /// What a reference in a region means, at its first name, behind other uses.
 fn add_reference(
     alloc: Global,
-    outline: &Outline,
-    nesting: &Nesting,
-    tables: &Tables,
+    scopes: &Scopes,
     here: usize,
     names: &[Identifier],
     uses: &mut Vec<Use>,
 ) -> Result<(), AllocError>
-    requires nested { nesting.now ≡ regions_view outline.now.regions.items }
-    requires tabled { AreOf tables.now (outline_view outline.now) }
-    ensures { OnOk result (uses.new.items ≡ uses.old.items ++ uses_at (outline_view outline.now) here (Used names.now)) }
+    ensures { OnOk result (uses.new.items ≡ uses.old.items ++ uses_at (outline_view scopes.now.outline.now) here (Used names.now)) }
 {
     let Some(first) = names.first() else {
         return Ok(());
     };
     let joined = names_of(alloc, names)?;
     let function = is_function(names).then_some(Target::Function);
-    let target = target_of(outline, nesting, tables, here, &joined, function);
+    let target = target_of(scopes, here, &joined, function);
     add_use(uses, first.at, target)
 }
 
 /// What the names that a mark uses mean, behind other uses.
 fn add_mark(
     alloc: Global,
-    outline: &Outline,
-    nesting: &Nesting,
-    tables: &Tables,
+    scopes: &Scopes,
     placed: &Placed,
     uses: &mut Vec<Use>,
 ) -> Result<(), AllocError>
-    requires nested { nesting.now ≡ regions_view outline.now.regions.items }
-    requires tabled { AreOf tables.now (outline_view outline.now) }
-    ensures { OnOk result (uses.new.items ≡ uses.old.items ++ uses_at (outline_view outline.now) placed.now.region (mark_view placed.now.mark)) }
+    ensures { OnOk result (uses.new.items ≡ uses.old.items ++ uses_at (outline_view scopes.now.outline.now) placed.now.region (mark_view placed.now.mark)) }
 {
     let here = placed.region;
     match &placed.mark {
         Mark::Declared(_) | Mark::Labelled(_) | Mark::Entered { .. } => Ok(()),
-        Mark::Used(names) => add_reference(alloc, outline, nesting, tables, here, names, uses),
+        Mark::Used(names) => add_reference(alloc, scopes, here, names, uses),
         Mark::Jumped(label) => {
-            let target = target_of(outline, nesting, tables, here, &[label.name], None);
+            let target = target_of(scopes, here, &[label.name], None);
             add_use(uses, label.at, target)
         }
     }
 }
 
 /// What each reference and the label of each GOTO among marks mean.
-pub(crate) fn uses(
-    alloc: Global,
-    outline: &Outline,
-    nesting: &Nesting,
-    tables: &Tables,
-    marks: &[Placed],
-) -> Result<Vec<Use>, AllocError>
-    requires nested { nesting.now ≡ regions_view outline.now.regions.items }
-    requires tabled { AreOf tables.now (outline_view outline.now) }
-    ensures { IfOk result (λ uses. uses.items ≡ of_marks (uses_at (outline_view outline.now)) (marks_view marks.now)) }
+pub(crate) fn uses(alloc: Global, scopes: &Scopes, marks: &[Placed]) -> Result<Vec<Use>, AllocError>
+    ensures { IfOk result (λ uses. uses.items ≡ of_marks (uses_at (outline_view scopes.now.outline.now)) (marks_view marks.now)) }
 {
     let mut uses = Vec::new(alloc);
     for placed in marks {
-        add_mark(alloc, outline, nesting, tables, placed, &mut uses)?;
+        add_mark(alloc, scopes, placed, &mut uses)?;
     }
     Ok(uses)
 }

@@ -3,15 +3,17 @@ use Rattle.std.proofs.Common.{◌≡◌, ℕ, zero, suc, ◌+◌, ◌-◌, ◌<�
 use Rattle.std.specs.Prelude.{reverse}
 use Rattle.std.proofs.Math.Seq.{take-length}
 use Rattle.std.proofs.lemmas.Bool.Decides.{nat_tests}
+use Rattle.std.proofs.lemmas.List.{get_or_default}
 use Rattle.std.specs.Option.{option_eq}
 use Rattle.std.specs.Cmp.Lexicographic.{same_text}
+use Rattle.indexmap.specs.IndexMap.{IndexMap}
 use Rattle.pli_base.specs.Name.{Name}
 use Rattle.pli_base.specs.laws.NameLaws.{pointwise-refl}
 use Rattle.pli_base.specs.Words.{same_name}
 use Rattle.pli_declare_scopes.specs.declared.found.Found.{Found}
 use Rattle.pli_declare_scopes.specs.declared.found.Found.TheVariants.{Nothing, One, Several}
 use Rattle.pli_declare_scopes.specs.Scopes.{Block, item_at, is_named, chain_at, chain_over, is_part, fits_chain, is_chain, fits, fits_fully, with_number, found_below}
-use Rattle.pli_declare_scopes.specs.answers.Indexes.{last_below, OwnersBefore}
+use Rattle.pli_declare_scopes.specs.answers.Indexes.{last_below, OwnersBefore, IsIndexed}
 use Rattle.pli_declare_scopes.proofs.IndexKept.{both_true, below_or_last}
 use Rattle.pli_declare_scopes.specs.answers.Leaps.{rank, IsLastUpTo}
 use Rattle.pli_declare_scopes.specs.answers.Reaches.{IsReach, IsCandidate}
@@ -196,11 +198,16 @@ module _ (items : Block) (owners : OwnersBefore items) (names : List Name) (some
       ∙ ap (λ a. found_below (fits items names) (rank a) found) (sym is) ∙ so_far.part
 
   module _ (at : Option ℕ) (n : ℕ) (found : Found) (so_far : Looking items names at found) (is : at ≡ Some n) where
-    pub stands : n < length items
+    stands : n < length items
     stands = subst (λ a. IfSome a (λ o. o < length items)) is so_far.within
 
-    pub is_there : is_named items (get_or names (length names - 1) []) n ≡ true
+    is_there : is_named items (get_or names (length names - 1) []) n ≡ true
     is_there = subst (λ a. IfSome a (λ o. is_named items (get_or names (length names - 1) []) o ≡ true)) is so_far.named
+
+    -- the link of the item leads to the one of its name before it
+    pub linked : {S : Type 0} (earlier : List (Option ℕ)) (latest : IndexMap Name ℕ S) → IsIndexed items earlier latest → (next : Option ℕ) → next ≡ get_or earlier n next
+        → next ≡ last_below (is_named items (get_or names (length names - 1) [])) n
+    linked earlier latest kept next read = read ∙ get_or_default earlier n next None (omega (arith, stands, kept.count)) ∙ kept.links (get_or names (length names - 1) []) n stands is_there
 
     module _ (next : Option ℕ) (further : next ≡ last_below (is_named items (get_or names (length names - 1) [])) n) where
       -- the walk ends

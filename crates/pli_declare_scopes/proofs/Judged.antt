@@ -6,6 +6,7 @@ use Rattle.std.proofs.lemmas.Bool.Decides.{nat_tests}
 use Rattle.std.proofs.lemmas.List.{get_or-take, length-take-le}
 use Rattle.std.proofs.Math.ListN.{get_or-append}
 use Rattle.std.proofs.Math.Seq.{get_or-append_seam}
+use Rattle.std.proofs.lemmas.List.Folds.{list_any_at}
 use Rattle.pli_base.specs.laws.NameLaws.{pointwise-refl}
 use Rattle.pli_base.specs.Words.{same_name}
 use Rattle.pli_declare_scopes.specs.declared.repeat.Written.{Written}
@@ -69,15 +70,6 @@ any_there test (x ∷ xs) h = by (test x) refl (any_there test xs) h
     by true e go g = (0, omega arith, e)
     by false e go g = let r = go g in (suc r.0, omega (arith, r.1), r.2)
 
-any_here : (test : Written → Bool) (xs : List Written) (n : ℕ) → n < length xs → test (written_at xs n) ≡ true → list_any test xs ≡ true
-any_here test [] n lt h = absurd (omega arith)
-any_here test (x ∷ xs) zero lt h = ap (λ b. b || list_any test xs) h
-any_here test (x ∷ xs) (suc n) lt h = ap (λ b. test x || b) (any_here test xs n (omega arith) h) ∙ or_true (test x)
-  where
-    or_true : (b : Bool) → (b || true) ≡ true
-    or_true true = refl
-    or_true false = refl
-
 pub owner_refl : (o : Option ℕ) → option_eq nat_eq o o ≡ true
 owner_refl None = refl
 owner_refl (Some n) = grind (arith, nat_tests)
@@ -124,7 +116,7 @@ module _ (items : List Written) (n : ℕ) (owners : OwnersFirst items) (lt : n <
   again_from : IsRepeated items n → again ≡ true
   again_from h =
       let read : written_at (take n items) h.number ≡ written_at items h.number = get_or-take n items h.number (record { name = []; owner = None }) h.before in
-      any_here (repeats (written_at items n)) (take n items) h.number (omega (arith, h.before, length-take-le n items (omega arith)))
+      list_any_at (repeats (written_at items n)) (take n items) h.number _ (omega (arith, h.before, length-take-le n items (omega arith)))
       (ap (repeats (written_at items n)) read ∙ repeats_from (written_at items n) (written_at items h.number) (sym h.named) (sym h.owned))
 
   judged_counts : (a r : Bool) → judged a r ≡ Counts → (a ≡ true) × (r ≡ false)

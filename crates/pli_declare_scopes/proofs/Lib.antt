@@ -5,6 +5,7 @@ pub mod MeantMeans
 pub mod Chains
 pub mod Candidates
 pub mod Outwards
+pub mod Seen
 pub mod Repeated
 pub mod Judged
 pub mod PathsKept

@@ -2,6 +2,7 @@
 use Rattle.std.proofs.Common.{◌≡◌, ℕ, zero, suc, ◌+◌, ◌<◌, ◌≤◌, ◌⊎◌, inl, inr, Bool, true, false, ◌||◌, ◌&&◌, nat_lt, List, [], ◌∷◌, reverse, length, if◌then◌else◌, refl, sym, ap, subst, ◌∙◌, arith, rules}
 use Rattle.std.proofs.lemmas.Bool.Decides.{nat_tests}
 use Rattle.std.specs.Cmp.Lexicographic.{same_text}
+use Rattle.std.proofs.Math.Bool.{or-true}
 use Rattle.pli_base.specs.Name.{Name}
 use Rattle.pli_base.specs.laws.NameLaws.{pointwise-refl}
 use Rattle.pli_base.specs.Words.{same_name}
@@ -235,11 +236,7 @@ any_from test zero n lt h = absurd (omega arith)
 any_from test (suc k) n lt h = by (nat_lt n k) refl (any_from test k n)
   where
     by : (b : Bool) → nat_lt n k ≡ b → (n < k → test n ≡ true → any_below test k ≡ true) → (test k || any_below test k) ≡ true
-    by true e go = ap (λ b. test k || b) (go (search (rules, nat_tests)) h) ∙ or_true (test k)
-      where
-        or_true : (b : Bool) → (b || true) ≡ true
-        or_true true = refl
-        or_true false = refl
+    by true e go = ap (λ b. test k || b) (go (search (rules, nat_tests)) h) ∙ or-true (test k)
     by false e go = let same : n ≡ k = grind (arith, nat_tests, e, lt) in ap (λ b. b || any_below test k) (ap test (sym same) ∙ h)
 
 first_to : (block : Block) (names : List Name) → declares_first block names ≡ true → DeclaresFirst block names

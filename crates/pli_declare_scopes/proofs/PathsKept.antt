@@ -11,6 +11,7 @@ use Rattle.std.proofs.lemmas.Bool.Decides.{nat_tests}
 use Rattle.std.proofs.Math.ListN.{get_or-append}
 use Rattle.std.proofs.Math.Seq.{get_or-append_seam}
 use Rattle.std.proofs.lemmas.List.{get_or-set_same, get_or-set_other, length-set}
+use Rattle.std.proofs.lemmas.List.Folds.{list_any_at}
 use Rattle.pli_base.specs.Name.{Name}
 use Rattle.pli_base.specs.Words.{same_name}
 use Rattle.pli_declare_scopes.specs.declared.block.Declared.{Declared}
@@ -71,20 +72,11 @@ same_steps s t h =
 step_same : (s t : Step) → s ≡ t → same_step s t ≡ true
 step_same s t e = subst (λ (u : Step). same_step s u ≡ true) e (ap (λ b. b && option_eq nat_eq s.above s.above) (pointwise-refl s.name) ∙ owner_refl s.above)
 
-any_at : (test : Step → Bool) (steps : List Step) (p : ℕ) → p < length steps → test (step_at steps p) ≡ true → list_any test steps ≡ true
-any_at test [] p lt h = absurd (omega arith)
-any_at test (s ∷ ss) zero lt h = ap (λ b. b || list_any test ss) h
-any_at test (s ∷ ss) (suc p) lt h = ap (λ b. test s || b) (any_at test ss p (omega arith) h) ∙ or_true (test s)
-  where
-    or_true : (b : Bool) → (b || true) ≡ true
-    or_true true = refl
-    or_true false = refl
-
 -- a step that is new is none of those before
 pub new_is_none : (steps : List Step) (step : Step) (is_new : Bool) → is_new ≡ not (list_any (same_step step) steps) → is_new ≡ true
     → (p : ℕ) → p < length steps → step_at steps p ≡ step → ⊥
 new_is_none steps step is_new e f p lt same =
-    let there : list_any (same_step step) steps ≡ true = any_at (same_step step) steps p lt (step_same step (step_at steps p) (sym same)) in
+    let there : list_any (same_step step) steps ≡ true = list_any_at (same_step step) steps p no_step lt (step_same step (step_at steps p) (sym same)) in
     let bad : true ≡ false = sym f ∙ e ∙ ap not there in
     cc
 

@@ -2,7 +2,6 @@ pub mod Numbers
 pub mod Owners
 pub mod Marks
 pub mod Levelled
-pub mod NameSets
 pub mod Placing
 pub mod Named
 pub mod Sound

@@ -6,16 +6,18 @@ ghost use Rattle.pli_declare_outline.specs.Outlines.{outline_of};
 ghost use Rattle.pli_declare_outline.specs.views.OutlineView.{outline_view, marks_view};
 ghost use Rattle.pli_declare_tables.specs.Tables.{inner_marks};
 ghost use Rattle.pli_resolve.specs.Symbols.{found_in};
-ghost use Rattle.pli_resolve.specs.ResolvedUnits.{functions_in};
-ghost use Rattle.pli_resolve.specs.views.UnitView.{IsResolvedUnit, AreTablesOf};
+ghost use Rattle.pli_resolve.specs.StatementPlaces.{unit_places};
+ghost use Rattle.pli_resolve.specs.ResolvedUnits.{functions_in, procedures_in};
+ghost use Rattle.pli_resolve.specs.views.UnitView.{IsResolvedUnit, AreTablesOf, AreMapsOf, AreNumbersOf};
 
 use crate::block_numbers::{block_numbers, block_regions};
 use crate::built_in::BuiltInFunction;
 use crate::look_ups::{functions, labels, procedures, statement_regions};
-use crate::statement_places::statement_list;
+use crate::statement_places::{StatementPlace, statement_list};
+use crate::symbol::SymbolKey;
 use crate::tables::block_tables;
 use crate::unit::ResolvedUnit;
-use crate::unit_tables::UnitTables;
+use crate::unit_tables::{RegionNumbers, UnitMaps, UnitTables};
 use crate::ways::ways;
 use indexmap::IndexMap;
 use pli_base::statement::Procedure;
@@ -45,26 +47,69 @@ fn unit_functions(
     functions(alloc, marks_behind(&outline))
 }
 
+/// Which regions of a unit are blocks.
+fn region_numbers(alloc: Global, declared: &Resolved) -> Result<RegionNumbers, AllocError>
+    ensures { IfOk result (λ regions. AreNumbersOf regions (unit_view declared.now)) }
+{
+    Ok(RegionNumbers {
+        numbers: block_numbers(alloc, declared.regions())?,
+        blocks: block_regions(alloc, declared.regions())?,
+    })
+}
+
+/// The symbols of procedures' names, by the regions of the procedures.
+fn unit_procedures(
+    alloc: Global,
+    declared: &Resolved,
+    regions: &RegionNumbers,
+) -> Result<IndexMap<usize, SymbolKey>, AllocError>
+    requires { AreNumbersOf regions.now (unit_view declared.now) }
+    ensures { IfOk result (λ procedures. (n : ℕ) → get nat_eq procedures n ≡ found_in (procedures_in (unit_view declared.now)) n) }
+{
+    let outermost = regions.blocks.len();
+    procedures(
+        alloc,
+        &regions.numbers,
+        outermost,
+        declared.outermost(),
+        declared.blocks(),
+    )
+}
+
+/// What is found by a token, the number of a statement, or a region.
+fn unit_maps(
+    alloc: Global,
+    declared: &Resolved,
+    regions: &RegionNumbers,
+    places: &[StatementPlace],
+) -> Result<UnitMaps, AllocError>
+    requires are_numbers { AreNumbersOf regions.now (unit_view declared.now) }
+    requires are_places { places.now ≡ unit_places (unit_view declared.now) }
+    ensures { IfOk result (λ maps. AreMapsOf maps (unit_view declared.now)) }
+{
+    Ok(UnitMaps {
+        functions: unit_functions(alloc, declared.unit())?,
+        statements: statement_regions(alloc, places)?,
+        labels: labels(alloc, places)?,
+        procedures: unit_procedures(alloc, declared, regions)?,
+    })
+}
+
 /// What is found once for a unit.
 fn unit_tables(alloc: Global, declared: &Resolved) -> Result<UnitTables, AllocError>
     ensures { IfOk result (λ tables. AreTablesOf tables (unit_view declared.now)) }
 {
-    let functions = unit_functions(alloc, declared.unit())?;
     let list = statement_list(alloc, declared.unit())?;
-    let numbers = block_numbers(alloc, declared.regions())?;
-    let blocks = block_regions(alloc, declared.regions())?;
-    let outermost = declared.outermost();
-    let procedures = procedures(alloc, &numbers, blocks.len(), outermost, declared.blocks())?;
+    let regions = region_numbers(alloc, declared)?;
+    let maps = unit_maps(alloc, declared, &regions, &list.places)?;
+    let tables = block_tables(alloc, declared.blocks())?;
+    let ways = ways(alloc, declared.outermost())?;
     Ok(UnitTables {
-        numbers,
-        blocks,
-        statements: statement_regions(alloc, &list.places)?,
-        labels: labels(alloc, &list.places)?,
+        regions,
         starts: list.starts,
-        tables: block_tables(alloc, declared.blocks())?,
-        ways: ways(alloc, outermost)?,
-        functions,
-        procedures,
+        tables,
+        ways,
+        maps,
     })
 }
 

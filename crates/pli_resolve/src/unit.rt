@@ -81,14 +81,19 @@ impl<'a> ResolvedUnit<'a> {
     pub fn block_count(&self) -> usize
         ensures { result ≡ length (resolved_unit_of (unit_view self.now)).blocks }
     {
-        self.tables.blocks.len()
+        self.tables.regions.blocks.len()
     }
 
     /// The number of the block of a region.
     pub(crate) fn number_of(&self, region: usize) -> usize
         ensures { result ≡ get_or (numbers_of (unit_view self.now)) region 0 }
     {
-        self.tables.numbers.get(region).copied().unwrap_or(0)
+        self.tables
+            .regions
+            .numbers
+            .get(region)
+            .copied()
+            .unwrap_or(0)
     }
 
     /// The number of the block of a region, or of the outermost block.
@@ -97,7 +102,7 @@ impl<'a> ResolvedUnit<'a> {
     {
         match region {
             Some(region) => self.number_of(region),
-            None => self.tables.blocks.len(),
+            None => self.tables.regions.blocks.len(),
         }
     }
 
@@ -105,7 +110,7 @@ impl<'a> ResolvedUnit<'a> {
     pub fn block_of_statement(&self, statement: u32) -> Option<usize>
         ensures { result ≡ block_of_statement (resolved_unit_of (unit_view self.now)) statement }
     {
-        let region = self.tables.statements.get(&statement).copied()?;
+        let region = self.tables.maps.statements.get(&statement).copied()?;
         Some(self.number_of(region))
     }
 
@@ -146,7 +151,7 @@ impl<'a> ResolvedUnit<'a> {
     {
         match self.declared.meaning_at(at)? {
             Target::Function => {
-                let function = self.tables.functions.get(&at).copied()?;
+                let function = self.tables.maps.functions.get(&at).copied()?;
                 Some(NameMeaning::BuiltIn(function))
             }
             Target::Name { block, number } => self.declared_meaning(block, number),
@@ -255,7 +260,13 @@ impl<'a> ResolvedUnit<'a> {
                 ..
             } => SymbolKind::BuiltIn,
             Kind::Label { .. } => SymbolKind::Label {
-                statement: self.tables.labels.get(&identifier.at).copied().unwrap_or(0),
+                statement: self
+                    .tables
+                    .maps
+                    .labels
+                    .get(&identifier.at)
+                    .copied()
+                    .unwrap_or(0),
             },
             Kind::Procedure { returned, region } => SymbolKind::Procedure {
                 block: self.number_of(*region),
@@ -316,7 +327,7 @@ impl<'a> ResolvedUnit<'a> {
             kind: block.kind,
             outer,
             statement: self.tables.starts.get(block.region).copied().unwrap_or(0),
-            name: self.tables.procedures.get(&block.region).copied(),
+            name: self.tables.maps.procedures.get(&block.region).copied(),
             parameters: self.parameters_of(block.region),
         }
     }
@@ -342,7 +353,7 @@ impl<'a> ResolvedUnit<'a> {
     fn region_at(&self, number: usize) -> Option<&BlockRegion>
         ensures { option_map (λ b. b.now) result ≡ slice_get (block_regions_of (unit_view self.now)) number }
     {
-        self.tables.blocks.get(number)
+        self.tables.regions.blocks.get(number)
     }
 
     /// The symbol under a key.
@@ -353,7 +364,7 @@ impl<'a> ResolvedUnit<'a> {
         if let Some(block) = self.region_at(key.block) {
             return self.symbol_in(block.region, key.number);
         }
-        if key.block != self.tables.blocks.len() {
+        if key.block != self.tables.regions.blocks.len() {
             return None;
         }
         let declarations = self.declared.outermost();
@@ -364,7 +375,7 @@ impl<'a> ResolvedUnit<'a> {
     pub fn block(&self, number: usize) -> Option<ResolvedBlock<'_>>
         ensures { option_map resolved_block_view result ≡ option_map without_symbols (slice_get (resolved_unit_of (unit_view self.now)).blocks number) }
     {
-        let block = self.tables.blocks.get(number)?;
+        let block = self.tables.regions.blocks.get(number)?;
         Some(self.block_of(*block))
     }
 

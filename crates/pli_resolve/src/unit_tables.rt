@@ -1,7 +1,7 @@
 //! What is found once for a unit.
 ghost use Rattle.std.specs.Prelude.{◌≡◌, IfOk};
 ghost use Rattle.pli_base.specs.Statements.{ExternalProcedure};
-ghost use Rattle.pli_resolve.specs.views.UnitView.{AreTablesOf};
+ghost use Rattle.pli_resolve.specs.views.UnitView.{AreTablesOf, AreMapsOf, AreNumbersOf};
 
 use crate::block_numbers::BlockRegion;
 use crate::built_in::BuiltInFunction;
@@ -15,17 +15,17 @@ use crate::ways::Way;
 use indexmap::IndexMap;
 use std::alloc::{AllocError, Global};
 
-/// What is found once for a unit.
+/// Which regions are blocks.
 #[derive(Drop)]
-pub(crate) struct UnitTables {
+pub(crate) struct RegionNumbers {
     /// For each region the number of its block.
     pub numbers: Vec<usize>,
     pub blocks: Vec<BlockRegion>,
-    /// For each region the statement with which it begins.
-    pub starts: Vec<u32>,
-    pub tables: Vec<BlockTable>,
-    /// The ways of the names of the outermost block.
-    pub ways: Vec<Way>,
+}
+
+/// What is found by a token, the number of a statement, or a region.
+#[derive(Drop)]
+pub(crate) struct UnitMaps {
     pub functions: IndexMap<u32, BuiltInFunction>,
     /// The regions of statements, by their numbers.
     pub statements: IndexMap<u32, usize>,
@@ -34,21 +34,55 @@ pub(crate) struct UnitTables {
     pub procedures: IndexMap<usize, SymbolKey>,
 }
 
+/// What is found once for a unit.
+#[derive(Drop)]
+pub(crate) struct UnitTables {
+    pub regions: RegionNumbers,
+    /// For each region the statement with which it begins.
+    pub starts: Vec<u32>,
+    pub tables: Vec<BlockTable>,
+    /// The ways of the names of the outermost block.
+    pub ways: Vec<Way>,
+    pub maps: UnitMaps,
+}
+
+impl RegionNumbers {
+    /// The same numbers.
+    fn copy(&self, alloc: Global) -> Result<RegionNumbers, AllocError>
+        ensures { IfOk result (λ copied. (u : ExternalProcedure) → AreNumbersOf self.now u → AreNumbersOf copied u) }
+    {
+        Ok(RegionNumbers {
+            numbers: Vec::from_slice(alloc, &self.numbers)?,
+            blocks: Vec::from_slice(alloc, &self.blocks)?,
+        })
+    }
+}
+
+impl UnitMaps {
+    /// The same maps.
+    fn copy(&self) -> Result<UnitMaps, AllocError>
+        ensures { IfOk result (λ copied. (u : ExternalProcedure) → AreMapsOf self.now u → AreMapsOf copied u) }
+    {
+        Ok(UnitMaps {
+            functions: copied_functions(&self.functions)?,
+            statements: copied_statements(&self.statements)?,
+            labels: copied_labels(&self.labels)?,
+            procedures: copied_procedures(&self.procedures)?,
+        })
+    }
+}
+
 impl UnitTables {
     /// The same tables.
     pub(crate) fn copy(&self, alloc: Global) -> Result<UnitTables, AllocError>
         ensures { IfOk result (λ copied. (u : ExternalProcedure) → AreTablesOf self.now u → AreTablesOf copied u) }
     {
         Ok(UnitTables {
-            numbers: Vec::from_slice(alloc, &self.numbers)?,
-            blocks: Vec::from_slice(alloc, &self.blocks)?,
+            regions: self.regions.copy(alloc)?,
             starts: Vec::from_slice(alloc, &self.starts)?,
             tables: copied_tables(alloc, &self.tables)?,
             ways: copied_ways(alloc, &self.ways)?,
-            functions: copied_functions(&self.functions)?,
-            statements: copied_statements(&self.statements)?,
-            labels: copied_labels(&self.labels)?,
-            procedures: copied_procedures(&self.procedures)?,
+            maps: self.maps.copy()?,
         })
     }
 }

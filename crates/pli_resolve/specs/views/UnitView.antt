@@ -19,6 +19,8 @@ use Rattle.pli_resolve.specs.ResolvedUnits.{numbers_of, block_regions_of, functi
 use Rattle.pli_resolve.specs.ResolvedUnits.{procedures_in}
 use Rattle.pli_resolve.specs.views.TableView.{way_view, block_table_view, block_table_of}
 use Rattle.pli_resolve.specs.declared.unit.ResolvedBlock.{ResolvedBlock}
+use Rattle.pli_resolve.specs.declared.unit_tables.RegionNumbers.{RegionNumbers}
+use Rattle.pli_resolve.specs.declared.unit_tables.UnitMaps.{UnitMaps}
 use Rattle.pli_resolve.specs.declared.unit_tables.UnitTables.{UnitTables}
 
 -- a block, apart from what it declares
@@ -42,14 +44,15 @@ without_symbols b = record {
   symbols = [];
 }
 
--- what is found once for a unit is what its tree says
-pub record AreTablesOf (t : UnitTables) (u : ExternalProcedure) : Type 0
+-- the blocks among the regions are those of the tree
+pub record AreNumbersOf (t : RegionNumbers) (u : ExternalProcedure) : Type 0
   where
     pub numbers_are : t.numbers.items ≡ numbers_of u
     pub blocks_are : t.blocks.items ≡ block_regions_of u
-    pub starts_are : t.starts.items ≡ unit_starts u
-    pub tables_are : map block_table_view t.tables.items ≡ map block_table_of (resolved_of u).blocks
-    pub ways_are : map way_view t.ways.items ≡ ways_of (resolved_of u).outermost
+
+-- what is found by tokens, statements and regions is what the tree says
+pub record AreMapsOf (t : UnitMaps) (u : ExternalProcedure) : Type 0
+  where
     pub functions_are : (at : ℕ) → get nat_eq t.functions at
         ≡ found_in (functions_in (inner_marks (outline_of u).marks)) at
     pub statements_are : (n : ℕ) → get nat_eq t.statements n
@@ -57,6 +60,15 @@ pub record AreTablesOf (t : UnitTables) (u : ExternalProcedure) : Type 0
     pub labels_are : (at : ℕ) → get nat_eq t.labels at
         ≡ found_in (flat_map label_statement (unit_places u)) at
     pub procedures_are : (n : ℕ) → get nat_eq t.procedures n ≡ found_in (procedures_in u) n
+
+-- what is found once for a unit is what its tree says
+pub record AreTablesOf (t : UnitTables) (u : ExternalProcedure) : Type 0
+  where
+    pub regions_are : AreNumbersOf t.regions u
+    pub starts_are : t.starts.items ≡ unit_starts u
+    pub tables_are : map block_table_view t.tables.items ≡ map block_table_of (resolved_of u).blocks
+    pub ways_are : map way_view t.ways.items ≡ ways_of (resolved_of u).outermost
+    pub maps_are : AreMapsOf t.maps u
 
 -- what a resolved unit keeps
 pub record IsUnitOf (u : ExternalProcedure) (tables : UnitTables) (undescribed : Description) : Type 0

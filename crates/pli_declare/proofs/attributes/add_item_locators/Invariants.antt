@@ -8,5 +8,5 @@ use Rattle.pli_declare.proofs.attributes.add_item_locators.Given as goal
 -- the uses so far in front of those of what is left
 abbrev pub invariant-loop-item : goal.invariant-loop-item
 invariant-loop-item l =
-    let named = item_names (outline_view l.outline) l.here locator_in in
+    let named = item_names (outline_view l.scopes.outline.now) l.here locator_in in
     l.locators.items ++ flat_map named (map item_view (drop l.item-index l.items)) ≡ l.initial.locators.items ++ flat_map named (map item_view l.items)

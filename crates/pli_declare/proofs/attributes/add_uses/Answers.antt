@@ -7,4 +7,4 @@ use Rattle.pli_declare.proofs.attributes.add_uses.Goals as goal
 pub returns-in_default : goal.returns-in_default
 returns-in_default c =
     sym (ap (λ us. c.args.uses.now.items ++ us)
-    (none_named (outline_view c.args.outline.now) c.args.here c.args.names.now c.args.identifiers.now c.look_up.result c.look_up.ensures c.in_default.not-Found) ∙ append-nil c.args.uses.now.items)
+    (none_named (outline_view c.args.scopes.now.outline.now) c.args.here c.args.names.now c.args.identifiers.now c.look_up.result c.look_up.ensures c.in_default.not-Found) ∙ append-nil c.args.uses.now.items)

@@ -7,5 +7,5 @@ use Rattle.pli_declare.proofs.attributes.add_uses.Given as goal
 -- the uses so far in front of those of what is left
 abbrev pub invariant-loop-identifier : goal.invariant-loop-identifier
 invariant-loop-identifier l =
-    let named = named_at (outline_view l.outline) l.here l.names in
+    let named = named_at (outline_view l.scopes.outline.now) l.here l.names in
     l.uses.items ++ flat_map named (drop l.identifier-index l.identifiers) ≡ l.initial.uses.items ++ flat_map named l.identifiers

@@ -6,5 +6,5 @@ use Rattle.pli_declare.proofs.attributes.areas.Given as goal
 -- the uses so far in front of those of what is left
 abbrev pub invariant-loop-placed : goal.invariant-loop-placed
 invariant-loop-placed l =
-    let named = areas_at (outline_view l.outline) in
+    let named = areas_at (outline_view l.scopes.outline.now) in
     l.areas.items ++ of_marks named (marks_view (drop l.placed-index l.marks)) ≡ of_marks named (marks_view l.marks)

@@ -3,7 +3,7 @@ use Rattle.pli_declare.proofs.LookUpLemmas.{IsLeft, rank}
 use Rattle.pli_declare.proofs.look_up.look_up.Given as goal
 
 abbrev pub invariant-loop-here : goal.invariant-loop-here
-invariant-loop-here l = IsLeft (outline_view l.outline) l.region l.names l.here
+invariant-loop-here l = IsLeft (outline_view l.scopes.outline.now) l.region l.names l.here
 
 abbrev pub decreases-loop-here : goal.decreases-loop-here
 decreases-loop-here l = rank l.here

@@ -12,7 +12,7 @@ use Rattle.pli_declare.proofs.marks.tell_marks.Goals as goal
 
 pub loop-placed-init : goal.loop-placed-init
 loop-placed-init c =
-    let o = outline_view c.args.outline.now in
+    let o = outline_view c.args.scopes.now.outline.now in
     let count = length o.regions + 1 in
     record {
       next = c.in_ok-next.ensures.items_if_clones_equal (λ y e. e)
@@ -23,7 +23,7 @@ loop-placed-init c =
 
 pub bounds-codes-block : goal.bounds-codes-block
 bounds-codes-block c =
-    let o = outline_view c.args.outline.now in
+    let o = outline_view c.args.scopes.now.outline.now in
     omega (
       arith,
       length-map c.args.codes.now (λ list. list.items),
@@ -32,7 +32,7 @@ bounds-codes-block c =
 
 pub offset_bounds-codes-block : goal.offset_bounds-codes-block
 offset_bounds-codes-block c =
-    let o = outline_view c.args.outline.now in
+    let o = outline_view c.args.scopes.now.outline.now in
     let lt : c.block_of-block.result < length c.args.codes.now =
     omega (
       arith,
@@ -43,7 +43,7 @@ offset_bounds-codes-block c =
 
 pub index-requires : goal.index-requires
 index-requires c =
-    let o = outline_view c.args.outline.now in
+    let o = outline_view c.args.scopes.now.outline.now in
     let before = marks_view (take c.loop-placed.placed-index c.args.marks.now) in
     let lt : c.block_of-block.result < length c.loop-placed.next.items =
     block_in o (λ b. declared_by o b before) c.loop-placed.next.items c.placed-item.result.region c.block_of-block.result c.block_of-block.ensures c.loop-placed.invariant.next in
@@ -51,7 +51,7 @@ index-requires c =
 
 pub index_mut-requires : goal.index_mut-requires
 index_mut-requires c =
-    let o = outline_view c.args.outline.now in
+    let o = outline_view c.args.scopes.now.outline.now in
     let before = marks_view (take c.loop-placed.placed-index c.args.marks.now) in
     let lt : c.block_of-block.result < length c.loop-placed.next.items =
     block_in o (λ b. declared_by o b before) c.loop-placed.next.items c.placed-item.result.region c.block_of-block.result c.block_of-block.ensures c.loop-placed.invariant.next in
@@ -59,7 +59,7 @@ index_mut-requires c =
 
 pub tell_declared-requires : goal.tell_declared-requires
 tell_declared-requires c =
-    let o = outline_view c.args.outline.now in
+    let o = outline_view c.args.scopes.now.outline.now in
     let ms = c.args.marks.now in
     let n = c.loop-placed.placed-index in
     let x = c.placed-item.result in
@@ -82,7 +82,7 @@ tell_declared-requires c =
 
 pub loop-placed-preserved : goal.loop-placed-preserved
 loop-placed-preserved c =
-    let o = outline_view c.args.outline.now in
+    let o = outline_view c.args.scopes.now.outline.now in
     let ms = c.args.marks.now in
     let n = c.loop-placed.placed-index in
     let x = c.placed-item.result in

@@ -7,7 +7,7 @@ use Rattle.pli_declare.proofs.marks.tell_marks.Given as goal
 -- how many names each block has declared so far, and the faults so far in front of those of what is left
 abbrev pub invariant-loop-placed : goal.invariant-loop-placed
 invariant-loop-placed l =
-    let o = outline_view l.outline in
+    let o = outline_view l.scopes.outline.now in
     let before = marks_view (take l.placed-index l.marks) in
     record {
       next : l.next.items ≡ of_blocks o (λ b. declared_by o b before);

@@ -2,7 +2,8 @@ use Rattle.std.proofs.Common.{◌<◌, length, arith, sym, ap, ◌∙◌}
 use Rattle.std.specs.List.{list_any}
 use Rattle.pli_base.specs.Words.{same_name}
 use Rattle.pli_declare_outline.specs.views.OutlineView.{outline_view}
-use Rattle.pli_declare.proofs.ParameterNames.{names_to, seen_more, names_more, told_more}
+use Rattle.pli_declare_scopes.proofs.Seen.{seen_more, names_alike}
+use Rattle.pli_declare.proofs.ParameterNames.{names_to, names_more, told_more}
 use Rattle.pli_declare.proofs.parameters.tell_parameters.Goals as goal
 
 pub loop-parameter-preserved : goal.loop-parameter-preserved
@@ -13,7 +14,7 @@ loop-parameter-preserved c =
     let lt : n < length ps = omega arith in
     let keys = c.loop-parameter.before.keys in
     record {
-      seen = λ i. seen_more keys (names_to ps n) x.name c.loop-parameter.invariant.seen c.tell_parameter.new.before.keys c.in_ok-tell_parameter.ensures.before i
+      seen = λ i. seen_more same_name names_alike keys (names_to ps n) x.name c.loop-parameter.invariant.seen c.tell_parameter.new.before.keys c.in_ok-tell_parameter.ensures.before i
           ∙ ap (list_any (same_name i)) (sym (names_more ps n x lt c.parameter-item.is));
       told = told_more (outline_view c.args.outline.now) c.args.region ps n x lt c.parameter-item.is keys c.in_ok-items.items.keys c.loop-parameter.invariant.seen c.in_ok-items.ensures
           c.loop-parameter.faults.items c.tell_parameter.new.faults.items _ c.in_ok-tell_parameter.ensures.told c.loop-parameter.invariant.told;

@@ -9,7 +9,7 @@ use Rattle.pli_declare.proofs.references.reference_code.Goals.{in-Found, in-Ambi
 
 pub returns : goal.returns
 returns c =
-    let scope = scope_of (outline_view c.args.outline.now) c.args.here in
+    let scope = scope_of (outline_view c.args.scopes.now.outline.now) c.args.here in
     let names = c.args.names.now in
     let joined = c.deref.result.now in
     let same : joined ≡ names_of names = c.deref.ensures.value ∙ c.in_ok-joined.ensures in

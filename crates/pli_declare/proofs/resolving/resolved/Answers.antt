@@ -1,4 +1,4 @@
-use Rattle.std.proofs.Common.{◌≡◌, List, map, ap, ◌∙◌}
+use Rattle.std.proofs.Common.{◌≡◌, List, ap, ◌∙◌}
 use Rattle.pli_base.specs.views.StatementView.{unit_view}
 use Rattle.pli_declare_outline.specs.views.OutlineView.{outline_view, regions_view, marks_view}
 use Rattle.pli_declare_tables.specs.Tables.{inner_marks}
@@ -11,7 +11,7 @@ pub invariant_of-result : goal.invariant_of-result
 unfolding resolved_of
 invariant_of-result c =
     let u = unit_view c.args.unit.now in
-    let o = outline_view c.args.outline.now in
+    let o = outline_view c.args.scopes.now.outline.now in
     let same : resolution_of o ≡ resolved_of u = ap resolution_of c.requires.outlined in
     let marks : marks_view c.marks_behind-marks.result.now ≡ inner_marks o.marks = c.marks_behind-marks.ensures in
     record {

@@ -8,14 +8,14 @@ use Rattle.pli_declare.proofs.unit.codes_of_blocks.Goals as goal
 
 pub index-requires : goal.index-requires
 index-requires c =
-    let o = outline_view c.args.known.now.outline.now in
-    let count : length c.args.known.now.outline.now.regions.items ≡ length o.regions = sym (length-map c.args.known.now.outline.now.regions.items region_view) in
+    let o = outline_view c.args.known.now.scopes.outline.now in
+    let count : length c.args.known.now.scopes.outline.now.regions.items ≡ length o.regions = sym (length-map c.args.known.now.scopes.outline.now.regions.items region_view) in
     omega (arith, count, c.loop-block-test.true, c.len-block-end.ensures, seen_length (λ v. v.items) (block_goodness o) c.in_ok-good.good.items (length o.regions + 1) c.in_ok-good.ensures)
 
 pub codes_of_block-requires-clause-good : goal.codes_of_block-requires-clause-good
 codes_of_block-requires-clause-good c =
-    let o = outline_view c.args.known.now.outline.now in
-    let count : length c.args.known.now.outline.now.regions.items ≡ length o.regions = sym (length-map c.args.known.now.outline.now.regions.items region_view) in
+    let o = outline_view c.args.known.now.scopes.outline.now in
+    let count : length c.args.known.now.scopes.outline.now.regions.items ≡ length o.regions = sym (length-map c.args.known.now.scopes.outline.now.regions.items region_view) in
     let found = c.index.result.now in
     c.deref.ensures.value ∙ ap (λ v. v.items) c.index.ensures
     ∙ seen_at (λ v. v.items) (block_goodness o) c.in_ok-good.good.items (length o.regions + 1) c.loop-block.block found c.in_ok-good.ensures (omega (arith, count, c.loop-block-test.true, c.len-block-end.ensures))
@@ -23,5 +23,5 @@ codes_of_block-requires-clause-good c =
 pub loop-block-preserved : goal.loop-block-preserved
 loop-block-preserved c =
     ap (map (λ list. list.items)) c.in_ok-push.ensures.items ∙ map-append (λ list. list.items) c.loop-block.codes.items (c.in_ok-codes_of_block.field-0 ∷ [])
-    ∙ one_more (block_codes (outline_view c.args.known.now.outline.now)) c.loop-block.block (map (λ list. list.items) c.loop-block.codes.items)
+    ∙ one_more (block_codes (outline_view c.args.known.now.scopes.outline.now)) c.loop-block.block (map (λ list. list.items) c.loop-block.codes.items)
     c.in_ok-codes_of_block.field-0.items c.loop-block.invariant c.in_ok-codes_of_block.ensures

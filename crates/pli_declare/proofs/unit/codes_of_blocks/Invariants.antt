@@ -6,4 +6,4 @@ use Rattle.pli_declare.proofs.unit.codes_of_blocks.Given as goal
 
 -- the codes of the blocks so far
 abbrev pub invariant-loop-block : goal.invariant-loop-block
-invariant-loop-block l = map (λ list. list.items) l.codes.items ≡ map (block_codes (outline_view l.known.outline.now)) (numbers_from 0 l.block)
+invariant-loop-block l = map (λ list. list.items) l.codes.items ≡ map (block_codes (outline_view l.known.scopes.outline.now)) (numbers_from 0 l.block)

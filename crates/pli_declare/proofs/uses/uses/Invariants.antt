@@ -6,5 +6,5 @@ use Rattle.pli_declare.proofs.uses.uses.Given as goal
 -- the uses so far in front of those of what is left
 abbrev pub invariant-loop-placed : goal.invariant-loop-placed
 invariant-loop-placed l =
-    let at = uses_at (outline_view l.outline) in
+    let at = uses_at (outline_view l.scopes.outline.now) in
     l.uses.items ++ of_marks at (marks_view (drop l.placed-index l.marks)) ≡ of_marks at (marks_view l.marks)

@@ -2,7 +2,7 @@ use Rattle.std.proofs.Common.{List, length, sym, ap, ◌∙◌, arith}
 use Rattle.pli_declare_attributes.specs.Faults.{item_fault}
 use Rattle.pli_declare_attributes.specs.declared.place.Place.{Place}
 use Rattle.pli_declare_tables.specs.Tables as plain
-use Rattle.pli_declare_tables.specs.views.TableView.{entry_view, entries_view}
+use Rattle.pli_declare_tables.specs.views.TableView.{entries_view}
 use Rattle.pli_declare_variables.specs.Places.{item_in, place_in, own_code}
 use Rattle.pli_declare_variables.specs.answers.Walks.{cut_place_in}
 use Rattle.pli_declare_variables.proofs.Levelled.{view_at}

@@ -1,4 +1,4 @@
-use Rattle.std.proofs.Common.{map, refl, arith}
+use Rattle.std.proofs.Common.{refl, arith}
 use Rattle.std.proofs.lemmas.Result.{on_ok_weaker}
 use Rattle.pli_declare_outline.specs.views.OutlineView.{outline_view, mark_view}
 use Rattle.pli_declare.specs.answers.Walks.{mark_goodness}
@@ -9,5 +9,5 @@ pub returns : goal.returns
 returns c =
     on_ok_weaker c.append_mark.result
     (λ e. put_behind c.args.all.now.items c.args.block c.in-Some.answers.now c.append_mark.new.answers
-    (mark_goodness (outline_view c.args.self.now.outline.now) c.args.block (mark_view c.args.mark.now)) (omega (arith, c.in-Some.ensures.variant.0 refl)) c.in-Some.ensures.value e)
+    (mark_goodness (outline_view c.args.self.now.scopes.outline.now) c.args.block (mark_view c.args.mark.now)) (omega (arith, c.in-Some.ensures.variant.0 refl)) c.in-Some.ensures.value e)
     c.append_mark.ensures

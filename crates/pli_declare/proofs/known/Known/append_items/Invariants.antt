@@ -8,5 +8,5 @@ use Rattle.pli_declare.proofs.known.Known.append_items.Given as goal
 -- the answers so far, and those for the items that are left
 abbrev pub invariant-loop-item : goal.invariant-loop-item
 invariant-loop-item l =
-    let good = item_goodness (outline_view l.self.outline.now) l.block in
+    let good = item_goodness (outline_view l.self.scopes.outline.now) l.block in
     l.answers.items ++ flat_map good (map item_view (drop l.item-index l.items)) ≡ l.initial.answers.items ++ flat_map good (map item_view l.items)

@@ -16,13 +16,13 @@ item_code-requires-clause-number c =
 
 pub loop-number-preserved : goal.loop-number-preserved
 loop-number-preserved c =
-    let code = item_code (outline_view c.args.self.now.outline.now) c.args.block in
+    let code = item_code (outline_view c.args.self.now.scopes.outline.now) c.args.block in
     c.in_ok-push.ensures.items ∙ ap (λ codes. codes ++ c.item_code.result ∷ []) c.loop-number.invariant
     ∙ ap (λ x. map code (numbers_from 0 c.loop-number.number) ++ x ∷ []) c.item_code.ensures ∙ sym (made_more code c.loop-number.number)
 
 pub returns : goal.returns
 returns c =
-    let o = outline_view c.args.self.now.outline.now in
+    let o = outline_view c.args.self.now.scopes.outline.now in
     let entries = c.table.result.now.entries in
     let ended : c.loop-number.number ≡ c.len-count.result = (let a = c.loop-number-test.false in let b = c.loop-number.auto in omega arith) in
     c.loop-number.invariant

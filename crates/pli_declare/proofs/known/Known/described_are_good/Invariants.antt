@@ -7,5 +7,5 @@ use Rattle.pli_declare.proofs.known.Known.described_are_good.Given as goal
 
 abbrev pub invariant-loop-attribute : goal.invariant-loop-attribute
 invariant-loop-attribute l =
-    let good = described_is_good (outline_view l.self.outline.now) l.block in
+    let good = described_is_good (outline_view l.self.scopes.outline.now) l.block in
     list_all good (map described_view (drop l.attribute-index l.attributes)) ≡ list_all good (map described_view l.attributes)

@@ -8,5 +8,5 @@ use Rattle.pli_declare.proofs.known.Known.descriptions_are_good.Given as goal
 
 abbrev pub invariant-loop-description : goal.invariant-loop-description
 invariant-loop-description l =
-    let good : ParameterDescription → Bool = λ d. list_all (described_is_good (outline_view l.self.outline.now) l.block) d.attributes in
+    let good : ParameterDescription → Bool = λ d. list_all (described_is_good (outline_view l.self.scopes.outline.now) l.block) d.attributes in
     list_all good (map parameter_view (drop l.description-index l.descriptions)) ≡ list_all good (map parameter_view l.descriptions)

@@ -1,4 +1,4 @@
-use Rattle.std.proofs.Common.{◌≡◌, [], ◌∷◌, ◌+◌, ◌<◌, map, replicate, length, take, sym, ap, ◌∙◌, arith}
+use Rattle.std.proofs.Common.{◌≡◌, [], ◌+◌, ◌<◌, map, replicate, length, take, sym, ap, ◌∙◌, arith}
 use Rattle.std.proofs.lemmas.List.{length-map, nil_from_length}
 use Rattle.pli_declare_outline.specs.views.OutlineView.{outline_view, region_view, marks_view, placed_view}
 use Rattle.pli_declare_tables.specs.Tables.{entries_after, inner_marks, numbers_from}
@@ -11,7 +11,7 @@ use Rattle.pli_declare.proofs.known.Known.goodness.Goals as goal
 
 pub returns-in_default : goal.returns-in_default
 returns-in_default c =
-    let outline = c.args.self.now.outline.now in
+    let outline = c.args.self.now.scopes.outline.now in
     let o = outline_view outline in
     let count = length o.regions + 1 in
     let none : outline.marks.items ≡ [] = sym c.deref.ensures.value ∙ nil_from_length c.deref.result.now c.in_default.ensures.cases in
@@ -21,13 +21,13 @@ returns-in_default c =
 
 pub loop-placed-init : goal.loop-placed-init
 loop-placed-init c =
-    let outline = c.args.self.now.outline.now in
+    let outline = c.args.self.now.scopes.outline.now in
     c.in_ok-all.ensures ∙ ap (λ n. replicate n []) (omega (arith, c.len.ensures, length-map outline.regions.items region_view))
     ∙ replicate_numbers [] 0 (length (outline_view outline).regions + 1)
 
 pub loop-placed-preserved : goal.loop-placed-preserved
 loop-placed-preserved c =
-    let o = outline_view c.args.self.now.outline.now in
+    let o = outline_view c.args.self.now.scopes.outline.now in
     let marks = c.in-Some.marks.now in
     let n = c.loop-placed.placed-index in
     let x = c.placed-item.result in

@@ -8,4 +8,4 @@ use Rattle.pli_declare.proofs.known.Known.goodness.Given as goal
 abbrev pub invariant-loop-placed : goal.invariant-loop-placed
 invariant-loop-placed l =
     map (λ list. list.items) l.all.items
-    ≡ of_blocks (outline_view l.self.outline.now) (so_far (outline_view l.self.outline.now) (marks_view (take l.placed-index l.marks)))
+    ≡ of_blocks (outline_view l.self.scopes.outline.now) (so_far (outline_view l.self.scopes.outline.now) (marks_view (take l.placed-index l.marks)))

@@ -8,6 +8,6 @@ use Rattle.pli_declare.proofs.known.Known.returned_are_good.Given as goal
 
 abbrev pub invariant-loop-option : goal.invariant-loop-option
 invariant-loop-option l =
-    let good = described_is_good (outline_view l.self.outline.now) l.block in
+    let good = described_is_good (outline_view l.self.scopes.outline.now) l.block in
     list_all (list_all good) (returned_by (map option_view (drop l.option-index l.option-items)))
     ≡ returned_are (list_all good) (unit_view l.procedure).heading

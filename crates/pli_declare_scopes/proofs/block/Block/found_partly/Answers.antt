@@ -1,12 +1,12 @@
 use Rattle.std.proofs.Common.{subst, ◌≡◌, ◌-◌, ◌<◌, [], length, get_or, None, Some, if◌then◌else◌, sym, ap, ◌∙◌, arith}
-use Rattle.std.proofs.lemmas.List.{nil_from_length, get_or_default}
+use Rattle.std.proofs.lemmas.List.{nil_from_length}
 use Rattle.indexmap.specs.IndexMap.{get}
 use Rattle.pli_base.specs.Words.{same_name}
 use Rattle.pli_declare_scopes.specs.Scopes.{fits, found_below, with_number}
 use Rattle.pli_declare_scopes.specs.declared.found.Found.TheVariants.{Nothing}
 use Rattle.pli_declare_scopes.specs.answers.Leaps.{rank}
 use Rattle.pli_declare_scopes.specs.answers.Reaches.{IsCandidate}
-use Rattle.pli_declare_scopes.proofs.Candidates.{no_names, stands, is_there, looking_first, looking_several, looking_on, looking_ends, looking_leap, leap_ends, if_taken, if_passed}
+use Rattle.pli_declare_scopes.proofs.Candidates.{no_names, linked, looking_first, looking_several, looking_on, looking_ends, looking_leap, leap_ends, if_taken, if_passed}
 use Rattle.pli_declare_scopes.proofs.block.Block.found_partly.Goals as goal
 use Rattle.pli_declare_scopes.proofs.block.Block.found_partly.Goals.{then-fits, else-fits}
 
@@ -42,32 +42,26 @@ returns-in-Several c =
 pub loop-next-smaller-then-eq : goal.loop-next-smaller-then-eq
 loop-next-smaller-then-eq c =
     let items = c.self.inside.items.items in
-    let names = c.args.names.now in
-    let n = c.in-Some-next.number in
+    let kept = c.self.invariant.0 in
     let some = c.in-Some.ensures.item.3.0 in
-    let h = c.loop-next.invariant in
-    let here : n < length items = stands items c.self.invariant.0.owners names some c.loop-next.next n c.loop-next.found h c.in-Some-next.is in
-    let there = is_there items c.self.invariant.0.owners names some c.loop-next.next n c.loop-next.found h c.in-Some-next.is in
-    looking_ends items c.self.invariant.0.owners names some c.loop-next.next n c.loop-next.found h c.in-Some-next.is c.index.result.now
-    (c.index.ensures ∙ get_or_default c.self.inside.earlier.items n c.index.result.now None (omega (arith, here, c.self.invariant.0.count))
-    ∙ c.self.invariant.0.links (get_or names (length names - 1) []) n here there)
+    let next = c.index.result.now in
+    looking_ends items kept.owners c.args.names.now some c.loop-next.next c.in-Some-next.number c.loop-next.found c.loop-next.invariant c.in-Some-next.is next
+    (linked items kept.owners c.args.names.now some c.loop-next.next c.in-Some-next.number c.loop-next.found c.loop-next.invariant c.in-Some-next.is c.self.inside.earlier.items c.self.inside.latest kept next c.index.ensures)
 
 pub loop-next-preserved-then-eq : goal.loop-next-preserved-then-eq
 loop-next-preserved-then-eq c =
     let items = c.self.inside.items.items in
+    let kept = c.self.invariant.0 in
     let names = c.args.names.now in
     let n = c.in-Some-next.number in
     let some = c.in-Some.ensures.item.3.0 in
-    let h = c.loop-next.invariant in
-    let here : n < length items = stands items c.self.invariant.0.owners names some c.loop-next.next n c.loop-next.found h c.in-Some-next.is in
-    let there = is_there items c.self.invariant.0.owners names some c.loop-next.next n c.loop-next.found h c.in-Some-next.is in
+    let next = c.index.result.now in
     let told : c.if-fits.found ≡ (if c.fits.result then with_number n c.loop-next.found else c.loop-next.found) = elim c.if-fits.branch [
       | then-fits w ↦ if_taken _ _ _ _ w.if-fits.true (w.found-is ∙ w.with_number-found.ensures)
       | else-fits w ↦ if_passed _ _ _ _ w.if-fits.false w.found-is
     ] in
-    looking_on items c.self.invariant.0.owners names some c.loop-next.next n c.loop-next.found h c.in-Some-next.is c.index.result.now
-    (c.index.ensures ∙ get_or_default c.self.inside.earlier.items n c.index.result.now None (omega (arith, here, c.self.invariant.0.count))
-    ∙ c.self.invariant.0.links (get_or names (length names - 1) []) n here there)
+    looking_on items kept.owners names some c.loop-next.next n c.loop-next.found c.loop-next.invariant c.in-Some-next.is next
+    (linked items kept.owners names some c.loop-next.next n c.loop-next.found c.loop-next.invariant c.in-Some-next.is c.self.inside.earlier.items c.self.inside.latest kept next c.index.ensures)
     c.if-fits.found c.fits.result
     (rw c.as_slice-items.ensures.value at c.fits.ensures)
     told
