@@ -1,9 +1,9 @@
 -- A fault of reading stands at a token: statements and the unit.
 use Rattle.std.proofs.Common.{◌≡◌, ◌<◌, ◌≤◌, ◌+◌, ◌-◌, ℕ, suc, zero, Bool, true, false, cond, [], ◌∷◌, Option, Some, None, Result, Ok, Err, length, codes, refl, ap, ◌∙◌, sym, subst, arith, inl, inr, ⊎_elim, ◌⊎◌}
 use Rattle.pli_base.specs.FaultPlaces.{StandsAtToken, FaultStands, Passes}
-use Rattle.pli_base.specs.laws.FaultPlaceLaws.{passes_none, passes_one, passes_two, passes_on, fault_of_text}
+use Rattle.pli_base.specs.laws.FaultPlaceLaws.{passes_none, passes_one, passes_two, fault_of_text}
 use Rattle.pli_parse_fault.specs.FaultCodes.{is_of_part, IsToldOf}
-use Rattle.pli_parse_fault.proofs.ToldFaults.{told_first, told_last, told_ended, told_behind, told_stands}
+use Rattle.pli_parse_fault.proofs.ToldFaults.{told_first, told_last, told_behind, told_stands}
 use Rattle.pli_base.specs.Words.{Tokens, is_procedure, is_semicolon, is_open, is_word}
 use Rattle.pli_base.specs.Reading.{◌>>=◌, Front, at_fault, misplaced}
 use Rattle.pli_base.specs.declared.code.Code.{Code}
@@ -19,7 +19,7 @@ use Rattle.pli_parse_expression.specs.Operators.{nesting_limit}
 use Rattle.pli_base.specs.Words.{behind}
 use Rattle.pli_parse_declaration.specs.DeclarationReading.{identifier_at, list_at, declaration_at}
 use Rattle.pli_parse_declaration.specs.declared.list.Separator.TheVariants.{Commas}
-use Rattle.pli_base.specs.Reading.{read_as, mapped, taken, if_open}
+use Rattle.pli_base.specs.Reading.{read_as, mapped, if_open}
 use Rattle.pli_parse_declaration.proofs.DeclarationFaults.{identifier_sound, Stands, at_least, stands_behind, stands_then, stands_made, mapped_stands, taken_then, optional_stands, list_sound, declaration_stands, fault_of}
 use Rattle.pli_parse_statement.specs.StatementWords.{Context, standing, the_unit, a_procedure, Kind, Assigns, Empty, Keyed, Unknown, kind_of}
 use Rattle.pli_parse_statement.specs.StatementReading.{expression_in, reference_in, stopped, closing, assignment_at, condition_at, control_at, allocation_at, put_at, call_at, heading_at, StatementReader, Inside, deeper, has_semicolon, label_at, is_labelled, second_label, bad_label, Misplacement, AtLabel, AtStatement, unit_misplaced, standing_misplaced, misplacement, at_label, Listing, is_label, named_end, ending_at, Next, EndsHere, Another, next_of, list_by, list_from, list_in, else_first, alternative_from, if_at, on_at, do_at, begin_at, inner_list, procedure_at, keyed_at, unless_misplaced, body_from, behind_label, begun, statement_of, inside_of, statement_at, finished, external_at, unit_from, unit_of}

@@ -1,16 +1,15 @@
 -- A fault of reading stands at a token: the parts of statements.
-use Rattle.std.proofs.Common.{◌≡◌, ◌<◌, ◌≤◌, ◌+◌, ℕ, suc, zero, Bool, true, false, cond, List, [], ◌∷◌, Option, Some, None, Result, Ok, Err, option_map, length, codes, refl, ap, sym, subst, arith}
+use Rattle.std.proofs.Common.{◌≡◌, ◌<◌, ◌+◌, ℕ, suc, zero, Bool, true, false, cond, List, [], ◌∷◌, Option, Some, None, Result, Ok, Err, option_map, length, codes, refl, ap, sym, subst, arith}
 use Rattle.pli_base.specs.Name.{Name}
-use Rattle.pli_base.specs.FaultPlaces.{FaultStands, Passes}
 use Rattle.pli_base.specs.laws.FaultPlaceLaws.{passes_none, passes_one}
-use Rattle.pli_parse_fault.specs.FaultCodes.{is_of_part, IsToldOf}
-use Rattle.pli_parse_fault.proofs.ToldFaults.{told_first, told_last, told_ended, told_behind, told_stands}
+use Rattle.pli_parse_fault.specs.FaultCodes.{IsToldOf}
+use Rattle.pli_parse_fault.proofs.ToldFaults.{told_first}
 use Rattle.pli_base.specs.Words.{Tokens, same_name, is_semicolon, is_open, is_word}
-use Rattle.pli_base.specs.Reading.{◌>>=◌, Front, at_fault}
-use Rattle.pli_base.specs.Syntax.{Expression, Reference, Arguments}
-use Rattle.pli_base.specs.declared.code.Code.TheVariants.{NotAStatement, ParenthesisExpected, SemicolonExpected, NameExpected, BadDo, BadCondition, BadOption}
+use Rattle.pli_base.specs.Reading.{◌>>=◌, Front}
+use Rattle.pli_base.specs.Syntax.{Expression, Reference}
+use Rattle.pli_base.specs.declared.code.Code.TheVariants.{NotAStatement, ParenthesisExpected, SemicolonExpected, BadDo, BadCondition, BadOption}
 use Rattle.pli_base.specs.declared.token.Fault.{Fault}
-use Rattle.pli_base.specs.declared.token.Sign.TheVariants.{OpenParenthesis, Equals}
+use Rattle.pli_base.specs.declared.token.Sign.TheVariants.{OpenParenthesis}
 use Rattle.pli_base.specs.declared.token.TokenText.TheVariants.{Word, Sign}
 use Rattle.pli_base.specs.declared.syntax.Identifier.{Identifier}
 use Rattle.pli_base.specs.declared.statement.Condition.{Condition}
@@ -24,12 +23,12 @@ use Rattle.pli_parse_expression.proofs.ReadFaults.{expression_at_sound, referenc
 use Rattle.pli_base.specs.Words.{behind}
 use Rattle.pli_parse_declaration.specs.DeclarationReading.{identifier_at, list_at, returned_at}
 use Rattle.pli_parse_declaration.specs.declared.list.Separator.TheVariants.{Commas}
-use Rattle.pli_base.specs.Reading.{expected, read_as, mapped, taken, enclosed, if_open, or_none}
+use Rattle.pli_base.specs.Reading.{read_as, mapped, taken, enclosed, if_open, or_none}
 use Rattle.pli_parse_declaration.specs.DeclarationGrammar.{SpellsListed}
-use Rattle.pli_parse_declaration.proofs.DeclarationSteps.{some_same}
-use Rattle.pli_parse_declaration.proofs.DeclarationFaults.{identifier_sound, Stands, IsSound, misfit_stands, at_least, stands_behind, stands_then, stands_made, mapped_stands, one_less, taken_then, enclosed_stands, optional_stands, list_sound, returned_stands}
+use Rattle.pli_parse_fault.proofs.Steps.{some_same}
+use Rattle.pli_parse_declaration.proofs.DeclarationFaults.{identifier_sound, Stands, IsSound, misfit_stands, at_least, stands_behind, stands_then, stands_made, mapped_stands, taken_then, enclosed_stands, optional_stands, list_sound, returned_stands}
 use Rattle.pli_parse_statement.specs.StatementWords.{condition_of, behind_word}
-use Rattle.pli_parse_statement.specs.StatementReading.{uncounted, expression_in, reference_in, stopped, closing, parenthesized, is_equals, assignment_at, condition_from, condition_at, if_word, optional_at, paired, RangeWord, ToWord, ByWord, RepeatWord, range_word, range_first, range_from, range_at, Specified, Unspecified, Conditioned, Iterated, specified, control_from, control_at, PlaceWord, InWord, SetWord, place_word, place_first, placed_by, places_from, allocation_at, PutWord, SkipWord, ListWord, put_word, put_first, put_by, put_from, put_begun, put_at, call_at, OptionWord, OptionsWord, ReturnsWord, RecursiveWord, option_word, option_first, main_at, options_by, options_from, heading_at}
+use Rattle.pli_parse_statement.specs.StatementReading.{uncounted, expression_in, reference_in, stopped, closing, parenthesized, is_equals, assignment_at, condition_from, condition_at, if_word, optional_at, paired, known_first, RangeWord, ToWord, ByWord, RepeatWord, range_word, range_first, range_from, range_at, Specified, Unspecified, Conditioned, Iterated, specified, control_from, control_at, PlaceWord, InWord, SetWord, place_word, place_first, placed_by, places_from, allocation_at, PutWord, SkipWord, ListWord, put_word, put_first, put_by, put_from, put_begun, put_at, call_at, OptionWord, OptionsWord, ReturnsWord, RecursiveWord, option_word, option_first, main_at, options_by, options_from, heading_at}
 use Rattle.pli_parse.proofs.StatementReadTools.{expression_reads, parenthesized_reads, list_reads, behind_is}
 
 uncounted_stands : {A : Type 0} (least p : ℕ) (ts : Tokens) (r : Result (expressions.Front A) Fault) → found.Stands least p ts r → Stands least p ts (uncounted r)
@@ -102,29 +101,26 @@ paired_less {A = A} n us (Some w) x h =
     ap (λ (vs : Tokens). suc (length vs)) e
 paired_less n us None x h = cc
 
+known_less : {A : Type 0} (known : Name → Option A) (ts : Tokens) (x : A × Tokens) → known_first known ts ≡ Some x → length ts ≡ suc (length x.1)
+known_less known [] x h = cc
+known_less known (Word n ∷ us) x h = paired_less n us (known n) x h
+known_less known (t ∷ us) x h = cc
+
 range_less : (ts : Tokens) (x : RangeWord × Tokens) → range_first ts ≡ Some x → length ts ≡ suc (length x.1)
 unfolding range_first
-range_less [] x h = cc
-range_less (Word n ∷ us) x h = paired_less n us (range_word n) x h
-range_less (t ∷ us) x h = cc
+range_less = known_less range_word
 
 place_less : (ts : Tokens) (x : PlaceWord × Tokens) → place_first ts ≡ Some x → length ts ≡ suc (length x.1)
 unfolding place_first
-place_less [] x h = cc
-place_less (Word n ∷ us) x h = paired_less n us (place_word n) x h
-place_less (t ∷ us) x h = cc
+place_less = known_less place_word
 
 put_less : (ts : Tokens) (x : PutWord × Tokens) → put_first ts ≡ Some x → length ts ≡ suc (length x.1)
 unfolding put_first
-put_less [] x h = cc
-put_less (Word n ∷ us) x h = paired_less n us (put_word n) x h
-put_less (t ∷ us) x h = cc
+put_less = known_less put_word
 
 option_less : (ts : Tokens) (x : OptionWord × Tokens) → option_first ts ≡ Some x → length ts ≡ suc (length x.1)
 unfolding option_first
-option_less [] x h = cc
-option_less (Word n ∷ us) x h = paired_less n us (option_word n) x h
-option_less (t ∷ us) x h = cc
+option_less = known_less option_word
 
 -- an expression, and behind it another behind a word
 two_stand : {A : Type 0} (levels : ℕ) (w : Name) (value : Expression → Option Expression → A) (p : ℕ) (ts : Tokens)

@@ -12,7 +12,8 @@ use Rattle.pli_base.specs.declared.syntax.Identifier.{Identifier}
 use Rattle.pli_parse_expression.specs.Operators.{nesting_limit}
 use Rattle.pli_parse_expression.specs.Expressions.{Deeper}
 use Rattle.pli_parse_declaration.specs.DeclarationGrammar.{SpellsFront}
-use Rattle.pli_parse_declaration.proofs.DeclarationSteps.{bind_ok, mapped_ok, two}
+use Rattle.pli_parse_declaration.proofs.DeclarationSteps.{mapped_ok, two}
+use Rattle.pli_parse_fault.proofs.Steps.{bind_ok}
 use Rattle.pli_base.specs.Statements.{Statement, Numbered, Body, ExternalProcedure, Heading, list_count, AwaitsElse}
 use Rattle.pli_parse_statement.specs.StatementWords.{Context, a_procedure, keyword_of, begins_assignment, Kind, Assigns, Empty, Keyed, Unknown, kind_of}
 use Rattle.pli_parse_statement.specs.StatementReading.{Inside, Listing, inner_list, has_semicolon, heading_at, label_at, is_labelled, bad_label, Misplacement, AtLabel, AtStatement, misplacement, keyed_at, unless_misplaced, body_from, behind_label, begun, statement_of, inside_of, statement_at, finished, external_at, unit_from, unit_of, else_first}

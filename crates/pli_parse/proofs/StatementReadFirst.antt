@@ -1,5 +1,5 @@
 -- What is read is spelled so: how statements begin and lists end.
-use Rattle.std.proofs.Common.{◌≡◌, ◌+◌, ◌⊎◌, ⊎_elim, inl, inr, ℕ, Bool, true, false, cond, List, [], ◌∷◌, ◌++◌, Option, Some, None, Ok, option_map, codes, refl, ap, ◌∙◌, sym, subst, arith, append_assoc}
+use Rattle.std.proofs.Common.{◌≡◌, ◌+◌, ◌⊎◌, ⊎_elim, inl, inr, ℕ, Bool, true, false, cond, [], ◌∷◌, ◌++◌, Option, Some, None, Ok, codes, refl, ap, ◌∙◌, sym, subst, arith}
 use Rattle.pli_base.specs.Name.{Name}
 use Rattle.pli_base.specs.laws.NameLaws.{equal_from_pointwise}
 use Rattle.pli_base.specs.Words.{Tokens, same_name}
@@ -7,74 +7,21 @@ use Rattle.pli_base.specs.Reading.{Front}
 use Rattle.pli_base.specs.declared.token.Sign.TheVariants.{Colon, Semicolon}
 use Rattle.pli_base.specs.declared.token.TokenText.TheVariants.{Word, Sign}
 use Rattle.pli_base.specs.declared.syntax.Identifier.{Identifier}
-use Rattle.pli_parse_expression.specs.Assignments.{IsAssignment, Foreign, State, NameWanted, OperandWanted, ListBegun, BehindName, BehindList, BehindOperand, Frame, Target, Whole, Group, Arguments, Move, Stops, Goes, Enters, Leaves, Turns, move, moved, accepts, is_assignment}
-use Rattle.pli_parse_expression.specs.Assignments as assignments
-use Rattle.pli_parse_expression.proofs.SpelledIsAccepted.{assignment_accepted}
 use Rattle.pli_parse_declaration.specs.DeclarationWords.{is_either}
 use Rattle.pli_parse_declaration.specs.DeclarationGrammar.{SpellsFront}
-use Rattle.pli_parse_declaration.proofs.DeclarationSteps.{some_same}
-use Rattle.pli_parse_statement.specs.StatementWords.{keyword_of, behind_word, up_to_semicolon, is_assigned, begins_assignment, Kind, Assigns, Empty, Keyed, Unknown, go_kind, word_kind, first_kind, kind_of}
+use Rattle.pli_parse_fault.proofs.Steps.{some_same}
+use Rattle.pli_parse_statement.specs.StatementWords.{keyword_of, behind_word, begins_assignment, Kind, Assigns, Empty, Keyed, Unknown, go_kind, word_kind, first_kind, kind_of}
 use Rattle.pli_parse_statement.specs.StatementReading.{has_semicolon, label_at, is_labelled, ending_at, is_label, named_end, EndsHere, next_by, next_of, else_by, else_first}
 use Rattle.pli_parse_statement.specs.StatementGrammar.{BeginsAssignment, SpellsLabel, SpellsEnd}
 use Rattle.pli_parse_statement.specs.declared.keyword.Keyword.{Keyword}
 use Rattle.pli_parse_statement.specs.declared.keyword.Keyword.TheVariants as words
 use Rattle.pli_parse.proofs.StatementReadTools.{behind_is, stopped_ok}
-
--- a token that is no part of an expression stops the test for an assignment
-foreign_stops : (s : State) (f : Frame) → move s f Foreign ≡ Stops
-foreign_stops NameWanted f = refl
-foreign_stops OperandWanted f = refl
-foreign_stops ListBegun f = refl
-foreign_stops BehindName Target = refl
-foreign_stops BehindName Whole = refl
-foreign_stops BehindName Group = refl
-foreign_stops BehindName Arguments = refl
-foreign_stops BehindList Target = refl
-foreign_stops BehindList Whole = refl
-foreign_stops BehindList Group = refl
-foreign_stops BehindList Arguments = refl
-foreign_stops BehindOperand Target = refl
-foreign_stops BehindOperand Whole = refl
-foreign_stops BehindOperand Group = refl
-foreign_stops BehindOperand Arguments = refl
-
--- the test goes on from somewhere
-goes_on : (m : Move) (more : State → Frame → List Frame → Bool) (f : Frame) (fs : List Frame) → moved m more f fs ≡ true → (s : State) × (g : Frame) × (gs : List Frame) × (more s g gs ≡ true)
-goes_on Stops more f fs h = cc
-goes_on (Goes s) more f fs h = (s, f, fs, h)
-goes_on (Enters g s) more f fs h = (s, g, f ∷ fs, h)
-goes_on Leaves more f [] h = cc
-goes_on Leaves more f (g ∷ fs) h = (_, g, fs, h)
-goes_on Turns more f fs h = (OperandWanted, Whole, fs, h)
-
--- in an assignment there is no `;`
-no_semicolon : (ts : Tokens) (s : State) (f : Frame) (fs : List Frame) → accepts s f fs ts ≡ true → has_semicolon ts ≡ false
-unfolding accepts has_semicolon
-no_semicolon [] s f fs h = refl
-no_semicolon (Sign Semicolon ∷ ts) s f fs h =
-    let stops = ap (λ m. moved m (λ s f fs. accepts s f fs ts) f fs) (foreign_stops s f) in
-    absurd (cc (stops, h))
-no_semicolon (t ∷ ts) s f fs h =
-    let g = goes_on (move s f (assignments.kind_of t)) (λ s f fs. accepts s f fs ts) f fs h in
-    no_semicolon ts g.0 g.1 g.2 g.3
-
--- so the tokens before the first `;` are those
-found : (ts more : Tokens) → has_semicolon ts ≡ false → up_to_semicolon (ts ++ Sign Semicolon ∷ more) ≡ Some ts
-unfolding up_to_semicolon has_semicolon
-found [] more h = refl
-found (Sign Semicolon ∷ ts) more h = cc
-found (t ∷ ts) more h = ap (λ o. option_map (λ us. t ∷ us) o) (found ts more h)
-
-pub assignment_found : (p : ℕ) (ts : Tokens) → BeginsAssignment p ts → begins_assignment ts ≡ true
-unfolding begins_assignment is_assignment
-assignment_found p ts (front, rest, shape, spelled) =
-    let accepted = assignment_accepted p front spelled in
-    ap (λ us. is_assigned (up_to_semicolon us)) shape ∙ ap is_assigned (found front rest (no_semicolon front NameWanted Target [] accepted)) ∙ accepted
+use Rattle.pli_parse.proofs.StatementSpelledTools.{assignment_begins}
 
 -- where no assignment begins, none begins in a part
 pub none_begins : (p : ℕ) (ts front rest : Tokens) → begins_assignment ts ≡ false → ts ≡ front ++ rest → BeginsAssignment p front → ⊥
-none_begins p ts front rest h shape (us, vs, e, spelled) =
-    let yes = assignment_found p ts (us, vs ++ rest, shape ∙ ap (λ ws. ws ++ rest) e ∙ append_assoc us (Sign Semicolon ∷ vs) rest, spelled) in
+none_begins p ts front rest h shape begins =
+    let yes = ap begins_assignment shape ∙ assignment_begins p front rest begins in
     cc
 
 -- the keyword that was looked up

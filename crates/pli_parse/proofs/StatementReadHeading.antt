@@ -3,7 +3,7 @@ use Rattle.std.proofs.Common.{◌≡◌, ◌+◌, ◌≤◌, ⊎_elim, ℕ, suc,
 use Rattle.pli_base.specs.Name.{Name}
 use Rattle.pli_base.specs.laws.NameLaws.{equal_from_pointwise}
 use Rattle.pli_base.specs.Words.{Tokens, same_name, is_open, is_word, behind}
-use Rattle.pli_base.specs.Reading.{◌>>=◌, Front, read_as, taken, mapped, if_open, or_none}
+use Rattle.pli_base.specs.Reading.{◌>>=◌, Front, read_as, taken, if_open, or_none}
 use Rattle.pli_base.specs.Syntax.{Arguments}
 use Rattle.pli_base.specs.declared.code.Code.TheVariants.{BadOption}
 use Rattle.pli_base.specs.declared.token.Fault.{Fault}
@@ -14,38 +14,23 @@ use Rattle.pli_parse_expression.specs.Operators.{operator_limit}
 use Rattle.pli_parse_expression.specs.Expressions.{operators, SpellsArguments, SpellsExpression, GivenFits, Every, OutermostFits, Deeper}
 use Rattle.pli_parse_expression.specs.Reading.{arguments_at, argument_of, inside, expression_at, expression_of, list_at, outermost}
 use Rattle.pli_parse_expression.specs.Reading as expressions
-use Rattle.pli_parse_expression.proofs.ReadIsSpelled.{IsRead, IsReadBy, list_reads, expression_at_read}
-use Rattle.pli_parse_expression.proofs.ReadingTools as grammar
+use Rattle.pli_parse_expression.proofs.ReadIsSpelled.{list_reads, outermost_read, expression_at_read}
 use Rattle.pli_parse_declaration.specs.DeclarationReading.{returned_at, identifier_at}
 use Rattle.pli_parse_declaration.specs.DeclarationReading as items
 use Rattle.pli_parse_declaration.specs.DeclarationGrammar.{SpellsFront, SpellsListed}
-use Rattle.pli_parse_declaration.proofs.DeclarationSteps.{same_ok, bind_ok, mapped_ok, taken_ok, two}
+use Rattle.pli_parse_declaration.proofs.DeclarationSteps.{mapped_ok, taken_ok, two}
+use Rattle.pli_parse_fault.proofs.Steps.{same_ok, bind_ok}
 use Rattle.pli_parse_declaration.proofs.DeclarationRead.{Reads}
 use Rattle.pli_parse_declaration.proofs.DeclarationItemsRead.{returned_reads}
 use Rattle.pli_base.specs.Statements.{ProcedureOption, Main, Returns, Recursive, Heading, Body, Call}
 use Rattle.pli_parse_statement.specs.StatementReading.{uncounted, call_at, OptionWord, OptionsWord, ReturnsWord, RecursiveWord, option_word, option_first, main_at, options_by, options_from, heading_at}
 use Rattle.pli_parse_statement.specs.StatementGrammar.{SpellsIdentifier, SpellsCall, SpellsParameters, SpellsOption, SpellsOptions, SpellsHeading}
 use Rattle.pli_parse.proofs.StatementReadTools as tools
-use Rattle.pli_parse.proofs.StatementReadTools.{uncounted_ok, stopped_ok, identifier_reads, parenthesized_reads, paired_is, word_first}
-use Rattle.pli_parse.proofs.StatementReadParts.{MaybeEnclosed, open_reads, of_three}
+use Rattle.pli_parse.proofs.StatementReadTools.{uncounted_ok, stopped_ok, identifier_reads, parenthesized_reads, known_begins, word_first}
+use Rattle.pli_parse.proofs.StatementReadParts.{MaybeEnclosed, open_reads, one_of_three}
 use Rattle.pli_parse_declaration.specs.declared.list.Separator.TheVariants.{Commas}
 
--- an argument of CALL is an outermost expression
-outermost_read : (n : ℕ) → IsReadBy (OutermostFits n) (λ e. 0) (outermost (expression_at n))
-outermost_read n count p ts x h =
-    let a = grammar.bind_ok (expression_at n 0 p ts) _ x h in
-    let s = expression_at_read n 0 p ts a.0 a.1 in
-    let few : operators a.0.value ≤ operator_limit = omega (arith, s.counted, s.few (omega arith)) in
-    subst (IsRead SpellsExpression (λ e. 0) (OutermostFits n) count p ts) (grammar.same_ok a.2) (record {
-      front = s.front;
-      whole = s.whole;
-      spelled = s.spelled;
-      place = s.place;
-      counted = omega arith;
-      few = λ f. f;
-      fits = (s.fits, few);
-    })
-
+-- the arguments of CALL are outermost expressions
 abbrev ArgumentsRead : (levels p : ℕ) → Tokens → expressions.Front Arguments → Type 0
 ArgumentsRead levels p ts x =
     (front : Tokens) × (ts ≡ front ++ x.rest) × (x.next ≡ p + length front) × SpellsArguments p front x.value
@@ -53,19 +38,19 @@ ArgumentsRead levels p ts x =
 
 arguments_reads : (levels p : ℕ) (ts : Tokens) (x : expressions.Front Arguments) → arguments_at (option_map (argument_of true) (inside levels)) 0 p ts ≡ Ok x → ArgumentsRead levels p ts x
 unfolding arguments_at inside expression_at
-arguments_reads levels p [] x h = subst (ArgumentsRead levels p []) (grammar.same_ok h) ([], refl, omega arith, refl, tt)
+arguments_reads levels p [] x h = subst (ArgumentsRead levels p []) (same_ok h) ([], refl, omega arith, refl, tt)
 arguments_reads zero p (Sign signs.OpenParenthesis ∷ ts) x h = cc
 arguments_reads (suc n) p (Sign signs.OpenParenthesis ∷ ts) x h =
-    let a = grammar.bind_ok (list_at (outermost (expression_at n)) 0 (p + 1) ts) _ x h in
-    let s = list_reads (OutermostFits n) (λ e. 0) (outermost (expression_at n)) (outermost_read n) 0 (p + 1) ts a.0 a.1 in
-    subst (ArgumentsRead (suc n) p (Sign signs.OpenParenthesis ∷ ts)) (grammar.same_ok a.2) (
+    let a = bind_ok (list_at (outermost (expression_at n)) 0 (p + 1) ts) _ x h in
+    let s = list_reads (OutermostFits n) (λ e. 0) (outermost (expression_at n)) (outermost_read n (expression_at n) (expression_at_read n)) 0 (p + 1) ts a.0 a.1 in
+    subst (ArgumentsRead (suc n) p (Sign signs.OpenParenthesis ∷ ts)) (same_ok a.2) (
       Sign signs.OpenParenthesis ∷ s.front,
       ap (λ us. Sign signs.OpenParenthesis ∷ us) s.whole,
       omega (arith, s.place),
       (s.spelled.0, ap (λ us. Sign signs.OpenParenthesis ∷ us) s.spelled.1, s.spelled.2),
       s.fits,
     )
-arguments_reads levels p (t ∷ ts) x h = subst (ArgumentsRead levels p (t ∷ ts)) (grammar.same_ok h) ([], refl, omega arith, refl, tt)
+arguments_reads levels p (t ∷ ts) x h = subst (ArgumentsRead levels p (t ∷ ts)) (same_ok h) ([], refl, omega arith, refl, tt)
 
 -- behind CALL
 abbrev pub IsCall : (levels p : ℕ) → Tokens → Body → Type 0
@@ -100,18 +85,11 @@ option_spelling RecursiveWord = codes "RECURSIVE"
 
 option_is : (n : Name) (w : OptionWord) → option_word n ≡ Some w → n ≡ option_spelling w
 unfolding option_word
-option_is n w h =
-    ⊎_elim (λ e. equal_from_pointwise n (codes "OPTIONS") e.0 ∙ ap option_spelling e.1)
-    (λ g. ⊎_elim (λ e. equal_from_pointwise n (codes "RETURNS") e.0 ∙ ap option_spelling e.1) (λ e. equal_from_pointwise n (codes "RECURSIVE") e.0 ∙ ap option_spelling e.1) g)
-    (of_three (same_name n (codes "OPTIONS")) (same_name n (codes "RETURNS")) (same_name n (codes "RECURSIVE")) OptionsWord ReturnsWord RecursiveWord w h)
+option_is n w h = one_of_three option_spelling n OptionsWord ReturnsWord RecursiveWord w h
 
 option_begins : (ts us : Tokens) (w : OptionWord) → option_first ts ≡ Some (w, us) → ts ≡ Word (option_spelling w) ∷ us
 unfolding option_first
-option_begins [] us w h = cc
-option_begins (Word n ∷ ts) us w h =
-    let e = paired_is (option_word n) ts us w h in
-    ap (λ m. Word m ∷ ts) (option_is n w e.0) ∙ ap (λ vs. Word (option_spelling w) ∷ vs) e.1
-option_begins (t ∷ ts) us w h = cc
+option_begins = known_begins option_word option_spelling option_is
 
 -- behind OPTIONS
 abbrev SpellsMain : Tokens → ProcedureOption → Type 0

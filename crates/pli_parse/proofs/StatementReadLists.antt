@@ -6,7 +6,8 @@ use Rattle.pli_base.specs.declared.token.Fault.{Fault}
 use Rattle.pli_base.specs.declared.token.TokenText.TheVariants.{Word}
 use Rattle.pli_base.specs.declared.syntax.Identifier.{Identifier}
 use Rattle.pli_parse_declaration.specs.DeclarationGrammar.{SpellsFront}
-use Rattle.pli_parse_declaration.proofs.DeclarationSteps.{same_ok, bind_ok, mapped_ok, two}
+use Rattle.pli_parse_declaration.proofs.DeclarationSteps.{mapped_ok, two}
+use Rattle.pli_parse_fault.proofs.Steps.{same_ok, bind_ok}
 use Rattle.pli_base.specs.Statements.{Statement, Before, Alternative, Else, count, list_count, AwaitsElse, AlternativeAwaitsElse}
 use Rattle.pli_parse_statement.specs.StatementWords.{Context, standing}
 use Rattle.pli_parse_statement.specs.StatementReading.{StatementReader, Inside, deeper, Listing, ending_at, Next, EndsHere, Another, next_of, list_by, list_from, else_first, alternative_from}

@@ -7,7 +7,8 @@ use Rattle.pli_base.specs.declared.code.Code.TheVariants.{SemicolonExpected, The
 use Rattle.pli_base.specs.declared.token.Sign.TheVariants.{Semicolon}
 use Rattle.pli_base.specs.declared.token.TokenText.TheVariants.{Word, Sign}
 use Rattle.pli_base.specs.declared.syntax.Identifier.{Identifier}
-use Rattle.pli_parse_declaration.proofs.DeclarationSteps.{same_ok, bind_ok, semicolon_first, taken_ok, two}
+use Rattle.pli_parse_declaration.proofs.DeclarationSteps.{semicolon_first, taken_ok, two}
+use Rattle.pli_parse_fault.proofs.Steps.{same_ok, bind_ok}
 use Rattle.pli_base.specs.Statements as body
 use Rattle.pli_base.specs.Statements.{Body, count}
 use Rattle.pli_parse_statement.specs.StatementWords.{Context, standing, the_unit, a_procedure, keyword_of}

@@ -10,14 +10,15 @@ use Rattle.pli_base.specs.declared.token.Sign.TheVariants.{OpenParenthesis, Equa
 use Rattle.pli_base.specs.declared.token.TokenText.TheVariants.{Word, Sign}
 use Rattle.pli_parse_expression.specs.Expressions.{SpellsOutermost}
 use Rattle.pli_parse_declaration.specs.DeclarationGrammar.{SpellsFront}
-use Rattle.pli_parse_declaration.proofs.DeclarationSteps.{same_ok, some_same, bind_ok, mapped_ok, open_first, taken_ok, two}
+use Rattle.pli_parse_declaration.proofs.DeclarationSteps.{mapped_ok, open_first, taken_ok, two}
+use Rattle.pli_parse_fault.proofs.Steps.{same_ok, some_same, bind_ok}
 use Rattle.pli_parse_declaration.proofs.DeclarationRead.{Reads, enclosed_spelled}
 use Rattle.pli_base.specs.Statements.{Control}
 use Rattle.pli_parse_statement.specs.StatementWords.{condition_of}
 use Rattle.pli_parse_statement.specs.StatementReading.{expression_in, reference_in, parenthesized, is_equals, condition_from, condition_at, optional_at, RangeWord, ToWord, ByWord, RepeatWord, range_word, range_first, range_from, range_at, Specified, Unspecified, Conditioned, Iterated, specified, control_from, control_at}
 use Rattle.pli_parse_statement.specs.StatementGrammar.{SpellsCondition, SpellsEnclosed, SpellsOptional, SpellsRange, BeginsWithWhile, SpellsControl}
 use Rattle.pli_base.specs.declared.statement.Condition.{Condition}
-use Rattle.pli_parse.proofs.StatementReadTools.{expression_reads, reference_reads, parenthesized_reads, optional_reads, paired_is, equals_first}
+use Rattle.pli_parse.proofs.StatementReadTools.{expression_reads, reference_reads, parenthesized_reads, optional_reads, known_begins, equals_first}
 
 -- in parentheses, or not there
 abbrev pub MaybeEnclosed : {A : Type 0} → (ℕ → Tokens → A → Type 0) → ℕ → Tokens → Option A → Type 0
@@ -45,15 +46,22 @@ condition_reads p (Word n ∷ us) y h = by (condition_of n) refl h
     by None e g = cc
 condition_reads p (t ∷ us) y h = cc
 
--- which of two or three words it was
-pub of_two : {A : Type 0} (b c : Bool) (x y w : A) → cond b (Some x) (cond c (Some y) None) ≡ Some w → ((b ≡ true) × (x ≡ w)) ⊎ ((c ≡ true) × (y ≡ w))
-of_two true c x y w h = inl (refl, some_same h)
-of_two false true x y w h = inr (refl, some_same h)
-of_two false false x y w h = cc
+-- a name that is one of two or three words is spelled as that word
+pub one_of_two : {A : Type 0} (spelling : A → Name) (n : Name) (x y w : A) → cond (same_name n (spelling x)) (Some x) (cond (same_name n (spelling y)) (Some y) None) ≡ Some w → n ≡ spelling w
+one_of_two spelling n x y w h = by (same_name n (spelling x)) (same_name n (spelling y)) refl refl h
+  where
+    by : (b c : Bool) → same_name n (spelling x) ≡ b → same_name n (spelling y) ≡ c → cond b (Some x) (cond c (Some y) None) ≡ Some w → n ≡ spelling w
+    by true c e f h = equal_from_pointwise n (spelling x) e ∙ ap spelling (some_same h)
+    by false true e f h = equal_from_pointwise n (spelling y) f ∙ ap spelling (some_same h)
+    by false false e f h = cc
 
-pub of_three : {A : Type 0} (b c d : Bool) (x y z w : A) → cond b (Some x) (cond c (Some y) (cond d (Some z) None)) ≡ Some w → ((b ≡ true) × (x ≡ w)) ⊎ (((c ≡ true) × (y ≡ w)) ⊎ ((d ≡ true) × (z ≡ w)))
-of_three true c d x y z w h = inl (refl, some_same h)
-of_three false c d x y z w h = inr (of_two c d y z w h)
+pub one_of_three : {A : Type 0} (spelling : A → Name) (n : Name) (x y z w : A)
+    → cond (same_name n (spelling x)) (Some x) (cond (same_name n (spelling y)) (Some y) (cond (same_name n (spelling z)) (Some z) None)) ≡ Some w → n ≡ spelling w
+one_of_three spelling n x y z w h = by (same_name n (spelling x)) refl h
+  where
+    by : (b : Bool) → same_name n (spelling x) ≡ b → cond b (Some x) (cond (same_name n (spelling y)) (Some y) (cond (same_name n (spelling z)) (Some z) None)) ≡ Some w → n ≡ spelling w
+    by true e h = equal_from_pointwise n (spelling x) e ∙ ap spelling (some_same h)
+    by false e h = one_of_two spelling n y z w h
 
 -- the range of an iteration
 abbrev range_spelling : RangeWord → Name
@@ -63,18 +71,11 @@ range_spelling RepeatWord = codes "REPEAT"
 
 range_is : (n : Name) (w : RangeWord) → range_word n ≡ Some w → n ≡ range_spelling w
 unfolding range_word
-range_is n w h =
-    ⊎_elim (λ e. equal_from_pointwise n (codes "TO") e.0 ∙ ap range_spelling e.1)
-    (λ g. ⊎_elim (λ e. equal_from_pointwise n (codes "BY") e.0 ∙ ap range_spelling e.1) (λ e. equal_from_pointwise n (codes "REPEAT") e.0 ∙ ap range_spelling e.1) g)
-    (of_three (same_name n (codes "TO")) (same_name n (codes "BY")) (same_name n (codes "REPEAT")) ToWord ByWord RepeatWord w h)
+range_is n w h = one_of_three range_spelling n ToWord ByWord RepeatWord w h
 
 range_begins : (ts us : Tokens) (w : RangeWord) → range_first ts ≡ Some (w, us) → ts ≡ Word (range_spelling w) ∷ us
 unfolding range_first
-range_begins [] us w h = cc
-range_begins (Word n ∷ ts) us w h =
-    let e = paired_is (range_word n) ts us w h in
-    ap (λ m. Word m ∷ ts) (range_is n w e.0) ∙ ap (λ vs. Word (range_spelling w) ∷ vs) e.1
-range_begins (t ∷ ts) us w h = cc
+range_begins = known_begins range_word range_spelling range_is
 
 pub range_reads : (levels : ℕ) → Reads (range_at levels) (SpellsRange levels)
 unfolding range_at

@@ -9,13 +9,14 @@ use Rattle.pli_base.specs.declared.token.TokenText.TheVariants.{Word}
 use Rattle.pli_base.specs.declared.syntax.Identifier.{Identifier}
 use Rattle.pli_parse_expression.specs.Expressions.{SpellsReferenceAlone}
 use Rattle.pli_parse_declaration.specs.DeclarationGrammar.{SpellsFront}
-use Rattle.pli_parse_declaration.proofs.DeclarationSteps.{same_ok, bind_ok, two}
+use Rattle.pli_parse_declaration.proofs.DeclarationSteps.{two}
+use Rattle.pli_parse_fault.proofs.Steps.{same_ok, bind_ok}
 use Rattle.pli_parse_declaration.proofs.DeclarationRead.{Reads}
 use Rattle.pli_base.specs.Statements.{Allocation}
 use Rattle.pli_parse_statement.specs.StatementReading.{reference_in, parenthesized, PlaceWord, InWord, SetWord, place_word, place_first, placed_by, places_from, allocation_at}
 use Rattle.pli_parse_statement.specs.StatementGrammar.{SpellsEnclosed, SpellsOptional, SpellsPlaced, SpellsAllocation}
-use Rattle.pli_parse.proofs.StatementReadTools.{reference_reads, identifier_reads, parenthesized_reads, paired_is}
-use Rattle.pli_parse.proofs.StatementReadParts.{of_two}
+use Rattle.pli_parse.proofs.StatementReadTools.{reference_reads, identifier_reads, parenthesized_reads, known_begins}
+use Rattle.pli_parse.proofs.StatementReadParts.{one_of_two}
 use Rattle.pli_parse_declaration.specs.DeclarationReading.{identifier_at}
 
 -- the places of an allocation
@@ -25,17 +26,11 @@ place_spelling SetWord = codes "SET"
 
 place_is : (n : Name) (w : PlaceWord) → place_word n ≡ Some w → n ≡ place_spelling w
 unfolding place_word
-place_is n w h =
-    ⊎_elim (λ e. equal_from_pointwise n (codes "IN") e.0 ∙ ap place_spelling e.1) (λ e. equal_from_pointwise n (codes "SET") e.0 ∙ ap place_spelling e.1)
-    (of_two (same_name n (codes "IN")) (same_name n (codes "SET")) InWord SetWord w h)
+place_is n w h = one_of_two place_spelling n InWord SetWord w h
 
 place_begins : (ts us : Tokens) (w : PlaceWord) → place_first ts ≡ Some (w, us) → ts ≡ Word (place_spelling w) ∷ us
 unfolding place_first
-place_begins [] us w h = cc
-place_begins (Word n ∷ ts) us w h =
-    let e = paired_is (place_word n) ts us w h in
-    ap (λ m. Word m ∷ ts) (place_is n w e.0) ∙ ap (λ vs. Word (place_spelling w) ∷ vs) e.1
-place_begins (t ∷ ts) us w h = cc
+place_begins = known_begins place_word place_spelling place_is
 
 abbrev SpellsPlace : (levels p : ℕ) → Tokens → Reference → Type 0
 SpellsPlace levels = SpellsEnclosed (SpellsReferenceAlone levels)

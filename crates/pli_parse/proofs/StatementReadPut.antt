@@ -9,13 +9,14 @@ use Rattle.pli_base.specs.declared.token.TokenText.TheVariants.{Word}
 use Rattle.pli_parse_expression.specs.Expressions.{SpellsOutermost}
 use Rattle.pli_parse_declaration.specs.DeclarationReading.{list_at}
 use Rattle.pli_parse_declaration.specs.DeclarationGrammar.{SpellsFront, SpellsListed}
-use Rattle.pli_parse_declaration.proofs.DeclarationSteps.{same_ok, bind_ok, two}
+use Rattle.pli_parse_declaration.proofs.DeclarationSteps.{two}
+use Rattle.pli_parse_fault.proofs.Steps.{same_ok, bind_ok}
 use Rattle.pli_parse_declaration.proofs.DeclarationRead.{Reads}
 use Rattle.pli_base.specs.Statements.{Body, Put}
 use Rattle.pli_parse_statement.specs.StatementReading.{expression_in, parenthesized, PutWord, SkipWord, ListWord, put_word, put_first, put_by, put_from, put_begun, put_at}
 use Rattle.pli_parse_statement.specs.StatementGrammar.{SpellsEnclosed, SpellsSkip, SpellsItems, SpellsPut}
-use Rattle.pli_parse.proofs.StatementReadTools.{expression_reads, parenthesized_reads, list_reads, paired_is}
-use Rattle.pli_parse.proofs.StatementReadParts.{of_two}
+use Rattle.pli_parse.proofs.StatementReadTools.{expression_reads, parenthesized_reads, list_reads, known_begins}
+use Rattle.pli_parse.proofs.StatementReadParts.{one_of_two}
 use Rattle.pli_parse_declaration.specs.declared.list.Separator.TheVariants.{Commas}
 
 abbrev put_spelling : PutWord → Name
@@ -24,17 +25,11 @@ put_spelling ListWord = codes "LIST"
 
 put_is : (n : Name) (w : PutWord) → put_word n ≡ Some w → n ≡ put_spelling w
 unfolding put_word
-put_is n w h =
-    ⊎_elim (λ e. equal_from_pointwise n (codes "SKIP") e.0 ∙ ap put_spelling e.1) (λ e. equal_from_pointwise n (codes "LIST") e.0 ∙ ap put_spelling e.1)
-    (of_two (same_name n (codes "SKIP")) (same_name n (codes "LIST")) SkipWord ListWord w h)
+put_is n w h = one_of_two put_spelling n SkipWord ListWord w h
 
 put_begins : (ts us : Tokens) (w : PutWord) → put_first ts ≡ Some (w, us) → ts ≡ Word (put_spelling w) ∷ us
 unfolding put_first
-put_begins [] us w h = cc
-put_begins (Word n ∷ ts) us w h =
-    let e = paired_is (put_word n) ts us w h in
-    ap (λ m. Word m ∷ ts) (put_is n w e.0) ∙ ap (λ vs. Word (put_spelling w) ∷ vs) e.1
-put_begins (t ∷ ts) us w h = cc
+put_begins = known_begins put_word put_spelling put_is
 
 abbrev SpellsItemList : (levels p : ℕ) → Tokens → List Expression → Type 0
 SpellsItemList levels = SpellsEnclosed (SpellsListed Commas (SpellsOutermost levels))

@@ -12,7 +12,8 @@ use Rattle.pli_base.specs.declared.syntax.Identifier.{Identifier}
 use Rattle.pli_parse_expression.specs.Expressions.{SpellsOutermost, SpellsReferenceAlone}
 use Rattle.pli_parse_declaration.specs.DeclarationReading.{list_at, declaration_at, identifier_at}
 use Rattle.pli_parse_declaration.specs.DeclarationGrammar.{SpellsFront, SpellsListed}
-use Rattle.pli_parse_declaration.proofs.DeclarationSteps.{same_ok, bind_ok, mapped_ok, taken_ok, two}
+use Rattle.pli_parse_declaration.proofs.DeclarationSteps.{mapped_ok, taken_ok, two}
+use Rattle.pli_parse_fault.proofs.Steps.{same_ok, bind_ok}
 use Rattle.pli_parse_declaration.proofs.DeclarationRead.{Reads}
 use Rattle.pli_parse_declaration.proofs.DeclarationItemsRead.{declaration_reads}
 use Rattle.pli_base.specs.Statements as body

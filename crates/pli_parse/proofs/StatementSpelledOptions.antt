@@ -17,6 +17,7 @@ use Rattle.pli_parse_expression.specs.Reading as expressions
 use Rattle.pli_parse_expression.specs.Reading.{Reader, arguments_at, argument_of, joined_from, parts_behind, part_behind, reference_of, reference_at}
 use Rattle.pli_parse_expression.proofs.SpelledIsRead.{reference_is_read}
 use Rattle.pli_parse_expression.proofs.ReadingTools as tools
+use Rattle.pli_parse_fault.proofs.Steps as steps
 use Rattle.pli_parse_declaration.specs.DeclarationReading.{list_at, identifier_at, name_at}
 use Rattle.pli_parse_declaration.proofs.DeclarationReadAgain.{placed}
 use Rattle.pli_base.specs.Statements.{Allocation, Body}
@@ -135,7 +136,7 @@ allocation_some levels p ts a spelled = omega (arith, ap length spelled.1)
 -- the arguments of CALL: a reference of one name has them too
 joined_alone : (j : Joining) (n : Identifier) (a : Arguments) (m : JoinedParts) (count q : ℕ) (ts : Tokens) (y : expressions.Front JoinedParts)
     → ◌≡◌ {A = Result (expressions.Front JoinedParts) Fault} (Ok (record { value = Joined j n a m; count = count; next = q; rest = ts })) (Ok y) → y.value ≡ Alone → ⊥
-joined_alone j n a m count q ts y h alone = differs (ap (λ (z : expressions.Front JoinedParts). z.value) (tools.same_ok h) ∙ alone)
+joined_alone j n a m count q ts y h alone = differs (ap (λ (z : expressions.Front JoinedParts). z.value) (steps.same_ok h) ∙ alone)
   where
     differs : Joined j n a m ≡ Alone → ⊥
     differs e = cc
@@ -145,14 +146,14 @@ unfolding joined_from
 joined_ends one bound count p ts y h alone = by (joining_at ts) h
   where
     by : (o : Option (Joining × Tokens)) → parts_behind one (joined_from one bound) count p ts o ≡ Ok y → (y.next ≡ p) × (y.rest ≡ ts)
-    by None g = let e = tools.same_ok g in (sym (ap (λ (z : expressions.Front JoinedParts). z.next) e), sym (ap (λ (z : expressions.Front JoinedParts). z.rest) e))
+    by None g = let e = steps.same_ok g in (sym (ap (λ (z : expressions.Front JoinedParts). z.next) e), sym (ap (λ (z : expressions.Front JoinedParts). z.rest) e))
     by (Some x) g = part (name_first x.1) g
       where
         part : (o : Option (Name × Tokens)) → part_behind one (joined_from one bound) x.0 count (p + 1) x.1 o ≡ Ok y → (y.next ≡ p) × (y.rest ≡ ts)
         part None g = absurd (tools.wanted_none NameExpected (p + 1) x.1 y g)
         part (Some n) g =
-            let f = tools.bind_ok (arguments_at one count (p + 1 + 1) n.1) _ y g in
-            let e = tools.bind_ok (joined_from one bound f.0.count f.0.next f.0.rest) _ y f.2 in
+            let f = steps.bind_ok (arguments_at one count (p + 1 + 1) n.1) _ y g in
+            let e = steps.bind_ok (joined_from one bound f.0.count f.0.next f.0.rest) _ y f.2 in
             absurd (joined_alone x.0 (record { name = n.0; at = p + 1 }) f.0.value e.0.value e.0.count e.0.next e.0.rest y e.2 alone)
 
 named_same : (m n : Identifier) (a b : Arguments) (k l : JoinedParts) → Named m a k ≡ Named n b l → (a ≡ b) × (k ≡ l)
@@ -164,9 +165,9 @@ alone_again : (one : Option Reader) (p : ℕ) (n : Name) (name : Identifier) (ts
     → uncounted (arguments_at one 0 (p + 1) ts) ≡ read_as a q more
 unfolding reference_of name_first
 alone_again one p n name ts more a q h =
-    let f = tools.bind_ok (arguments_at one 0 (p + 1) ts) _ _ h in
-    let g = tools.bind_ok (joined_from one (length f.0.rest + 1) f.0.count f.0.next f.0.rest) _ _ f.2 in
-    let e = tools.same_ok g.2 in
+    let f = steps.bind_ok (arguments_at one 0 (p + 1) ts) _ _ h in
+    let g = steps.bind_ok (joined_from one (length f.0.rest + 1) f.0.count f.0.next f.0.rest) _ _ f.2 in
+    let e = steps.same_ok g.2 in
     let names = named_same (record { name = n; at = p }) name f.0.value a g.0.value Alone (ap (λ (z : expressions.Front Reference). z.value) e) in
     let bound : length f.0.rest + 1 ≡ suc (length f.0.rest) = omega arith in
     let ends = joined_ends one (length f.0.rest) f.0.count f.0.next f.0.rest g.0 (ap (λ b. joined_from one b f.0.count f.0.next f.0.rest) (sym bound) ∙ g.1) names.1 in

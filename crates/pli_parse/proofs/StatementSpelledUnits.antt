@@ -1,13 +1,12 @@
 -- What is spelled so is read: the unit. So tokens spell at most one.
-use Rattle.std.proofs.Common.{◌≡◌, ◌+◌, ℕ, suc, Bool, true, false, ◌||◌, cond, [], ◌∷◌, ◌++◌, Option, Some, None, Result, Ok, length, codes, refl, ap, ◌∙◌, sym, subst, arith, append_assoc, length-append}
+use Rattle.std.proofs.Common.{◌≡◌, ◌+◌, ℕ, suc, Bool, true, false, ◌||◌, cond, [], ◌∷◌, ◌++◌, Option, Some, None, Ok, length, codes, refl, ap, ◌∙◌, sym, subst, arith, append_assoc, length-append}
 use Rattle.std.proofs.lemmas.List.{append-nil}
 use Rattle.pli_base.specs.Name.{Name}
 use Rattle.pli_base.specs.Words.{Tokens, same_name, is_procedure}
 use Rattle.pli_base.specs.Reading.{◌>>=◌, misplaced}
-use Rattle.pli_base.specs.declared.token.Fault.{Fault}
 use Rattle.pli_base.specs.declared.token.Sign.TheVariants.{Colon, Semicolon}
 use Rattle.pli_base.specs.declared.token.TokenText.TheVariants.{Word, Sign}
-use Rattle.pli_parse_declaration.proofs.DeclarationSteps.{same_ok, some_same}
+use Rattle.pli_parse_fault.proofs.Steps.{same_ok, some_same}
 use Rattle.pli_base.specs.Statements.{Heading, Statements, ExternalProcedure, list_count}
 use Rattle.pli_parse_statement.specs.StatementGrammar.{SpellsHeading, SpellsEnd, SpellsStatements, SpellsUnit}
 use Rattle.pli_parse_statement.specs.StatementReading.{heading_at, Inside, deeper, has_semicolon, list_in, statement_of, inside_of, inner_list, finished, external_at, unit_from, unit_of}

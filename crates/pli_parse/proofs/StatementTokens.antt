@@ -1,25 +1,25 @@
 -- The tokens of statements and of a unit that are spelled rise in the order of the text.
-use Rattle.std.proofs.Common.{◌≡◌, ◌<◌, ◌≤◌, ◌+◌, ℕ, suc, zero, nat_lt, Bool, true, false, cond, List, [], ◌∷◌, ◌++◌, Option, Some, None, Ok, length, codes, ap, ◌∙◌, sym, subst, arith, ⊎_elim, length-append}
+use Rattle.std.proofs.Common.{◌≡◌, ◌<◌, ◌≤◌, ◌+◌, ℕ, suc, zero, Bool, cond, List, [], ◌∷◌, ◌++◌, Option, Some, None, Ok, length, codes, ap, sym, subst, arith, ⊎_elim, length-append}
 use Rattle.std.proofs.lemmas.Bool.{lt-ltb, le-ltb}
 use Rattle.pli_base.specs.Name.{Name}
 use Rattle.pli_base.specs.Words.{Tokens}
 use Rattle.pli_base.specs.Reading.{Front}
-use Rattle.pli_base.specs.Syntax.{Expression, Reference, Named, Arguments}
+use Rattle.pli_base.specs.Syntax.{Expression, Reference, Named}
 use Rattle.pli_base.specs.TreeTokens.{Rises, expression_tokens, reference_tokens, argument_tokens, tokens_of_each, tokens_of_some, name_tokens, item_tokens, range_tokens, control_tokens, first_token, placed_tokens, allocation_tokens, statement_tokens, begun_tokens, statements_tokens, alternative_tokens, unit_tokens}
 use Rattle.pli_base.specs.laws.TreeTokenLaws.{rises_within, rises_on, rises_up}
 use Rattle.pli_base.specs.declared.syntax.Identifier.{Identifier}
-use Rattle.pli_base.specs.declared.token.Sign.TheVariants.{Colon, Semicolon, CloseParenthesis, Equals}
+use Rattle.pli_base.specs.declared.token.Sign.TheVariants.{Semicolon, CloseParenthesis, Equals}
 use Rattle.pli_base.specs.declared.token.TokenText.TheVariants.{Word, Sign}
-use Rattle.pli_base.specs.Statements.{Heading, Range, To, By, Repeat, Control, While, Iterate, Allocation, Statement, Numbered, Body, Null, Assign, Declare, Procedure, Begin, Do, If, On, Revert, Signal, Stop, Allocate, Free, Call, Goto, Return, Put, Statements, Ended, Before, Alternative, NoElse, Else, ExternalProcedure, count}
+use Rattle.pli_base.specs.Statements.{To, By, Repeat, While, Iterate, Statement, Numbered, Body, Null, Assign, Declare, Procedure, Begin, Do, If, On, Revert, Signal, Stop, Allocate, Free, Call, Goto, Return, Put, Statements, Ended, Before, Alternative, NoElse, Else, ExternalProcedure, count}
 use Rattle.pli_parse_expression.specs.Expressions.{Deeper, SpellsOutermost, SpellsReferenceAlone}
 use Rattle.pli_parse_expression.specs.Operators.{nesting_limit}
 use Rattle.pli_parse_expression.proofs.TokensRise.{expression_rises, reference_rises, arguments_rise}
 use Rattle.pli_parse_declaration.specs.declared.list.Separator.TheVariants.{Commas}
-use Rattle.pli_parse_declaration.specs.DeclarationGrammar.{SpellsListed, SpellsDeclaration}
+use Rattle.pli_parse_declaration.specs.DeclarationGrammar.{SpellsListed}
 use Rattle.pli_parse_declaration.proofs.DeclarationTokens.{Rise, listed_rise, declaration_rises}
 use Rattle.pli_parse_statement.specs.StatementWords.{Context, standing, the_unit, a_procedure}
 use Rattle.pli_parse_statement.specs.StatementReading.{statement_at, unit_of}
-use Rattle.pli_parse_statement.specs.StatementGrammar.{SpellsIdentifier, SpellsEnclosed, SpellsOptional, SpellsParameters, SpellsHeading, SpellsRange, SpellsControl, SpellsPlaced, SpellsAllocation, SpellsItems, SpellsPut, SpellsCall, SpellsValue, SpellsGoto, SpellsLabel, SpellsStatement, SpellsBody, SpellsStatements, SpellsAlternative, SpellsUnit}
+use Rattle.pli_parse_statement.specs.StatementGrammar.{SpellsIdentifier, SpellsEnclosed, SpellsOptional, SpellsParameters, SpellsRange, SpellsControl, SpellsPlaced, SpellsAllocation, SpellsItems, SpellsPut, SpellsValue, SpellsLabel, SpellsStatement, SpellsBody, SpellsStatements, SpellsAlternative, SpellsUnit}
 use Rattle.pli_parse_statement.specs.declared.keyword.Standing.TheVariants.{InBlock, InGroup, AsClause}
 use Rattle.pli_parse.proofs.StatementRead.{statement_spelled, unit_reads}
 

@@ -22,7 +22,8 @@ use Rattle.pli_parse_declaration.specs.declared.word.SimpleWord.{SimpleWord}
 use Rattle.pli_parse_declaration.specs.declared.word.SimpleWord.TheVariants as words
 use Rattle.pli_parse_declaration.specs.declared.word.AttributeWord.{AttributeWord}
 use Rattle.pli_parse_declaration.specs.declared.word.AttributeWord.TheVariants as attribute
-use Rattle.pli_parse_declaration.proofs.DeclarationSteps.{same_ok, bind_ok, mapped_ok}
+use Rattle.pli_parse_declaration.proofs.DeclarationSteps.{mapped_ok}
+use Rattle.pli_parse_fault.proofs.Steps.{same_ok, bind_ok}
 use Rattle.pli_parse_declaration.proofs.DeclarationRead.{optional_reads, list_reads, bounds_reads}
 use Rattle.pli_parse_declaration.proofs.DeclarationItemsRead.{items_reads}
 use Rattle.pli_parse_declaration.proofs.DeclarationItemsAgain.{items_before, items_again}

@@ -18,7 +18,8 @@ use Rattle.pli_parse_declaration.specs.declared.nest.Expects.TheVariants as expe
 use Rattle.pli_parse_declaration.specs.declared.word.SimpleWord.{SimpleWord}
 use Rattle.pli_parse_declaration.specs.declared.word.AttributeWord.{AttributeWord}
 use Rattle.pli_parse_declaration.specs.declared.word.AttributeWord.TheVariants as attribute
-use Rattle.pli_parse_declaration.proofs.DeclarationSteps.{same_ok, bind_ok, open_first, close_first, comma_first, taken_ok, two}
+use Rattle.pli_parse_declaration.proofs.DeclarationSteps.{open_first, close_first, comma_first, taken_ok, two}
+use Rattle.pli_parse_fault.proofs.Steps.{same_ok, bind_ok}
 use Rattle.pli_parse_declaration.proofs.DeclarationRead.{Reads, dimensions_reads, word_first, simple_spelled, entry_is, returns_is}
 
 -- attributes, or none

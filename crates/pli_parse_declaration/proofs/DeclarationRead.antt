@@ -20,7 +20,8 @@ use Rattle.pli_parse_declaration.specs.declared.word.SimpleWord.{SimpleWord}
 use Rattle.pli_parse_declaration.specs.declared.word.SimpleWord.TheVariants as words
 use Rattle.pli_parse_declaration.specs.declared.word.AttributeWord.{AttributeWord}
 use Rattle.pli_parse_declaration.specs.declared.word.AttributeWord.TheVariants as attribute
-use Rattle.pli_parse_declaration.proofs.DeclarationSteps.{same_ok, some_same, bind_ok, mapped_ok, open_first, close_first, comma_first, colon_first, zero_first, taken_ok, enclosed_ok, two, separator_first, separator_place}
+use Rattle.pli_parse_declaration.proofs.DeclarationSteps.{mapped_ok, open_first, close_first, comma_first, colon_first, zero_first, taken_ok, enclosed_ok, two, separator_first, separator_place}
+use Rattle.pli_parse_fault.proofs.Steps.{same_ok, some_same, bind_ok}
 use Rattle.pli_parse_declaration.specs.Separators.{separated, behind_separator}
 use Rattle.pli_parse_declaration.specs.declared.list.Separator.{Separator}
 use Rattle.pli_parse_declaration.specs.declared.list.Separator.TheVariants.{Commas, Periods}

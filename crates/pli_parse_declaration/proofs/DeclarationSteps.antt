@@ -15,17 +15,7 @@ use Rattle.pli_parse_declaration.specs.declared.word.AttributeWord.{AttributeWor
 use Rattle.pli_parse_declaration.specs.Separators.{separated, behind_separator}
 use Rattle.pli_parse_declaration.specs.declared.list.Separator.{Separator}
 use Rattle.pli_parse_declaration.specs.declared.list.Separator.TheVariants.{Commas, Periods, Nothing}
-
-pub same_ok : {A : Type 0} {x y : A} → ◌≡◌ {A = Result A Fault} (Ok x) (Ok y) → x ≡ y
-same_ok h = cc
-
-pub some_same : {A : Type 0} {x y : A} → ◌≡◌ {A = Option A} (Some x) (Some y) → x ≡ y
-some_same h = cc
-
--- both steps succeed
-pub bind_ok : {A B : Type 0} (r : Result A Fault) (f : A → Result B Fault) (y : B) → (r >>= f) ≡ Ok y → (x : A) × (r ≡ Ok x) × (f x ≡ Ok y)
-bind_ok (Ok x) f y h = (x, refl, h)
-bind_ok (Err e) f y h = cc
+use Rattle.pli_parse_fault.proofs.Steps.{same_ok, some_same, bind_ok}
 
 -- what is read becomes another
 pub mapped_ok : {A B : Type 0} (f : A → B) (r : Result (Front A) Fault) (y : Front B) → mapped f r ≡ Ok y → (x : Front A) × (r ≡ Ok x) × (record { value = f x.value; next = x.next; rest = x.rest } ≡ y)

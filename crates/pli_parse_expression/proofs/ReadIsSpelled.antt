@@ -17,7 +17,8 @@ use Rattle.pli_parse_expression.specs.Operators.{operator_limit, operand_level, 
 use Rattle.pli_parse_expression.specs.Expressions.{SpellsExpression, SpellsReference, SpellsJoined, SpellsArguments, SpellsListed, SpellsFurther, operators, reference_operators, joined_operators, listed_operators, Deeper, NestsWithin, ReferenceNests, JoinedNest, ArgumentsNest, ListNests, OutermostFits, SpellsOutermost, Every, GivenFits, JoinedFits, ReferenceFits, SpellsReferenceAlone}
 use Rattle.pli_parse_expression.specs.Reading.{Front, Reader, opened, closed, operand_then, grouped, infix_from, expression_of, listed_behind, further_from, listed_at, list_at, arguments_at, part_behind, parts_behind, joined_from, reference_behind, reference_of, prefix_of, parenthesis_of, constant_at, operand_of, inside, operand_at, expression_at, outermost, argument_of, reference_at}
 use Rattle.pli_parse_expression.specs.laws.Laws.{FrontSpells}
-use Rattle.pli_parse_expression.proofs.ReadingTools.{same_ok, bind_ok, limited_ok, wanted_none, closed_ok, operator_ok, operator_below, level_small, none_above, joining_ok, name_ok, comma_ok}
+use Rattle.pli_parse_expression.proofs.ReadingTools.{limited_ok, wanted_none, closed_ok, operator_ok, operator_below, level_small, none_above, joining_ok, name_ok, comma_ok}
+use Rattle.pli_parse_fault.proofs.Steps.{same_ok, bind_ok}
 use Rattle.pli_base.specs.Words.{Tokens, name_first, behind, is_comma}
 use Rattle.pli_base.specs.Reading.{◌>>=◌}
 
@@ -456,10 +457,10 @@ unfolding expression_at
 expression_at_read levels = expression_read levels (operand_at levels) (operand_read levels (inside levels) (inside_read levels))
 
 -- an argument that is an outermost expression
-outermost_read : (n : ℕ) (operand : Reader) → IsReadBy (IsOperandOf n) operators operand → IsReadBy (OutermostFits n) (λ e. 0) (outermost (expression_of operand))
-outermost_read n operand reads count p ts x h =
-    let a = bind_ok (expression_of operand 0 p ts) _ x h in
-    let s = expression_read n operand reads 0 p ts a.0 a.1 in
+pub outermost_read : (n : ℕ) (reader : Reader) → IsReadBy (NestsWithin n) operators reader → IsReadBy (OutermostFits n) (λ e. 0) (outermost reader)
+outermost_read n reader reads count p ts x h =
+    let a = bind_ok (reader 0 p ts) _ x h in
+    let s = reads 0 p ts a.0 a.1 in
     let few : operators a.0.value ≤ operator_limit = omega (arith, s.counted, s.few (omega arith)) in
     subst (IsRead SpellsExpression (λ e. 0) (OutermostFits n) count p ts) (same_ok a.2) (record {
       front = s.front;
@@ -475,7 +476,7 @@ outermost_lists : (n : ℕ) (one : Option Reader) → OperandsReadBy n one → L
 outermost_lists n None reads = tt
 outermost_lists zero (Some operand) reads = absurd reads
 outermost_lists (suc n) (Some operand) reads = λ count p ts x h.
-    list_reads (OutermostFits n) (λ e. 0) (outermost (expression_of operand)) (outermost_read n operand reads) count p ts x h
+    list_reads (OutermostFits n) (λ e. 0) (outermost (expression_of operand)) (outermost_read n (expression_of operand) (expression_read n operand reads)) count p ts x h
 
 pub reference_at_read : (levels p : ℕ) (ts : Tokens) (x : Front Reference) → reference_at levels p ts ≡ Ok x
     → IsRead SpellsReference (count_reference (total (λ e. 0))) (ReferenceFits (λ list. Deeper (λ m. Every (OutermostFits m) list) levels)) 0 p ts x

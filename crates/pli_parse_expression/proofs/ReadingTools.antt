@@ -15,17 +15,7 @@ use Rattle.pli_parse_expression.specs.Operators.{operator_limit, operand_level, 
 use Rattle.pli_parse_expression.specs.Reading.{Front, limited, closed}
 use Rattle.pli_base.specs.Words.{Tokens, name_first, behind, is_comma, is_close}
 use Rattle.pli_base.specs.Reading.{◌>>=◌, expected, taken}
-
-pub same_ok : {A : Type 0} {x y : A} → ◌≡◌ {A = Result A Fault} (Ok x) (Ok y) → x ≡ y
-same_ok h = cc
-
-pub some_same : {A : Type 0} {x y : A} → ◌≡◌ {A = Option A} (Some x) (Some y) → x ≡ y
-some_same h = cc
-
--- both steps succeed
-pub bind_ok : {A B : Type 0} (r : Result A Fault) (f : A → Result B Fault) (y : B) → (r >>= f) ≡ Ok y → (x : A) × (r ≡ Ok x) × (f x ≡ Ok y)
-bind_ok (Ok x) f y h = (x, refl, h)
-bind_ok (Err e) f y h = cc
+use Rattle.pli_parse_fault.proofs.Steps.{same_ok, some_same, bind_ok}
 
 -- a test passed
 pub guard_ok : {A : Type 0} (b : Bool) (r : Result A Fault) (e : Fault) (x : A) → cond b r (Err e) ≡ Ok x → (b ≡ true) × (r ≡ Ok x)

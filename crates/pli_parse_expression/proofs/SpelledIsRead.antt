@@ -19,7 +19,8 @@ use Rattle.pli_parse_expression.specs.Expressions.{SpellsExpression, SpellsRefer
 use Rattle.pli_parse_expression.specs.Reading.{Front, Reader, closed, operand_then, grouped, infix_from, expression_of, further_from, listed_at, list_at, arguments_at, parts_behind, joined_from, reference_of, prefix_of, parenthesis_of, constant_at, operand_of, inside, operand_at, expression_at, outermost, argument_of, reference_at}
 use Rattle.pli_parse_expression.specs.Ends.{parts_go_on, NoneGoesOn, ReferenceEnds, NoInfix, ExpressionEnds}
 use Rattle.pli_parse_expression.proofs.EndTools.{OperandEnds, operand_any, any_expression, any_reference, NotOpen, ArgumentsEnd, arguments_end, not_joined}
-use Rattle.pli_parse_expression.proofs.ReadingTools.{same_ok, level_small}
+use Rattle.pli_parse_expression.proofs.ReadingTools.{level_small}
+use Rattle.pli_parse_fault.proofs.Steps.{same_ok}
 use Rattle.pli_parse_expression.proofs.ReadIsSpelled.{IsOperandOf, total, count_given, count_joined, count_reference, total_is, reference_is, ListFits}
 use Rattle.pli_base.specs.Words.{Tokens, name_first, behind}
 use Rattle.pli_base.specs.Reading.{◌>>=◌, at_fault, taken}

@@ -111,6 +111,11 @@ abbrev pub paired : {A : Type 0} → Tokens → Option A → Option (A × Tokens
 paired us (Some x) = Some (x, us)
 paired us None = None
 
+-- a word in front that is known, and what stands behind it
+abbrev pub known_first : {A : Type 0} → (known : Name → Option A) → Tokens → Option (A × Tokens)
+known_first known (Word n ∷ us) = paired us (known n)
+known_first known ts = None
+
 -- the words that begin a range of DO
 pub data RangeWord : Type 0 where
   ToWord ByWord RepeatWord : RangeWord
@@ -125,8 +130,7 @@ range_word n =
 
 -- such a word in front
 unfoldable pub range_first : Tokens → Option (RangeWord × Tokens)
-range_first (Word n ∷ us) = paired us (range_word n)
-range_first ts = None
+range_first = known_first range_word
 
 -- TO with or without BY, BY with or without TO, REPEAT, or none of them
 abbrev pub range_from : (levels p : ℕ) → Tokens → Option (RangeWord × Tokens)
@@ -189,8 +193,7 @@ place_word n =
 
 -- such a word in front
 unfoldable pub place_first : Tokens → Option (PlaceWord × Tokens)
-place_first (Word n ∷ us) = paired us (place_word n)
-place_first ts = None
+place_first = known_first place_word
 
 -- IN and SET stand once
 abbrev pub placed_by : (levels : ℕ) → (more : Allocation → ℕ → Tokens → Result (Front Allocation) Fault)
@@ -242,8 +245,7 @@ put_word n =
 
 -- such a word in front
 unfoldable pub put_first : Tokens → Option (PutWord × Tokens)
-put_first (Word n ∷ us) = paired us (put_word n)
-put_first ts = None
+put_first = known_first put_word
 
 -- SKIP and LIST stand once
 abbrev pub put_by : (levels : ℕ) → (more : Bool → List Expression → ℕ → Tokens → Result (Front Body) Fault)
@@ -291,8 +293,7 @@ option_word n =
 
 -- such a word in front
 unfoldable pub option_first : Tokens → Option (OptionWord × Tokens)
-option_first (Word n ∷ us) = paired us (option_word n)
-option_first ts = None
+option_first = known_first option_word
 
 -- behind OPTIONS
 unfoldable pub main_at : ℕ → Tokens → Result (Front ProcedureOption) Fault

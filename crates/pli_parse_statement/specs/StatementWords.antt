@@ -34,28 +34,7 @@ the_unit = record { standing = AsUnit; in_unit = true }
 abbrev pub a_procedure : Context
 a_procedure = record { standing = InBlock; in_unit = false }
 
--- the keyword of one word that begins a statement; GO is none without TO behind it
-unfoldable pub keyword_of : Name → Option Keyword
-keyword_of n =
-    if is_either (codes "PROCEDURE") (codes "PROC") n then Some Procedure
-    else if is_either (codes "DECLARE") (codes "DCL") n then Some Declare
-    else if same_name n (codes "END") then Some End
-    else if same_name n (codes "BEGIN") then Some Begin
-    else if same_name n (codes "DO") then Some Do
-    else if same_name n (codes "IF") then Some If
-    else if same_name n (codes "ON") then Some On
-    else if same_name n (codes "REVERT") then Some Revert
-    else if same_name n (codes "SIGNAL") then Some Signal
-    else if same_name n (codes "STOP") then Some Stop
-    else if same_name n (codes "ALLOCATE") then Some Allocate
-    else if same_name n (codes "FREE") then Some Free
-    else if same_name n (codes "CALL") then Some Call
-    else if same_name n (codes "GOTO") then Some Goto
-    else if same_name n (codes "RETURN") then Some Return
-    else if same_name n (codes "PUT") then Some Put
-    else None
-
--- the last words of these, which begin statements with no statement inside
+-- the keywords of one word that begin statements with no statement inside, but for DECLARE and END
 abbrev pub simple_keyword_of : Name → Option Keyword
 simple_keyword_of n =
     if same_name n (codes "REVERT") then Some Revert
@@ -68,6 +47,18 @@ simple_keyword_of n =
     else if same_name n (codes "RETURN") then Some Return
     else if same_name n (codes "PUT") then Some Put
     else None
+
+-- the keyword of one word that begins a statement; GO is none without TO behind it
+unfoldable pub keyword_of : Name → Option Keyword
+keyword_of n =
+    if is_either (codes "PROCEDURE") (codes "PROC") n then Some Procedure
+    else if is_either (codes "DECLARE") (codes "DCL") n then Some Declare
+    else if same_name n (codes "END") then Some End
+    else if same_name n (codes "BEGIN") then Some Begin
+    else if same_name n (codes "DO") then Some Do
+    else if same_name n (codes "IF") then Some If
+    else if same_name n (codes "ON") then Some On
+    else simple_keyword_of n
 
 -- the condition that a name is, behind ON, REVERT and SIGNAL
 unfoldable pub condition_of : Name → Option Condition

@@ -9,7 +9,7 @@ ghost use Rattle.pli_parse_statement.specs.answers.StatementAnswers.{specified_v
 ghost use Rattle.pli_base.specs.answers.ReadingAnswers.{Gives, Advances, Continues, front_view};
 
 use crate::cursor::{
-    behind_word, equals_taken, expression_in, is_name, parenthesized_expression, reference_in,
+    EachExpression, behind_word, equals_taken, expression_in, is_name, parenthesized, reference_in,
 };
 use crate::word::{RangeWord, range_first};
 use pli_base::statement::{Control, Range};
@@ -92,7 +92,7 @@ fn optional_condition<'a>(
 {
     match behind_word(b"WHILE", texts) {
         Some(behind) => {
-            let read = parenthesized_expression(alloc, levels, at + 1, behind)?;
+            let read = parenthesized(&EachExpression { alloc, levels }, at + 1, behind)?;
             Ok(Front {
                 value: Some(read.value),
                 next: read.next,
@@ -215,7 +215,7 @@ pub fn control_at<'a>(
             rest: texts,
         }),
         Beginning::Conditioned(behind) => {
-            let condition = parenthesized_expression(alloc, levels, at + 1, behind)?;
+            let condition = parenthesized(&EachExpression { alloc, levels }, at + 1, behind)?;
             Ok(Front {
                 value: Some(Control::While(condition.value)),
                 next: condition.next,

@@ -16,7 +16,9 @@ ghost use Rattle.pli_base.specs.Syntax as syntax;
 use pli_base::syntax::{Expression, Reference};
 use pli_base::{Code, Front, Name, ParseError, Sign, TokenText, close_taken, misfit, open_taken};
 use pli_parse_declaration::{ReadsOne, Separator, list_at};
-use pli_parse_expression::{outermost_arguments_at, outermost_expression_at};
+use pli_parse_expression::{
+    Front as CountedFront, outermost_arguments_at, outermost_expression_at, reference_at,
+};
 use std::alloc::Global;
 
 /// Whether the name is the word.
@@ -54,6 +56,17 @@ pub fn equals_taken(code: Code, at: u32, texts: &[TokenText]) -> Result<&[TokenT
     }
 }
 
+/// What was read, without the count of operators.
+fn uncounted<T>(read: CountedFront<'_, T>) -> Front<'_, T>
+    ensures { result ≡ record { value = read.entry.value; next = read.entry.next; rest = read.entry.rest } }
+{
+    Front {
+        value: read.value,
+        next: read.next,
+        rest: read.rest,
+    }
+}
+
 /// An outermost expression.
 #[tactic(auto, unfolding(crate::specs::StatementReading::expression_in))]
 pub fn expression_in<'a>(
@@ -66,12 +79,7 @@ pub fn expression_in<'a>(
     ensures value { Gives (front_view expression_view) result (expression_in levels at texts.now) }
     ensures place { IfOk result (Advances at texts.now) }
 {
-    let read = outermost_expression_at(alloc, levels, at, texts)?;
-    Ok(Front {
-        value: read.value,
-        next: read.next,
-        rest: read.rest,
-    })
+    Ok(uncounted(outermost_expression_at(alloc, levels, at, texts)?))
 }
 
 /// A reference that is no part of an expression.
@@ -86,12 +94,7 @@ pub fn reference_in<'a>(
     ensures value { Gives (front_view reference_view) result (reference_in levels at texts.now) }
     ensures place { IfOk result (Advances at texts.now) }
 {
-    let read = pli_parse_expression::reference_at(alloc, levels, at, texts)?;
-    Ok(Front {
-        value: read.value,
-        next: read.next,
-        rest: read.rest,
-    })
+    Ok(uncounted(reference_at(alloc, levels, at, texts)?))
 }
 
 /// The arguments behind the name of CALL, if there are parentheses.
@@ -106,12 +109,7 @@ pub fn arguments_in<'a>(
     ensures value { Gives (front_view arguments_view) result (uncounted (arguments_at (option_map (argument_of true) (inside levels)) 0 at texts.now)) }
     ensures place { IfOk result (Continues at texts.now) }
 {
-    let read = outermost_arguments_at(alloc, levels, at, texts)?;
-    Ok(Front {
-        value: read.value,
-        next: read.next,
-        rest: read.rest,
-    })
+    Ok(uncounted(outermost_arguments_at(alloc, levels, at, texts)?))
 }
 
 /// Outermost expressions, in which so many levels may be opened.
@@ -174,7 +172,7 @@ impl ReadsOne for EachReference {
 
 /// A value in parentheses, which are no part of it.
 #[tactic(auto, unfolding(crate::specs::StatementReading::parenthesized))]
-fn parenthesized<'a, R: ReadsOne>(
+pub fn parenthesized<'a, R: ReadsOne>(
     reader: &R,
     at: u32,
     texts: &'a [TokenText],
@@ -191,36 +189,6 @@ fn parenthesized<'a, R: ReadsOne>(
         next: read.next + 1,
         rest,
     })
-}
-
-/// An expression in parentheses, which are no part of it.
-#[tactic(auto)]
-pub fn parenthesized_expression<'a>(
-    alloc: Global,
-    levels: u32,
-    at: u32,
-    texts: &'a [TokenText],
-) -> Result<Front<'a, Expression>, ParseError>
-    requires { at + length texts.now ≤ 200000 }
-    ensures value { Gives (front_view expression_view) result (parenthesized (expression_in levels) at texts.now) }
-    ensures place { IfOk result (Advances at texts.now) }
-{
-    parenthesized(&EachExpression { alloc, levels }, at, texts)
-}
-
-/// A reference in parentheses.
-#[tactic(auto)]
-pub fn parenthesized_reference<'a>(
-    alloc: Global,
-    levels: u32,
-    at: u32,
-    texts: &'a [TokenText],
-) -> Result<Front<'a, Reference>, ParseError>
-    requires { at + length texts.now ≤ 200000 }
-    ensures value { Gives (front_view reference_view) result (parenthesized (reference_in levels) at texts.now) }
-    ensures place { IfOk result (Advances at texts.now) }
-{
-    parenthesized(&EachReference { alloc, levels }, at, texts)
 }
 
 /// Expressions in parentheses, with commas between.

@@ -15,8 +15,8 @@ ghost use Rattle.pli_parse_declaration.specs.declared.list.Separator.TheVariants
 ghost use Rattle.std.proofs.Common.{refl};
 
 use crate::cursor::{
-    EachReference, arguments_in, equals_taken, expression_in, parenthesized_expressions,
-    parenthesized_reference, reference_in,
+    EachReference, arguments_in, equals_taken, expression_in, parenthesized,
+    parenthesized_expressions, reference_in,
 };
 use crate::keyword::{Keyword, named_condition};
 use crate::word::{PlaceWord, PutWord, place_first, put_first};
@@ -152,7 +152,7 @@ fn places_from<'a>(
                 drop(allocation);
                 return Err(fault(Code::BadOption, at));
             }
-            match parenthesized_reference(alloc, levels, at + 1, rest) {
+            match parenthesized(&EachReference { alloc, levels }, at + 1, rest) {
                 Ok(place) => {
                     let placed = with_place(word, allocation, place.value);
                     places_from(alloc, levels, bound - 1, placed, place.next, place.rest)
@@ -360,12 +360,8 @@ fn revert_at(at: u32, texts: &[TokenText]) -> Result<Front<'_, Body>, ParseError
     ensures alone { IfOk result (λ x. body_count (body_view x.value) ≡ 0) }
     ensures place { IfOk result (Advances at texts.now) }
 {
-    let condition = condition_at(at, texts)?;
-    stopped(
-        Body::Revert(condition.value),
-        condition.next,
-        condition.rest,
-    )
+    let read = condition_at(at, texts)?;
+    stopped(Body::Revert(read.value), read.next, read.rest)
 }
 
 /// What stands behind SIGNAL.
@@ -376,12 +372,8 @@ fn signal_at(at: u32, texts: &[TokenText]) -> Result<Front<'_, Body>, ParseError
     ensures alone { IfOk result (λ x. body_count (body_view x.value) ≡ 0) }
     ensures place { IfOk result (Advances at texts.now) }
 {
-    let condition = condition_at(at, texts)?;
-    stopped(
-        Body::Signal(condition.value),
-        condition.next,
-        condition.rest,
-    )
+    let read = condition_at(at, texts)?;
+    stopped(Body::Signal(read.value), read.next, read.rest)
 }
 
 /// What stands behind ALLOCATE.
@@ -397,18 +389,9 @@ fn allocate_at<'a>(
     ensures alone { IfOk result (λ x. body_count (body_view x.value) ≡ 0) }
     ensures place { IfOk result (Advances at texts.now) }
 {
-    let allocations = list_at(
-        alloc,
-        Separator::Commas,
-        &EachAllocation { alloc, levels },
-        at,
-        texts,
-    )?;
-    stopped(
-        Body::Allocate(allocations.value),
-        allocations.next,
-        allocations.rest,
-    )
+    let each = EachAllocation { alloc, levels };
+    let read = list_at(alloc, Separator::Commas, &each, at, texts)?;
+    stopped(Body::Allocate(read.value), read.next, read.rest)
 }
 
 /// What stands behind FREE.
@@ -424,18 +407,9 @@ fn free_at<'a>(
     ensures alone { IfOk result (λ x. body_count (body_view x.value) ≡ 0) }
     ensures place { IfOk result (Advances at texts.now) }
 {
-    let references = list_at(
-        alloc,
-        Separator::Commas,
-        &EachReference { alloc, levels },
-        at,
-        texts,
-    )?;
-    stopped(
-        Body::Free(references.value),
-        references.next,
-        references.rest,
-    )
+    let each = EachReference { alloc, levels };
+    let read = list_at(alloc, Separator::Commas, &each, at, texts)?;
+    stopped(Body::Free(read.value), read.next, read.rest)
 }
 
 /// A statement behind its keyword at `at`, where no level may be opened.
