@@ -4,7 +4,9 @@ ghost use Rattle.std.specs.Prelude.{None};
 use crate::devices::fill;
 use pli_base::{Device, Failed, Sink, Source};
 use pli_bench::{Bench, Next, ServeFault};
+use std::alloc::Global;
 use std::io::{self, ErrorKind, Read, Write};
+use std::test::Fail;
 
 /// What a call comes to.
 #[derive(Clone, Copy)]
@@ -100,23 +102,31 @@ static CALLS: [(&[Outcome], Option<usize>, Option<usize>, usize); 7] = [
     (&[Outcome::Interrupted; 64], None, None, 64),
 ];
 
+/// Whether one read moves this, and so many calls are made; and a second one fails where the first did.
+fn reads_so(outcomes: &'static [Outcome], read: Option<usize>, calls: usize) -> bool {
+    let mut reader = Device::over(Scripted::new(outcomes));
+    let mut buffer = [0; 9];
+    let moved = reader.take(&mut buffer).ok() == read;
+    let again = read.is_some() || reader.take(&mut buffer) == Err(Failed);
+    moved && again && reader.into_inner().calls == calls
+}
+
+/// Whether one write moves this, and so many calls are made; and a second one fails where the first did.
+fn writes_so(outcomes: &'static [Outcome], written: Option<usize>, calls: usize) -> bool {
+    let mut writer = Device::over(Scripted::new(outcomes));
+    let moved = writer.put(b"12345").ok() == written;
+    let again = written.is_some() || writer.put(b"12345") == Err(Failed);
+    moved && again && writer.into_inner().calls == calls
+}
+
 #[test]
-fn one_read_and_one_write(rt: HostRuntime) {
+fn one_read_and_one_write() -> Result<(), Fail> {
     for (row, &(outcomes, read, written, calls)) in CALLS.iter().enumerate() {
-        let mut reader = Device::over(Scripted::new(outcomes));
-        let mut buffer = [0; 9];
-        assert_eq!(rt; reader.take(&mut buffer).ok(), read, "read {row}");
-        if read.is_none() {
-            assert_eq!(rt; reader.take(&mut buffer), Err(Failed), "read {row}");
+        if !reads_so(outcomes, read, calls) || !writes_so(outcomes, written, calls) {
+            return Err(row.into());
         }
-        let mut writer = Device::over(Scripted::new(outcomes));
-        assert_eq!(rt; writer.put(b"12345").ok(), written, "write {row}");
-        if written.is_none() {
-            assert_eq!(rt; writer.put(b"12345"), Err(Failed), "write {row}");
-        }
-        assert_eq!(rt; reader.into_inner().calls, calls, "calls of read {row}");
-        assert_eq!(rt; writer.into_inner().calls, calls, "calls of write {row}");
     }
+    Ok(())
 }
 
 /// Outcomes of reads, with what serving them answers, what is written, and how many calls are made.
@@ -164,18 +174,28 @@ static SERVED: [(&[Outcome], Result<Next, ServeFault>, &[u8], usize); 4] = [
     ),
 ];
 
+/// Whether a new workbench serves so, with these answers, and so many calls are made.
+fn serves_so(
+    alloc: Global,
+    outcomes: &'static [Outcome],
+    wanted: Result<Next, ServeFault>,
+    answers: &[u8],
+    calls: usize,
+) -> bool {
+    let mut bench = Bench::new(alloc, 1_000_000);
+    let mut reader = Device::over(Scripted::new(outcomes));
+    let mut writer = Device::over(Vec::new(alloc));
+    let served = bench.serve(&mut reader, &mut writer, 99) == wanted;
+    let answered = writer.into_inner().as_slice() == answers;
+    served && answered && reader.into_inner().calls == calls
+}
+
 #[test]
-fn no_read_too_many(rt: HostRuntime) {
+fn no_read_too_many(rt: HostRuntime) -> Result<(), Fail> {
     for (row, &(outcomes, wanted, answers, calls)) in SERVED.iter().enumerate() {
-        let mut bench = Bench::new(rt.alloc(), 1_000_000);
-        let mut reader = Device::over(Scripted::new(outcomes));
-        let mut writer = Device::over(Vec::new(rt.alloc()));
-        assert_eq!(rt;
-            bench.serve(&mut reader, &mut writer, 99),
-            wanted,
-            "row {row}"
-        );
-        assert!(rt; writer.into_inner().as_slice() == answers, "row {row}");
-        assert_eq!(rt; reader.into_inner().calls, calls, "row {row}");
+        if !serves_so(rt.alloc(), outcomes, wanted, answers, calls) {
+            return Err(row.into());
+        }
     }
+    Ok(())
 }

@@ -4,18 +4,14 @@
 #[cfg(test)]
 mod calls;
 #[cfg(test)]
-mod control;
-#[cfg(test)]
 mod devices;
 #[cfg(test)]
 mod laws;
 #[cfg(test)]
 mod linking;
 #[cfg(test)]
+mod long_sessions;
+#[cfg(test)]
 mod machine;
 #[cfg(test)]
-mod programs;
-#[cfg(test)]
-mod second_lines;
-#[cfg(test)]
-mod sessions;
+mod serving;

@@ -1,10 +1,10 @@
 //! Units that are linked, with what a link gives of them.
 use pli_base::Name;
-use pli_link::{Compiled, LinkError, LinkFault, link};
+use pli_link::{Compiled, LinkError, LinkFault, LinkedProcedure, link};
 use pli_map::{Bounds, Description};
+use pli_text_tests::{Shown, agree};
 use pli_unit_code::{Code, CodedTemplate, Instruction, Module};
 use std::alloc::{AllocError, Global};
-use std::fmt::Write;
 use std::test::Fail;
 
 /// A unit, its procedure, and whether that is a main procedure.
@@ -58,7 +58,8 @@ static CASES: [Case; 9] = [
     ),
 ];
 
-fn named(name: &str) -> Result<Name, Fail> {
+/// The name that is spelled so.
+pub fn named(name: &str) -> Result<Name, Fail> {
     Ok(Name::read(name.as_bytes()).ok_or("a name")?)
 }
 
@@ -85,112 +86,122 @@ fn compiled(alloc: Global, row: Row, place: usize) -> Result<Compiled, Fail> {
     })
 }
 
+/// Puts a fault with its procedure and unit.
+fn show_place(text: &mut Shown, label: &str, place: LinkedProcedure) {
+    text.put(label);
+    text.put_bytes(place.procedure.bytes());
+    text.put(" ");
+    text.put_bytes(place.unit.bytes());
+    text.put(";");
+}
+
 /// Faults, each with its procedure and unit.
 fn told(alloc: Global, faults: &[LinkFault]) -> Result<String, AllocError> {
-    let mut text = String::new(alloc);
+    let mut text = Shown::new(alloc);
     for fault in faults {
-        let (label, place) = match fault {
-            LinkFault::NoMainProcedure => {
-                text.push_str("N1;")?;
-                continue;
-            }
-            LinkFault::TwoMainProcedures(place) => ("N2", place),
-            LinkFault::DefinedTwice(place) => ("N4", place),
-            LinkFault::ModuleTooLarge => {
-                text.push_str("N6;")?;
-                continue;
-            }
-        };
-        let (procedure, unit) = (place.procedure, place.unit);
-        write!(text, "{label} {procedure:?} {unit:?};")?;
+        match *fault {
+            LinkFault::NoMainProcedure => text.put("N1;"),
+            LinkFault::TwoMainProcedures(place) => show_place(&mut text, "N2 ", place),
+            LinkFault::DefinedTwice(place) => show_place(&mut text, "N4 ", place),
+            LinkFault::ModuleTooLarge => text.put("N6;"),
+        }
     }
-    Ok(text)
+    text.into_text()
 }
 
 /// A module's unit, and the number of the one step that it has.
-fn shown(alloc: Global, module: &Module) -> Result<String, Fail> {
-    let [Instruction::Step { statement }] = module.code.instructions.as_slice() else {
-        return Err("one step".into());
-    };
-    let (unit, statement) = (module.unit, *statement);
-    Ok(format!(in alloc; "{unit:?} {statement}")?)
+fn one_step(alloc: Global, module: &Module) -> Result<String, AllocError> {
+    let mut text = Shown::new(alloc);
+    text.put_bytes(module.unit.bytes());
+    match module.code.instructions.as_slice() {
+        [Instruction::Step { statement }] => text.put_number(" ", u64::from(*statement)),
+        _ => text.put(" with another number of steps"),
+    }
+    text.into_text()
 }
 
-/// What a link of the units gives.
-fn linked(alloc: Global, rows: &[Row]) -> Result<String, Fail> {
-    let mut units = Vec::new(alloc);
-    for (place, row) in rows.iter().enumerate() {
-        units.push(compiled(alloc, *row, place)?)?;
-    }
+/// What a link of these compiled units gives.
+fn linked_units(alloc: Global, units: Vec<Compiled>) -> Result<String, AllocError> {
     match link(alloc, units) {
-        Ok(module) => shown(alloc, &module),
-        Err(LinkError::Faults(faults)) => Ok(told(alloc, &faults)?),
-        Err(LinkError::OutOfMemory) => Err(AllocError.into()),
+        Ok(module) => one_step(alloc, &module),
+        Err(LinkError::Faults(faults)) => told(alloc, &faults),
+        Err(LinkError::OutOfMemory) => Err(AllocError),
     }
 }
 
-#[test]
-fn units(rt: HostRuntime) -> Result<(), Fail> {
-    for (rows, wanted) in &CASES {
-        assert_eq!(rt; linked(rt.alloc(), rows)?.as_str(), *wanted);
-    }
-    Ok(())
-}
+/// How many variables of so many times so many bytes each a unit has.
+type Size = (u32, i16, i16);
 
-/// Adds a variable of so many times so many bytes to those that are made before the program begins.
-fn add_global(alloc: Global, code: &mut Code, rows: i16, columns: i16) -> Result<(), Fail> {
-    let number = u16::try_from(code.templates.len()).ok().ok_or("a number")?;
+/// An array of so many times so many bytes.
+fn array_of(alloc: Global, rows: i16, columns: i16) -> Result<Description, AllocError> {
     let row = Bounds { low: 1, high: rows };
     let column = Bounds {
         low: 1,
         high: columns,
     };
-    code.descriptions.push(Description::Array {
+    Ok(Description::Array {
         bounds: Vec::from_slice(alloc, &[row, column])?,
         element: Box::new(alloc, Description::Character(1))?,
-    })?;
+    })
+}
+
+/// Adds a variable of so many times so many bytes to those that are made before the program begins.
+fn add_global(alloc: Global, code: &mut Code, rows: i16, columns: i16) -> Result<(), Fail> {
+    let number = u16::try_from(code.templates.len()).ok().ok_or("a number")?;
+    code.globals.push(number)?;
     code.templates.push(CodedTemplate {
         description: number,
         initial: Vec::new(alloc),
     })?;
-    code.globals.push(number)?;
+    code.descriptions.push(array_of(alloc, rows, columns)?)?;
     Ok(())
 }
 
-/// How many variables of 1,000,000 bytes a unit has, others of so many times so many bytes, and what a link gives.
-static SIZES: [(u32, &[(i16, i16)], &str); 6] = [
-    (0, &[], "M 1"),
-    (0, &[(1000, 1000)], "M 1"),
-    (0, &[(1001, 1000)], "N6;"),
-    // 777,216 bytes are left
-    (16, &[(512, 1518)], "M 1"),
-    (16, &[(512, 1518), (1, 1)], "N6;"),
-    (17, &[], "N6;"),
-];
+/// A unit with variables of these sizes.
+fn compiled_with(alloc: Global, row: Row, place: usize, sizes: &[Size]) -> Result<Compiled, Fail> {
+    let mut unit = compiled(alloc, row, place)?;
+    for &(count, rows, columns) in sizes {
+        for _ in 0..count {
+            add_global(alloc, &mut unit.code, rows, columns)?;
+        }
+    }
+    Ok(unit)
+}
 
-/// What a link gives of a main unit with so many variables of 1,000,000 bytes and these.
-fn linked_with(alloc: Global, large: u32, sizes: &[(i16, i16)]) -> Result<String, Fail> {
+/// What a link of the units gives, where the main procedure's has variables of these sizes.
+fn linked(alloc: Global, rows: &[Row], sizes: &[Size]) -> Result<String, Fail> {
     let mut units = Vec::new(alloc);
-    units.push(compiled(alloc, ("A", "F", false), 0)?)?;
-    let mut main = compiled(alloc, ("M", "M", true), 1)?;
-    for _ in 0..large {
-        add_global(alloc, &mut main.code, 1000, 1000)?;
+    for (place, row) in rows.iter().enumerate() {
+        let sizes = if row.2 { sizes } else { &[] };
+        units.push(compiled_with(alloc, *row, place, sizes)?)?;
     }
-    for (rows, columns) in sizes {
-        add_global(alloc, &mut main.code, *rows, *columns)?;
-    }
-    units.push(main)?;
-    match link(alloc, units) {
-        Ok(module) => shown(alloc, &module),
-        Err(LinkError::Faults(faults)) => Ok(told(alloc, &faults)?),
-        Err(LinkError::OutOfMemory) => Err(AllocError.into()),
-    }
+    Ok(linked_units(alloc, units)?)
 }
 
 #[test]
+fn units(rt: HostRuntime) -> Result<(), Fail> {
+    for &(rows, wanted) in &CASES {
+        agree(wanted, &linked(rt.alloc(), rows, &[])?, wanted)?;
+    }
+    Ok(())
+}
+
+/// Sizes of the main unit's variables, and what a link of it behind another gives.
+static SIZES: [(&[Size], &str); 6] = [
+    (&[], "M 1"),
+    (&[(1, 1000, 1000)], "M 1"),
+    (&[(1, 1001, 1000)], "N6;"),
+    // 777,216 bytes are left behind sixteen
+    (&[(16, 1000, 1000), (1, 512, 1518)], "M 1"),
+    (&[(16, 1000, 1000), (1, 512, 1518), (1, 1, 1)], "N6;"),
+    (&[(17, 1000, 1000)], "N6;"),
+];
+
+#[test]
 fn variables_of_the_program(rt: HostRuntime) -> Result<(), Fail> {
-    for (large, sizes, wanted) in &SIZES {
-        assert_eq!(rt; linked_with(rt.alloc(), *large, sizes)?.as_str(), *wanted);
+    let rows = [("A", "F", false), ("M", "M", true)];
+    for &(sizes, wanted) in &SIZES {
+        agree(wanted, &linked(rt.alloc(), &rows, sizes)?, wanted)?;
     }
     Ok(())
 }

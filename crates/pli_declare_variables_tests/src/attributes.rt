@@ -1,21 +1,35 @@
-use crate::reading::first_item;
-use pli_base::declaration::{DescribedAttribute, InitialValue, Integer, Item, SimpleAttribute};
-use pli_base::{BitString, CharacterString, Code};
+use pli_base::Code;
+use pli_base::declaration::{DescribedAttribute, InitialValue, Item, SimpleAttribute};
 use pli_declare_attributes::{
     AttributeError, Completed, ItemFacts, Named, Place, Position, Scope, Storage, Variable,
     array_layout, completed_item, completed_result, elements_within, item_fault, lesser,
     result_fault, scalar_layout, sets_are_of_what_stands, types_are_within_limits, worked_examples,
 };
 use pli_map::{Bounds, Description};
-use pli_parse_declaration::returned_at;
-use pli_text_tests::tokens_of;
+use pli_parse_declaration::{declaration_at, returned_at};
+use pli_text_tests::{Shown, agree, tokens_of};
 use std::alloc::{AllocError, Global};
-use std::fmt::Write;
-use std::process::Abort;
 use std::test::*;
 
 /// A place by its letter, what is declared there, and what that is, or its least fault.
 type Row = (char, &'static str, &'static str);
+
+/// What is asked of a text.
+#[derive(Clone, Copy)]
+enum Asked {
+    /// What the first item of a declaration is at a place, or its least fault.
+    Item(char),
+    /// The same of a copy.
+    Copied(char),
+    /// What BASED and OFFSET know of the first item of a declaration, a letter for each, and its fault.
+    Named,
+    /// How many bytes it takes by its attributes and dimensions, and their alignment.
+    Layout,
+    /// How many elements it has, where the levels above make so many.
+    Elements(Option<u128>),
+    /// What attributes of a result say, or their least fault.
+    Returned,
+}
 
 /// A place by a letter: L at level 1, S a structure there, B the name of a built-in function, M a member, N a structure within one,
 /// A a member of an array of 10, U one of an array of bad bounds, P a parameter, Q a parameter with members.
@@ -37,162 +51,243 @@ fn place_of(letter: char) -> Place {
     }
 }
 
-fn show_bounds(shown: &mut String, bounds: &[Bounds]) -> Result<(), AllocError> {
+fn show_bounds(shown: &mut Shown, bounds: &[Bounds]) {
     for dimension in bounds {
-        let low = dimension.low;
-        let high = dimension.high;
-        write!(shown, " ({low}:{high})")?;
+        shown.put_signed(" (", i64::from(dimension.low));
+        shown.put_signed(":", i64::from(dimension.high));
+        shown.put(")");
     }
-    Ok(())
 }
 
-fn show_scalar(shown: &mut String, description: &Description) -> Result<(), AllocError> {
-    match description {
-        Description::FixedBinary(precision) => {
-            let precision = *precision;
-            write!(shown, " FIXED({precision})")?;
-        }
-        Description::Character(length) => {
-            let length = *length;
-            write!(shown, " CHAR({length})")?;
-        }
-        Description::Varying(length) => {
-            let length = *length;
-            write!(shown, " VAR({length})")?;
-        }
-        Description::Bit(length) => {
-            let length = *length;
-            write!(shown, " BIT({length})")?;
-        }
-        Description::Area(size) => {
-            let size = *size;
-            write!(shown, " AREA({size})")?;
-        }
-        Description::Pointer => shown.push_str(" PTR")?,
-        Description::Offset => shown.push_str(" OFFSET")?,
-        Description::Array {
-            bounds: _,
-            element: _,
-        } => shown.push_str(" ARRAY")?,
-        Description::Structure(_) => shown.push_str(" STRUCTURE")?,
-    }
-    Ok(())
+fn show_scalar(shown: &mut Shown, description: &Description) {
+    let (before, number) = match description {
+        Description::FixedBinary(precision) => (" FIXED(", u64::from(*precision)),
+        Description::Character(length) => (" CHAR(", u64::from(*length)),
+        Description::Varying(length) => (" VAR(", u64::from(*length)),
+        Description::Bit(length) => (" BIT(", u64::from(*length)),
+        Description::Area(size) => (" AREA(", u64::from(*size)),
+        Description::Pointer => return shown.put(" PTR"),
+        Description::Offset => return shown.put(" OFFSET"),
+        Description::Array { .. } => return shown.put(" ARRAY"),
+        Description::Structure(_) => return shown.put(" STRUCTURE"),
+    };
+    shown.put_number(before, number);
+    shown.put(")");
 }
 
-fn show_type(shown: &mut String, description: &Description) -> Result<(), AllocError> {
+fn show_type(shown: &mut Shown, description: &Description) {
     match description {
         Description::Array { bounds, element } => {
-            show_bounds(shown, bounds)?;
+            show_bounds(shown, bounds);
             show_scalar(shown, element)
         }
         _ => show_scalar(shown, description),
     }
 }
 
-fn show_values(shown: &mut String, values: &[InitialValue]) -> Result<(), AllocError> {
+fn show_values(shown: &mut Shown, values: &[InitialValue]) {
     for value in values {
         match value {
             InitialValue::Integer { factor, value } => {
-                let factor = factor.unwrap_or(1);
-                let value = value.value;
-                write!(shown, " {factor}*{value}")?;
+                shown.put_number(" ", u64::from(factor.unwrap_or(1)));
+                shown.put_number("*", u64::from(value.value));
             }
-            InitialValue::Characters(_) => shown.push_str(" characters")?,
-            InitialValue::Bits(_) => shown.push_str(" bits")?,
-            InitialValue::Null => shown.push_str(" null")?,
+            InitialValue::Characters(_) => shown.put(" characters"),
+            InitialValue::Bits(_) => shown.put(" bits"),
+            InitialValue::Null => shown.put(" null"),
         }
     }
-    Ok(())
 }
 
-fn show_variable(shown: &mut String, variable: &Variable) -> Result<(), AllocError> {
-    shown.push_str(match variable.storage {
+fn show_variable(shown: &mut Shown, variable: &Variable) {
+    shown.put(match variable.storage {
         Some(Storage::Automatic) => "AUTO",
         Some(Storage::Static) => "STATIC",
         Some(Storage::Based) => "BASED",
         Some(Storage::Controlled) => "CTL",
         None => "-",
-    })?;
-    shown.push_str(match variable.scope {
+    });
+    shown.put(match variable.scope {
         Scope::Internal => "",
         Scope::External => " EXT",
-    })?;
-    show_bounds(shown, &variable.bounds)?;
+    });
+    show_bounds(shown, &variable.bounds);
     match &variable.description {
-        Some(description) => show_type(shown, description)?,
-        None => shown.push_str(" MEMBERS")?,
+        Some(description) => show_type(shown, description),
+        None => shown.put(" MEMBERS"),
     }
     show_values(shown, &variable.initial)
 }
 
-fn show(alloc: Global, completed: &Completed) -> Result<String, AllocError> {
-    let mut shown = String::new(alloc);
+fn show_completed(shown: &mut Shown, completed: &Completed) {
     match completed {
-        Completed::Variable(variable) => show_variable(&mut shown, variable)?,
+        Completed::Variable(variable) => show_variable(shown, variable),
         Completed::Entry { parameters, result } => {
-            shown.push_str("ENTRY")?;
+            shown.put("ENTRY");
             for parameter in parameters {
-                shown.push_str(",")?;
-                show_type(&mut shown, parameter)?;
+                shown.put(",");
+                show_type(shown, parameter);
             }
             if let Some(result) = result {
-                shown.push_str(" RETURNS")?;
-                show_type(&mut shown, result)?;
+                shown.put(" RETURNS");
+                show_type(shown, result);
             }
         }
-        Completed::BuiltIn => shown.push_str("BUILTIN")?,
-    }
-    Ok(shown)
-}
-
-/// What an item is at a place, or its least fault, as `A3`.
-fn completed(alloc: Global, letter: char, item: &Item) -> Result<String, AllocError> {
-    match completed_item(alloc, place_of(letter), &ItemFacts::of(alloc, item)?) {
-        Ok(completed) => show(alloc, &completed),
-        Err(AttributeError::Faulty(code)) => String::from_str(alloc, code.label()),
-        Err(AttributeError::OutOfMemory) => Err(AllocError),
+        Completed::BuiltIn => shown.put("BUILTIN"),
     }
 }
 
-/// The same of the first item of a declaration.
-fn answered(alloc: Global, letter: char, text: &str) -> Result<String, Fail> {
-    let item = first_item(alloc, text)?;
-    Ok(completed(alloc, letter, &item)?)
-}
-
-/// The same of a declaration of X with these attributes.
-fn declared(alloc: Global, letter: char, attributes: &str) -> Result<String, Fail> {
-    let text = format!(in alloc; "X {attributes} ;")?;
-    answered(alloc, letter, &text)
-}
-
-/// Checks what X is with the attributes of each row.
-fn check(rt: &impl Abort, alloc: Global, rows: &[Row]) -> Result<(), Fail> {
-    for (letter, attributes, want) in rows {
-        let answer = declared(alloc, *letter, attributes)?;
-        assert_eq!(rt; answer.as_str(), *want, "{letter} {attributes}");
+/// Puts what an item is at a place, or its least fault, as `A3`.
+fn put_completed(
+    shown: &mut Shown,
+    alloc: Global,
+    letter: char,
+    copies: bool,
+    facts: &ItemFacts,
+) -> Result<(), AllocError> {
+    match completed_item(alloc, place_of(letter), facts) {
+        Ok(completed) if copies => show_completed(shown, &completed.copy(alloc)?),
+        Ok(completed) => show_completed(shown, &completed),
+        Err(AttributeError::Faulty(code)) => shown.put(code.label()),
+        Err(AttributeError::OutOfMemory) => return Err(AllocError),
     }
     Ok(())
 }
 
-/// What attributes of a result say, or their least fault.
-fn result(alloc: Global, attributes: &[DescribedAttribute]) -> Result<String, AllocError> {
-    let mut shown = String::new(alloc);
-    match completed_result(attributes) {
-        Ok(description) => show_type(&mut shown, &description)?,
-        Err(code) => shown.push_str(code.label())?,
+fn show_named(shown: &mut Shown, facts: &ItemFacts) {
+    let named = Named::of_item(facts);
+    shown.put(if named.is_variable { "V" } else { "" });
+    shown.put(if named.is_locator { "L" } else { "" });
+    shown.put(if named.is_area { "A" } else { "" });
+    shown.put(if named.is_not_based { "N" } else { "" });
+    if let Some(code) = item_fault(place_of('L'), facts) {
+        shown.put(" ");
+        shown.put(code.label());
     }
-    Ok(shown)
 }
 
-/// The same of what stands in RETURNS of a procedure.
-fn returned(alloc: Global, attributes: &str) -> Result<String, Fail> {
-    let text = format!(in alloc; "( {attributes} )")?;
-    let tokens = tokens_of(alloc, &text)?;
-    let Ok(read) = returned_at(alloc, 0, &tokens) else {
-        return Err("no attributes".into());
+/// `6/2`: six bytes at addresses of two.
+fn show_layout(shown: &mut Shown, item: &Item) {
+    let Some(element) = scalar_layout(&item.attributes) else {
+        return shown.put("no scalar");
     };
-    Ok(result(alloc, &read.value)?)
+    if elements_within(Some(1), &item.dimensions).is_none() {
+        return shown.put("bad bounds");
+    }
+    match array_layout(element, &item.dimensions) {
+        Some(array) => {
+            shown.put_number("", u64::from(array.bytes));
+            shown.put_number("/", u64::from(array.alignment));
+        }
+        None => shown.put("too large"),
+    }
+}
+
+/// The greatest number of elements that is counted.
+const MOST_ELEMENTS: u128 = 1 << 96;
+
+fn show_elements(shown: &mut Shown, above: Option<u128>, item: &Item) {
+    match elements_within(above, &item.dimensions) {
+        None => shown.put("bad bounds"),
+        Some(MOST_ELEMENTS) => shown.put("most"),
+        Some(count) => match u64::try_from(count) {
+            Ok(few) => shown.put_number("", few),
+            Err(_) => shown.put("many"),
+        },
+    }
+}
+
+/// Puts what is asked of an item.
+fn put_item(shown: &mut Shown, alloc: Global, asked: Asked, item: &Item) -> Result<(), AllocError> {
+    let facts = ItemFacts::of(alloc, item)?;
+    match asked {
+        Asked::Item(letter) => put_completed(shown, alloc, letter, false, &facts)?,
+        Asked::Copied(letter) => put_completed(shown, alloc, letter, true, &facts)?,
+        Asked::Named => show_named(shown, &facts),
+        Asked::Layout => show_layout(shown, item),
+        Asked::Elements(above) => show_elements(shown, above, item),
+        Asked::Returned => {}
+    }
+    Ok(())
+}
+
+/// Puts what is asked of the first item of what stands behind a DECLARE.
+fn put_declared(
+    shown: &mut Shown,
+    alloc: Global,
+    asked: Asked,
+    text: &str,
+) -> Result<(), AllocError> {
+    let tokens = tokens_of(alloc, text)?;
+    let Ok(read) = declaration_at(alloc, 0, &tokens) else {
+        shown.put("no declaration");
+        return Ok(());
+    };
+    match read.value.first() {
+        Some(item) => put_item(shown, alloc, asked, item),
+        None => Ok(()),
+    }
+}
+
+/// Puts what attributes in RETURNS of a procedure say, or their least fault.
+fn put_returned(shown: &mut Shown, alloc: Global, text: &str) -> Result<(), AllocError> {
+    let tokens = tokens_of(alloc, text)?;
+    let Ok(read) = returned_at(alloc, 0, &tokens) else {
+        shown.put("no attributes");
+        return Ok(());
+    };
+    match completed_result(&read.value) {
+        Ok(description) => show_type(shown, &description),
+        Err(code) => shown.put(code.label()),
+    }
+    Ok(())
+}
+
+/// What is asked of a text.
+fn answer(alloc: Global, asked: Asked, text: &str) -> Result<String, AllocError> {
+    let mut shown = Shown::new(alloc);
+    match asked {
+        Asked::Returned => put_returned(&mut shown, alloc, text)?,
+        _ => put_declared(&mut shown, alloc, asked, text)?,
+    }
+    shown.into_text()
+}
+
+/// The text that is read for a text: a whole declaration, attributes of X, or what stands in RETURNS.
+fn whole(alloc: Global, asked: Asked, text: &str) -> Result<String, AllocError> {
+    if matches!(asked, Asked::Returned) {
+        return format!(in alloc; "( {text} )");
+    }
+    if text.ends_with(';') {
+        return String::from_str(alloc, text);
+    }
+    format!(in alloc; "X {text} ;")
+}
+
+/// Fails with a text and what is answered, unless that is what is wanted.
+fn one(alloc: Global, asked: Asked, text: &str, wanted: &str) -> Result<(), Fail> {
+    agree(
+        text,
+        &answer(alloc, asked, &whole(alloc, asked, text)?)?,
+        wanted,
+    )
+}
+
+/// Fails at the first text that is not answered as wanted.
+fn all(alloc: Global, asked: Asked, rows: &[(&str, &str)]) -> Result<(), Fail> {
+    for (text, wanted) in rows {
+        one(alloc, asked, text, wanted)?;
+    }
+    Ok(())
+}
+
+/// Fails at the first item that is something else at its place, or whose copy is.
+fn are_declared(alloc: Global, rows: &[Row]) -> Result<(), Fail> {
+    for &(letter, text, wanted) in rows {
+        one(alloc, Asked::Item(letter), text, wanted)?;
+        one(alloc, Asked::Copied(letter), text, wanted)?;
+    }
+    Ok(())
 }
 
 /// Each attribute, and what it gives beside each at level 1, worked out by hand: `.` for no fault, or the number of the fault,
@@ -219,31 +314,31 @@ static PAIRS: [(&str, &str); 18] = [
 ];
 
 /// The letter of an answer in that table.
-fn letter_of(answer: &str) -> char {
+fn letter_of(answer: &str) -> &'static str {
     match answer {
-        "A3" => '3',
-        "A4" => '4',
-        "A9" => '9',
-        "A13" => 'D',
-        "A5" | "A6" | "A7" | "A14" | "A15" => '?',
-        _ => '.',
+        "A3" => "3",
+        "A4" => "4",
+        "A9" => "9",
+        "A13" => "D",
+        "A5" | "A6" | "A7" | "A14" | "A15" => "?",
+        _ => ".",
     }
 }
 
 /// The row of that table of an attribute.
-fn beside_each(alloc: Global, first: &str) -> Result<String, Fail> {
-    let mut row = String::new(alloc);
+fn beside_each(alloc: Global, first: &str) -> Result<String, AllocError> {
+    let mut row = Shown::new(alloc);
     for (second, _) in &PAIRS {
-        let attributes = format!(in alloc; "{first} {second}")?;
-        row.push(letter_of(declared(alloc, 'L', &attributes)?.as_str()))?;
+        let text = format!(in alloc; "X {first} {second} ;")?;
+        row.put(letter_of(&answer(alloc, Asked::Item('L'), &text)?));
     }
-    Ok(row)
+    row.into_text()
 }
 
 #[test]
 fn pairs_agree_or_not(rt: HostRuntime) -> Result<(), Fail> {
-    for (first, want) in &PAIRS {
-        assert_eq!(rt; beside_each(rt.alloc(), first)?.as_str(), *want, "{first}");
+    for &(first, want) in &PAIRS {
+        agree(first, &beside_each(rt.alloc(), first)?, want)?;
     }
     Ok(())
 }
@@ -287,15 +382,6 @@ static COMPLETED: [Row; 24] = [
         "ENTRY, (1:5) BIT(1), VAR(3), AREA(1000) RETURNS FIXED(15)",
     ),
 ];
-
-#[test]
-fn items_are_completed(rt: HostRuntime) -> Result<(), Fail> {
-    for (letter, text, want) in &COMPLETED {
-        let answer = answered(rt.alloc(), *letter, text)?;
-        assert_eq!(rt; answer.as_str(), *want, "{text}");
-    }
-    Ok(())
-}
 
 /// Attributes with first values.
 static INITIAL: [Row; 28] = [
@@ -357,11 +443,6 @@ static INITIAL: [Row; 28] = [
     ('M', "AREA INIT ( NULL )", "A9"),
 ];
 
-#[test]
-fn initial_values(rt: HostRuntime) -> Result<(), Fail> {
-    check(&rt, rt.alloc(), &INITIAL)
-}
-
 /// Attributes that do not agree.
 static CONFLICTS: [(char, &str); 38] = [
     ('L', "FIXED BIN FIXED"),
@@ -406,9 +487,8 @@ static CONFLICTS: [(char, &str); 38] = [
 
 #[test]
 fn conflicts(rt: HostRuntime) -> Result<(), Fail> {
-    for (letter, attributes) in &CONFLICTS {
-        let answer = declared(rt.alloc(), *letter, attributes)?;
-        assert_eq!(rt; answer.as_str(), "A3", "{letter} {attributes}");
+    for &(letter, attributes) in &CONFLICTS {
+        one(rt.alloc(), Asked::Item(letter), attributes, "A3")?;
     }
     Ok(())
 }
@@ -466,35 +546,71 @@ static FAULTS: [Row; 41] = [
     ('L', "ENTRY ( AREA ( 999999 ) )", "ENTRY, AREA(999999)"),
 ];
 
+/// Arrays and an entry in full, whose copies say the same.
+static ARRAYS: [Row; 6] = [
+    (
+        'L',
+        "( - 1 : 1 , 5 ) FIXED BIN STATIC EXT INIT ( ( 3 ) - 7 )",
+        "STATIC EXT (-1:1) (1:5) FIXED(15) 3*7",
+    ),
+    (
+        'L',
+        "( - 1 : 1 , 5 ) CHAR ( 3 ) STATIC EXT INIT ( 'ABC' , 'ABC' )",
+        "STATIC EXT (-1:1) (1:5) CHAR(3) characters characters",
+    ),
+    (
+        'L',
+        "( - 1 : 1 , 5 ) BIT ( 2 ) STATIC EXT INIT ( '10'B )",
+        "STATIC EXT (-1:1) (1:5) BIT(2) bits",
+    ),
+    (
+        'L',
+        "( - 1 : 1 , 5 ) PTR STATIC EXT INIT ( NULL )",
+        "STATIC EXT (-1:1) (1:5) PTR null",
+    ),
+    (
+        'L',
+        "ENTRY ( BIT , ( 2 : 4 ) CHAR ( 9 ) VAR ) RETURNS ( CHAR ( 3 ) )",
+        "ENTRY, BIT(1), (2:4) VAR(9) RETURNS CHAR(3)",
+    ),
+    ('B', "BUILTIN", "BUILTIN"),
+];
+
 #[test]
-fn other_faults(rt: HostRuntime) -> Result<(), Fail> {
-    check(&rt, rt.alloc(), &FAULTS)
+fn items(rt: HostRuntime) -> Result<(), Fail> {
+    are_declared(rt.alloc(), &COMPLETED)?;
+    are_declared(rt.alloc(), &ARRAYS)?;
+    are_declared(rt.alloc(), &INITIAL)?;
+    are_declared(rt.alloc(), &FAULTS)
+}
+
+/// An ENTRY of 64 parameters with more behind them.
+fn entry_of_64(alloc: Global, more: &str) -> Result<String, AllocError> {
+    let mut text = Shown::new(alloc);
+    text.put("X ENTRY ( BIT");
+    for _ in 0..63 {
+        text.put(" , BIT");
+    }
+    text.put(more);
+    text.into_text()
 }
 
 /// What an ENTRY of 64 parameters is, with more behind them.
-fn entry_of_64(alloc: Global, more: &str) -> Result<String, Fail> {
-    let mut attributes = String::from_str(alloc, "ENTRY ( BIT")?;
-    for _ in 0..63 {
-        attributes.push_str(" , BIT")?;
-    }
-    attributes.push_str(more)?;
-    declared(alloc, 'L', &attributes)
+fn told_of_64(alloc: Global, more: &str) -> Result<String, AllocError> {
+    answer(alloc, Asked::Item('L'), &entry_of_64(alloc, more)?)
 }
+
+/// What stands behind 64 parameters, and the fault.
+static TOO_MANY: [(&str, &str); 2] = [
+    (" , ( 1000 , 1001 ) BIT ) ;", "A14"),
+    (" , ( 5 ) AREA ) ;", "A13"),
+];
 
 #[test]
 fn parameters_of_entries(rt: HostRuntime) -> Result<(), Fail> {
-    let answer = entry_of_64(rt.alloc(), " )")?;
-    assert!(rt; answer.starts_with("ENTRY, BIT(1),"));
-    Ok(())
-}
-
-#[test]
-fn too_many_parameters(rt: HostRuntime) -> Result<(), Fail> {
-    for (more, want) in &[
-        (" , ( 1000 , 1001 ) BIT )", "A14"),
-        (" , ( 5 ) AREA )", "A13"),
-    ] {
-        assert_eq!(rt; entry_of_64(rt.alloc(), more)?.as_str(), *want, "{more}");
+    assert!(rt; told_of_64(rt.alloc(), " ) ;")?.starts_with("ENTRY, BIT(1),"));
+    for &(more, wanted) in &TOO_MANY {
+        agree(more, &told_of_64(rt.alloc(), more)?, wanted)?;
     }
     Ok(())
 }
@@ -518,59 +634,27 @@ static RESULTS: [(&str, &str); 15] = [
     ("BIT ( 0 )", "A6"),
 ];
 
-#[test]
-fn results(rt: HostRuntime) -> Result<(), Fail> {
-    for (attributes, want) in &RESULTS {
-        let answer = returned(rt.alloc(), attributes)?;
-        assert_eq!(rt; answer.as_str(), *want, "{attributes}");
-    }
-    Ok(())
-}
-
-/// What the first item of a declaration takes by its attributes and dimensions, its bytes and its alignment.
-fn taken(alloc: Global, text: &str) -> Result<Option<(u32, u32)>, Fail> {
-    let item = first_item(alloc, text)?;
-    let Some(element) = scalar_layout(&item.attributes) else {
-        return Ok(None);
-    };
-    if elements_within(Some(1), &item.dimensions).is_none() {
-        return Err("bad bounds".into());
-    }
-    let Some(array) = array_layout(element, &item.dimensions) else {
-        return Ok(None);
-    };
-    Ok(Some((array.bytes, array.alignment)))
-}
-
 /// Declarations, with the bytes and the alignment of the first item.
-static LAYOUTS: [(&str, Option<(u32, u32)>); 7] = [
-    ("X ( 3 ) FIXED BINARY ;", Some((6, 2))),
-    ("X ( 3 ) FIXED BINARY ( 16 ) ;", Some((12, 4))),
-    ("X ( 0 : 1 , 2 ) CHAR ( 3 ) VARYING ;", Some((24, 2))),
-    ("X ( 2 ) BIT ( 9 ) ;", Some((4, 1))),
-    ("X ( 2 ) PTR ;", Some((16, 4))),
-    ("X ( 1 ) AREA ( 9 ) ;", Some((16, 8))),
-    ("X ( 31 ) CHAR ( 32767 ) ;", None),
+static LAYOUTS: [(&str, &str); 7] = [
+    ("X ( 3 ) FIXED BINARY ;", "6/2"),
+    ("X ( 3 ) FIXED BINARY ( 16 ) ;", "12/4"),
+    ("X ( 0 : 1 , 2 ) CHAR ( 3 ) VARYING ;", "24/2"),
+    ("X ( 2 ) BIT ( 9 ) ;", "4/1"),
+    ("X ( 2 ) PTR ;", "16/4"),
+    ("X ( 1 ) AREA ( 9 ) ;", "16/8"),
+    ("X ( 31 ) CHAR ( 32767 ) ;", "too large"),
 ];
 
-#[test]
-fn layouts(rt: HostRuntime) -> Result<(), Fail> {
-    for (text, want) in &LAYOUTS {
-        assert_eq!(rt; taken(rt.alloc(), text)?, *want, "{text}");
-    }
-    Ok(())
+/// The fault of a result of no bits.
+fn fault_of_no_bits() -> Option<Code> {
+    result_fault(&[DescribedAttribute::Simple(SimpleAttribute::Bit(Some(0)))])
 }
 
 #[test]
 fn least_faults(rt: HostRuntime) {
-    let bit = DescribedAttribute::Simple(SimpleAttribute::Bit(Some(0)));
-    let fault = result_fault(&[bit]);
-    assert_eq!(rt; fault, Some(Code::BadLength));
-    assert_eq!(rt;
-        lesser(fault, Some(Code::BadPrecision)),
-        Some(Code::BadPrecision)
-    );
-    assert_eq!(rt; lesser(None, fault), fault);
+    let fault = fault_of_no_bits();
+    assert!(rt; fault == Some(Code::BadLength) && lesser(None, fault) == fault);
+    assert!(rt; lesser(fault, Some(Code::BadPrecision)) == Some(Code::BadPrecision));
 }
 
 #[test]
@@ -581,48 +665,20 @@ fn laws_are_called() {
 }
 
 /// How many elements the levels above a declaration make, and how many its first item has with them.
-static ELEMENTS: [(Option<u128>, &str, Option<u128>); 5] = [
-    (Some(2), "X ( 3 , 0 : 4 ) BIT ;", Some(30)),
-    (Some(1 << 95), "X ( 3 , 0 : 4 ) BIT ;", Some(1 << 96)),
-    (None, "X ( 3 , 0 : 4 ) BIT ;", None),
-    (Some(2), "Y ( 4 : 3 ) BIT ;", None),
-    (Some(2), "Z BIT ;", Some(2)),
+static ELEMENTS: [(Option<u128>, &str, &str); 5] = [
+    (Some(2), "X ( 3 , 0 : 4 ) BIT ;", "30"),
+    (Some(1 << 95), "X ( 3 , 0 : 4 ) BIT ;", "most"),
+    (None, "X ( 3 , 0 : 4 ) BIT ;", "bad bounds"),
+    (Some(2), "Y ( 4 : 3 ) BIT ;", "bad bounds"),
+    (Some(2), "Z BIT ;", "2"),
 ];
-
-fn elements(alloc: Global, above: Option<u128>, text: &str) -> Result<Option<u128>, Fail> {
-    let item = first_item(alloc, text)?;
-    Ok(elements_within(above, &item.dimensions))
-}
 
 #[test]
 fn elements_stop_at_the_greatest(rt: HostRuntime) -> Result<(), Fail> {
-    for (above, text, want) in &ELEMENTS {
-        assert_eq!(rt; elements(rt.alloc(), *above, text)?, *want, "{text}");
+    for &(above, text, wanted) in &ELEMENTS {
+        one(rt.alloc(), Asked::Elements(above), text, wanted)?;
     }
     Ok(())
-}
-
-/// What BASED and OFFSET know of the first item of a declaration, a letter for each, and its fault.
-fn named(alloc: Global, text: &str) -> Result<String, Fail> {
-    let item = first_item(alloc, text)?;
-    let facts = ItemFacts::of(alloc, &item)?;
-    let named = Named::of_item(&facts);
-    let mut shown = String::new(alloc);
-    for (holds, letter) in [
-        (named.is_variable, "V"),
-        (named.is_locator, "L"),
-        (named.is_area, "A"),
-        (named.is_not_based, "N"),
-    ] {
-        if holds {
-            shown.push_str(letter)?;
-        }
-    }
-    if let Some(code) = item_fault(place_of('L'), &facts) {
-        shown.push_str(" ")?;
-        shown.push_str(code.label())?;
-    }
-    Ok(shown)
 }
 
 /// Declarations, with what BASED and OFFSET know of the first item.
@@ -638,73 +694,8 @@ static NAMED: [(&str, &str); 8] = [
 ];
 
 #[test]
-fn items_that_others_name(rt: HostRuntime) -> Result<(), Fail> {
-    for (text, want) in &NAMED {
-        assert_eq!(rt; named(rt.alloc(), text)?.as_str(), *want, "{text}");
-    }
-    Ok(())
-}
-
-/// An external array with each form of first value.
-fn external_array(alloc: Global) -> Result<Completed, AllocError> {
-    let factor = InitialValue::Integer {
-        factor: Some(3),
-        value: Integer {
-            negative: true,
-            value: 7,
-        },
-    };
-    let bytes = Vec::from_slice(alloc, b"ABC")?;
-    let characters = InitialValue::Characters(CharacterString::new(bytes));
-    let bits = InitialValue::Bits(BitString::new(Vec::from_slice(alloc, &[true, false])?));
-    Ok(Completed::Variable(Variable {
-        description: Some(Description::FixedBinary(15)),
-        bounds: Vec::from_slice(
-            alloc,
-            &[Bounds { low: -1, high: 1 }, Bounds { low: 1, high: 5 }],
-        )?,
-        storage: Some(Storage::Static),
-        scope: Scope::External,
-        initial: vec![in alloc; factor, characters, bits, InitialValue::Null]?,
-    }))
-}
-
-/// An entry of two parameters and a result.
-fn entry(alloc: Global) -> Result<Completed, AllocError> {
-    let array = Description::Array {
-        bounds: Vec::from_slice(alloc, &[Bounds { low: 2, high: 4 }])?,
-        element: Box::new(alloc, Description::Varying(9))?,
-    };
-    Ok(Completed::Entry {
-        parameters: vec![in alloc; Description::Bit(1), array]?,
-        result: Some(Description::Character(3)),
-    })
-}
-
-/// What a copy says when what was copied is gone.
-fn copied(alloc: Global, completed: Completed) -> Result<String, AllocError> {
-    let copy = completed.copy(alloc)?;
-    drop(completed);
-    show(alloc, &copy)
-}
-
-#[test]
-fn copies_of_variables(rt: HostRuntime) -> Result<(), Fail> {
-    let alloc = rt.alloc();
-    assert_eq!(rt;
-        copied(alloc, external_array(alloc)?)?.as_str(),
-        "STATIC EXT (-1:1) (1:5) FIXED(15) 3*7 characters bits null"
-    );
-    Ok(())
-}
-
-#[test]
-fn copies_of_other_items(rt: HostRuntime) -> Result<(), Fail> {
-    let alloc = rt.alloc();
-    assert_eq!(rt;
-        copied(alloc, entry(alloc)?)?.as_str(),
-        "ENTRY, BIT(1), (2:4) VAR(9) RETURNS CHAR(3)"
-    );
-    assert_eq!(rt; copied(alloc, Completed::BuiltIn)?.as_str(), "BUILTIN");
-    Ok(())
+fn names_layouts_and_results(rt: HostRuntime) -> Result<(), Fail> {
+    all(rt.alloc(), Asked::Named, &NAMED)?;
+    all(rt.alloc(), Asked::Layout, &LAYOUTS)?;
+    all(rt.alloc(), Asked::Returned, &RESULTS)
 }

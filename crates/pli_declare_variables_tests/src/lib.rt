@@ -4,6 +4,4 @@
 #[cfg(test)]
 mod attributes;
 #[cfg(test)]
-mod reading;
-#[cfg(test)]
 mod variables;

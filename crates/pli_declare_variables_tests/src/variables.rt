@@ -8,67 +8,86 @@ ghost use Rattle.pli_declare_variables.specs.Places.{item_in};
 ghost use Rattle.pli_declare_variables.specs.Declarations.{returned_by, AreSound, AreGood};
 ghost use Rattle.pli_declare_variables.specs.answers.Declaring.{IsFaultless};
 
-use crate::reading::{items_of, name};
 use pli_base::declaration::{DescribedAttribute, Item, SimpleAttribute};
 use pli_base::statement::{Procedure, ProcedureOption};
 use pli_base::syntax::Identifier;
 use pli_base::{Code, Name};
 use pli_declare_attributes::{Completed, ItemFacts, result_fault};
-use pli_declare_scopes::standings;
+use pli_declare_scopes::{Standing, standings};
 use pli_declare_tables::{Entity, Entry};
 use pli_declare_variables::{Declaration, Judged, Kind, declare, is_built_in, judge};
 use pli_map::{Description, size};
+use pli_parse_declaration::declaration_at;
+use pli_text_tests::{Shown, agree, tokens_of};
 use std::alloc::{AllocError, Global};
-use std::fmt::Write;
-use std::process::Abort;
 use std::test::*;
 
 /// A declaration, and what is known of each of its names.
 type Row = (&'static str, &'static str);
 
-/// The entries of the names of items.
-fn entries_of<'a>(alloc: Global, items: &'a [Item]) -> Result<Vec<Entry<'a>>, AllocError> {
+/// Puts the entry of a name behind entries.
+fn add<'a>(
+    entries: &mut Vec<Entry<'a>>,
+    identifier: Identifier,
+    owner: Option<usize>,
+    entity: Entity<'a>,
+) -> Result<(), AllocError> {
+    let entry = Entry {
+        identifier,
+        owner,
+        entity,
+    };
+    match entries.push(entry) {
+        Ok(()) => Ok(()),
+        Err(_) => Err(AllocError),
+    }
+}
+
+/// Puts the entries of an item's names behind entries, of which each has its standing.
+fn add_item<'a>(
+    entries: &mut Vec<Entry<'a>>,
+    alloc: Global,
+    item: &'a Item,
+    stand: &[Standing],
+) -> Result<(), AllocError> {
+    let facts = ItemFacts::of(alloc, item)?;
+    for identifier in item.names.as_slice() {
+        let (owner, is_bad_level) = match stand.get(entries.len()) {
+            Some(standing) => (standing.owner, standing.is_bad),
+            None => (None, false),
+        };
+        let entity = Entity::Item {
+            facts,
+            is_bad_level,
+        };
+        add(entries, *identifier, owner, entity)?;
+    }
+    Ok(())
+}
+
+/// The level of each name of items.
+fn levels_of(alloc: Global, items: &[Item]) -> Result<Vec<Option<u32>>, AllocError> {
     let mut levels = Vec::new(alloc);
     for item in items {
         for _ in item.names.as_slice() {
             levels.push(item.level)?;
         }
     }
-    let stand = standings(alloc, &levels)?;
-    let mut entries = Vec::new(alloc);
-    for item in items {
-        let facts = ItemFacts::of(alloc, item)?;
-        for identifier in item.names.as_slice() {
-            let (owner, is_bad_level) = match stand.get(entries.len()) {
-                Some(standing) => (standing.owner, standing.is_bad),
-                None => (None, false),
-            };
-            let entry = Entry {
-                identifier: *identifier,
-                owner,
-                entity: Entity::Item {
-                    facts,
-                    is_bad_level,
-                },
-            };
-            if entries.push(entry).is_err() {
-                return Err(AllocError);
-            }
-        }
-    }
-    Ok(entries)
+    Ok(levels)
 }
 
-/// The entry of a label.
-fn labelled<'a>(alloc: Global, name: Name) -> Result<Vec<Entry<'a>>, AllocError> {
+/// How each name of items stands.
+fn standings_of(alloc: Global, items: &[Item]) -> Result<Vec<Standing>, AllocError> {
+    let levels = levels_of(alloc, items)?;
+    standings(alloc, &levels)
+}
+
+/// The entries of the names of items.
+fn entries_of<'a>(alloc: Global, items: &'a [Item]) -> Result<Vec<Entry<'a>>, AllocError> {
+    let stand = standings_of(alloc, items)?;
     let mut entries = Vec::new(alloc);
-    let entry = Entry {
-        identifier: Identifier { name, at: 0 },
-        owner: None,
-        entity: Entity::Label { region: 0 },
-    };
-    if entries.push(entry).is_err() {
-        return Err(AllocError);
+    for item in items {
+        add_item(&mut entries, alloc, item, &stand)?;
     }
     Ok(entries)
 }
@@ -96,54 +115,86 @@ fn are_behind_owners(entries: &[Entry]) -> bool
 }
 
 /// What is known of a name: its fault as `A3` or `-`, `!` behind it if it is too large, `L` for a locator, `A` for an area.
-fn show(shown: &mut String, judged: &Judged) -> Result<(), AllocError> {
-    if !shown.is_empty() {
-        shown.push_str(" ")?;
-    }
-    shown.push_str(match judged.code {
+fn show(shown: &mut Shown, before: &str, judged: &Judged) {
+    shown.put(before);
+    shown.put(match judged.code {
         Some(code) => code.label(),
         None => "-",
-    })?;
-    if judged.is_too_large {
-        shown.push_str("!")?;
+    });
+    shown.put(if judged.is_too_large { "!" } else { "" });
+    shown.put(if judged.is_locator { "L" } else { "" });
+    shown.put(if judged.is_area { "A" } else { "" });
+}
+
+/// What is known of names, with a blank between.
+fn show_all(shown: &mut Shown, judged: &[Judged]) {
+    let mut before = "";
+    for judged in judged {
+        show(shown, before, judged);
+        before = " ";
     }
-    if judged.is_locator {
-        shown.push_str("L")?;
+}
+
+/// The names of these texts.
+fn names_of(alloc: Global, texts: &[&str]) -> Result<Vec<Name>, AllocError> {
+    let mut names = Vec::new(alloc);
+    for text in texts {
+        if let Some(name) = Name::read(text.as_bytes()) {
+            names.push(name)?;
+        }
     }
-    if judged.is_area {
-        shown.push_str("A")?;
+    Ok(names)
+}
+
+/// Puts what is known of each entry in a procedure of these parameters.
+fn put_judged(
+    shown: &mut Shown,
+    alloc: Global,
+    entries: &[Entry],
+    parameters: &[&str],
+) -> Result<(), AllocError> {
+    if !are_behind_owners(entries) {
+        shown.put("an owner before its member");
+        return Ok(());
     }
+    let names = names_of(alloc, parameters)?;
+    let judged = judge(alloc, entries, &names)?;
+    show_all(shown, &judged);
     Ok(())
 }
 
-/// What is known of each entry.
-fn shown(alloc: Global, entries: &[Entry], parameters: &[&str]) -> Result<String, Fail> {
-    if !are_behind_owners(entries) {
-        return Err("an owner before its member".into());
+/// Puts what is known of each name of items.
+fn put_items(
+    shown: &mut Shown,
+    alloc: Global,
+    items: &[Item],
+    parameters: &[&str],
+) -> Result<(), AllocError> {
+    let entries = entries_of(alloc, items)?;
+    put_judged(shown, alloc, &entries, parameters)
+}
+
+/// The items of what stands behind a DECLARE; none where that does not read.
+fn items_of(alloc: Global, text: &str) -> Result<Vec<Item>, AllocError> {
+    let tokens = tokens_of(alloc, text)?;
+    match declaration_at(alloc, 0, &tokens) {
+        Ok(read) => Ok(read.value),
+        Err(_) => Ok(Vec::new(alloc)),
     }
-    let mut names = Vec::new(alloc);
-    for parameter in parameters {
-        names.push(name(parameter)?)?;
-    }
-    let mut shown = String::new(alloc);
-    for judged in judge(alloc, entries, &names)?.iter() {
-        show(&mut shown, judged)?;
-    }
-    Ok(shown)
 }
 
 /// What is known of each name of a declaration.
-fn declared(alloc: Global, parameters: &[&str], text: &str) -> Result<String, Fail> {
+fn declared(alloc: Global, parameters: &[&str], text: &str) -> Result<String, AllocError> {
     let items = items_of(alloc, text)?;
-    let entries = entries_of(alloc, &items)?;
-    shown(alloc, &entries, parameters)
+    let mut shown = Shown::new(alloc);
+    put_items(&mut shown, alloc, &items, parameters)?;
+    shown.into_text()
 }
 
-/// Checks what is known of the names of each row.
-fn check(rt: &impl Abort, alloc: Global, parameters: &[&str], rows: &[Row]) -> Result<(), Fail> {
-    for (text, want) in rows {
-        let answer = declared(alloc, parameters, text)?;
-        assert_eq!(rt; answer.as_str(), *want, "{text}");
+/// Fails at the first row of whose names something else is known.
+fn are_judged(alloc: Global, parameters: &[&str], rows: &[Row]) -> Result<(), Fail> {
+    for (text, wanted) in rows {
+        agree(text, &declared(alloc, parameters, text)?, wanted)?;
     }
     Ok(())
 }
@@ -177,11 +228,6 @@ static STRUCTURES: [Row; 18] = [
     ("2 X BIT STATIC , 0 Y BIT EXT , X BIT STATIC ;", "A3 A3 -"),
 ];
 
-#[test]
-fn structures(rt: HostRuntime) -> Result<(), Fail> {
-    check(&rt, rt.alloc(), &[], &STRUCTURES)
-}
-
 /// Declarations in a procedure of the parameters P and Q.
 static PARAMETERS: [Row; 9] = [
     ("P BIT , Q BIT ;", "- -"),
@@ -196,11 +242,6 @@ static PARAMETERS: [Row; 9] = [
     ("0 P , 2 Q BIT INIT ( '1'B ) ;", "A3 -"),
     ("0 S , 1 P BIT INIT ( '1'B ) ;", "A4 A3"),
 ];
-
-#[test]
-fn parameters(rt: HostRuntime) -> Result<(), Fail> {
-    check(&rt, rt.alloc(), &["P", "Q"], &PARAMETERS)
-}
 
 /// First values in arrays of structures.
 static ELEMENTS: [Row; 7] = [
@@ -230,11 +271,6 @@ static ELEMENTS: [Row; 7] = [
     ),
 ];
 
-#[test]
-fn values_and_elements(rt: HostRuntime) -> Result<(), Fail> {
-    check(&rt, rt.alloc(), &[], &ELEMENTS)
-}
-
 /// What BASED and OFFSET may name.
 static LOCATORS: [Row; 7] = [
     ("P PTR , O OFFSET ( A ) , A AREA , X BIT ;", "-L -L -A -"),
@@ -247,11 +283,6 @@ static LOCATORS: [Row; 7] = [
     ("P PTR BASED ( Q ) ;", "-"),
     ("1 S BASED ( Q ) , 2 P PTR ;", "- -"),
 ];
-
-#[test]
-fn locators_and_areas(rt: HostRuntime) -> Result<(), Fail> {
-    check(&rt, rt.alloc(), &[], &LOCATORS)
-}
 
 /// Variables up to 1,000,000 bytes and over.
 static SIZES: [Row; 5] = [
@@ -270,24 +301,51 @@ static SIZES: [Row; 5] = [
 ];
 
 #[test]
-fn sizes(rt: HostRuntime) -> Result<(), Fail> {
-    check(&rt, rt.alloc(), &[], &SIZES)
+fn structures_and_elements(rt: HostRuntime) -> Result<(), Fail> {
+    are_judged(rt.alloc(), &[], &STRUCTURES)?;
+    are_judged(rt.alloc(), &[], &ELEMENTS)?;
+    are_judged(rt.alloc(), &[], &SIZES)
+}
+
+#[test]
+fn parameters_locators_and_areas(rt: HostRuntime) -> Result<(), Fail> {
+    are_judged(rt.alloc(), &["P", "Q"], &PARAMETERS)?;
+    are_judged(rt.alloc(), &[], &LOCATORS)
+}
+
+/// What is known of a label.
+fn told_of_label(alloc: Global, label: Identifier) -> Result<String, AllocError> {
+    let mut entries = Vec::new(alloc);
+    add(&mut entries, label, None, Entity::Label { region: 0 })?;
+    let mut shown = Shown::new(alloc);
+    put_judged(&mut shown, alloc, &entries, &[])?;
+    shown.into_text()
+}
+
+/// The name that a text is, at the first token.
+fn identifier(text: &str) -> Option<Identifier> {
+    Some(Identifier {
+        name: Name::read(text.as_bytes())?,
+        at: 0,
+    })
 }
 
 #[test]
 fn labels_are_no_locators(rt: HostRuntime) -> Result<(), Fail> {
-    let entries = labelled(rt.alloc(), name("L")?)?;
+    let label = identifier("L").ok_or("a name")?;
     // its code means nothing
-    assert_eq!(rt; shown(rt.alloc(), &entries, &[])?.as_str(), "A4");
-    Ok(())
+    agree("L", &told_of_label(rt.alloc(), label)?, "A4")
+}
+
+/// Whether a word is the name of a built-in function; nothing where it is no name.
+fn names_function(word: &str) -> Option<bool> {
+    Some(is_built_in(Name::read(word.as_bytes())?))
 }
 
 #[test]
-fn built_in_names(rt: HostRuntime) -> Result<(), Fail> {
-    for (text, want) in [("ABS", true), ("SUBSTR", true), ("SUM", false)] {
-        assert_eq!(rt; is_built_in(name(text)?), want, "{text}");
-    }
-    Ok(())
+fn built_in_names(rt: HostRuntime) {
+    assert!(rt; names_function("ABS") == Some(true) && names_function("SUBSTR") == Some(true));
+    assert!(rt; names_function("SUM") == Some(false));
 }
 
 /// Whether no RETURNS among options has a fault.
@@ -344,92 +402,77 @@ fn are_good(alloc: Global, entries: &[Entry], parameters: &[Name]) -> Result<boo
 }
 
 /// How many bytes a description takes, `-` without one.
-fn show_size(shown: &mut String, description: &Option<Description>) -> Result<(), Fail> {
-    let Some(described) = description else {
-        shown.push_str(" -")?;
-        return Ok(());
-    };
-    let bytes = size(described).unwrap_or(0);
-    write!(shown, " {bytes}")?;
-    Ok(())
+fn show_size(shown: &mut Shown, description: &Option<Description>) {
+    match description {
+        Some(described) => shown.put_number(" ", u64::from(size(described).unwrap_or(0))),
+        None => shown.put(" -"),
+    }
 }
 
 /// What an item is, with the size of an element of it.
-fn show_completed(shown: &mut String, completed: &Completed) -> Result<(), Fail> {
+fn show_completed(shown: &mut Shown, completed: &Completed) {
     match completed {
         Completed::Variable(variable) => show_size(shown, &variable.description),
         Completed::Entry {
             parameters: _,
             result,
         } => {
-            shown.push_str(" entry")?;
+            shown.put(" entry");
             show_size(shown, result)
         }
-        Completed::BuiltIn => {
-            shown.push_str(" built-in")?;
-            Ok(())
-        }
+        Completed::BuiltIn => shown.put(" built-in"),
     }
 }
 
-/// A declared name: what it is a member of, and what it is; of an item the size of an element and that of the whole variable.
-fn show_declaration(shown: &mut String, declaration: &Declaration) -> Result<(), Fail> {
-    let name = declaration.identifier.name;
-    write!(shown, "{name:?}")?;
-    if let Some(owner) = declaration.owner {
-        write!(shown, "<{owner}")?;
-    }
-    match &declaration.kind {
+/// What a name is; of an item the size of an element and that of the whole variable.
+fn show_declared(shown: &mut Shown, kind: &Kind) {
+    match kind {
         Kind::Item {
             completed,
             description,
         } => {
-            show_completed(shown, completed)?;
-            show_size(shown, description)?;
+            show_completed(shown, completed);
+            show_size(shown, description)
         }
-        Kind::Label { region } => write!(shown, " label in {region}")?,
+        Kind::Label { region } => shown.put_number(" label in ", *region as u64),
         Kind::Procedure { returned, region } => {
-            show_size(shown, returned)?;
-            write!(shown, " procedure of {region}")?;
+            show_size(shown, returned);
+            shown.put_number(" procedure of ", *region as u64)
         }
     }
-    shown.push_str(";")?;
+}
+
+/// A declared name: what it is a member of, and what it is.
+fn show_declaration(shown: &mut Shown, declaration: &Declaration) {
+    shown.put_bytes(declaration.identifier.name.bytes());
+    if let Some(owner) = declaration.owner {
+        shown.put_number("<", owner as u64);
+    }
+    show_declared(shown, &declaration.kind);
+    shown.put(";");
+}
+
+/// Puts what each name of a block is declared as.
+fn put_declarations(shown: &mut Shown, alloc: Global, entries: &[Entry]) -> Result<(), AllocError> {
+    let names = Vec::new(alloc);
+    if !are_behind_owners(entries) || !are_good(alloc, entries, &names)? {
+        shown.put("a fault");
+        return Ok(());
+    }
+    let declarations = declare(alloc, entries, &names)?;
+    for declaration in declarations.iter() {
+        show_declaration(shown, declaration);
+    }
     Ok(())
 }
 
-/// What each name of a block is declared as.
-fn show_declarations(alloc: Global, entries: &[Entry]) -> Result<String, Fail> {
-    if !are_behind_owners(entries) {
-        return Err("an owner before its member".into());
-    }
-    let names = Vec::new(alloc);
-    if !are_good(alloc, entries, &names)? {
-        return Err("a fault".into());
-    }
-    let mut shown = String::new(alloc);
-    for declaration in declare(alloc, entries, &names)?.iter() {
-        show_declaration(&mut shown, declaration)?;
-    }
-    Ok(shown)
-}
-
-/// A name at the first token.
-fn identifier(text: &str) -> Result<Identifier, Fail> {
-    Ok(Identifier {
-        name: name(text)?,
-        at: 0,
-    })
-}
-
-/// A procedure that returns a pointer.
-fn pointer_procedure(alloc: Global, identifier: Identifier) -> Result<Procedure, Fail> {
-    let attribute = DescribedAttribute::Simple(SimpleAttribute::Pointer);
-    let mut attributes = Vec::new(alloc);
-    attributes.push(attribute)?;
-    let mut options = Vec::new(alloc);
-    options.push(ProcedureOption::Returns(attributes))?;
+/// A procedure of this name that returns a pointer.
+fn pointer_procedure(alloc: Global, name: Identifier) -> Result<Procedure, AllocError> {
+    let pointer = DescribedAttribute::Simple(SimpleAttribute::Pointer);
+    let returns = ProcedureOption::Returns(vec![in alloc; pointer]?);
+    let options = vec![in alloc; returns]?;
     Ok(Procedure {
-        name: identifier,
+        name,
         number: 1,
         parameters: Vec::new(alloc),
         options,
@@ -438,35 +481,50 @@ fn pointer_procedure(alloc: Global, identifier: Identifier) -> Result<Procedure,
     })
 }
 
+/// What the names of items are declared as, with a label and a procedure behind them.
+fn declared_beside(
+    alloc: Global,
+    items: &[Item],
+    label: Identifier,
+    procedure: &Procedure,
+) -> Result<String, AllocError> {
+    let mut entries = entries_of(alloc, items)?;
+    add(&mut entries, label, None, Entity::Label { region: 7 })?;
+    let entered = Entity::Procedure {
+        procedure,
+        region: 9,
+    };
+    add(&mut entries, procedure.name, None, entered)?;
+    let mut shown = Shown::new(alloc);
+    put_declarations(&mut shown, alloc, &entries)?;
+    shown.into_text()
+}
+
+/// The same of a procedure that returns a pointer.
+fn declared_beside_pointer(
+    alloc: Global,
+    text: &str,
+    label: Identifier,
+    name: Identifier,
+) -> Result<String, AllocError> {
+    let items = items_of(alloc, text)?;
+    let procedure = pointer_procedure(alloc, name)?;
+    declared_beside(alloc, &items, label, &procedure)
+}
+
+/// Items, with what they are declared as, and a label and a procedure behind them.
+static DECLARED: (&str, &str) = (
+    "1 S , 2 X ( 3 ) FIXED BIN , 2 Y CHAR ( 4 ) , ABS BUILTIN ;",
+    "S - 10;X<0 2 -;Y<0 4 -;ABS built-in -;L label in 7;P 8 procedure of 9;",
+);
+
 #[test]
 fn declarations(rt: HostRuntime) -> Result<(), Fail> {
-    let items = items_of(
-        rt.alloc(),
-        "1 S , 2 X ( 3 ) FIXED BIN , 2 Y CHAR ( 4 ) , ABS BUILTIN ;",
-    )?;
-    let label = identifier("L")?;
-    let name = identifier("P")?;
-    let procedure = pointer_procedure(rt.alloc(), name)?;
-    let mut entries = entries_of(rt.alloc(), &items)?;
-    let labelled = Entry {
-        identifier: label,
-        owner: None,
-        entity: Entity::Label { region: 7 },
-    };
-    let entered = Entry {
-        identifier: name,
-        owner: None,
-        entity: Entity::Procedure {
-            procedure: &procedure,
-            region: 9,
-        },
-    };
-    if entries.push(labelled).is_err() || entries.push(entered).is_err() {
-        return Err("no memory".into());
-    }
-    assert_eq!(rt;
-        show_declarations(rt.alloc(), &entries)?.as_str(),
-        "S - 10;X<0 2 -;Y<0 4 -;ABS built-in -;L label in 7;P 8 procedure of 9;"
-    );
-    Ok(())
+    let (label, name) = (identifier("L").ok_or("L")?, identifier("P").ok_or("P")?);
+    let (text, wanted) = DECLARED;
+    agree(
+        text,
+        &declared_beside_pointer(rt.alloc(), text, label, name)?,
+        wanted,
+    )
 }

@@ -1,4 +1,4 @@
-use Go::{E1, E2, E3, M};
+use Go::{E, M};
 use Word::{Ar, Bi, Ch, Di, Fb, Of, Pt, St, Va};
 use pli_map::{
     Bounds, Description, Layout, PathStep, PlacedPart, alignment, areas_are_rounded,
@@ -8,7 +8,6 @@ use pli_map::{
     same_is_equal, scalars_lie_within, size, stored_is_loaded, worked_examples,
 };
 use std::alloc::{AllocError, Global};
-use std::process::Abort;
 use std::test::*;
 
 /// A word of a declaration, which is written from the inside out: `Di` makes an array of what stands before it, and `St(n)` a
@@ -26,13 +25,11 @@ enum Word {
     St(usize),
 }
 
-/// A step of a path: to a member, or to an element at one, two or three subscripts.
+/// A step of a path: to a member, or to an element at subscripts.
 #[derive(Clone, Copy)]
 enum Go {
     M(usize),
-    E1(i32),
-    E2(i32, i32),
-    E3(i32, i32, i32),
+    E(&'static [i32]),
 }
 
 type Declaration = &'static [Word];
@@ -43,22 +40,21 @@ type Placed = (&'static [Go], u32);
 /// A declaration, its size, its alignment, and the offset of each part.
 type Row = (Declaration, Option<u32>, u32, &'static [Placed]);
 
+fn dimensions_of(alloc: Global, bounds: &[(i16, i16)]) -> Result<Vec<Bounds>, AllocError> {
+    let mut dimensions = Vec::new(alloc);
+    for &(low, high) in bounds {
+        dimensions.push(Bounds { low, high })?;
+    }
+    Ok(dimensions)
+}
+
 fn array(
     alloc: Global,
-    bounds: &[(i16, i16)],
+    bounds: Vec<Bounds>,
     element: Description,
 ) -> Result<Description, AllocError> {
-    let mut dimensions = Vec::new(alloc);
-    for (low, high) in bounds {
-        dimensions.push(Bounds {
-            low: *low,
-            high: *high,
-        })?;
-    }
-    Ok(Description::Array {
-        bounds: dimensions,
-        element: Box::new(alloc, element)?,
-    })
+    let element = Box::new(alloc, element)?;
+    Ok(Description::Array { bounds, element })
 }
 
 fn structure(
@@ -87,7 +83,10 @@ fn described(alloc: Global, declaration: &[Word]) -> Result<Description, AllocEr
             Pt => Description::Pointer,
             Of => Description::Offset,
             Ar(bytes) => Description::Area(*bytes),
-            Di(bounds) => array(alloc, bounds, last.pop().unwrap_or(Description::Pointer))?,
+            Di(bounds) => {
+                let bounds = dimensions_of(alloc, bounds)?;
+                array(alloc, bounds, last.pop().unwrap_or(Description::Pointer))?
+            }
             St(count) => structure(alloc, &mut last, *count)?,
         };
         last.push(description)?;
@@ -100,9 +99,7 @@ fn path(alloc: Global, steps: &[Go]) -> Result<Vec<PathStep>, AllocError> {
     for go in steps {
         path.push(match *go {
             M(number) => PathStep::Member(number),
-            E1(x) => PathStep::Element(vec![in alloc; x]?),
-            E2(x, y) => PathStep::Element(vec![in alloc; x, y]?),
-            E3(x, y, z) => PathStep::Element(vec![in alloc; x, y, z]?),
+            E(subscripts) => PathStep::Element(Vec::from_slice(alloc, subscripts)?),
         })?;
     }
     Ok(path)
@@ -119,32 +116,34 @@ fn offset_of(
     steps: &[Go],
 ) -> Result<Option<u32>, AllocError> {
     let path = path(alloc, steps)?;
-    Ok(placed(description, &path).map(|part| part.offset))
+    match placed(description, &path) {
+        Some(part) => Ok(Some(part.offset)),
+        None => Ok(None),
+    }
 }
 
-fn check_parts(
-    rt: &impl Abort,
+/// Fails with the number of a row, unless a description has the size, the alignment and the parts of that row.
+fn lies_so(
     alloc: Global,
-    row: usize,
+    number: usize,
     description: &Description,
-    parts: &[Placed],
-) -> Result<(), AllocError> {
-    for (steps, offset) in parts {
-        let found = offset_of(alloc, description, steps)?;
-        assert_eq!(rt; found, Some(*offset), "a part at {offset} of row {row}");
+    (_, bytes, aligned, parts): &Row,
+) -> Result<(), Fail> {
+    if size(description) != *bytes || alignment(description) != *aligned {
+        return Err(number.into());
+    }
+    for (steps, offset) in *parts {
+        if offset_of(alloc, description, steps)? != Some(*offset) {
+            return Err((number, *offset).into());
+        }
     }
     Ok(())
 }
 
-fn check(rt: &impl Abort, alloc: Global, rows: &[Row]) -> Result<(), AllocError> {
-    for (number, (declaration, bytes, aligned, parts)) in rows.iter().enumerate() {
-        let description = described(alloc, declaration)?;
-        assert_eq!(rt;
-            (size(&description), alignment(&description)),
-            (*bytes, *aligned),
-            "row {number}"
-        );
-        check_parts(rt, alloc, number, &description, parts)?;
+/// Fails with the number of the first row that is wrong, and the offset of a part that does not stand there.
+fn lie_so(alloc: Global, rows: &[Row]) -> Result<(), Fail> {
+    for (number, row) in rows.iter().enumerate() {
+        lies_so(alloc, number, &described(alloc, row.0)?, row)?;
     }
     Ok(())
 }
@@ -175,19 +174,15 @@ static SCALARS: [Row; 23] = [
     (&[Ar(4294967295)], None, 8, &[]),
 ];
 
-#[test]
-fn scalars(rt: HostRuntime) -> Result<(), Fail> {
-    check(&rt, rt.alloc(), &SCALARS)?;
-    Ok(())
-}
-
 /// Digits of numbers on both sides of 15 and 31, with the bytes that they take.
 static DIGITS: [(u32, u32); 6] = [(1, 2), (15, 2), (16, 4), (31, 4), (32, 8), (63, 8)];
 
 #[test]
-fn numbers(rt: HostRuntime) -> Result<(), Fail> {
-    for (digits, bytes) in &DIGITS {
-        assert_eq!(rt; fixed_binary_size(*digits), *bytes);
+fn numbers() -> Result<(), Fail> {
+    for &(digits, bytes) in &DIGITS {
+        if fixed_binary_size(digits) != bytes {
+            return Err(digits.into());
+        }
     }
     Ok(())
 }
@@ -197,38 +192,38 @@ static ARRAYS: [Row; 15] = [
         &[Fb(15), Di(&[(1, 3)])],
         Some(6),
         2,
-        &[(&[E1(1)], 0), (&[E1(2)], 2), (&[E1(3)], 4)],
+        &[(&[E(&[1])], 0), (&[E(&[2])], 2), (&[E(&[3])], 4)],
     ),
     (
         &[Ch(3), Di(&[(0, 2)])],
         Some(9),
         1,
-        &[(&[E1(0)], 0), (&[E1(1)], 3), (&[E1(2)], 6)],
+        &[(&[E(&[0])], 0), (&[E(&[1])], 3), (&[E(&[2])], 6)],
     ),
     (
         &[Va(2), Di(&[(-1, 1)])],
         Some(12),
         2,
-        &[(&[E1(-1)], 0), (&[E1(0)], 4), (&[E1(1)], 8)],
+        &[(&[E(&[-1])], 0), (&[E(&[0])], 4), (&[E(&[1])], 8)],
     ),
     // an element of 5 bytes every 6
     (
         &[Va(3), Di(&[(1, 3)])],
         Some(18),
         2,
-        &[(&[E1(1)], 0), (&[E1(2)], 6), (&[E1(3)], 12)],
+        &[(&[E(&[1])], 0), (&[E(&[2])], 6), (&[E(&[3])], 12)],
     ),
     (
         &[Fb(31), Di(&[(1, 2), (1, 3)])],
         Some(24),
         4,
         &[
-            (&[E2(1, 1)], 0),
-            (&[E2(1, 2)], 4),
-            (&[E2(1, 3)], 8),
-            (&[E2(2, 1)], 12),
-            (&[E2(2, 2)], 16),
-            (&[E2(2, 3)], 20),
+            (&[E(&[1, 1])], 0),
+            (&[E(&[1, 2])], 4),
+            (&[E(&[1, 3])], 8),
+            (&[E(&[2, 1])], 12),
+            (&[E(&[2, 2])], 16),
+            (&[E(&[2, 3])], 20),
         ],
     ),
     (
@@ -236,20 +231,20 @@ static ARRAYS: [Row; 15] = [
         Some(24),
         1,
         &[
-            (&[E3(0, -2, 5)], 0),
-            (&[E3(0, -2, 6)], 2),
-            (&[E3(0, -1, 5)], 4),
-            (&[E3(1, -2, 5)], 12),
-            (&[E3(1, 0, 6)], 22),
+            (&[E(&[0, -2, 5])], 0),
+            (&[E(&[0, -2, 6])], 2),
+            (&[E(&[0, -1, 5])], 4),
+            (&[E(&[1, -2, 5])], 12),
+            (&[E(&[1, 0, 6])], 22),
         ],
     ),
-    (&[Pt, Di(&[(1, 10)])], Some(80), 4, &[(&[E1(10)], 72)]),
-    (&[Ar(10), Di(&[(1, 2)])], Some(32), 8, &[(&[E1(2)], 16)]),
+    (&[Pt, Di(&[(1, 10)])], Some(80), 4, &[(&[E(&[10])], 72)]),
+    (&[Ar(10), Di(&[(1, 2)])], Some(32), 8, &[(&[E(&[2])], 16)]),
     (
         &[Ch(5), Di(&[(1, 3)]), Di(&[(1, 2)])],
         Some(30),
         1,
-        &[(&[E1(2), E1(3)], 25)],
+        &[(&[E(&[2]), E(&[3])], 25)],
     ),
     // no subscript lies between 2 and 1
     (&[Ch(4), Di(&[(1, 3), (2, 1)])], Some(0), 1, &[]),
@@ -257,7 +252,7 @@ static ARRAYS: [Row; 15] = [
         &[Fb(15), Di(&[(1, 1000), (1, 500)])],
         Some(1000000),
         2,
-        &[(&[E2(1000, 500)], 999998)],
+        &[(&[E(&[1000, 500])], 999998)],
     ),
     (&[Fb(15), Di(&[(1, 1000), (1, 501)])], None, 2, &[]),
     (&[Fb(15), Di(&[(1, 1000), (1, 1000)])], None, 2, &[]),
@@ -283,12 +278,6 @@ static ARRAYS: [Row; 15] = [
     // a size is not counted where there is no element
     (&[Ar(4294967295), Di(&[(1, 0)])], Some(0), 8, &[]),
 ];
-
-#[test]
-fn arrays(rt: HostRuntime) -> Result<(), Fail> {
-    check(&rt, rt.alloc(), &ARRAYS)?;
-    Ok(())
-}
 
 static STRUCTURES: [Row; 14] = [
     (
@@ -385,10 +374,10 @@ static STRUCTURES: [Row; 14] = [
         Some(24),
         4,
         &[
-            (&[E1(2)], 8),
-            (&[E1(2), M(1)], 12),
-            (&[E1(3), M(0)], 16),
-            (&[E1(3), M(1)], 20),
+            (&[E(&[2])], 8),
+            (&[E(&[2]), M(1)], 12),
+            (&[E(&[3]), M(0)], 16),
+            (&[E(&[3]), M(1)], 20),
         ],
     ),
     (
@@ -397,8 +386,8 @@ static STRUCTURES: [Row; 14] = [
         4,
         &[
             (&[M(1)], 4),
-            (&[M(1), E1(1)], 4),
-            (&[M(1), E1(2)], 8),
+            (&[M(1), E(&[1])], 4),
+            (&[M(1), E(&[2])], 8),
             (&[M(2)], 12),
         ],
     ),
@@ -407,11 +396,11 @@ static STRUCTURES: [Row; 14] = [
         Some(52),
         2,
         &[
-            (&[E1(0), M(1), E2(1, 1)], 2),
-            (&[E1(0), M(1), E2(2, 2)], 20),
-            (&[E1(1)], 26),
-            (&[E1(1), M(0)], 26),
-            (&[E1(1), M(1), E2(2, 1)], 40),
+            (&[E(&[0]), M(1), E(&[1, 1])], 2),
+            (&[E(&[0]), M(1), E(&[2, 2])], 20),
+            (&[E(&[1])], 26),
+            (&[E(&[1]), M(0)], 26),
+            (&[E(&[1]), M(1), E(&[2, 1])], 40),
         ],
     ),
     (
@@ -430,35 +419,58 @@ static STRUCTURES: [Row; 14] = [
 ];
 
 #[test]
-fn structures(rt: HostRuntime) -> Result<(), Fail> {
-    check(&rt, rt.alloc(), &STRUCTURES)?;
-    Ok(())
+fn scalars_arrays_and_structures(rt: HostRuntime) -> Result<(), Fail> {
+    lie_so(rt.alloc(), &SCALARS)?;
+    lie_so(rt.alloc(), &ARRAYS)?;
+    lie_so(rt.alloc(), &STRUCTURES)
 }
 
 /// Paths that lead to no part.
 static WRONG: [&[Go]; 9] = [
-    &[E1(1)],
-    &[E3(1, 0, 0)],
-    &[E2(0, 0)],
-    &[E2(4, 0)],
-    &[E2(1, -1)],
-    &[E2(1, 2)],
+    &[E(&[1])],
+    &[E(&[1, 0, 0])],
+    &[E(&[0, 0])],
+    &[E(&[4, 0])],
+    &[E(&[1, -1])],
+    &[E(&[1, 2])],
     &[M(0)],
-    &[E2(1, 0), M(1)],
-    &[E2(1, 0), M(0), M(0)],
+    &[E(&[1, 0]), M(1)],
+    &[E(&[1, 0]), M(0), M(0)],
 ];
+
+/// An array of structures that BIT(9) stands in.
+static NINE_BITS: [Word; 3] = [Bi(9), St(1), Di(&[(1, 3), (0, 1)])];
+
+/// Whether a path leads to a part of a description that is BIT(9).
+fn leads_to_nine_bits(
+    alloc: Global,
+    description: &Description,
+    steps: &[Go],
+) -> Result<bool, AllocError> {
+    let path = path(alloc, steps)?;
+    match placed(description, &path) {
+        Some(part) => Ok(part.description.equals(&Description::Bit(9))),
+        None => Ok(false),
+    }
+}
+
+/// Fails unless a path of a description leads to BIT(9), and those wrong paths lead nowhere.
+fn has_no_other_parts(alloc: Global, description: &Description) -> Result<(), Fail> {
+    if !leads_to_nine_bits(alloc, description, &[E(&[3, 1]), M(0)])? {
+        return Err("nine bits".into());
+    }
+    for (number, steps) in WRONG.iter().enumerate() {
+        if offset_of(alloc, description, steps)?.is_some() {
+            return Err(number.into());
+        }
+    }
+    Ok(())
+}
 
 #[test]
 fn no_parts(rt: HostRuntime) -> Result<(), Fail> {
-    let alloc = rt.alloc();
-    let table = described(alloc, &[Bi(9), St(1), Di(&[(1, 3), (0, 1)])])?;
-    for steps in &WRONG {
-        assert_eq!(rt; offset_of(alloc, &table, steps)?, None);
-    }
-    let right = path(alloc, &[E2(3, 1), M(0)])?;
-    let found = placed(&table, &right).map(|part| part.description.equals(&Description::Bit(9)));
-    assert_eq!(rt; found, Some(true));
-    Ok(())
+    let table = described(rt.alloc(), &NINE_BITS)?;
+    has_no_other_parts(rt.alloc(), &table)
 }
 
 /// Descriptions of which none equals another.
@@ -477,9 +489,14 @@ static UNEQUAL: [&[Word]; 12] = [
     &[Bi(1), Pt, Di(&[(1, 3), (1, 1)]), St(2)],
 ];
 
+/// A copy of a declaration's description.
+fn copied(alloc: Global, declaration: &[Word]) -> Result<Description, AllocError> {
+    described(alloc, declaration)?.copy(alloc)
+}
+
 /// Whether two declarations are equal, the first by a copy, in both ways of asking.
 fn are_equal(alloc: Global, left: &[Word], right: &[Word]) -> Result<(bool, bool), AllocError> {
-    let copy = described(alloc, left)?.copy(alloc)?;
+    let copy = copied(alloc, left)?;
     let other = described(alloc, right)?;
     Ok((copy.equals(&other), copy == other))
 }
@@ -488,47 +505,58 @@ fn are_equal(alloc: Global, left: &[Word], right: &[Word]) -> Result<(bool, bool
 fn equality(rt: HostRuntime) -> Result<(), Fail> {
     for (i, left) in UNEQUAL.iter().enumerate() {
         for (j, right) in UNEQUAL.iter().enumerate() {
-            let equal = are_equal(rt.alloc(), left, right)?;
-            assert_eq!(rt; equal, (i == j, i == j), "{i} and {j}");
+            if are_equal(rt.alloc(), left, right)? != (i == j, i == j) {
+                return Err((i, j).into());
+            }
         }
     }
     Ok(())
 }
 
+/// Whether areas of these bytes have equal descriptions.
+fn areas_are_equal(left: u32, right: u32) -> bool {
+    Description::Area(left) == Description::Area(right)
+}
+
 #[test]
 fn equality_of_areas(rt: HostRuntime) {
-    assert!(rt; Description::Area(9) == Description::Area(16));
-    assert!(rt; Description::Area(9) != Description::Area(17));
-    assert!(rt; Description::Area(u32::MAX) == Description::Area(u32::MAX - 6));
+    assert!(rt; areas_are_equal(9, 16) && !areas_are_equal(9, 17));
+    assert!(rt; areas_are_equal(u32::MAX, u32::MAX - 6));
+}
+
+/// A halfword, and behind it a layout.
+fn behind_halfword(layout: Layout) -> Option<Layout> {
+    Layout::empty().and(Layout::of(2, 2)?)?.and(layout)
+}
+
+/// FIXED BINARY(31) and FIXED BINARY(15).
+static PAIR: [Word; 3] = [Fb(31), Fb(15), St(2)];
+
+/// Whether the layout of such a pair, of three and of one behind a halfword is right; none of them has no layout.
+fn is_laid_out(pair: &Description) -> Option<bool> {
+    let layout = measure(pair)?;
+    let three = layout.times(3)?;
+    let both = behind_halfword(layout)?;
+    Some(
+        (layout.bytes, layout.alignment, layout.stride()) == (6, 4, 8)
+            && (three.bytes, three.alignment) == (24, 4)
+            && (both.bytes, both.alignment) == (10, 4)
+            && layout.times(125_001).is_none(),
+    )
 }
 
 #[test]
 fn layouts(rt: HostRuntime) -> Result<(), Fail> {
-    let pair = described(rt.alloc(), &[Fb(31), Fb(15), St(2)])?;
-    let layout = measure(&pair).ok_or("a layout")?;
-    assert_eq!(rt;
-        (layout.bytes, layout.alignment, layout.stride()),
-        (6, 4, 8)
-    );
-    let three = layout.times(3).ok_or("a layout")?;
-    assert_eq!(rt; (three.bytes, three.alignment), (24, 4));
-    assert!(rt; layout.times(125_001).is_none());
-    let halfword = Layout::of(2, 2).ok_or("a layout")?;
-    let both = Layout::empty()
-        .and(halfword)
-        .and_then(|front| front.and(layout))
-        .ok_or("a layout")?;
-    assert_eq!(rt; (both.bytes, both.alignment), (10, 4));
+    let pair = described(rt.alloc(), &PAIR)?;
+    assert!(rt; is_laid_out(&pair) == Some(true));
     Ok(())
 }
 
 #[test]
 fn dimensions(rt: HostRuntime) {
     let dimension = Bounds { low: -2, high: 7 };
-    assert_eq!(rt; dimension.extent(), 10);
-    assert_eq!(rt; dimension.distance_to(7), Some(9));
-    assert_eq!(rt; dimension.distance_to(8), None);
-    assert_eq!(rt; dimension.distance_to(-3), None);
+    assert!(rt; dimension.extent() == 10 && dimension.distance_to(7) == Some(9));
+    assert!(rt; dimension.distance_to(8).is_none() && dimension.distance_to(-3).is_none());
 }
 
 #[test]

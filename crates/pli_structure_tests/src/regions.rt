@@ -46,11 +46,12 @@ static INNERMOST: [(usize, Option<usize>); 11] = [
     (10, None),
 ];
 
-#[test]
-fn innermost_blocks(rt: HostRuntime) -> Result<(), Fail> {
-    let nesting = nesting(rt.alloc(), &REGIONS)?;
-    for (region, block) in &INNERMOST {
-        assert_eq!(rt; nesting.innermost(*region), *block, "at {region}");
+/// Fails at the first region that stands in another block.
+fn stand_in_their_blocks(nesting: &Nesting) -> Result<(), Fail> {
+    for &(region, block) in &INNERMOST {
+        if nesting.innermost(region) != block {
+            return Err(region.into());
+        }
     }
     Ok(())
 }
@@ -65,31 +66,39 @@ static OUTWARDS: [(usize, Option<usize>); 6] = [
     (9, Some(0)),
 ];
 
-#[test]
-fn blocks_outwards(rt: HostRuntime) -> Result<(), Fail> {
-    let nesting = nesting(rt.alloc(), &REGIONS)?;
-    for (region, next) in &OUTWARDS {
-        let block = nesting.innermost(*region).ok_or("a block")?;
-        assert_eq!(rt; nesting.outward(block), *next, "at {region}");
+/// Fails at the first region whose block has another one outside it, or that has none.
+fn have_blocks_outwards(nesting: &Nesting) -> Result<(), Fail> {
+    for &(region, next) in &OUTWARDS {
+        let Some(block) = nesting.innermost(region) else {
+            return Err(region.into());
+        };
+        if nesting.outward(block) != next {
+            return Err(region.into());
+        }
     }
     Ok(())
 }
 
+/// Regions of which one stands in one that is not there, and one in itself.
+static IN_NONE: [Row; 3] = [
+    (RegionKind::Group, None),
+    (RegionKind::Begin, Some(2)),
+    (RegionKind::Group, Some(2)),
+];
+
+/// Whether only the second of those regions stands in a block, and a label is reached from its own region alone.
+fn stand_in_none(nesting: &Nesting) -> bool {
+    nesting.innermost(0).is_none()
+        && nesting.innermost(1) == Some(1)
+        && nesting.innermost(2).is_none()
+        && nesting.reaches(2, 2)
+        && !nesting.reaches(1, 2)
+}
+
 #[test]
 fn regions_in_none(rt: HostRuntime) -> Result<(), Fail> {
-    let nesting = nesting(
-        rt.alloc(),
-        &[
-            (RegionKind::Group, None),
-            (RegionKind::Begin, Some(2)),
-            (RegionKind::Group, Some(2)),
-        ],
-    )?;
-    assert_eq!(rt; nesting.innermost(0), None);
-    assert_eq!(rt; nesting.innermost(1), Some(1));
-    assert_eq!(rt; nesting.innermost(2), None);
-    assert!(rt; nesting.reaches(2, 2));
-    assert!(rt; !nesting.reaches(1, 2));
+    let nesting = nesting(rt.alloc(), &IN_NONE)?;
+    assert!(rt; stand_in_none(&nesting));
     Ok(())
 }
 
@@ -116,15 +125,20 @@ static REACHED: [(usize, usize, bool); 19] = [
     (10, 10, false),
 ];
 
-#[test]
-fn labels_reached(rt: HostRuntime) -> Result<(), Fail> {
-    let nesting = nesting(rt.alloc(), &REGIONS)?;
-    for (from, label, reached) in &REACHED {
-        assert_eq!(rt;
-            nesting.reaches(*from, *label),
-            *reached,
-            "from {from} to {label}"
-        );
+/// Fails at the first region from which a label is reached that should not be, or not one that should.
+fn are_reached(nesting: &Nesting) -> Result<(), Fail> {
+    for &(from, label, reached) in &REACHED {
+        if nesting.reaches(from, label) != reached {
+            return Err((from, label).into());
+        }
     }
     Ok(())
+}
+
+#[test]
+fn regions_of_a_unit(rt: HostRuntime) -> Result<(), Fail> {
+    let nesting = nesting(rt.alloc(), &REGIONS)?;
+    stand_in_their_blocks(&nesting)?;
+    have_blocks_outwards(&nesting)?;
+    are_reached(&nesting)
 }

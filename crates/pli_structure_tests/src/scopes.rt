@@ -4,8 +4,7 @@ use pli_declare_scopes::{
     examples_of_levels, examples_of_references, examples_of_repeats, later_is_fault,
     meant_is_means, owners_are_nearest, standings, verdicts,
 };
-use std::alloc::{AllocError, Global};
-use std::process::Abort;
+use std::alloc::Global;
 use std::test::Fail;
 
 /// A declared item: its level, if one is written, and its name.
@@ -31,20 +30,29 @@ fn written(alloc: Global, rows: &[Row]) -> Result<Vec<Written>, Fail> {
     Ok(items)
 }
 
+/// Declares an item in a block, whose owner stands there already.
+fn declare(block: &mut Block, item: &Written, counts: bool) -> Result<(), Fail> {
+    if let Some(owner) = item.owner {
+        if owner >= block.len() {
+            return Err("an owner before its member".into());
+        }
+    }
+    block.declare(Declared {
+        name: item.name,
+        owner: item.owner,
+        counts,
+    })?;
+    Ok(())
+}
+
 /// The block that declares these items, those that count and those that do not.
 fn block(alloc: Global, rows: &[Row]) -> Result<Block, Fail> {
     let items = written(alloc, rows)?;
     let judged = verdicts(alloc, &items)?;
     let mut block = Block::new(alloc);
     for (number, item) in items.iter().enumerate() {
-        if item.owner.is_some_and(|owner| owner >= block.len()) {
-            return Err("an owner before its member".into());
-        }
-        block.declare(Declared {
-            name: item.name,
-            owner: item.owner,
-            counts: judged.get(number) == Some(&Verdict::Counts),
-        })?;
+        let counts = judged.get(number) == Some(&Verdict::Counts);
+        declare(&mut block, item, counts)?;
     }
     Ok(block)
 }
@@ -71,35 +79,36 @@ fn mean(alloc: Global, scope: &Scope, reference: &str) -> Result<Meant, Fail> {
     Ok(scope.look_up(&names))
 }
 
-/// Checks that each reference means the item of this number in the innermost block.
-fn check_here(
-    rt: &impl Abort,
-    alloc: Global,
-    scope: &Scope,
-    rows: &[(&str, usize)],
-) -> Result<(), Fail> {
-    for (reference, number) in rows {
-        let want = Meant::Item {
-            number: *number,
-            block: 0,
-        };
-        assert_eq!(rt; mean(alloc, scope, reference)?, want, "at {reference}");
+/// Fails with a reference, unless it means this.
+fn means(alloc: Global, scope: &Scope, reference: &str, want: Meant) -> Result<(), Fail> {
+    if mean(alloc, scope, reference)? == want {
+        return Ok(());
+    }
+    Err(reference.into())
+}
+
+/// Fails at the first reference that does not mean the item of its number in the innermost block.
+fn mean_here(alloc: Global, scope: &Scope, rows: &[(&str, usize)]) -> Result<(), Fail> {
+    for &(reference, number) in rows {
+        means(alloc, scope, reference, Meant::Item { number, block: 0 })?;
     }
     Ok(())
 }
 
-/// Checks that all references mean the same.
-fn check_all(
-    rt: &impl Abort,
-    alloc: Global,
-    scope: &Scope,
-    references: &[&str],
-    want: Meant,
-) -> Result<(), Fail> {
+/// Fails at the first reference that does not mean this.
+fn all_mean(alloc: Global, scope: &Scope, references: &[&str], want: Meant) -> Result<(), Fail> {
     for reference in references {
-        assert_eq!(rt; mean(alloc, scope, reference)?, want, "at {reference}");
+        means(alloc, scope, reference, want)?;
     }
     Ok(())
+}
+
+/// Fails unless no names at all mean nothing.
+fn mean_nothing(scope: &Scope) -> Result<(), Fail> {
+    if scope.look_up(&[]) == Meant::NotDeclared {
+        return Ok(());
+    }
+    Err("no names".into())
 }
 
 static ONE_TO_FIVE: [Row; 10] = [
@@ -132,20 +141,8 @@ static PARTLY_QUALIFIED: [(&str, usize); 13] = [
     ("W.X", 2),
 ];
 
-#[test]
-fn partly_qualified_names(rt: HostRuntime) -> Result<(), Fail> {
-    let scope = scope(rt.alloc(), &ONE_TO_FIVE)?;
-    check_here(&rt, rt.alloc(), &scope, &PARTLY_QUALIFIED)
-}
-
 /// References that more than one item fits as well.
 static TIED: [&str; 8] = ["Z", "X", "X.Z", "V.Z", "Q", "X.Q", "V.W.Q", "W.X.Q"];
-
-#[test]
-fn ties(rt: HostRuntime) -> Result<(), Fail> {
-    let scope = scope(rt.alloc(), &ONE_TO_FIVE)?;
-    check_all(&rt, rt.alloc(), &scope, &TIED, Meant::Ambiguous)
-}
 
 /// References that no item fits.
 static UNFIT: [&str; 10] = [
@@ -161,18 +158,18 @@ static UNFIT: [&str; 10] = [
     "X.W",
 ];
 
-#[test]
-fn names_that_fit_nothing(rt: HostRuntime) -> Result<(), Fail> {
-    let scope = scope(rt.alloc(), &ONE_TO_FIVE)?;
-    assert_eq!(rt; scope.look_up(&[]), Meant::NotDeclared);
-    check_all(&rt, rt.alloc(), &scope, &UNFIT, Meant::NotDeclared)
+/// Fails at the first of these references that means something else.
+fn mean_in_one_block(alloc: Global, scope: &Scope) -> Result<(), Fail> {
+    mean_here(alloc, scope, &PARTLY_QUALIFIED)?;
+    all_mean(alloc, scope, &TIED, Meant::Ambiguous)?;
+    all_mean(alloc, scope, &UNFIT, Meant::NotDeclared)?;
+    mean_nothing(scope)
 }
 
 #[test]
-fn names_in_no_block(rt: HostRuntime) -> Result<(), Fail> {
-    let scope = Scope::new(rt.alloc());
-    assert_eq!(rt; scope.look_up(&[]), Meant::NotDeclared);
-    check_all(&rt, rt.alloc(), &scope, &["V"], Meant::NotDeclared)
+fn names_of_one_block(rt: HostRuntime) -> Result<(), Fail> {
+    let scope = scope(rt.alloc(), &ONE_TO_FIVE)?;
+    mean_in_one_block(rt.alloc(), &scope)
 }
 
 /// Five nested blocks, from the outermost.
@@ -212,41 +209,34 @@ static WITHIN: [(usize, &str, Option<(usize, usize)>); 24] = [
     (4, "S.C", Some((1, 1))),
 ];
 
-/// Checks what references mean in the nested block of this number.
-fn check_within(rt: &impl Abort, alloc: Global, scope: &Scope, depth: usize) -> Result<(), Fail> {
-    for (within, reference, wanted) in &WITHIN {
-        if *within == depth {
-            let want = match *wanted {
+/// Fails at the first reference that does not mean in the nested block of this number what it should.
+fn mean_within(alloc: Global, scope: &Scope, depth: usize) -> Result<(), Fail> {
+    for &(within, reference, wanted) in &WITHIN {
+        if within == depth {
+            let want = match wanted {
                 Some((number, block)) => Meant::Item { number, block },
                 None => Meant::NotDeclared,
             };
-            assert_eq!(rt;
-                mean(alloc, scope, reference)?,
-                want,
-                "at {depth} {reference}"
-            );
+            means(alloc, scope, reference, want)?;
         }
     }
     Ok(())
 }
 
-#[test]
-fn five_nested_blocks(rt: HostRuntime) -> Result<(), Fail> {
-    let mut scope = Scope::new(rt.alloc());
-    for (depth, rows) in NESTED.iter().enumerate() {
-        scope.open_block(block(rt.alloc(), rows)?)?;
-        check_within(&rt, rt.alloc(), &scope, depth)?;
-    }
-    Ok(())
+/// Opens the nested block of this number, and fails at the first reference there that means something else.
+fn mean_in_next(alloc: Global, scope: &mut Scope, depth: usize, rows: &[Row]) -> Result<(), Fail> {
+    scope.open_block(block(alloc, rows)?)?;
+    mean_within(alloc, scope, depth)
 }
 
-/// The scope of all nested blocks.
-fn nested(alloc: Global) -> Result<Scope, Fail> {
-    let mut scope = Scope::new(alloc);
-    for rows in &NESTED {
-        scope.open_block(block(alloc, rows)?)?;
+/// Opens the nested blocks in a scope without one, and fails at the first reference in it or in them that means something else.
+fn mean_in_each(alloc: Global, scope: &mut Scope) -> Result<(), Fail> {
+    mean_nothing(scope)?;
+    means(alloc, scope, "V", Meant::NotDeclared)?;
+    for (depth, rows) in NESTED.iter().enumerate() {
+        mean_in_next(alloc, scope, depth, rows)?;
     }
-    Ok(scope)
+    Ok(())
 }
 
 /// How many items the innermost block has, which is closed.
@@ -257,21 +247,31 @@ fn closed(scope: &mut Scope) -> Option<usize> {
     }
 }
 
-#[test]
-fn blocks_are_closed(rt: HostRuntime) -> Result<(), Fail> {
-    let mut scope = nested(rt.alloc())?;
-    assert_eq!(rt; closed(&mut scope), Some(4));
+/// Closes the nested blocks, and fails unless A means what it should behind the first and behind the last.
+fn are_closed(alloc: Global, scope: &mut Scope) -> Result<(), Fail> {
     let outer = Meant::Item {
         number: 0,
         block: 2,
     };
-    assert_eq!(rt; mean(rt.alloc(), &scope, "A")?, outer);
-    for _ in 0..4 {
-        assert!(rt; closed(&mut scope).is_some());
+    for depth in 0..NESTED.len() {
+        if closed(scope) != Some(4) {
+            return Err(depth.into());
+        }
+        if depth == 0 {
+            means(alloc, scope, "A", outer)?;
+        }
     }
-    assert_eq!(rt; closed(&mut scope), None);
-    assert_eq!(rt; mean(rt.alloc(), &scope, "A")?, Meant::NotDeclared);
-    Ok(())
+    if closed(scope).is_some() {
+        return Err("one more block".into());
+    }
+    means(alloc, scope, "A", Meant::NotDeclared)
+}
+
+#[test]
+fn nested_blocks(rt: HostRuntime) -> Result<(), Fail> {
+    let mut scope = Scope::new(rt.alloc());
+    mean_in_each(rt.alloc(), &mut scope)?;
+    are_closed(rt.alloc(), &mut scope)
 }
 
 /// References in the block of five levels, and what each fits.
@@ -287,10 +287,15 @@ fn found(alloc: Global, block: &Block, reference: &str) -> Result<Found, Fail> {
     Ok(block.find(&names))
 }
 
-/// Checks what each of those references fits in a block.
-fn check_found(rt: &impl Abort, alloc: Global, block: &Block) -> Result<(), Fail> {
-    for (reference, want) in &FITTED {
-        assert_eq!(rt; found(alloc, block, reference)?, *want, "at {reference}");
+/// Fails unless a block declares Q and not A, and at the first reference that fits something else in it.
+fn fit(alloc: Global, block: &Block) -> Result<(), Fail> {
+    if !block.declares(name("Q")?) || block.declares(name("A")?) {
+        return Err("what it declares".into());
+    }
+    for &(reference, want) in &FITTED {
+        if found(alloc, block, reference)? != want {
+            return Err(reference.into());
+        }
     }
     Ok(())
 }
@@ -298,27 +303,16 @@ fn check_found(rt: &impl Abort, alloc: Global, block: &Block) -> Result<(), Fail
 #[test]
 fn blocks(rt: HostRuntime) -> Result<(), Fail> {
     let block = block(rt.alloc(), &ONE_TO_FIVE)?;
-    check_found(&rt, rt.alloc(), &block)
-}
-
-#[test]
-fn declared_names(rt: HostRuntime) -> Result<(), Fail> {
-    let block = block(rt.alloc(), &ONE_TO_FIVE)?;
-    assert!(rt; block.declares(name("Q")?));
-    assert!(rt; !block.declares(name("A")?));
-    Ok(())
+    fit(rt.alloc(), &block)
 }
 
 #[test]
 fn found_items(rt: HostRuntime) {
-    assert_eq!(rt; Found::Nothing.with_number(3), Found::One(3));
-    assert_eq!(rt;
-        Found::One(2).meant(4),
-        Meant::Item {
-            number: 2,
-            block: 4
-        }
-    );
+    let meant = Meant::Item {
+        number: 2,
+        block: 4,
+    };
+    assert!(rt; Found::Nothing.with_number(3) == Found::One(3) && Found::One(2).meant(4) == meant);
 }
 
 /// Levels, and how their items stand: the owner and whether the level is bad.
@@ -387,61 +381,73 @@ fn stand_so(stand: &[Standing], wanted: &[(Option<usize>, bool)]) -> bool {
 #[test]
 fn levels(rt: HostRuntime) -> Result<(), Fail> {
     for (row, (levels, wanted)) in LEVELS.iter().enumerate() {
-        let stand = standings(rt.alloc(), levels)?;
-        assert!(rt; stand_so(&stand, wanted), "row {row}");
+        if !stand_so(&standings(rt.alloc(), levels)?, wanted) {
+            return Err(row.into());
+        }
     }
     Ok(())
 }
 
-static TWICE: [(Row, Verdict); 14] = [
-    ((Some(1), "S"), Verdict::Counts),
-    ((Some(2), "A"), Verdict::Counts),
-    ((Some(3), "X"), Verdict::Counts),
-    ((Some(3), "X"), Verdict::Twice),
-    ((Some(2), "B"), Verdict::Counts),
-    ((Some(3), "X"), Verdict::Counts),
-    ((Some(2), "A"), Verdict::Twice),
-    ((Some(3), "X"), Verdict::Beneath),
-    ((Some(3), "Y"), Verdict::Beneath),
-    ((None, "A"), Verdict::Counts),
-    ((Some(1), "S"), Verdict::Twice),
-    ((Some(2), "N"), Verdict::Beneath),
-    ((Some(3), "M"), Verdict::Beneath),
-    ((None, "S"), Verdict::Twice),
+/// Items of which some are declared twice.
+static REPEATED: [Row; 14] = [
+    (Some(1), "S"),
+    (Some(2), "A"),
+    (Some(3), "X"),
+    (Some(3), "X"),
+    (Some(2), "B"),
+    (Some(3), "X"),
+    (Some(2), "A"),
+    (Some(3), "X"),
+    (Some(3), "Y"),
+    (None, "A"),
+    (Some(1), "S"),
+    (Some(2), "N"),
+    (Some(3), "M"),
+    (None, "S"),
 ];
 
-/// The items of that table.
-fn repeated(alloc: Global) -> Result<Vec<Row>, AllocError> {
-    let mut rows = Vec::new(alloc);
-    for (row, _) in &TWICE {
-        rows.push(*row)?;
-    }
-    Ok(rows)
-}
+/// Whether each of them counts.
+static VERDICTS: [Verdict; 14] = [
+    Verdict::Counts,
+    Verdict::Counts,
+    Verdict::Counts,
+    Verdict::Twice,
+    Verdict::Counts,
+    Verdict::Counts,
+    Verdict::Twice,
+    Verdict::Beneath,
+    Verdict::Beneath,
+    Verdict::Counts,
+    Verdict::Twice,
+    Verdict::Beneath,
+    Verdict::Beneath,
+    Verdict::Twice,
+];
 
 /// The verdicts on those items.
 fn judged(alloc: Global) -> Result<Vec<Verdict>, Fail> {
-    let rows = repeated(alloc)?;
-    let items = written(alloc, &rows)?;
+    let items = written(alloc, &REPEATED)?;
     Ok(verdicts(alloc, &items)?)
 }
 
 #[test]
 fn declared_twice(rt: HostRuntime) -> Result<(), Fail> {
     let judged = judged(rt.alloc())?;
-    for (number, (_, verdict)) in TWICE.iter().enumerate() {
-        assert_eq!(rt; judged.get(number).copied(), Some(*verdict), "at {number}");
-    }
+    assert!(rt; judged.as_slice() == VERDICTS.as_slice());
     Ok(())
+}
+
+/// Fails at the first reference to those items that means something else.
+fn mean_so(alloc: Global, scope: &Scope) -> Result<(), Fail> {
+    mean_here(alloc, scope, &[("S.A.X", 2), ("A", 9), ("S", 0)])?;
+    all_mean(alloc, scope, &["X"], Meant::Ambiguous)?;
+    all_mean(alloc, scope, &["N", "A.Y"], Meant::NotDeclared)
 }
 
 #[test]
 fn names_declared_twice(rt: HostRuntime) -> Result<(), Fail> {
-    let rows = repeated(rt.alloc())?;
-    let scope = scope(rt.alloc(), &rows)?;
-    check_here(&rt, rt.alloc(), &scope, &[("S.A.X", 2), ("A", 9), ("S", 0)])?;
-    check_all(&rt, rt.alloc(), &scope, &["X"], Meant::Ambiguous)?;
-    check_all(&rt, rt.alloc(), &scope, &["N", "A.Y"], Meant::NotDeclared)
+    let scope = scope(rt.alloc(), &REPEATED)?;
+    mean_so(rt.alloc(), &scope)
 }
 
 /// The name with this number in it.
@@ -463,19 +469,32 @@ fn many(alloc: Global) -> Result<Block, Fail> {
     Ok(block)
 }
 
-#[test]
-fn many_names(rt: HostRuntime) -> Result<(), Fail> {
-    let mut scope = Scope::new(rt.alloc());
-    scope.open_block(many(rt.alloc())?)?;
+/// The scope of that block and four inside it.
+fn many_nested(alloc: Global) -> Result<Scope, Fail> {
+    let mut scope = Scope::new(alloc);
+    scope.open_block(many(alloc)?)?;
     for _ in 0..4 {
-        scope.open_block(Block::new(rt.alloc()))?;
+        scope.open_block(Block::new(alloc))?;
     }
+    Ok(scope)
+}
+
+/// Looks up 100,000 of those names, and fails at the first that means something else.
+fn mean_their_numbers(alloc: Global, scope: &Scope) -> Result<(), Fail> {
     for step in 0..100_000 {
         let number = step % 65_000;
-        let meant = scope.look_up(&[numbered(rt.alloc(), number)?]);
-        assert_eq!(rt; meant, Meant::Item { number, block: 4 });
+        let meant = scope.look_up(&[numbered(alloc, number)?]);
+        if meant != (Meant::Item { number, block: 4 }) {
+            return Err(number.into());
+        }
     }
     Ok(())
+}
+
+#[test]
+fn many_names(rt: HostRuntime) -> Result<(), Fail> {
+    let scope = many_nested(rt.alloc())?;
+    mean_their_numbers(rt.alloc(), &scope)
 }
 
 #[test]

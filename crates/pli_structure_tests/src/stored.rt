@@ -1,102 +1,131 @@
 use pli_map::{Description, load_value, store_value};
 use pli_value::Value;
 use pli_value::bit::{Bits, bits_to_char};
+use std::alloc::{AllocError, Global};
 use std::test::*;
 
 /// Whether a value is this number.
-fn is_number(value: &Value, wanted: i64) -> bool {
-    matches!(value, Value::Number(number) if *number == wanted)
+fn is_number(value: Value, wanted: i64) -> bool {
+    matches!(value, Value::Number(number) if number == wanted)
 }
 
 /// Whether a value is these characters.
-fn is_text(value: &Value, wanted: &[u8]) -> bool {
-    matches!(value, Value::Characters(text) if text.as_slice() == wanted)
+fn is_text(value: Value, wanted: &[u8]) -> bool {
+    match value {
+        Value::Characters(text) => text.as_slice() == wanted,
+        Value::Number(_) | Value::Bits(_) => false,
+    }
 }
 
-/// The greatest numbers, and the least, of 15, 31 and 63 digits.
+/// Whether the greatest number of 15 digits and the least stand so, and are read again.
+fn short_numbers(alloc: Global) -> Result<bool, AllocError> {
+    let short = Description::FixedBinary(15);
+    let (mut most, mut least) = ([1; 2], [1; 2]);
+    store_value(&short, &Value::Number(32_767), &mut most);
+    store_value(&short, &Value::Number(-32_767), &mut least);
+    let read = is_number(load_value(alloc, &short, &most)?, 32_767)
+        && is_number(load_value(alloc, &short, &least)?, -32_767);
+    Ok(read && most == [127, 255] && least == [128, 1])
+}
+
+/// Whether the least number of 31 digits stands so and is read again, and the greatest of 16 stands so.
+fn long_numbers(alloc: Global) -> Result<bool, AllocError> {
+    let (long, most_of_two) = (Description::FixedBinary(31), Description::FixedBinary(16));
+    let (mut least, mut most) = ([1; 4], [1; 4]);
+    store_value(&long, &Value::Number(-2_147_483_647), &mut least);
+    store_value(&most_of_two, &Value::Number(65_535), &mut most);
+    let read = is_number(load_value(alloc, &long, &least)?, -2_147_483_647);
+    Ok(read && least == [128, 0, 0, 1] && most == [0, 0, 255, 255])
+}
+
+/// Whether the greatest number of 63 digits and one below zero stand so, and are read again.
+fn wide_numbers(alloc: Global) -> Result<bool, AllocError> {
+    let wide = Description::FixedBinary(63);
+    let (mut most, mut less) = ([1; 8], [1; 8]);
+    store_value(&wide, &Value::Number(9_223_372_036_854_775_807), &mut most);
+    store_value(&wide, &Value::Number(-2), &mut less);
+    let read = is_number(load_value(alloc, &wide, &most)?, 9_223_372_036_854_775_807)
+        && is_number(load_value(alloc, &wide, &less)?, -2);
+    Ok(
+        read && most == [127, 255, 255, 255, 255, 255, 255, 255]
+            && less == [255, 255, 255, 255, 255, 255, 255, 254],
+    )
+}
+
 #[test]
 fn numbers(rt: HostRuntime) -> Result<(), Fail> {
-    let alloc = rt.alloc();
-    let (short, long, wide) = (
-        Description::FixedBinary(15),
-        Description::FixedBinary(31),
-        Description::FixedBinary(63),
-    );
-    let mut two = [0; 2];
-    store_value(&short, &Value::Number(32_767), &mut two);
-    assert!(rt; two == [127, 255]);
-    assert!(rt; is_number(&load_value(alloc, &short, &two)?, 32_767));
-    store_value(&short, &Value::Number(-32_767), &mut two);
-    assert!(rt; two == [128, 1]);
-    assert!(rt; is_number(&load_value(alloc, &short, &two)?, -32_767));
-    let mut four = [0; 4];
-    store_value(&long, &Value::Number(-2_147_483_647), &mut four);
-    assert!(rt; four == [128, 0, 0, 1]);
-    assert!(rt; is_number(&load_value(alloc, &long, &four)?, -2_147_483_647));
-    store_value(
-        &Description::FixedBinary(16),
-        &Value::Number(65_535),
-        &mut four,
-    );
-    assert!(rt; four == [0, 0, 255, 255]);
-    let mut eight = [0; 8];
-    store_value(&wide, &Value::Number(9_223_372_036_854_775_807), &mut eight);
-    assert!(rt; eight == [127, 255, 255, 255, 255, 255, 255, 255]);
     assert!(rt;
-        is_number(
-            &load_value(alloc, &wide, &eight)?,
-            9_223_372_036_854_775_807
-        )
+        short_numbers(rt.alloc())? && long_numbers(rt.alloc())? && wide_numbers(rt.alloc())?
     );
-    store_value(&wide, &Value::Number(-2), &mut eight);
-    assert!(rt; eight == [255, 255, 255, 255, 255, 255, 255, 254]);
-    assert!(rt; is_number(&load_value(alloc, &wide, &eight)?, -2));
     Ok(())
 }
 
-/// What stood in the bytes before does not count.
-#[test]
-fn characters(rt: HostRuntime) -> Result<(), Fail> {
-    let alloc = rt.alloc();
-    let (fixed, varying) = (Description::Character(2), Description::Varying(4));
+/// Whether two characters stand so in CHARACTER(2), and are read again. What stood in the bytes before does not count.
+fn fixed_characters(alloc: Global) -> Result<bool, AllocError> {
+    let fixed = Description::Character(2);
     let text = Value::Characters(vec![in alloc; b'A', b'B']?);
     let mut two = [1; 2];
     store_value(&fixed, &text, &mut two);
-    assert!(rt; two == [65, 66]);
-    assert!(rt; is_text(&load_value(alloc, &fixed, &two)?, b"AB"));
+    let read = is_text(load_value(alloc, &fixed, &two)?, b"AB");
+    Ok(read && two == [65, 66])
+}
+
+/// Whether two characters stand so in CHARACTER(4) VARYING, and are read again.
+fn varying_characters(alloc: Global) -> Result<bool, AllocError> {
+    let varying = Description::Varying(4);
+    let text = Value::Characters(vec![in alloc; b'A', b'B']?);
     let mut six = [1; 6];
     store_value(&varying, &text, &mut six);
-    assert!(rt; six == [0, 2, 65, 66, 0, 0]);
-    assert!(rt; is_text(&load_value(alloc, &varying, &six)?, b"AB"));
-    let empty = Value::Characters(Vec::new(alloc));
-    store_value(&varying, &empty, &mut six);
-    assert!(rt; six == [0, 0, 0, 0, 0, 0]);
-    assert!(rt; is_text(&load_value(alloc, &varying, &six)?, b""));
-    // a length over the greatest leads to no more than there is
+    let read = is_text(load_value(alloc, &varying, &six)?, b"AB");
+    Ok(read && six == [0, 2, 65, 66, 0, 0])
+}
+
+/// Whether no characters stand so there, and are read again; and a length over the greatest leads to no more than there is.
+fn empty_and_full(alloc: Global) -> Result<bool, AllocError> {
+    let varying = Description::Varying(4);
+    let mut six = [1; 6];
+    store_value(&varying, &Value::Characters(Vec::new(alloc)), &mut six);
+    let empty = is_text(load_value(alloc, &varying, &six)?, b"");
+    let full = load_value(alloc, &varying, &[255, 255, 65, 66, 67, 68])?;
+    Ok(empty && six == [0, 0, 0, 0, 0, 0] && is_text(full, b"ABCD"))
+}
+
+#[test]
+fn characters(rt: HostRuntime) -> Result<(), Fail> {
     assert!(rt;
-        is_text(
-            &load_value(alloc, &varying, &[255, 255, 65, 66, 67, 68])?,
-            b"ABCD"
-        )
+        fixed_characters(rt.alloc())?
+            && varying_characters(rt.alloc())?
+            && empty_and_full(rt.alloc())?
     );
     Ok(())
 }
 
-/// Bits over the end of a byte; what stands behind the last one does not count.
-#[test]
-fn bits(rt: HostRuntime) -> Result<(), Fail> {
-    let alloc = rt.alloc();
-    let string = Bits::unpack(alloc, &[0b1010_0000, 0b1111_1111], 9)?;
-    assert!(rt; bits_to_char(alloc, &string)?.as_slice() == b"101000001".as_slice());
-    let nine = Description::Bit(9);
-    let Value::Bits(loaded) = load_value(alloc, &nine, &[0b1010_0000, 0b1111_1111])? else {
-        return Err("no bits".into());
-    };
-    assert!(rt; loaded.bytes() == [0b1010_0000, 0b1000_0000].as_slice());
-    let mut one = [255; 1];
+/// Whether bits over the end of a byte are read; what stands behind the last one does not count.
+fn bits_are_read(alloc: Global) -> Result<bool, AllocError> {
+    match load_value(alloc, &Description::Bit(9), &[0b1010_0000, 0b1111_1111])? {
+        Value::Bits(loaded) => Ok(loaded.bytes() == [0b1010_0000, 0b1000_0000].as_slice()),
+        Value::Number(_) | Value::Characters(_) => Ok(false),
+    }
+}
+
+/// Whether one bit stands so. What stood in the byte before does not count.
+fn one_bit(alloc: Global) -> Result<bool, AllocError> {
     let mut single = Bits::new(alloc);
     single.push(true)?;
+    let mut one = [255; 1];
     store_value(&Description::Bit(1), &Value::Bits(single), &mut one);
-    assert!(rt; one == [128]);
+    Ok(one == [128])
+}
+
+/// Whether nine bits are taken from bytes, and written as characters.
+fn nine_bits(alloc: Global) -> Result<bool, AllocError> {
+    let string = Bits::unpack(alloc, &[0b1010_0000, 0b1111_1111], 9)?;
+    let shown = bits_to_char(alloc, &string)?;
+    Ok(shown.as_slice() == b"101000001".as_slice())
+}
+
+#[test]
+fn bits(rt: HostRuntime) -> Result<(), Fail> {
+    assert!(rt; nine_bits(rt.alloc())? && bits_are_read(rt.alloc())? && one_bit(rt.alloc())?);
     Ok(())
 }
