@@ -191,8 +191,8 @@ class Named:
 
     above, members = None, ()
 
-    def __init__(self, name, within=None):
-        self.name, self.path, self.within = name, [name], within
+    def __init__(self, name, within=None, tree=None):
+        self.name, self.path, self.within, self.tree = name, [name], within, tree
 
 
 class Item(Named):
@@ -288,6 +288,7 @@ class Block:
 
     def __init__(self, outer):
         self.outer, self.names, self.items = outer, [], []
+        self.label, self.parameters, self.results, self.is_procedure = None, [], [], False
 
     def declares(self, name):
         return any(named.name == name for named in self.names)
@@ -350,9 +351,9 @@ class Unit:
     """A unit's declarations and references, and the faults of them."""
 
     def __init__(self, name, procedure):
-        self.faults, self.items, self.checks = {}, [], []
+        self.faults, self.items, self.checks, self.blocks = {}, [], [], {}
         outermost = Block(None)
-        outermost.names.append(Named(name))
+        outermost.names.append(Named(name, tree=procedure))
         self.procedure(name, procedure, outermost, ())
         for item in self.items:
             self.fault(item.name, item.code())
@@ -377,6 +378,8 @@ class Unit:
         _, parameters, options, *items = tree
         block = Block(outer)
         results = [option[1:] for option in options if option[0] == "RETURNS"]
+        self.blocks[id(tree)] = block
+        block.label, block.parameters, block.results, block.is_procedure = name, parameters, results, True
         is_main = any(option[0] == "OPTIONS" for option in options)
         if len(results) > 1 or is_main and (parameters or results):
             self.fault(name, 3)
@@ -403,7 +406,7 @@ class Unit:
             label = None
             if tree[0] == "label":
                 _, label, tree = tree
-                self.declare(block, Named(label, None if tree[0] == "procedure" else within))
+                self.declare(block, Named(label, None if tree[0] == "procedure" else within, tree))
             self.statement(tree, label, block, frames + (within,))
 
     def statement(self, tree, label, block, frames):
@@ -411,7 +414,8 @@ class Unit:
         if kind == "procedure":
             self.procedure(label, tree, block, frames)
         elif kind == "begin":
-            self.statements(parts, Block(block), frames, "block")
+            self.blocks[id(tree)] = Block(block)
+            self.statements(parts, self.blocks[id(tree)], frames, "block")
         elif kind == "do":
             for part in parts[0]:
                 self.expression(part[1] if part[0] in ("while", "to", "by", "repeat") else part, block)

@@ -1,0 +1,459 @@
+#!/usr/bin/env python3
+"""runs.py [PROGRAM [ARGUMENT..]]: compares the workbench with meaning.py, which is written from the rules of types and runs alone.
+
+It prints how many units agreed, and of those that did not the ten shortest, each with what was expected and what was answered:
+  the answers to each session of the examples (crates/pli_sessions), as they stand beside it, with those of meaning.py;
+  300 programs grown at random, at each number of steps from 0 to 40, and at 5,000;
+  3,000 units whose expressions have operands, arguments and targets of wrong types now and then: all their diagnostics.
+Each token of a unit is typed on a line of its own, so that the line of a diagnostic tells the token. All is the same every time.
+Without PROGRAM meaning.py is run alone.
+"""
+import re
+import subprocess
+import sys
+from collections import Counter
+from pathlib import Path
+
+import declarations
+import meaning
+import mutations
+
+PROGRAMS = 300
+FAULTY = 3000
+SEED = 19741130
+FEW_STEPS, MANY_STEPS = 40, 5000
+SHOWN = 10
+TEXTS = """
+    T1 NOT A VARIABLE, T2 AGGREGATE NOT ALLOWED HERE, T3 WRONG NUMBER OF SUBSCRIPTS, T4 WRONG OPERAND TYPE, T5 CANNOT ASSIGN,
+    T6 WRONG NUMBER OF ARGUMENTS, T7 WRONG ARGUMENT, T8 NOT CALLABLE HERE, T9 WRONG RETURN, T10 LOCATOR MISSING OR NOT ALLOWED,
+    T11 CANNOT ALLOCATE OR FREE, T12 BAD CONTROL VARIABLE, T13 WRONG BUILT-IN ARGUMENT, T14 CANNOT PRINT
+"""
+TEXT_OF = declarations.TEXT_OF | dict(text.split(maxsplit=1) for text in " ".join(TEXTS.split()).split(", "))
+
+# The variables that each program has, with their kinds: a number, characters or bits, and how one is written.
+VARIABLES = """
+    DCL ( I , J , K ) FIXED BIN ( 15 ) , N FIXED BIN ( 31 ) INIT ( 5 ) , L FIXED BIN ( 3 ) ;
+    DCL C CHAR ( 4 ) INIT ( 'ABCD' ) , V CHAR ( 6 ) VAR INIT ( 'XY' ) , D CHAR ( 3 ) STATIC ;
+    DCL B BIT ( 4 ) INIT ( '1010'B ) , F BIT STATIC INIT ( '1'B ) ;
+    DCL A ( 3 ) FIXED BIN ( 15 ) INIT ( 1 , - 2 , 3 ) , M ( 0 : 1 , 2 ) CHAR ( 2 ) INIT ( 'P' , 'QR' , 'QR' ) , A2 ( 3 ) FIXED BIN ( 15 ) ;
+    DCL 1 S , 2 X FIXED BIN ( 31 ) INIT ( 7 ) , 2 Y ( 2 ) BIT ( 3 ) , 1 S2 , 2 X1 FIXED BIN ( 31 ) , 2 Y1 ( 2 ) BIT ( 3 ) INIT ( '11'B ) ;
+    DCL 1 T ( 2 ) STATIC , 2 P FIXED BIN ( 7 ) INIT ( 1 , 2 ) , 2 Q ( 2 ) CHAR ( 1 ) INIT ( 'A' , 'B' , 'C' ) ;
+""".split()
+ROUTINES = """
+    ADD1 : PROC ( Z ) ; DCL Z FIXED BIN ( 15 ) ; Z = Z + 1 ; PUT LIST ( Z ) ; END ADD1 ;
+    CAT : PROC ( Z , W ) RETURNS ( CHAR ( 5 ) VAR ) ; DCL Z CHAR ( 4 ) , W CHAR ( 3 ) VAR ; IF LENGTH ( W ) = 0 THEN RETURN ( Z ) ; W = '' ;
+        RETURN ( W || Z ) ; END CAT ;
+    FACT : PROC ( Z ) RETURNS ( FIXED BIN ( 31 ) ) ; DCL Z FIXED BIN ( 15 ) ; IF Z < 2 THEN RETURN ( 1 ) ;
+        RETURN ( Z * FACT ( Z - 1 ) ) ; END FACT ;
+    ODD : PROC ( Z ) RETURNS ( BIT ) ; DCL Z FIXED BIN ( 15 ) , W FIXED BIN ( 15 ) STATIC INIT ( 0 ) ; W = W + 1 ; N = N + W ;
+        IF Z = 13 THEN GOTO AWAY ; IF Z = 11 THEN ; ELSE RETURN ( MOD ( Z , 2 ) = 1 ) ; END ODD ;
+    FILL : PROC ( Z , W ) ; DCL Z ( 3 ) FIXED BIN ( 15 ) , W FIXED BIN ( 15 ) , U FIXED BIN ( 15 ) ;
+        DO U = 1 TO 3 ; Z ( U ) = W + U ; IF Z ( U ) > 20 THEN RETURN ; END ; END FILL ;
+    DOWN : PROC ( Z ) ; DCL Z FIXED BIN ( 15 ) , W CHAR ( 2 ) ; W = Z ; IF Z > 0 THEN CALL DOWN ( Z - 1 ) ; ELSE IF F THEN GOTO AWAY ;
+        BEGIN ; DCL W FIXED BIN ( 7 ) ; W = Z ; PUT LIST ( W ) ; IF W = 3 THEN RETURN ; END ; PUT LIST ( W ) ; END DOWN ;
+""".split()
+
+
+class Grower:
+    """Programs grown at random."""
+
+    def __init__(self, numbers, slips):
+        self.numbers, self.slips, self.depth, self.labels, self.level = numbers, slips, 0, 0, 0
+
+    def below(self, bound):
+        return self.numbers.below(bound)
+
+    def chosen(self, *several):
+        return several[self.below(len(several))]
+
+    def slip(self):
+        return self.slips and self.below(12) == 0
+
+    def kind(self, kind):
+        return self.chosen("number", "characters", "bits") if self.slip() else kind
+
+    # expressions
+
+    def expression(self, kind, depth=3):
+        kind = self.kind(kind)
+        if depth == 0 or self.below(3) == 0:
+            return self.leaf(kind)
+        return getattr(self, kind)(depth - 1)
+
+    def leaf(self, kind):
+        if self.slip():
+            return self.chosen(["A"], ["S"], ["T", "(", "1", ")"], ["FACT"], ["ABS"], ["A", "(", "1", ",", "1", ")"], ["P"], ["(", "A", ")"], ["AWAY"], ["DOWN", "(", "1", ")"],
+                               ["M"], ["Q", "(", "1", ")"], ["C", "(", "1", ")"], ["I", "(", ")"], ["FACT", "(", "A", ")"], ["MAX", "(", "A", ",", "1", ")"], ["CAT", "(", "C", ")"])
+        if self.below(3):
+            return self.variable(kind)
+        return [{"number": self.number_constant, "characters": self.characters_constant, "bits": self.bits_constant}[kind]()]
+
+    def number_constant(self):
+        return self.chosen("0", "1", "2", "3", "7", "12", "007", "101B", "30000", "2147483647", "1B")
+
+    def characters_constant(self):
+        return self.chosen("''", "'A'", "'BC'", "'DE F'", "'QR'", "' '", "'A''B'")
+
+    def bits_constant(self):
+        return self.chosen("''B", "'1'B", "'0'B", "'1100'B", "'A'B4", "'12'B3", "'00'B")
+
+    def subscript(self, high):
+        return [str(1 + self.below(high))] if self.below(3) else self.chosen(["I"], ["J"], ["MOD", "(", "N", ",", "3", ")", "+", "1"], ["K"])
+
+    def variable(self, kind):
+        if kind == "number":
+            return self.chosen(["I"], ["J"], ["K"], ["N"], ["L"], ["A", "(", *self.subscript(3), ")"], ["S", ".", "X"], ["X"],
+                               ["T", "(", *self.subscript(2), ")", ".", "P"], ["P", "(", *self.subscript(2), ")"])
+        if kind == "characters":
+            return self.chosen(["C"], ["V"], ["D"], ["M", "(", self.chosen("0", "1"), ",", *self.subscript(2), ")"],
+                               ["T", "(", *self.subscript(2), ")", ".", "Q", "(", *self.subscript(2), ")"], ["Q", "(", "1", ",", "2", ")"])
+        return self.chosen(["B"], ["F"], ["Y", "(", *self.subscript(2), ")"], ["S", ".", "Y", "(", "2", ")"])
+
+    def number(self, depth):
+        e = lambda kind="number": self.expression(kind, depth)
+        return self.chosen(
+            lambda: [*e(), self.chosen("+", "-", "*"), *e()],
+            lambda: [*e(), self.chosen("+", "-"), *e()],
+            lambda: ["(", *e(), ")"],
+            lambda: [self.chosen("-", "+"), *e()],
+            lambda: ["(", *e(), self.chosen("+", "-"), *e(), ")", "*", *self.leaf("number")],
+            lambda: [self.chosen("ABS", "SIGN"), "(", *e(), ")"],
+            lambda: [self.chosen("MAX", "MIN", "MOD"), "(", *e(), ",", *e(), ")"],
+            lambda: ["DIVIDE", "(", *e(), ",", *e(), ",", "0" if self.slip() else self.chosen("3", "15", "31", "+" if self.slip() else "10"), ")"],
+            lambda: ["LENGTH", "(", *e(self.chosen("characters", "bits")), ")"],
+            lambda: self.index(depth),
+            lambda: [self.chosen("LBOUND", "HBOUND"), "(", *self.chosen(["A", ")", ",", "1"], ["M", ",", "2"], ["M", ",", "1"], ["T", ",", "1"], ["S", ".", "Y", ",", "1"])[:9], ")"]
+            if self.slip() else [self.chosen("LBOUND", "HBOUND"), "(", *self.chosen(["A", ",", "1"], ["M", ",", "2"], ["M", ",", "1"], ["T", ",", "1"], ["S", ".", "Y", ",", "1"]), ")"],
+            lambda: ["FACT", "(", *self.small(), ")"],
+        )()
+
+    def index(self, depth):
+        kind = self.chosen("characters", "bits")
+        return ["INDEX", "(", *self.expression(kind, depth), ",", *self.expression(kind, depth), ")"]
+
+    def small(self):
+        return self.chosen(["3"], ["I"], ["(", "J", ")"], ["5"], ["L"], ["2", "+", "2"], ["FACT", "(", "2", ")"], self.expression("number", 1))
+
+    def characters(self, depth):
+        e = lambda kind="characters": self.expression(kind, depth)
+        return self.chosen(
+            lambda: [*e(), "||", *e(self.chosen("characters", "bits"))],
+            lambda: ["(", *e(), ")"],
+            lambda: ["SUBSTR", "(", *e(), ",", *self.small_number(), ",", *self.small_number(), ")"],
+            lambda: ["SUBSTR", "(", *e(), ",", *self.small_number(), ")"],
+            lambda: ["CAT", "(", *self.chosen(e, lambda: ["C"], lambda: e("number"))(), ",", *self.chosen(e, lambda: ["V"])(), ")"],
+        )()
+
+    def small_number(self):
+        return self.chosen(["1"], ["2"], ["0"], ["I"], self.expression("number", 1))
+
+    def bits(self, depth):
+        e = lambda kind="bits": self.expression(kind, depth)
+        return self.chosen(
+            lambda: [*e("number"), self.comparison(), *e("number")],
+            lambda: [*self.leaf(self.chosen("characters", "bits")), self.comparison(), *self.leaf(self.chosen("characters", "bits"))],
+            lambda: [*self.leaf("bits"), self.chosen("&", "|"), *e()],
+            lambda: ["^", *self.leaf("bits")],
+            lambda: ["^", "(", *e(), ")"],
+            lambda: [*self.leaf("bits"), "||", *self.leaf("bits")],
+            lambda: ["(", *e(), ")"],
+            lambda: ["SUBSTR", "(", *e(), ",", "1", ")"],
+            lambda: ["ODD", "(", *self.chosen(["13"], ["11"], ["I"], ["4"], ["7"]), ")"],
+        )()
+
+    def comparison(self):
+        return self.chosen("=", "^=", "<", "<=", ">", ">=")
+
+    # statements
+
+    def target(self, kind):
+        return self.leaf(kind) if self.slip() else self.variable(kind)
+
+    def list(self, many):
+        """A list of statements, of which some have labels, to which some of them go."""
+        self.labels += 1
+        label = f"L{self.labels}"
+        before, behind = [], []
+        for _ in range(1 + self.below(many)):
+            before += self.statement(label)
+        for _ in range(self.below(many)):
+            behind += self.statement(label)
+        return [*before, label, ":", *self.statement(None), *behind]
+
+    def statement(self, label):
+        forms = [self.assign] * 4 + [self.put] * 3 + [self.if_statement] * 2 + [self.call] * 2 + [self.aggregate, self.null]
+        if label:
+            forms += [lambda: ["IF", *self.expression("bits", 2), "THEN", "GOTO", label, ";"]] * 2
+        if self.level < 3:
+            forms += [self.group] * 3 + [self.begin]
+        if self.slips and self.below(20) == 0:
+            forms = [self.returned]
+        if self.below(40) == 0:
+            forms = [lambda: [self.chosen("STOP", "RETURN"), ";"]]
+        return self.chosen(*forms)()
+
+    def null(self):
+        return [";"]
+
+    def assign(self):
+        kind = self.chosen("number", "characters", "bits")
+        source = self.chosen(kind, kind, "number", "bits") if kind == "characters" else kind
+        return [*self.target(kind), "=", *self.expression(source), ";"]
+
+    def aggregate(self):
+        pairs = [["A", "A2"], ["A2", "A"], ["S2", "S"], ["S", "S2"], ["T ( 1 )", "T ( 2 )"], ["T ( I )", "T ( 1 )"], ["S . Y", "Y1"]]
+        wrong = [["A", "M"], ["A", "1"], ["N", "A"], ["S", "T ( 1 )"], ["A", "( A2 )"], ["T", "S"], ["M", "M"]]
+        target, source = self.chosen(*(wrong if self.slip() else pairs))
+        return [*target.split(), "=", *source.split(), ";"]
+
+    def put(self):
+        items = []
+        for _ in range(1 + self.below(3)):
+            items += [",", *self.expression(self.chosen("number", "characters", "bits"))]
+        listed = ["LIST", "(", *items[1:], ")"]
+        return ["PUT", *self.chosen(listed, ["SKIP", *listed], [*listed, "SKIP"], ["SKIP"] if self.below(4) == 0 else listed), ";"]
+
+    def if_statement(self):
+        self.level += 1
+        otherwise = ["ELSE", *self.statement(None)] if self.below(2) else []
+        then = self.simple() if otherwise else self.statement(None)
+        self.level -= 1
+        return ["IF", *self.expression("bits", 2), "THEN", *then, *otherwise]
+
+    def simple(self):
+        return self.chosen(self.assign, self.put, self.call, self.null)()
+
+    def call(self):
+        called = self.chosen(
+            lambda: ["ADD1", "(", *self.chosen(["I"], ["A", "(", "2", ")"], ["N"], ["(", "I", ")"], self.expression("number", 1)), ")"],
+            lambda: ["FILL", "(", self.chosen("A", "A2"), ",", *self.chosen(["I"], ["A", "(", "1", ")"], ["2"]), ")"],
+            lambda: ["DOWN", "(", *self.chosen(["2"], ["3"], ["4"], ["J"]), ")"],
+        )()
+        if self.slip():
+            called = self.chosen(["FACT", "(", "1", ")"], ["ADD1"], ["ADD1", "(", "A", ")"], ["ADD1", "(", "'A'", ")"], ["FILL", "(", "M", ",", "1", ")"], ["I"], ["LENGTH", "(", "C", ")"],
+                                 ["FILL", "(", "(", "A", ")", ",", "1", ")"], ["CAT", "(", "1", ",", "S", ")"], ["AWAY"], ["FILL", "(", "S", ",", "B", ")"], ["ADD1", "(", "1", ",", "2", ")"])
+        return ["CALL", *called, ";"]
+
+    def returned(self):
+        return self.chosen(["RETURN", "(", *self.expression("number", 1), ")", ";"], ["RETURN", ";"])
+
+    def group(self):
+        self.level += 1
+        listed = self.list(2)
+        variable, limit = self.chosen("I", "J", "K"), self.expression("number", 1)
+        turns = str(1 + self.below(4))
+        heading = self.chosen(
+            [],
+            ["WHILE", "(", *self.expression("bits", 2), ")"],
+            [variable, "=", "1", "TO", turns],
+            [variable, "=", *self.expression("number", 1), "TO", *limit],
+            [variable, "=", turns, "TO", "0", "BY", "-", "1"],
+            [variable, "=", "1", "BY", "2", "TO", turns],
+            [variable, "=", *limit],
+            [variable, "=", "1", "REPEAT", variable, "*", "2", "WHILE", "(", variable, "<", "9", ")"],
+            [variable, "=", "1", "TO", "9", "WHILE", "(", *self.expression("bits", 2), ")"],
+            ["L", "=", turns, "TO", "7"],
+            ["V", "=", "''", "REPEAT", "V", "||", "'*'", "WHILE", "(", "LENGTH", "(", "V", ")", "<", "3", ")"],
+        )
+        if self.slip():
+            heading = self.chosen(["A", "(", "1", ")", "=", "1", "TO", "2"], ["C", "=", "1", "TO", "2"], ["B", "=", "1"], ["A", "=", "1"], ["I", "=", "'A'", "TO", "2"], ["I", "=", "1", "TO", "'A'"],
+                                  ["WHILE", "(", "1", ")"], ["I", "=", "1", "REPEAT", "'A'"], ["FACT", "=", "1"], ["I", "=", "1", "BY", "B", "TO", "'A'"], ["B", "=", "'1'B", "WHILE", "(", "I", ")"])
+        self.level -= 1
+        return ["DO", *heading, ";", *listed, "END", ";"]
+
+    def begin(self):
+        self.level += 1
+        listed = self.list(2)
+        declared = self.chosen([], "DCL I FIXED BIN ( 31 ) INIT ( 3 ) ;".split(), "DCL C CHAR ( 2 ) VAR , B BIT ( 3 ) ;".split(), "DCL A ( 3 ) FIXED BIN ( 15 ) ;".split())
+        self.level -= 1
+        return ["BEGIN", ";", *declared, *listed, "END", ";"]
+
+    def unit(self):
+        self.labels = 0
+        return [*"M : PROC OPTIONS ( MAIN ) ;".split(), *VARIABLES, *self.list(6), *"AWAY : PUT LIST ( 'AWAY' , N , I , V ) ;".split(), *ROUTINES, *"END M ;".split()]
+
+
+def session(units, steps):
+    for words in units:
+        yield "ADD M SOURCE"
+        for number, word in enumerate(words):
+            yield f"INSERT M {number} {word}"
+        yield "BUILD"
+        for many in steps:
+            yield f"RUN {many}"
+        yield "DELETE M"
+
+
+def answered(program, units, steps):
+    """What the program answers to each unit: its diagnostics, or what each run answers."""
+    given = "".join(command + "\n" for command in session(units, steps)).encode()
+    ended = subprocess.run(program, input=given, stdout=subprocess.PIPE, check=True)
+    answers = iter(ended.stdout.decode().split("\n"))
+    for words in units:
+        mutations.expect_ok(answers, 1 + len(words))
+        diagnostics, runs = [], []
+        while (line := next(answers)) not in ("BUILT", "NOT BUILT"):
+            diagnostics.append(line)
+        for _ in steps:
+            printed = []
+            while not re.match(r"ENDED$|OUT OF STEPS$|ERROR E|MACHINE FAULT$|B2 NOT BUILT$|NO MEMORY$", line := next(answers)):
+                printed.append(line)
+            runs.append("\n".join([*printed, line]))
+        mutations.expect_ok(answers, 1)
+        yield diagnostics or runs
+
+
+def expected(words, steps):
+    unit = meaning.Unit(words)
+    if unit.faults():
+        return [f"M M:{at + 1} {code} {TEXT_OF[code]}" for at, code in unit.faults()]
+    return [printed + line for printed, line in (unit.run(many) for many in steps)]
+
+
+def compare(title, program, units, steps):
+    wanted = [expected(words, steps) for words in units]
+    last = Counter(lines[-1].split("\n")[-1].split(" M ")[0] for lines in wanted)
+    codes = Counter(line.split()[2] for lines in wanted for line in lines if line.startswith("M M:"))
+    print(f"{title}: {len(units)}; last lines {dict(last.most_common(12))}; codes {dict(sorted(codes.items()))}", flush=True)
+    if not program:
+        return True
+    got = list(answered(program, units, steps))
+    wrong = sorted(((words, want, found) for words, want, found in zip(units, wanted, got, strict=True) if want != found), key=lambda one: len(one[0]))
+    print(f"{title}: {len(units) - len(wrong)} of {len(units)} agree", flush=True)
+    for words, want, found in wrong[:SHOWN]:
+        print("  " + " ".join(words[len(VARIABLES) + 7 : -len(ROUTINES) - 3] if len(words) > len(VARIABLES) else words))
+        if len(want) != len(found):
+            print(f"    expected {want}\n    answered {found}")
+        for place, (one, other) in enumerate(zip(want, found)):
+            if one != other:
+                print(f"    {place}: expected {one!r}\n    {place}: answered {other!r}")
+                break
+    return not wrong
+
+
+class Unknown(Exception):
+    """A session asks for what is not known here."""
+
+
+class Workbench:
+    """The commands of a session, answered by meaning.py."""
+
+    def __init__(self):
+        self.members, self.module = {}, None
+
+    def lines(self, name):
+        return self.members[name][1]
+
+    def answer(self, command):
+        """The answer to a command: its lines."""
+        word, *words = command.split(" ", 1)
+        word = word.upper()
+        edits = {"ADD": self.add, "DELETE": self.delete, "INSERT": self.insert, "REPLACE": self.replace, "REMOVE": self.remove}
+        if word in edits:
+            refused = edits[word](*words)
+            self.module = self.module if refused else None
+            return [refused or "OK"]
+        if word == "BUILD":
+            return self.build()
+        if word == "RUN":
+            return self.run(int(*words) if words else 1_000_000)
+        if word == "LIST":
+            return [*(f"{at + 1} {line}" for at, line in enumerate(self.lines(*words))), "OK"]
+        if word == "QUIT":
+            return ["OK"]
+        raise Unknown(command)
+
+    def add(self, words):
+        name, kind = words.upper().split(" ")
+        if kind != "SOURCE":
+            raise Unknown(words)
+        if name in self.members:
+            return "M1 NAME TAKEN"
+        self.members[name] = kind, []
+
+    def delete(self, name):
+        if self.members.pop(name.upper(), None) is None:
+            return "M2 NO SUCH MEMBER"
+
+    def placed(self, words):
+        name, number, *text = words.split(" ", 2)
+        return self.lines(name.upper()), int(number), text[0] if text else ""
+
+    def insert(self, words):
+        lines, number, text = self.placed(words)
+        if number > len(lines):
+            return "M3 NO SUCH LINE"
+        lines.insert(number, text)
+
+    def replace(self, words):
+        lines, number, text = self.placed(words)
+        if not 1 <= number <= len(lines):
+            return "M3 NO SUCH LINE"
+        lines[number - 1] = text
+
+    def remove(self, words):
+        name, first, last = words.split(" ")
+        del self.lines(name.upper())[int(first) - 1 : int(last)]
+
+    def build(self):
+        units = []
+        try:
+            units = [meaning.Unit([self.written(line) for line in lines], name) for name, (_, lines) in sorted(self.members.items())]
+        except (ValueError, KeyError) as fault:
+            raise Unknown("a unit") from fault
+        told = [f"{unit.member} {unit.member}:{self.line(unit, at)} {code} {TEXT_OF[code]}" for unit in units for at, code in unit.faults()]
+        if told:
+            return [*told, "NOT BUILT"]
+        mains = [unit for unit in units if ("OPTIONS", "MAIN") in unit.tree[2]]
+        names = [unit.name for unit in units]
+        if len(mains) != 1 or len(set(names)) < len(names):
+            raise Unknown("several units")
+        self.module = mains[0]
+        return ["BUILT"]
+
+    @staticmethod
+    def written(line):
+        """A line in capitals outside of character constants."""
+        parts = line.split("'")
+        return "'".join(part if at % 2 else part.upper() for at, part in enumerate(parts))
+
+    @staticmethod
+    def line(unit, at):
+        return unit.tokens[at].line if unit.tokens else 1
+
+    def run(self, steps):
+        if not self.module:
+            return ["B2 NOT BUILT"]
+        printed, line = self.module.run(steps)
+        return (printed + line).split("\n")
+
+
+def compare_examples():
+    """The answers that stand beside the sessions of examples/."""
+    known, wrong = 0, []
+    for path in sorted((Path(__file__).resolve().parent.parent / "crates" / "pli_sessions" / "data" / "examples").glob("*.session")):
+        bench = Workbench()
+        try:
+            answers = [line for command in path.read_text().splitlines() for line in bench.answer(command)]
+        except Unknown as unknown:
+            print(f"  {path.name} asks for {unknown}, which is not known here")
+            continue
+        known += 1
+        if answers != path.with_suffix(".answers").read_text().split("\n")[:-1]:
+            wrong.append(path.name)
+    print(f"answers to sessions of examples/: {known - len(wrong)} of {known} agree {' '.join(wrong)}", flush=True)
+    return not wrong
+
+
+def main():
+    program, agree = sys.argv[1:], True
+    steps = [*range(FEW_STEPS + 1), MANY_STEPS]
+    agree &= compare_examples()
+    sound, faulty = Grower(mutations.Numbers(SEED), False), Grower(mutations.Numbers(SEED + 1), True)
+    agree &= compare("programs grown", program, [sound.unit() for _ in range(PROGRAMS)], steps)
+    agree &= compare("units with wrong types", program, [faulty.unit() for _ in range(FAULTY)], steps[:3] + [MANY_STEPS])
+    sys.exit(not agree)
+
+
+if __name__ == "__main__":
+    main()

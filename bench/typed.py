@@ -1,0 +1,553 @@
+"""typed.py: the faults of types T1 to T13 of a unit, for meaning.py.
+
+It is written from the rules of types alone, over the trees of reader.py and the blocks of faults.py, and shares nothing with the compiler.
+`Types` walks a unit: `found` are its faults, each a token, counted from 0, and a code; `types` and `calls` keep the type of each expression
+and what each call calls. It knows what the workbench compiles.
+"""
+from math import prod
+
+import faults
+import reader
+
+MOST_DIGITS = 31
+FUNCTIONS = {"ABS": 1, "MAX": 2, "MIN": 2, "MOD": 2, "DIVIDE": 3, "SIGN": 1, "LENGTH": 1, "INDEX": 2, "LBOUND": 2, "HBOUND": 2, "SUBSTR": (2, 3)}
+NUMBER, CHARACTERS, VARYING, BITS = "number", "characters", "varying", "bits"
+
+
+class Node(tuple):
+    """A tree that knows where it begins, and a statement's number."""
+
+    at = number = end = equals = None
+
+
+class Reader(faults.Placed):
+    """The reader of trees, with the places and numbers that faults of types and runs name."""
+
+    def __init__(self, tokens):
+        super().__init__(tokens)
+        self.begun, self.ended = 0, 0
+
+    def begin_statement(self):
+        super().begin_statement()
+        self.begun += 1
+
+    def one(self, kind, label):
+        number, at = self.begun, self.at
+        tree = super().one(kind, label)
+        inner = tree[2] if tree[0] == "label" else tree
+        if not isinstance(inner, Node):
+            inner = Node(inner)
+        inner.number, inner.at = number, at
+        return ("label", tree[1], inner) if tree[0] == "label" else inner
+
+    def end(self, label):
+        self.ended = self.begun
+        super().end(label)
+
+    def procedure(self, label):
+        number, at = self.begun, self.at
+        tree = Node(super().procedure(label))
+        tree.number, tree.at, tree.end = number, at, self.ended
+        return tree
+
+    def operand(self):
+        at = self.at
+        tree = super().operand()
+        if isinstance(tree, tuple) and tree[0] == "parentheses":
+            tree = Node(tree)
+            tree.at = at
+        return tree
+
+    def assignment(self):
+        target = self.outer_reference()
+        equals = self.at
+        self.take()
+        tree = Node(("assign", target, self.outermost()))
+        tree.equals = equals
+        self.semicolon()
+        return tree
+
+    def do(self, label):
+        # the `=` behind the control variable
+        equals = []
+        expect = self.expect
+
+        def kept(text, code):
+            if code == "P11":
+                equals.append(self.at)
+            return expect(text, code)
+
+        self.expect = kept
+        try:
+            with self.nested():
+                self.take()
+                specification = self.specification()
+                self.semicolon()
+                self.expect = expect
+                items = self.items_of(group=True)
+                self.end(label)
+        finally:
+            self.expect = expect
+        tree = Node(("do", specification, *items))
+        tree.equals = equals[0] if equals else None
+        return tree
+
+
+# descriptions: (NUMBER, p), (CHARACTERS, n), (VARYING, n), (BITS, n), ("array", bounds, element), ("structure", members)
+
+
+def described(description):
+    """One element of the attributes' type."""
+    if description.data == {"number"}:
+        return NUMBER, description.precision()
+    if description.data == {"characters"}:
+        return (VARYING if "VARYING" in description.has else CHARACTERS), description.number("CHARACTER", 1)
+    return BITS, description.number("BIT", 1)
+
+
+def element_of(item):
+    """The description of one element of an item."""
+    if item.members:
+        return "structure", tuple(whole_of(member) for member in item.members)
+    return described(item.description)
+
+
+def whole_of(item):
+    bounds = tuple(item.description.bounds)
+    return ("array", bounds, element_of(item)) if bounds else element_of(item)
+
+
+def is_scalar(description):
+    return description[0] in (NUMBER, CHARACTERS, VARYING, BITS)
+
+
+def scalars_of(description):
+    """How many scalars a description has."""
+    if description[0] == "array":
+        return prod(high - low + 1 for low, high in description[1]) * scalars_of(description[2])
+    return sum(map(scalars_of, description[1])) if description[0] == "structure" else 1
+
+
+def types_of(description):
+    """The types of its scalars, in order."""
+    if description[0] == "array":
+        return types_of(description[2]) * prod(high - low + 1 for low, high in description[1])
+    if description[0] == "structure":
+        return [scalar for member in description[1] for scalar in types_of(member)]
+    return [description]
+
+
+def size_of(description):
+    """Its size and alignment in bytes."""
+    kind, given = description[0], description[1]
+    if kind == "array":
+        size, alignment = size_of(description[2])
+        return prod(high - low + 1 for low, high in given) * faults.rounded(size, alignment), alignment
+    if kind == "structure":
+        end, greatest = 0, 1
+        for member in given:
+            size, alignment = size_of(member)
+            end, greatest = faults.rounded(end, alignment) + size, max(greatest, alignment)
+        return end, greatest
+    if kind == NUMBER:
+        return (2, 2) if given <= 15 else (4, 4)
+    if kind == VARYING:
+        return 2 + given, 2
+    return (given, 1) if kind == CHARACTERS else (faults.rounded(given, 8) // 8, 1)
+
+
+def binary_digits(decimal_digits):
+    return min(MOST_DIGITS, 1 + (332 * decimal_digits + 99) // 100)
+
+
+def decimal_digits(binary):
+    return 1 + (100 * binary + 331) // 332
+
+
+class Value:
+    """The type of an expression: a description, and for a decimal constant its digits."""
+
+    def __init__(self, description, decimal=None):
+        self.description, self.decimal = description, decimal
+
+    kind = property(lambda self: {VARYING: CHARACTERS}.get(self.description[0], self.description[0]))
+    precision = property(lambda self: self.description[1])
+
+
+class Fault(Exception):
+    def __init__(self, code, at):
+        super().__init__(code, at)
+        self.code, self.at = code, at
+
+
+class Part:
+    """A name with what stands in parentheses behind it, or None."""
+
+    def __init__(self, tree):
+        self.name, self.arguments = (tree, None) if isinstance(tree, str) else (tree[0], tree[1])
+
+
+class Reference:
+    """A reference: what stands before its last arrow, and its parts."""
+
+    def __init__(self, tree):
+        written = tree[1:] if isinstance(tree, tuple) and tree[0] == "reference" else (tree,)
+        last = max((at for at, part in enumerate(written) if part == "->"), default=-1)
+        self.locator = written[:last] if last > 0 else None
+        self.parts = [Part(part) for part in written[last + 1 :] if part != "."]
+        self.at = self.parts[0].name.at
+        self.names = [part.name for part in self.parts]
+
+
+def is_reference(tree):
+    if isinstance(tree, str):
+        return tree[0].isalpha()
+    return tree[0] == "reference" or len(tree) > 1 and isinstance(tree[1], list)
+
+
+def first_token(tree):
+    """Where an expression begins."""
+    if isinstance(tree, str):
+        return tree.at
+    if isinstance(tree, Node) and tree.at is not None:
+        return tree.at
+    if is_reference(tree):
+        part = tree[1] if tree[0] == "reference" else tree
+        return part.at if isinstance(part, str) else part[0].at
+    return tree[0].at if len(tree) == 2 else first_token(tree[1])
+
+
+def constant_value(word):
+    """A constant's type and value."""
+    if word.startswith("'"):
+        if word.endswith("'"):
+            text = word[1:-1].replace("''", "'")
+            return Value((CHARACTERS, len(text))), text
+        digits, base = word[1:].split("'B")
+        width = int(base or 1)
+        text = "".join(f"{int(digit, 16):0{width}b}" for digit in digits)
+        return Value((BITS, len(text))), text
+    if word.endswith("B"):
+        return Value((NUMBER, len(word) - 1)), int(word[:-1], 2)
+    return Value((NUMBER, binary_digits(len(word))), len(word)), int(word)
+
+
+def converts(source, target):
+    """Whether a value of a type is assigned to a scalar."""
+    if target[0] in (CHARACTERS, VARYING):
+        return True
+    return source.kind == target[0]
+
+
+class Types:
+    """The faults of types of a unit."""
+
+    def __init__(self, unit):
+        self.unit, self.found, self.types, self.calls = unit, [], {}, {}
+
+    # names
+
+    def meaning(self, reference, block):
+        """What the names mean: an item, a label or procedure (Named), or a built-in function's name."""
+        meant = faults.found(block, reference.names)
+        if not meant:
+            return str(reference.names[0])
+        item = meant[0]
+        if isinstance(item, faults.Item) and "BUILTIN" in item.description.has:
+            return str(reference.names[0])
+        return item
+
+    # references
+
+    def subscripts(self, reference, block):
+        written = []
+        for part in reference.parts:
+            for subscript in part.arguments or []:
+                kind = self.value(subscript, block)
+                if kind.kind != NUMBER:
+                    raise Fault(4, first_token(subscript))
+                written.append(subscript)
+        return written
+
+    def arguments_of_no_variable(self, reference, block):
+        for part in reference.parts:
+            for argument in part.arguments or []:
+                self.argument(argument, block)
+
+    def variable(self, reference, block, aggregates=True):
+        """The item that a reference names, with its subscripts and its description."""
+        if reference.locator is not None:
+            tree = reference.locator[0] if len(reference.locator) == 1 else ("reference", *reference.locator)
+            self.argument(tree, block)
+        item = self.meaning(reference, block)
+        if not isinstance(item, faults.Item):
+            self.arguments_of_no_variable(reference, block)
+            raise Fault(1, reference.at)
+        written = self.subscripts(reference, block)
+        above = [level.description.bounds for level in reversed([*item.levels()])]
+        wanted = sum(map(len, above))
+        codes = set()
+        if written:
+            description = element_of(item)
+            if len(written) != wanted:
+                codes.add(3)
+        else:
+            description = whole_of(item)
+            if any(above[:-1]):
+                codes.add(3)
+        if not codes and not aggregates and not is_scalar(description):
+            codes.add(2)
+        if reference.locator is not None:
+            codes.add(10)
+        if codes:
+            raise Fault(min(codes), reference.at)
+        return item, written, description
+
+    # expressions
+
+    def value(self, tree, block):
+        """The type of a value; an aggregate is none."""
+        found = self.typed(tree, block)
+        self.types[id(tree)] = found
+        return found
+
+    def typed(self, tree, block):
+        if isinstance(tree, str) and not tree[0].isalpha():
+            return constant_value(tree)[0]
+        if is_reference(tree):
+            return self.named(Reference(tree), tree, block)
+        if tree[0] == "parentheses":
+            return self.value(tree[1], block)
+        if len(tree) == 2:
+            return self.prefixed(tree, block)
+        return self.operated(tree, block)
+
+    def prefixed(self, tree, block):
+        operand = self.value(tree[1], block)
+        if operand.kind != (BITS if tree[0] == "^" else NUMBER):
+            raise Fault(4, tree[0].at)
+        return operand
+
+    def operated(self, tree, block):
+        sign, *operands = tree
+        left, right = [self.value(operand, block) for operand in operands]
+        kinds = {left.kind, right.kind}
+        if sign in ("+", "-", "*"):
+            if kinds != {NUMBER}:
+                raise Fault(4, sign.at)
+            p, q = left.precision, right.precision
+            return Value((NUMBER, min(MOST_DIGITS, p + q + 1 if sign == "*" else max(p, q) + 1)))
+        if sign in ("&", "|"):
+            if kinds != {BITS}:
+                raise Fault(4, sign.at)
+            return Value((BITS, 1))
+        if sign == "||":
+            if NUMBER in kinds:
+                raise Fault(4, sign.at)
+            return Value((BITS if kinds == {BITS} else CHARACTERS, 1))
+        if NUMBER in kinds and kinds != {NUMBER}:
+            raise Fault(4, sign.at)
+        return Value((BITS, 1))
+
+    def named(self, reference, tree, block):
+        """A variable, or a call."""
+        item = self.meaning(reference, block) if reference.locator is None else None
+        arguments = reference.parts[0].arguments
+        if isinstance(item, str) and len(reference.parts) == 1 and arguments is not None:
+            return self.function(item, reference, arguments, block)
+        if isinstance(item, faults.Named) and not isinstance(item, faults.Item) and arguments is not None:
+            if item.tree is not None and item.tree[0] == "procedure":
+                return self.call(item, reference.parts[0], tree, block, True)
+        return Value(self.variable(reference, block, aggregates=False)[2])
+
+    def argument(self, tree, block):
+        """The type of what may be an aggregate: a reference's alone."""
+        if is_reference(tree):
+            reference = Reference(tree)
+            item = self.meaning(reference, block) if reference.locator is None else None
+            if isinstance(item, faults.Item) or reference.locator is not None:
+                found = Value(self.variable(reference, block)[2])
+                self.types[id(tree)] = found
+                return found
+        return self.value(tree, block)
+
+    def call(self, called, part, tree, block, is_value):
+        """The faults of the arguments in order, then the least of T6, T7 and T8."""
+        given = [self.argument(argument, block) for argument in part.arguments or []]
+        is_procedure = isinstance(called, faults.Named) and called.tree is not None and called.tree[0] == "procedure"
+        if not is_procedure:
+            raise Fault(8, part.name.at)
+        inner = self.unit.blocks[id(called.tree)]
+        codes = set()
+        parameters = [whole_of(inner.own(name)) for name in inner.parameters]
+        if len(given) != len(parameters):
+            codes.add(6)
+        elif not all(self.is_good(a, p) for a, p in zip(given, parameters)):
+            codes.add(7)
+        if bool(inner.results) != is_value:
+            codes.add(8)
+        if codes:
+            raise Fault(min(codes), part.name.at)
+        self.calls[id(tree)] = called
+        return Value(self.result(inner)) if is_value else None
+
+    @staticmethod
+    def is_good(given, parameter):
+        if not is_scalar(parameter) or not is_scalar(given.description):
+            return given.description[0] != "structure" and given.description == parameter
+        return converts(given, parameter)
+
+    @staticmethod
+    def result(block):
+        return described(faults.Description(block.outer, [], block.results[0]))
+
+    def function(self, name, reference, arguments, block):
+        at, many = reference.at, FUNCTIONS[name]
+        if len(arguments) not in (many if isinstance(many, tuple) else (many,)):
+            for argument in arguments:
+                self.argument(argument, block)
+            raise Fault(6, at)
+        if name in ("LBOUND", "HBOUND"):
+            return self.bound_of(at, arguments, block)
+        kinds = [self.constant_in(argument, block) if (name, place) == ("DIVIDE", 2) else self.value(argument, block) for place, argument in enumerate(arguments)]
+        if name == "DIVIDE":
+            if kinds[2] is None or not 1 <= kinds[2] <= MOST_DIGITS or any(kind.kind != NUMBER for kind in kinds[:2]):
+                raise Fault(13, at)
+            return Value((NUMBER, kinds[2]))
+        if name == "SUBSTR":
+            if kinds[0].kind == NUMBER or any(kind.kind != NUMBER for kind in kinds[1:]):
+                raise Fault(13, at)
+            return Value((kinds[0].kind, 1))
+        if name in ("LENGTH", "INDEX"):
+            if any(kind.kind == NUMBER for kind in kinds) or len({kind.kind for kind in kinds}) > 1:
+                raise Fault(13, at)
+            return Value((NUMBER, 15))
+        if any(kind.kind != NUMBER for kind in kinds):
+            raise Fault(13, at)
+        if name == "SIGN":
+            return Value((NUMBER, 15))
+        return Value((NUMBER, kinds[-1].precision if name == "MOD" else max(kind.precision for kind in kinds)))
+
+    def constant_in(self, tree, block):
+        """The value of a bare decimal constant, or None, after the faults within."""
+        if isinstance(tree, str) and tree.isdigit():
+            return int(tree)
+        self.argument(tree, block)
+        return None
+
+    def bound_of(self, at, arguments, block):
+        array, number = arguments
+        bounds = None
+        if is_reference(array) and not self.is_call(array, block):
+            _, written, description = self.variable(Reference(array), block)
+            bounds = description[1] if description[0] == "array" else None
+        else:
+            self.value(array, block)
+        place = self.constant_in(number, block)
+        if bounds is None or place is None or not 1 <= place <= len(bounds):
+            raise Fault(13, at)
+        return Value((NUMBER, 15))
+
+    def is_call(self, tree, block):
+        reference = Reference(tree)
+        if reference.locator is not None or reference.parts[0].arguments is None:
+            return False
+        return not isinstance(self.meaning(reference, block), faults.Item)
+
+    # statements
+
+    def judged(self, judge, *given):
+        """The one fault of a statement."""
+        try:
+            judge(*given)
+        except Fault as fault:
+            self.found.append((fault.at, f"T{fault.code}"))
+
+    def procedure(self, tree):
+        block = self.unit.blocks[id(tree)]
+        self.statements(tree[3:], block, block)
+
+    def statements(self, trees, block, procedure):
+        for tree in trees:
+            self.statement(tree[2] if tree[0] == "label" else tree, block, procedure)
+
+    def statement(self, tree, block, procedure):
+        kind, *parts = tree
+        if kind == "procedure":
+            self.procedure(tree)
+        elif kind == "begin":
+            self.statements(parts, self.unit.blocks[id(tree)], procedure)
+        elif kind == "do":
+            self.judged(self.group, tree, block)
+            self.statements(parts[1:], block, procedure)
+        elif kind == "if":
+            self.judged(self.condition, parts[0], block)
+            for part in parts[1:]:
+                self.statement(part, block, procedure)
+        elif kind == "assign":
+            self.judged(self.assign, tree, block)
+        elif kind == "put":
+            self.judged(self.put, dict(parts).get("LIST", []), block)
+        elif kind == "call":
+            self.judged(self.call_statement, tree, block)
+        elif kind == "return":
+            self.judged(self.returned, tree, block, procedure)
+
+    def condition(self, tree, block):
+        if self.value(tree, block).kind != BITS:
+            raise Fault(4, first_token(tree))
+
+    def number(self, tree, block):
+        if self.value(tree, block).kind != NUMBER:
+            raise Fault(4, first_token(tree))
+
+    def put(self, items, block):
+        for item in items:
+            self.value(item, block)
+
+    def call_statement(self, tree, block):
+        part = Part(tree[1])
+        meant = self.meaning(Reference(tree[1]), block)
+        self.call(meant, part, tree, block, False)
+
+    def assign(self, tree, block):
+        target = self.variable(Reference(tree[1]), block)[2]
+        self.assigned(target, tree[2], tree.equals, block)
+
+    def assigned(self, target, source, at, block):
+        if is_scalar(target):
+            if not converts(self.value(source, block), target):
+                raise Fault(5, at)
+        elif self.argument(source, block).description != target:
+            raise Fault(5, at)
+
+    def returned(self, tree, block, procedure):
+        value = self.value(tree[1], block) if len(tree) > 1 else None
+        if (value is not None) != bool(procedure.results):
+            raise Fault(9, tree.at)
+        if value is not None and not converts(value, self.result(procedure)):
+            raise Fault(5, first_token(tree[1]))
+
+    def group(self, tree, block):
+        specification = tree[1]
+        if not specification:
+            return
+        if isinstance(specification[0], tuple) and specification[0][0] == "while":
+            self.condition(specification[0][1], block)
+            return
+        variable, start, *rest = specification
+        rest = dict(rest)
+        begins = self.value(start, block)
+        for word, limit in rest.items():
+            if word in ("to", "by"):
+                self.number(limit, block)
+        reference = Reference(variable)
+        _, written, description = self.variable(reference, block, aggregates=False)
+        if written or reference.locator is not None or (("to" in rest or "by" in rest) and description[0] != NUMBER):
+            raise Fault(12, reference.at)
+        if not converts(begins, description):
+            raise Fault(5, tree.equals)
+        if "while" in rest:
+            self.condition(rest["while"], block)
+        if "repeat" in rest and not converts(self.value(rest["repeat"], block), description):
+            raise Fault(5, first_token(rest["repeat"]))
