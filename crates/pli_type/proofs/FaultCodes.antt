@@ -24,7 +24,7 @@ use Rattle.pli_type.specs.References.{Role, AsValue, AsArgument, AsTarget, AsLoc
 use Rattle.pli_type.specs.References.{settled}
 use Rattle.pli_type.specs.StatementTyping as statements
 use Rattle.pli_type.specs.StatementTyping.{WithProcedures}
-use Rattle.pli_type.specs.TreeBlocks.{Next}
+use Rattle.pli_type.specs.Temporaries.{Next}
 use Rattle.pli_type.specs.Typing as typing
 use Rattle.pli_type.specs.Typing.{Segment, OfVariable, OfFunction, OfNoVariable, or_fault, first_token, denoted}
 use Rattle.pli_type.specs.Typing.{referred, joined, begun, is_call, all_subscripts, subscripts_in, all_arguments}

@@ -7,7 +7,7 @@ use Rattle.pli_base.specs.declared.token.Fault.{Fault}
 use Rattle.pli_type.specs.Names.{NamedUnit}
 use Rattle.pli_type.specs.StatementTyping.{Surroundings, WithProcedures, enclosing}
 use Rattle.pli_type.specs.StatementTyping.{statements_typed}
-use Rattle.pli_type.specs.TreeBlocks.{Next, temporaries_among}
+use Rattle.pli_type.specs.Temporaries.{Next, temporaries_among}
 use Rattle.pli_type.specs.Unbuilt.{first_unbuilt, is_main}
 use Rattle.pli_type_tree.specs.TypedTree.{TypedUnit, TypedProcedure, TypedStatements}
 

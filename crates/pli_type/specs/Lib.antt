@@ -8,7 +8,7 @@ pub mod ProcedureCalls
 pub mod References
 pub mod StatementTyping
 pub mod Typing
-pub mod TreeBlocks
+pub mod Temporaries
 pub mod Unbuilt
 pub mod examples
 pub mod laws

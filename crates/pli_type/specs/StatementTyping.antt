@@ -22,7 +22,7 @@ use Rattle.pli_type.specs.FunctionCalls.{WholeAggregate, Argument}
 use Rattle.pli_type.specs.Names.{NamedAs, AProcedure, ALabel, Naming, NamedUnit}
 use Rattle.pli_type.specs.ProcedureCalls.{arguments_passed}
 use Rattle.pli_type.specs.References.{AsArgument, AsLocator, AsTarget, Referent}
-use Rattle.pli_type.specs.TreeBlocks.{Next, behind, temporaries_among, limits_kept}
+use Rattle.pli_type.specs.Temporaries.{Next, behind, temporaries_among, limits_kept}
 use Rattle.pli_type.specs.Typing.{first_token, or_fault, meant, referred, value_of, all_arguments}
 use Rattle.pli_type_tree.specs.TypedTree as typed
 use Rattle.pli_type_tree.specs.TypedTree.{TypedExpression, Held, TypedReference, Whole, Part, Subscripts}

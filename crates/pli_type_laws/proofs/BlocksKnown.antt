@@ -3,12 +3,13 @@ use Rattle.std.specs.Prelude.{◌≡◌, ℕ, zero, suc, ◌+◌, nat_eq, Bool, 
 use Rattle.std.specs.Prelude.{List, [], ◌∷◌, ◌++◌, length, slice_get, refl}
 use Rattle.std.specs.List.{list_any}
 use Rattle.std.proofs.Common.{arith, sym, ap, ◌∙◌, subst, length-append}
+use Rattle.std.proofs.lemmas.List.Folds.{list_any-append}
 use Rattle.pli_base.specs.Statements as tree
 use Rattle.pli_base.specs.Statements.{Statement, Numbered, Body, Statements, Ended, Before, Alternative, NoElse, Else}
 use Rattle.pli_parse_expression.specs.Expressions.{Deeper}
 use Rattle.pli_resolve.specs.declared.block_numbers.ResolvedBlockKind.TheVariants as kinds
 use Rattle.pli_type.specs.StatementTyping.{Enclosing, enclosing, labels_of, with_labels}
-use Rattle.pli_type.specs.TreeBlocks as blocks
+use Rattle.pli_resolve.specs.TreeBlocks as blocks
 use Rattle.pli_type_name_laws.specs.Nesting.{NestsWithin, BodyNests, ListNests, ElseNests}
 use Rattle.pli_type_name_laws.specs.SourceBlocks.{SourceBlock, of_unit, begun_in, begun_by, begun_among, begun_behind}
 
@@ -18,28 +19,20 @@ use Rattle.pli_type_name_laws.specs.SourceBlocks.{SourceBlock, of_unit, begun_in
 abbrev pub Within : List ℕ → List ℕ → Type 0
 Within xs ys = (label : ℕ) → IsTrue (list_any (nat_eq label) xs) → IsTrue (list_any (nat_eq label) ys)
 
-or_assoc : (a b c : Bool) → (a || (b || c)) ≡ ((a || b) || c)
-or_assoc true b c = refl
-or_assoc false b c = refl
-
 or_both : (a b c d : Bool) → (a ≡ true → c ≡ true) → (b ≡ true → d ≡ true) → (a || b) ≡ true → (c || d) ≡ true
 or_both true b c d f g e = rw (f refl) refl
 or_both false b true d f g e = refl
 or_both false b false d f g e = g e
 
-any_both : (p : ℕ → Bool) (xs ys : List ℕ) → list_any p (xs ++ ys) ≡ (list_any p xs || list_any p ys)
-any_both p [] ys = refl
-any_both p (x ∷ xs) ys = ap (λ b. p x || b) (any_both p xs ys) ∙ or_assoc (p x) (list_any p xs) (list_any p ys)
-
 pub within_both : (xs ys vs ws : List ℕ) → Within xs vs → Within ys ws → Within (xs ++ ys) (vs ++ ws)
 within_both xs ys vs ws f g label e =
-    any_both (nat_eq label) vs ws
+    list_any-append (nat_eq label) vs ws
     ∙ or_both (list_any (nat_eq label) xs) (list_any (nat_eq label) ys) (list_any (nat_eq label) vs)
-    (list_any (nat_eq label) ws) (f label) (g label) (sym (any_both (nat_eq label) xs ys) ∙ e)
+    (list_any (nat_eq label) ws) (f label) (g label) (sym (list_any-append (nat_eq label) xs ys) ∙ e)
 
 pub within_behind : (xs ys zs : List ℕ) → Within xs zs → Within xs (ys ++ zs)
 within_behind xs ys zs f label e =
-    any_both (nat_eq label) ys zs ∙ or_both false (list_any (nat_eq label) xs) (list_any (nat_eq label) ys)
+    list_any-append (nat_eq label) ys zs ∙ or_both false (list_any (nat_eq label) xs) (list_any (nat_eq label) ys)
     (list_any (nat_eq label) zs) (λ e. absurd (cc)) (f label) e
 
 pub within_self : (xs : List ℕ) → Within xs xs

@@ -18,8 +18,8 @@ use Rattle.pli_type.specs.StatementTyping.{Surroundings, naming_at, block_at, le
 use Rattle.pli_type.specs.StatementTyping.{call_typed, goto_typed, return_typed, WithProcedures, alone, of_own, together, made, head_of}
 use Rattle.pli_type.specs.StatementTyping.{procedure_of, as_procedure, put_before, inside, behind_limits, in_group, in_begin, in_procedure}
 use Rattle.pli_type.specs.StatementTyping.{statement_typed, body_typed, alternative_typed, statements_typed}
-use Rattle.pli_type.specs.TreeBlocks as blocks
-use Rattle.pli_type.specs.TreeBlocks.{Next, behind, limits_kept, temporaries_in, temporaries_of, temporaries_among, temporaries_behind}
+use Rattle.pli_resolve.specs.TreeBlocks as blocks
+use Rattle.pli_type.specs.Temporaries.{Next, behind, limits_kept, temporaries_in, temporaries_of, temporaries_among, temporaries_behind}
 use Rattle.pli_type.specs.Unbuilt.{first_unbuilt}
 use Rattle.pli_type_laws.proofs.Counting.{same, below, below_next, below_bound, in_blocks, of_blocks, in_both, of_both}
 use Rattle.pli_type_laws.proofs.Counting.{blocks_placed, ordered_distinct}

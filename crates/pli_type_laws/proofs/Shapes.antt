@@ -20,7 +20,7 @@ use Rattle.pli_type.specs.References.{AsArgument, AsLocator, AsTarget, Referent}
 use Rattle.pli_type.specs.StatementTyping.{aggregate_assigned, assigned, assignment, Surroundings, label_found, jump_to, jump, goto_typed}
 use Rattle.pli_type.specs.StatementTyping.{arguments_typed, no_function, call_of, call_typed, returned_value, return_typed}
 use Rattle.pli_type.specs.StatementTyping.{limit, limits, controls, possible_condition, with_repeat, iteration}
-use Rattle.pli_type.specs.TreeBlocks.{limits_kept}
+use Rattle.pli_type.specs.Temporaries.{limits_kept}
 use Rattle.pli_type.specs.Typing.{first_token, or_fault, meant, referred, value_of}
 use Rattle.pli_type_laws.proofs.Conversions.{OnGiven}
 use Rattle.pli_type_laws.proofs.Denotations.{OnRead}

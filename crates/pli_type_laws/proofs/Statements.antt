@@ -14,8 +14,8 @@ use Rattle.pli_type.specs.StatementTyping.{Enclosing, enclosing, Surroundings, n
 use Rattle.pli_type.specs.StatementTyping.{condition, iteration, call_typed, goto_typed, return_typed, WithProcedures, of_own, together}
 use Rattle.pli_type.specs.StatementTyping.{made, head_of, function_end, procedure_of, as_procedure, put_before, inside, behind_limits}
 use Rattle.pli_type.specs.StatementTyping.{statement_typed, body_typed, alternative_typed, statements_typed}
-use Rattle.pli_type.specs.TreeBlocks as blocks
-use Rattle.pli_type.specs.TreeBlocks.{Next, behind}
+use Rattle.pli_resolve.specs.TreeBlocks as blocks
+use Rattle.pli_type.specs.Temporaries.{Next, behind}
 use Rattle.pli_type.specs.Unbuilt.{later_expression, later_control, or_else, token_if, later_statement}
 use Rattle.pli_type.specs.Unbuilt.{later_body, later_alternative, later_statements}
 use Rattle.pli_type_laws.proofs.BlocksKnown.{Within, within_self, within_both, within_behind, begun_count, Sits, sits_parts}

@@ -12,7 +12,6 @@ use Rattle.pli_resolve.specs.declared.block_numbers.ResolvedBlockKind.TheVariant
 use Rattle.pli_resolve.specs.laws.BlockLaws as laws
 use Rattle.pli_resolve.proofs.BlocksOfTrees.{blocks_of_the_tree}
 use Rattle.pli_type.specs.StatementTyping.{Enclosing, enclosing, labels_of, with_labels}
-use Rattle.pli_type.specs.TreeBlocks as blocks
 use Rattle.pli_type_name_laws.specs.SourceBlocks.{of_unit, innermost, begun_in, begun_by, begun_among, begun_behind}
 use Rattle.pli_type_name_laws.specs.SourceBlocks.{unit_blocks}
 use Rattle.pli_type_name_laws.specs.UnitBlocks.{in_unit, in_tree, BlocksAreOfTree}
@@ -23,30 +22,6 @@ in_walk b = (b.kind, b.outer)
 map_both : {A B : Type 0} (f : A → B) (xs ys : List A) → map f (xs ++ ys) ≡ map f xs ++ map f ys
 map_both f [] ys = refl
 map_both f (x ∷ xs) ys = ap (λ zs. f x ∷ zs) (map_both f xs ys)
-
-mutual
-  same_count : (s : Statement) → walked.blocks_in s ≡ blocks.blocks_in s
-  same_count (Numbered number label at body) = same_body_count body
-
-  same_body_count : (b : Body) → walked.blocks_of b ≡ blocks.blocks_of b
-  same_body_count (tree.Procedure heading statements end) = ap suc (same_list_count statements)
-  same_body_count (tree.Begin statements end) = ap suc (same_list_count statements)
-  same_body_count (tree.Do control statements end) = same_list_count statements
-  same_body_count (tree.If condition consequence alternative) =
-      ap (λ n. n + walked.blocks_behind alternative) (same_count consequence)
-      ∙ ap (λ n. blocks.blocks_in consequence + n) (same_else_count alternative)
-  same_body_count (tree.On condition unit) = ap suc (same_count unit)
-  same_body_count body = refl
-
-  same_list_count : (ss : Statements) → walked.blocks_among ss ≡ blocks.blocks_among ss
-  same_list_count Ended = refl
-  same_list_count (Before first more) =
-      ap (λ n. n + walked.blocks_among more) (same_count first)
-      ∙ ap (λ n. blocks.blocks_in first + n) (same_list_count more)
-
-  same_else_count : (a : Alternative) → walked.blocks_behind a ≡ blocks.blocks_behind a
-  same_else_count NoElse = refl
-  same_else_count (Else s) = same_count s
 
 innermost_kept : (labels : List ℕ) (around : List Enclosing) (outer : ℕ) → innermost around ≡ Some outer
     → innermost (with_labels labels around) ≡ Some outer
@@ -76,11 +51,9 @@ mutual
       (walked.alternative_blocks outer (x + walked.blocks_in consequence) alternative)
       ∙ ap (λ bs. bs ++ map in_walk (walked.alternative_blocks outer (x + walked.blocks_in consequence) alternative))
       (walk_in around outer x consequence e)
-      ∙ ap (λ n. map in_tree (begun_in around x consequence) ++ map in_walk (walked.alternative_blocks outer (x + n) alternative))
-      (same_count consequence)
       ∙ ap (λ bs. map in_tree (begun_in around x consequence) ++ bs)
-      (walk_behind around outer (x + blocks.blocks_in consequence) alternative e)
-      ∙ sym (map_both in_tree (begun_in around x consequence) (begun_behind around (x + blocks.blocks_in consequence) alternative))
+      (walk_behind around outer (x + walked.blocks_in consequence) alternative e)
+      ∙ sym (map_both in_tree (begun_in around x consequence) (begun_behind around (x + walked.blocks_in consequence) alternative))
   walk_by around outer x number (tree.On condition unit) e =
       ap (λ (o : Option ℕ). (kinds.OnUnit, o) ∷ map in_walk (walked.statement_blocks x (suc x) unit)) (sym e)
       ∙ ap (λ bs. (kinds.OnUnit, innermost around) ∷ bs) (walk_in (of_unit x ∷ around) x (suc x) unit refl)
@@ -94,11 +67,9 @@ mutual
       (walked.statements_blocks outer (x + walked.blocks_in first) more)
       ∙ ap (λ bs. bs ++ map in_walk (walked.statements_blocks outer (x + walked.blocks_in first) more))
       (walk_in around outer x first e)
-      ∙ ap (λ n. map in_tree (begun_in around x first) ++ map in_walk (walked.statements_blocks outer (x + n) more))
-      (same_count first)
       ∙ ap (λ bs. map in_tree (begun_in around x first) ++ bs)
-      (walk_among around outer (x + blocks.blocks_in first) more e)
-      ∙ sym (map_both in_tree (begun_in around x first) (begun_among around (x + blocks.blocks_in first) more))
+      (walk_among around outer (x + walked.blocks_in first) more e)
+      ∙ sym (map_both in_tree (begun_in around x first) (begun_among around (x + walked.blocks_in first) more))
 
   walk_behind : (around : List Enclosing) (outer x : ℕ) (a : Alternative) → innermost around ≡ Some outer
       → map in_walk (walked.alternative_blocks outer x a) ≡ map in_tree (begun_behind around x a)

@@ -10,7 +10,7 @@ use Rattle.pli_resolve.specs.declared.block_numbers.ResolvedBlockKind.{ResolvedB
 use Rattle.pli_resolve.specs.declared.block_numbers.ResolvedBlockKind.TheVariants as kinds
 use Rattle.pli_type.specs.Names.{NamedUnit}
 use Rattle.pli_type.specs.StatementTyping.{Enclosing, enclosing, labels_of, with_labels}
-use Rattle.pli_type.specs.TreeBlocks as blocks
+use Rattle.pli_resolve.specs.TreeBlocks as blocks
 use Rattle.pli_type_tree.specs.WellTyped.{BlockAround, Signature}
 
 -- a block: its PROCEDURE, BEGIN or ON; the blocks around it, the innermost first, each with the labels of its

@@ -7,7 +7,8 @@ use Rattle.pli_map.specs.Description.{Description}
 use Rattle.pli_type.specs.Names.{NamedUnit}
 use Rattle.pli_type.specs.StatementTyping as spec
 use Rattle.pli_type.specs.StatementTyping.{Enclosing, Surroundings, WithProcedures, statements_typed, with_labels, in_group, in_begin, in_procedure, head_of}
-use Rattle.pli_type.specs.TreeBlocks.{Next, blocks_among, temporaries_among}
+use Rattle.pli_resolve.specs.TreeBlocks.{blocks_among}
+use Rattle.pli_type.specs.Temporaries.{Next, temporaries_among}
 use Rattle.pli_type_names.specs.UnitNaming.{Names, inside, outside, procedure_in}
 use Rattle.pli_type_templates.specs.views.UnitView.{automatic_at}
 use Rattle.pli_type_tree.specs.Templates.{Template}

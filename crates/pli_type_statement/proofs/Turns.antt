@@ -10,7 +10,8 @@ use Rattle.pli_base.specs.views.StatementView as source
 use Rattle.pli_type.specs.Names.{Compiled, NamedUnit, Naming}
 use Rattle.pli_type.specs.StatementTyping as spec
 use Rattle.pli_type.specs.StatementTyping.{Surroundings, WithProcedures, alone, of_own, together, made, put_before, leaves_nothing, body_typed, statement_typed, statements_typed, naming_at, items, put_form, condition, iteration}
-use Rattle.pli_type.specs.TreeBlocks.{Next, behind, blocks_in, blocks_among, temporaries_in, temporaries_among, kept_by, limits_kept}
+use Rattle.pli_resolve.specs.TreeBlocks.{blocks_in, blocks_among}
+use Rattle.pli_type.specs.Temporaries.{Next, behind, temporaries_in, temporaries_among, kept_by, limits_kept}
 use Rattle.pli_type.specs.Unbuilt.{later_body, later_statement, later_statements}
 use Rattle.pli_type_tree.specs.TypedTree as typed
 use Rattle.pli_type_tree.specs.TypedTree.{Form, TypedExpression, TypedStatement, TypedStatements, StatementThen, NoStatement}

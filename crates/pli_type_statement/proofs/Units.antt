@@ -10,7 +10,7 @@ use Rattle.pli_resolve.specs.ResolvedUnits.{resolved_unit_of}
 use Rattle.pli_type.specs.Checked.{checked, in_unit, first_inside, typed_as, unit_of, unless_unbuilt}
 use Rattle.pli_type.specs.NamedUnits.{checked_unit}
 use Rattle.pli_type.specs.StatementTyping.{WithProcedures, statements_typed}
-use Rattle.pli_type.specs.TreeBlocks.{Next, temporaries_among}
+use Rattle.pli_type.specs.Temporaries.{Next, temporaries_among}
 use Rattle.pli_type.specs.Unbuilt.{first_unbuilt, is_main, later_heading, later_statements, or_else}
 use Rattle.pli_type_names.specs.UnitNaming.{unit_compiled}
 use Rattle.pli_type_tree.specs.Templates.{Template}

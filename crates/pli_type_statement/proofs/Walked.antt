@@ -8,7 +8,7 @@ use Rattle.pli_type.specs.NamedUnits.{named_unit}
 use Rattle.pli_base.specs.views.StatementView.{unit_view}
 use Rattle.pli_resolve.specs.ResolvedUnits.{resolved_unit_of}
 use Rattle.pli_type.specs.StatementTyping.{Surroundings, WithProcedures, alone, of_own, together, made, naming_at, if_form}
-use Rattle.pli_type.specs.TreeBlocks.{Next}
+use Rattle.pli_type.specs.Temporaries.{Next}
 use Rattle.pli_type_expression.specs.answers.TypingAnswers.{Gives}
 use Rattle.pli_type_expression.specs.declared.answer.TypeError.{TypeError}
 use Rattle.pli_type_expression.specs.declared.answer.TypeError.TheVariants as errors

@@ -10,8 +10,9 @@ use Rattle.pli_resolve.specs.ResolvedUnits.{resolved_unit_of}
 use Rattle.pli_type.specs.Names.{NamedUnit}
 use Rattle.pli_type.specs.NamedUnits.{named_unit}
 use Rattle.pli_type.specs.StatementTyping.{WithProcedures}
-use Rattle.pli_type.specs.TreeBlocks.{Next, blocks_of, blocks_among, blocks_behind, temporaries_of}
-use Rattle.pli_type.specs.TreeBlocks.{temporaries_among, temporaries_behind}
+use Rattle.pli_resolve.specs.TreeBlocks.{blocks_of, blocks_among, blocks_behind}
+use Rattle.pli_type.specs.Temporaries.{Next, temporaries_of}
+use Rattle.pli_type.specs.Temporaries.{temporaries_among, temporaries_behind}
 use Rattle.pli_type.specs.Unbuilt.{is_main}
 use Rattle.pli_type_expression.specs.declared.answer.TypeError.{TypeError}
 use Rattle.pli_type_expression.specs.declared.answer.TypeError.TheVariants as errors

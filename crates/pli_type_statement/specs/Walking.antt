@@ -8,7 +8,8 @@ use Rattle.pli_map.specs.views.DescriptionView.{description_view}
 use Rattle.pli_type.specs.Names.{NamedUnit}
 use Rattle.pli_type.specs.StatementTyping as spec
 use Rattle.pli_type.specs.StatementTyping.{Enclosing, Surroundings, WithProcedures, head_of}
-use Rattle.pli_type.specs.TreeBlocks.{Next, blocks_among}
+use Rattle.pli_resolve.specs.TreeBlocks.{blocks_among}
+use Rattle.pli_type.specs.Temporaries.{Next}
 use Rattle.pli_type.specs.Unbuilt.{is_main}
 use Rattle.pli_type_names.specs.UnitNaming.{inside, outside}
 use Rattle.pli_type_templates.specs.views.UnitView.{automatic_at}

@@ -1,7 +1,7 @@
 //! What controls a group.
 ghost use Rattle.std.specs.Prelude.{◌≡◌, false, option_map};
 ghost use Rattle.pli_base.specs.views.StatementView.{control_view, range_view};
-ghost use Rattle.pli_type.specs.TreeBlocks as spec;
+ghost use Rattle.pli_type.specs.Temporaries as spec;
 ghost use Rattle.pli_type.specs.Unbuilt.{later_control, later_part};
 ghost use Rattle.pli_type_expression.specs.answers.TypingAnswers.{Gives};
 ghost use Rattle.pli_type_names.specs.UnitNaming.{compiled_in, naming_in};

@@ -4,7 +4,7 @@ ghost use Rattle.pli_base.specs.views.StatementView as source;
 ghost use Rattle.pli_base.specs.views.SyntaxView as syntax;
 ghost use Rattle.pli_map.specs.views.DescriptionView.{description_view};
 ghost use Rattle.pli_type.specs.StatementTyping as spec;
-ghost use Rattle.pli_type.specs.TreeBlocks.{behind, kept_by};
+ghost use Rattle.pli_type.specs.Temporaries.{behind, kept_by};
 ghost use Rattle.pli_type.specs.Unbuilt.{later_body, later_control, later_expression, later_part, later_statement, later_statements};
 ghost use Rattle.pli_type_names.specs.UnitNaming.{compiled_in};
 ghost use Rattle.pli_type_statement.specs.Around.{surroundings_of};

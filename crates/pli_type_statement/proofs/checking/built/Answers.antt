@@ -1,7 +1,7 @@
 use Rattle.std.proofs.Common.{◌++◌, Vec, Global, Ok, map, option_map, refl, ap, sym, ◌∙◌, subst, arith}
 use Rattle.pli_base.specs.declared.statement.Procedure.{out-Procedure}
 use Rattle.pli_base.specs.views.StatementView.{unit_view}
-use Rattle.pli_type.specs.TreeBlocks.{Next}
+use Rattle.pli_type.specs.Temporaries.{Next}
 use Rattle.pli_type.specs.Unbuilt.{first_unbuilt}
 use Rattle.pli_type_names.specs.UnitNaming.{Names, compiled_in}
 use Rattle.pli_type_tree.specs.declared.statement.TypedStatement.{TypedStatement}

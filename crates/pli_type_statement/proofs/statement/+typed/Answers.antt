@@ -7,7 +7,7 @@ use Rattle.pli_base.specs.views.SyntaxView as syntax
 use Rattle.pli_map.specs.views.DescriptionView.{description_view}
 use Rattle.pli_type.specs.StatementTyping as spec
 use Rattle.pli_type.specs.StatementTyping.{labels_of}
-use Rattle.pli_type.specs.TreeBlocks.{behind}
+use Rattle.pli_type.specs.Temporaries.{behind}
 use Rattle.pli_type.specs.Unbuilt.{later_alternative, later_body, later_statement, later_statements}
 use Rattle.pli_type_names.specs.UnitNaming.{Names, compiled_in, procedure_in}
 use Rattle.pli_type_tree.specs.TypedTree as plain

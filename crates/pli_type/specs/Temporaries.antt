@@ -1,31 +1,8 @@
--- The blocks and temporaries of statements. A procedure and a BEGIN block are numbered in the order in which
--- they begin in the text; so is an ON-unit. The temporaries of a block are counted from 0 in the order of the
--- text.
+-- The temporaries of statements. Those of a block are counted from 0 in the order of the text.
 use Rattle.std.specs.Prelude.{ℕ, suc, ◌+◌, Option, Some, None}
 use Rattle.pli_base.specs.Statements.{Range, To, By, Repeat, Control, While, Iterate, Statement, Numbered}
-use Rattle.pli_base.specs.Statements.{Body, Procedure, Begin, Do, If, On, Statements, Ended, Before}
-use Rattle.pli_base.specs.Statements.{Alternative, NoElse, Else}
-
--- how many blocks begin in a statement
-abbrev mutual
-  pub blocks_in : Statement → ℕ
-  blocks_in (Numbered number label at body) = blocks_of body
-
-  pub blocks_of : Body → ℕ
-  blocks_of (Procedure heading statements end) = suc (blocks_among statements)
-  blocks_of (Begin statements end) = suc (blocks_among statements)
-  blocks_of (Do control statements end) = blocks_among statements
-  blocks_of (If condition consequence alternative) = blocks_in consequence + blocks_behind alternative
-  blocks_of (On condition unit) = suc (blocks_in unit)
-  blocks_of body = 0
-
-  pub blocks_among : Statements → ℕ
-  blocks_among Ended = 0
-  blocks_among (Before first more) = blocks_in first + blocks_among more
-
-  pub blocks_behind : Alternative → ℕ
-  blocks_behind NoElse = 0
-  blocks_behind (Else statement) = blocks_in statement
+use Rattle.pli_base.specs.Statements.{Body, Do, If, Statements, Ended, Before, Alternative, NoElse, Else}
+use Rattle.pli_resolve.specs.TreeBlocks.{blocks_in}
 
 -- what a group keeps of what limits it: TO and BY, and 1 where TO stands without BY
 abbrev pub limits_kept : Option Range → ℕ
