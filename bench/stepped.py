@@ -1,17 +1,24 @@
 #!/usr/bin/env python3
-"""stepped.py [FOLDER]: makes sessions, with their answers, of the programs of programs.txt, one for each topic, and of types.txt.
+"""stepped.py [FOLDER]: makes sessions, with their answers, of programs, one for each topic of programs.txt, one for each outer form of
+nested.py, and one of expressions.txt; and one of the statements of types.txt.
 
 Each program is typed as member M, its statements broken into lines at blanks, and run with 0 steps, 1 step and so on up to the number at
-which it has ended, at most 30, and once with 2,000. The answers are those of meaning.py, which is written from the rules alone. The
-statements of types.txt stand in one procedure, each broken before the token at which its fault stands, so that the line of a diagnostic tells
-the token; that meaning.py finds the faults that are written there is tested. Without FOLDER the sessions there are compared with those that would be made; the status tells whether they are the same.
+which it has ended, at most 30, and once with 2,000. The answers are those of meaning.py, which is written from the rules alone. Each
+expression of expressions.txt is printed on a line of its own; that meaning.py gives it the type that is written there, and the columns that
+follow from it, is tested. The statements of types.txt stand in one procedure, each broken before the token at which its fault stands, so that
+the line of a diagnostic tells the token; that meaning.py finds the faults that are written there is tested. Without FOLDER the sessions that
+stand are compared with those that would be made; the status tells whether they are the same.
 """
+import re
 import sys
+from math import ceil
 from pathlib import Path
 
 import meaning
+import nested
 import reader
 import runs
+import typed
 
 HERE = Path(__file__).resolve().parent
 KEPT = HERE.parent / "crates" / "pli_sessions" / "data" / "stepped"
@@ -38,15 +45,20 @@ ROUTINES = [
 ]
 
 
+def tables(name):
+    """Each topic of a file with its lines."""
+    found = {}
+    for line in (HERE / name).read_text().splitlines():
+        if line.startswith("== "):
+            lines = found.setdefault(line[3:], [])
+        elif line and not line.startswith("#"):
+            lines.append(line)
+    return found
+
+
 def topics():
     """Each topic with its programs."""
-    found = {}
-    for line in (HERE / "programs.txt").read_text().splitlines():
-        if line.startswith("== "):
-            programs = found.setdefault(line[3:].replace(" ", "_"), [])
-        elif line and not line.startswith("#"):
-            programs.append(line)
-    return found
+    return {topic.replace(" ", "_"): lines for topic, lines in tables("programs.txt").items()}
 
 
 def broken(text):
@@ -89,6 +101,47 @@ def session(programs):
     return "\n".join([*commands, ""]), "\n".join([*answers, ""])
 
 
+def declarations_of(text):
+    """What declares the names of expressions, and the functions that they call."""
+    given = {
+        "C": "C CHAR(4) INIT('AB')",
+        "V": "V CHAR(6) VAR INIT('AB')",
+        "B": "B BIT(4) INIT('1100'B)",
+        "T": "T(2) FIXED BIN(13) INIT(4096, -8191)",
+        "S.X": "1 S, 2 X FIXED BIN(9) INIT(-511)",
+    }
+    names = sorted(set(re.findall(r"(?<!')\b(?:[FGK]\d+|S\.X|[CVBT])\b", text)), key=lambda name: (name[0], len(name), name))
+    numbers = {name: f"{name} FIXED BIN({name[1:]}) INIT({1 if name[0] == 'G' else 1 - 2 ** int(name[1:])})" for name in names if name[0] in "FG"}
+    declared = [(given | numbers)[name] for name in names if name[0] != "K"]
+    routines = [f"{name}: PROC RETURNS(FIXED BIN({name[1:]})); RETURN(1); END {name};" for name in names if name[0] == "K"]
+    return [f"DCL {', '.join(declared)};"] * bool(declared), routines
+
+
+def is_as_written(written, value, line):
+    """Whether a value's type is that written, and the line that it was printed on has what follows from that."""
+    if written.isdigit():
+        columns = 1 + ceil(int(written) * 100 / 332) + 3
+        return value.kind == typed.NUMBER and value.precision == int(written) and value.decimal is None and len(line) == columns + 1
+    if written.startswith("D"):
+        return value.decimal == int(written[1:]) and len(line) == value.decimal + 3 + 1
+    kind, text = typed.constant_value(written)
+    return (value.kind == typed.BITS) == (kind.kind == typed.BITS) and line == (f"{written} " if kind.kind == typed.BITS else f"{text} ")
+
+
+def programs_of_expressions():
+    """A program for each topic of expressions.txt."""
+    for lines in tables("expressions.txt").values():
+        rows = [line.split(" : ") for line in lines]
+        declared, routines = declarations_of(" ".join(expression for _, expression in rows))
+        program = " ".join([*declared, *(f"PUT SKIP LIST({expression});" for _, expression in rows), *routines])
+        unit = meaning.Unit(["M: PROC OPTIONS(MAIN);", *broken(program), "END M;"])
+        items = [dict(tree[1:])["LIST"][0] for tree in unit.tree[3:] if tree[0] == "put"]
+        for (written, expression), item, line in zip(rows, items, unit.run(MANY)[0].split("\n")[1:-1], strict=True):
+            if not is_as_written(written, unit.types.types[id(item)], line):
+                sys.exit(f"expressions.txt: {written} : {expression} is printed as '{line}'")
+        yield program
+
+
 def faulty_statements():
     """The lines of the statements of types.txt, and the diagnostics, each a line and a code."""
     lines, wanted = list(DECLARED), []
@@ -118,7 +171,8 @@ def session_of_types():
 
 def main():
     is_same = True
-    made = {topic: session(programs) for topic, programs in topics().items()} | {"faults_of_types": session_of_types()}
+    programs = topics() | nested.topics() | {"types_of_expressions": [*programs_of_expressions()]}
+    made = {topic: session(several) for topic, several in programs.items()} | {"faults_of_types": session_of_types()}
     for topic, texts in made.items():
         for ending, text in zip(("session", "answers"), texts):
             if len(sys.argv) > 1:

@@ -1,8 +1,9 @@
 //! Sessions, and whether a new workbench answers them as is wanted.
 //!
 //! Standard input has the names of sessions, one a line. The commands of NAME are the file `NAME.session`, below the
-//! folder that the program runs in, and the answers that are wanted the file `NAME.answers`. A line for each session tells
-//! that it is answered as is wanted, or where the answers differ first. The status is 0 where all are, and else 1 (own).
+//! folder that the program runs in, and the answers that are wanted the file `NAME.answers`. A line for each session
+//! tells that it is answered as is wanted, or where the answers differ first. The status is 0 where all are, and else 1
+//! (own).
 #![tactic(auto)]
 
 mod difference;
