@@ -3,5 +3,3 @@
 
 #[cfg(test)]
 mod resolved;
-#[cfg(test)]
-mod units;
