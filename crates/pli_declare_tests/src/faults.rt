@@ -1,46 +1,19 @@
 //! The faults of the declarations of units.
-use crate::units::unit_of;
+use crate::answers::{Asked, all};
 use pli_base::Fault;
-use pli_declare::{ResolveError, faults_are_least_codes, resolve, worked_examples};
-use std::alloc::{AllocError, Global};
-use std::fmt::Write;
+use pli_declare::{faults_are_least_codes, worked_examples};
+use pli_text_tests::Shown;
 use std::test::*;
 
 /// `A1 at 4, A10 at 6`.
-fn show_faults(alloc: Global, faults: &[Fault]) -> Result<String, AllocError> {
-    let mut shown = String::new(alloc);
+pub(crate) fn show_faults(shown: &mut Shown, faults: &[Fault]) {
+    let mut before = "";
     for fault in faults {
-        if !shown.is_empty() {
-            shown.push_str(", ")?;
-        }
-        let label = fault.code.label();
-        let at = fault.at;
-        write!(shown, "{label} at {at}")?;
+        shown.put(before);
+        shown.put(fault.code.label());
+        shown.put_number(" at ", u64::from(fault.at));
+        before = ", ";
     }
-    Ok(shown)
-}
-
-/// The faults of the declarations of a text; of one that does not read, the parser's.
-fn answered(alloc: Global, text: &str) -> Result<String, AllocError> {
-    match unit_of(alloc, text)? {
-        Ok(unit) => match resolve(alloc, &unit) {
-            Ok(_) => show_faults(alloc, &[]),
-            Err(ResolveError::Faulty(faults)) => show_faults(alloc, &faults),
-            Err(ResolveError::OutOfMemory) => Err(AllocError),
-        },
-        Err(fault) => show_faults(alloc, &[fault]),
-    }
-}
-
-/// Fails at the first text of a table that is not answered as the table says, with its answer.
-fn are_answered(alloc: Global, texts: &[(&str, &str)]) -> Result<(), Fail> {
-    for (text, want) in texts {
-        let answer = answered(alloc, text)?;
-        if answer.as_str() != *want {
-            return Err(Fail::new(format!(in alloc; "{text}: {answer}")?));
-        }
-    }
-    Ok(())
 }
 
 /// References to what is declared, and to what is not.
@@ -456,48 +429,24 @@ static HEADINGS: [(&str, &str); 18] = [
 ];
 
 #[test]
-fn references_are_answered(rt: HostRuntime) -> Result<(), Fail> {
-    are_answered(rt.alloc(), &REFERENCES)
+fn references_and_repeats_are_answered(rt: HostRuntime) -> Result<(), Fail> {
+    all(rt.alloc(), Asked::Faults, &REFERENCES)?;
+    all(rt.alloc(), Asked::Faults, &REPEATS)?;
+    all(rt.alloc(), Asked::Faults, &BLOCKS)
 }
 
 #[test]
-fn repeats_are_answered(rt: HostRuntime) -> Result<(), Fail> {
-    are_answered(rt.alloc(), &REPEATS)
+fn structures_and_jumps_are_answered(rt: HostRuntime) -> Result<(), Fail> {
+    all(rt.alloc(), Asked::Faults, &STRUCTURES)?;
+    all(rt.alloc(), Asked::Faults, &JUMPS)?;
+    all(rt.alloc(), Asked::Faults, &LEVELS)
 }
 
 #[test]
-fn blocks_are_answered(rt: HostRuntime) -> Result<(), Fail> {
-    are_answered(rt.alloc(), &BLOCKS)
-}
-
-#[test]
-fn structures_are_answered(rt: HostRuntime) -> Result<(), Fail> {
-    are_answered(rt.alloc(), &STRUCTURES)
-}
-
-#[test]
-fn jumps_are_answered(rt: HostRuntime) -> Result<(), Fail> {
-    are_answered(rt.alloc(), &JUMPS)
-}
-
-#[test]
-fn levels_are_answered(rt: HostRuntime) -> Result<(), Fail> {
-    are_answered(rt.alloc(), &LEVELS)
-}
-
-#[test]
-fn locators_are_answered(rt: HostRuntime) -> Result<(), Fail> {
-    are_answered(rt.alloc(), &LOCATORS)
-}
-
-#[test]
-fn items_are_answered(rt: HostRuntime) -> Result<(), Fail> {
-    are_answered(rt.alloc(), &ITEMS)
-}
-
-#[test]
-fn headings_are_answered(rt: HostRuntime) -> Result<(), Fail> {
-    are_answered(rt.alloc(), &HEADINGS)
+fn items_and_headings_are_answered(rt: HostRuntime) -> Result<(), Fail> {
+    all(rt.alloc(), Asked::Faults, &LOCATORS)?;
+    all(rt.alloc(), Asked::Faults, &ITEMS)?;
+    all(rt.alloc(), Asked::Faults, &HEADINGS)
 }
 
 #[test]

@@ -2,6 +2,8 @@
 #![tactic(auto)]
 
 #[cfg(test)]
+mod answers;
+#[cfg(test)]
 mod faults;
 #[cfg(test)]
 mod outlines;
@@ -9,5 +11,3 @@ mod outlines;
 mod resolved;
 #[cfg(test)]
 mod tables;
-#[cfg(test)]
-mod units;

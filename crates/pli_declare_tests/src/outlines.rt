@@ -1,86 +1,68 @@
 //! The outlines of units.
-use crate::units::{push_name, unit_of};
+use crate::answers::{Asked, all};
+use pli_base::declaration::Item;
 use pli_base::syntax::Identifier;
-use pli_declare_outline::{Mark, Outline, RegionKind, outline};
-use std::alloc::{AllocError, Global};
-use std::fmt::Write;
+use pli_declare_outline::{Mark, Outline, Region, RegionKind};
+use pli_text_tests::Shown;
 use std::test::*;
 
-fn show_name(shown: &mut String, identifier: &Identifier) -> Result<(), AllocError> {
-    push_name(shown, &identifier.name)?;
-    let at = identifier.at;
-    write!(shown, "@{at}")?;
-    Ok(())
+fn show_name(shown: &mut Shown, before: &str, identifier: &Identifier) {
+    shown.put(before);
+    shown.put_bytes(identifier.name.bytes());
+    shown.put_number("@", u64::from(identifier.at));
 }
 
-fn show_names(shown: &mut String, names: &[Identifier]) -> Result<(), AllocError> {
+fn show_names(shown: &mut Shown, names: &[Identifier]) {
     for name in names {
-        shown.push('.')?;
-        show_name(shown, name)?;
+        show_name(shown, ".", name);
     }
-    Ok(())
 }
 
-fn show_mark(shown: &mut String, mark: &Mark<'_>) -> Result<(), AllocError> {
+fn show_items(shown: &mut Shown, items: &[Item]) {
+    for item in items {
+        shown.put(" dcl");
+        show_names(shown, &item.names);
+    }
+}
+
+fn show_mark(shown: &mut Shown, mark: &Mark<'_>) {
     match mark {
-        Mark::Declared(items) => {
-            for item in items.iter() {
-                shown.push_str(" dcl")?;
-                show_names(shown, item.names.as_slice())?;
-            }
-        }
-        Mark::Labelled(label) => {
-            shown.push_str(" label ")?;
-            show_name(shown, label)?;
-        }
+        Mark::Declared(items) => show_items(shown, items),
+        Mark::Labelled(label) => show_name(shown, " label ", label),
         Mark::Entered { procedure, region } => {
-            shown.push_str(" proc ")?;
-            show_name(shown, &procedure.name)?;
-            let region = *region;
-            write!(shown, ":{region}")?;
+            show_name(shown, " proc ", &procedure.name);
+            shown.put_number(":", *region as u64);
         }
         Mark::Used(names) => {
-            shown.push_str(" use")?;
-            show_names(shown, names.as_slice())?;
+            shown.put(" use");
+            show_names(shown, names);
         }
-        Mark::Jumped(label) => {
-            shown.push_str(" goto ")?;
-            show_name(shown, label)?;
-        }
+        Mark::Jumped(label) => show_name(shown, " goto ", label),
     }
-    Ok(())
 }
 
-/// `P B0 G1 U2`: the kind of each region with the number of the one that it stands in; then the marks, each behind its region.
-fn show_outline(alloc: Global, outline: &Outline<'_>) -> Result<String, AllocError> {
-    let mut shown = String::new(alloc);
+fn show_region(shown: &mut Shown, region: &Region) {
+    shown.put(match region.kind {
+        RegionKind::Procedure => "P",
+        RegionKind::Begin => "B",
+        RegionKind::Group => "G",
+        RegionKind::Unit => "U",
+    });
+    if let Some(outer) = region.outer {
+        shown.put_number("", outer as u64);
+    }
+    shown.put(" ");
+}
+
+/// `P B0 G1 U2`: the kind of each region with the number of the one that it stands in; then the marks, each behind its
+/// region.
+pub(crate) fn show_outline(shown: &mut Shown, outline: &Outline<'_>) {
     for region in outline.regions.iter() {
-        shown.push(match region.kind {
-            RegionKind::Procedure => 'P',
-            RegionKind::Begin => 'B',
-            RegionKind::Group => 'G',
-            RegionKind::Unit => 'U',
-        })?;
-        if let Some(outer) = region.outer {
-            write!(shown, "{outer}")?;
-        }
-        shown.push(' ')?;
+        show_region(shown, region);
     }
     for placed in outline.marks.iter() {
-        let region = placed.region;
-        write!(shown, "|{region}")?;
-        show_mark(&mut shown, &placed.mark)?;
-    }
-    Ok(shown)
-}
-
-fn outlined(alloc: Global, text: &str) -> Result<String, AllocError> {
-    match unit_of(alloc, text)? {
-        Ok(unit) => {
-            let outline = outline(alloc, &unit)?;
-            show_outline(alloc, &outline)
-        }
-        Err(_) => Ok(String::new(alloc)),
+        shown.put_number("|", placed.region as u64);
+        show_mark(shown, &placed.mark);
     }
 }
 
@@ -131,12 +113,5 @@ static OUTLINES: [(&str, &str); 11] = [
 
 #[test]
 fn outlines_of_texts(rt: HostRuntime) -> Result<(), Fail> {
-    let alloc = rt.alloc();
-    for (text, wanted) in OUTLINES.iter() {
-        let shown = outlined(alloc, text)?;
-        if shown.as_str() != *wanted {
-            return Err(Fail::new(format!(in alloc; "{text}: {shown}")?));
-        }
-    }
-    Ok(())
+    all(rt.alloc(), Asked::Outline, &OUTLINES)
 }

@@ -1,250 +1,257 @@
 //! Units without faults, with what each of their names is declared as and means.
 //!
-//! How to see what a text's answer is: its words are its tokens, counted from 0. Each declared name is told as `NAME@token`, in the
-//! list of its block, and its number there, from 0, counts the items of DECLARE, members included, the labels and the procedures of
-//! the block in the order of the text; those in its groups and ON-units are its own. A block or another region is told in the order
-//! in which it begins, from 0, which is the procedure of the unit; the letter is its kind, the number behind it the region that it
-//! stands in, and a procedure's parameters stand in parentheses. Each reference is told at its first name; behind `->` another one
-//! begins.
-use crate::units::{push_name, unit_of};
-use pli_base::declaration::InitialValue;
-use pli_declare::{Block, ResolveError, Resolved, Target, resolve, resolved_examples};
+//! How to see what a text's answer is: its words are its tokens, counted from 0. Each declared name is told as
+//! `NAME@token`, in the list of its block, and its number there, from 0, counts the items of DECLARE, members included,
+//! the labels and the procedures of the block in the order of the text; those in its groups and ON-units are its own. A
+//! block or another region is told in the order in which it begins, from 0, which is the procedure of the unit; the
+//! letter is its kind, the number behind it the region that it stands in, and a procedure's parameters stand in
+//! parentheses. Each reference is told at its first name; behind `->` another one begins.
+use crate::answers::{Asked, all};
+use pli_base::Name;
+use pli_base::declaration::{InitialValue, Integer};
+use pli_declare::{Block, Resolved, Target, resolved_examples};
 use pli_declare_attributes::{Completed, Scope, Storage, Variable};
 use pli_declare_outline::{Region, RegionKind};
 use pli_declare_variables::{Declaration, Kind};
 use pli_map::{Bounds, Description};
-use std::alloc::{AllocError, Global};
-use std::fmt::Write;
+use pli_text_tests::Shown;
+use std::alloc::Global;
 use std::test::*;
 
 /// `[1:3,-1:2]`; nothing of a scalar.
-fn show_bounds(shown: &mut String, bounds: &[Bounds]) -> Result<(), AllocError> {
-    for (place, bound) in bounds.iter().enumerate() {
-        shown.push(if place == 0 { '[' } else { ',' })?;
-        let low = bound.low;
-        let high = bound.high;
-        write!(shown, "{low}:{high}")?;
+fn show_bounds(shown: &mut Shown, bounds: &[Bounds]) {
+    let mut before = "[";
+    for bound in bounds {
+        shown.put_signed(before, i64::from(bound.low));
+        shown.put_signed(":", i64::from(bound.high));
+        before = ",";
     }
-    if !bounds.is_empty() {
-        shown.push(']')?;
-    }
-    Ok(())
+    shown.put(if bounds.is_empty() { "" } else { "]" });
 }
 
-/// `{F15,[1:3]C4}`: a structure of FIXED BINARY(15) and three CHARACTER(4); V is VARYING, B BIT, P POINTER, O OFFSET, and A
-/// AREA, whose size is told as a multiple of 8, since AREA(9) and AREA(16) are one description.
+/// `F15`; nothing of an array or a structure.
+fn show_scalar(shown: &mut Shown, description: &Description) {
+    let (letter, number) = match description {
+        Description::FixedBinary(precision) => ("F", u64::from(*precision)),
+        Description::Character(length) => ("C", u64::from(*length)),
+        Description::Varying(length) => ("V", u64::from(*length)),
+        Description::Bit(length) => ("B", u64::from(*length)),
+        Description::Area(bytes) => ("A", u64::from(bytes.saturating_add(7) / 8 * 8)),
+        Description::Pointer => return shown.put("P"),
+        Description::Offset => return shown.put("O"),
+        Description::Array { .. } | Description::Structure(_) => return,
+    };
+    shown.put_number(letter, number);
+}
+
+/// `{F15,[1:3]C4}`: a structure of FIXED BINARY(15) and three CHARACTER(4); V is VARYING, B BIT, P POINTER, O OFFSET,
+/// and A AREA, whose size is told as a multiple of 8, since AREA(9) and AREA(16) are one description.
 #[cycle(show)]
-fn show_description(shown: &mut String, description: &Description) -> Result<(), AllocError> {
+fn show_description(shown: &mut Shown, description: &Description) {
     match description {
-        Description::FixedBinary(precision) => write!(shown, "F{precision}")?,
-        Description::Character(length) => write!(shown, "C{length}")?,
-        Description::Varying(length) => write!(shown, "V{length}")?,
-        Description::Bit(length) => write!(shown, "B{length}")?,
-        Description::Pointer => shown.push('P')?,
-        Description::Offset => shown.push('O')?,
-        Description::Area(bytes) => {
-            let whole = bytes.saturating_add(7) / 8 * 8;
-            write!(shown, "A{whole}")?;
-        }
         Description::Array { bounds, element } => {
-            show_bounds(shown, bounds)?;
-            show_description(shown, element)?;
+            show_bounds(shown, bounds);
+            show_description(shown, element);
         }
         Description::Structure(members) => {
-            shown.push('{')?;
-            show_descriptions(shown, members)?;
-            shown.push('}')?;
+            shown.put("{");
+            show_descriptions(shown, members);
+            shown.put("}");
         }
+        _ => show_scalar(shown, description),
     }
-    Ok(())
 }
 
 /// Descriptions, with commas between them.
 #[cycle(show)]
-fn show_descriptions(shown: &mut String, descriptions: &[Description]) -> Result<(), AllocError> {
+fn show_descriptions(shown: &mut Shown, descriptions: &[Description]) {
     let mut is_first = true;
     for description in descriptions {
-        if !is_first {
-            shown.push(',')?;
-        }
+        shown.put(if is_first { "" } else { "," });
         is_first = false;
-        show_description(shown, description)?;
+        show_description(shown, description);
     }
-    Ok(())
 }
 
 /// A description behind a sign, if there is one.
-fn show_optional(
-    shown: &mut String,
-    sign: char,
-    description: &Option<Description>,
-) -> Result<(), AllocError> {
+fn show_optional(shown: &mut Shown, sign: &str, description: &Option<Description>) {
     if let Some(description) = description {
-        shown.push(sign)?;
-        show_description(shown, description)?;
+        shown.put(sign);
+        show_description(shown, description);
     }
-    Ok(())
+}
+
+/// `3*-2`: three times -2.
+fn show_integer(shown: &mut Shown, factor: Option<u32>, value: Integer) {
+    if let Some(factor) = factor {
+        shown.put_number("", u64::from(factor));
+        shown.put("*");
+    }
+    shown.put_number(
+        if value.negative { "-" } else { "" },
+        u64::from(value.value),
+    );
 }
 
 /// `!1,3*-2,N`: 1, then three times -2, then NULL.
-fn show_values(shown: &mut String, values: &[InitialValue]) -> Result<(), AllocError> {
-    for (place, value) in values.iter().enumerate() {
-        shown.push(if place == 0 { '!' } else { ',' })?;
+fn show_values(shown: &mut Shown, values: &[InitialValue]) {
+    let mut before = "!";
+    for value in values {
+        shown.put(before);
+        before = ",";
         match value {
-            InitialValue::Integer { factor, value } => {
-                if let Some(factor) = factor {
-                    write!(shown, "{factor}*")?;
-                }
-                if value.negative {
-                    shown.push('-')?;
-                }
-                let digits = value.value;
-                write!(shown, "{digits}")?;
-            }
-            InitialValue::Characters(_) => shown.push('C')?,
-            InitialValue::Bits(_) => shown.push('B')?,
-            InitialValue::Null => shown.push('N')?,
+            InitialValue::Integer { factor, value } => show_integer(shown, *factor, *value),
+            InitialValue::Characters(_) => shown.put("C"),
+            InitialValue::Bits(_) => shown.put("B"),
+            InitialValue::Null => shown.put("N"),
         }
     }
-    Ok(())
 }
 
 /// `[1:3]F15sx!1`: bounds, type, storage, an `x` where it is EXTERNAL, and first values.
-fn show_variable(shown: &mut String, variable: &Variable) -> Result<(), AllocError> {
-    show_bounds(shown, &variable.bounds)?;
-    if let Some(description) = &variable.description {
-        show_description(shown, description)?;
-    }
-    match variable.storage {
-        None => {}
-        Some(Storage::Automatic) => shown.push('a')?,
-        Some(Storage::Static) => shown.push('s')?,
-        Some(Storage::Based) => shown.push('b')?,
-        Some(Storage::Controlled) => shown.push('c')?,
-    }
-    if variable.scope == Scope::External {
-        shown.push('x')?;
-    }
-    show_values(shown, &variable.initial)
+fn show_variable(shown: &mut Shown, variable: &Variable) {
+    show_bounds(shown, &variable.bounds);
+    show_optional(shown, "", &variable.description);
+    shown.put(match variable.storage {
+        None => "",
+        Some(Storage::Automatic) => "a",
+        Some(Storage::Static) => "s",
+        Some(Storage::Based) => "b",
+        Some(Storage::Controlled) => "c",
+    });
+    shown.put(if variable.scope == Scope::External {
+        "x"
+    } else {
+        ""
+    });
+    show_values(shown, &variable.initial);
 }
 
 /// A variable; `e(F15)>B1`, an entry with its parameters and its result; `f`, a built-in function.
-fn show_completed(shown: &mut String, completed: &Completed) -> Result<(), AllocError> {
+fn show_completed(shown: &mut Shown, completed: &Completed) {
     match completed {
         Completed::Variable(variable) => show_variable(shown, variable),
         Completed::Entry { parameters, result } => {
-            shown.push_str("e(")?;
-            show_descriptions(shown, parameters)?;
-            shown.push(')')?;
-            show_optional(shown, '>', result)
+            shown.put("e(");
+            show_descriptions(shown, parameters);
+            shown.put(")");
+            show_optional(shown, ">", result);
         }
-        Completed::BuiltIn => shown.push('f'),
+        Completed::BuiltIn => shown.put("f"),
     }
 }
 
-/// ` X@5^1=F15a~F15`: a name, the item that it is a member of, what the item is, and the description of a variable of its own; ` L@4:0`, a label and
-/// its region; ` F@4#1=F15`, a procedure, its region and its result.
-fn show_declaration(shown: &mut String, declaration: &Declaration) -> Result<(), AllocError> {
-    shown.push(' ')?;
-    push_name(shown, &declaration.identifier.name)?;
-    let at = declaration.identifier.at;
-    write!(shown, "@{at}")?;
-    if let Some(owner) = declaration.owner {
-        write!(shown, "^{owner}")?;
-    }
-    match &declaration.kind {
+/// `=F15a~F15`: what an item is, and the description of a variable of its own; `:0`, the region of a label; `#1=F15`,
+/// the region of a procedure and its result.
+fn show_kind(shown: &mut Shown, kind: &Kind) {
+    match kind {
         Kind::Item {
             completed,
             description,
         } => {
-            shown.push('=')?;
-            show_completed(shown, completed)?;
-            show_optional(shown, '~', description)
+            shown.put("=");
+            show_completed(shown, completed);
+            show_optional(shown, "~", description);
         }
-        Kind::Label { region } => {
-            let region = *region;
-            write!(shown, ":{region}")?;
-            Ok(())
-        }
+        Kind::Label { region } => shown.put_number(":", *region as u64),
         Kind::Procedure { returned, region } => {
-            let region = *region;
-            write!(shown, "#{region}")?;
-            show_optional(shown, '=', returned)
+            shown.put_number("#", *region as u64);
+            show_optional(shown, "=", returned);
         }
     }
 }
 
+/// ` X@5^1=F15a~F15`: a name, the item that it is a member of, and what it is.
+fn show_declaration(shown: &mut Shown, declaration: &Declaration) {
+    shown.put(" ");
+    shown.put_bytes(declaration.identifier.name.bytes());
+    shown.put_number("@", u64::from(declaration.identifier.at));
+    if let Some(owner) = declaration.owner {
+        shown.put_number("^", owner as u64);
+    }
+    show_kind(shown, &declaration.kind);
+}
+
+/// `(A,B)`: the parameters of a procedure, if it has some.
+fn show_parameters(shown: &mut Shown, parameters: &[Name]) {
+    let mut before = "(";
+    for name in parameters {
+        shown.put(before);
+        shown.put_bytes(name.bytes());
+        before = ",";
+    }
+    shown.put(if parameters.is_empty() { "" } else { ")" });
+}
+
 /// ` |P0(A,B)`: the kind of a region, the one that it stands in, and its parameters; then what it declares.
-fn show_block(shown: &mut String, region: &Region, block: &Block) -> Result<(), AllocError> {
-    shown.push_str(match region.kind {
+fn show_block(shown: &mut Shown, region: &Region, block: &Block) {
+    shown.put(match region.kind {
         RegionKind::Procedure => " |P",
         RegionKind::Begin => " |B",
         RegionKind::Group => " |G",
         RegionKind::Unit => " |U",
-    })?;
+    });
     if let Some(outer) = region.outer {
-        write!(shown, "{outer}")?;
+        shown.put_number("", outer as u64);
     }
-    for (place, name) in block.parameters.iter().enumerate() {
-        shown.push(if place == 0 { '(' } else { ',' })?;
-        push_name(shown, name)?;
-    }
-    if !block.parameters.is_empty() {
-        shown.push(')')?;
-    }
+    show_parameters(shown, &block.parameters);
     for declaration in block.declarations.iter() {
-        show_declaration(shown, declaration)?;
+        show_declaration(shown, declaration);
     }
-    Ok(())
 }
 
 /// How many tokens are looked at, which is more than any of the texts has.
 const TOKENS: u32 = 200;
 
-/// ` 12>0.1`: the name at token 12 is number 1 of block 0; ` 12>-.0`, the unit's own name; ` 12>f`, a built-in function; nothing
-/// where it means nothing.
-fn show_target(shown: &mut String, at: u32, target: Option<Target>) -> Result<(), AllocError> {
+/// ` 12>0.1`: the name at token 12 is number 1 of block 0; ` 12>-.0`, the unit's own name; ` 12>f`, a built-in
+/// function; nothing where it means nothing.
+fn show_target(shown: &mut Shown, at: u32, target: Option<Target>) {
+    let Some(target) = target else {
+        return;
+    };
+    shown.put_number(" ", u64::from(at));
     match target {
-        None => {}
-        Some(
-            Target::Name {
-                block: Some(block),
-                number,
-            },
-        ) => write!(shown, " {at}>{block}.{number}")?,
-        Some(
-            Target::Name {
-                block: None,
-                number,
-            },
-        ) => write!(shown, " {at}>-.{number}")?,
-        Some(Target::Function) => write!(shown, " {at}>f")?,
+        Target::Name { block, number } => {
+            match block {
+                Some(block) => shown.put_number(">", block as u64),
+                None => shown.put(">-"),
+            }
+            shown.put_number(".", number as u64);
+        }
+        Target::Function => shown.put(">f"),
     }
-    Ok(())
 }
 
-/// The outermost block, each region with what it declares, and what uses, and names in OFFSET and in BASED, mean.
-fn show_resolved(alloc: Global, unit: &Resolved) -> Result<String, AllocError> {
-    let mut shown = String::new(alloc);
+/// The outermost block, and each region with what it declares.
+fn show_blocks(shown: &mut Shown, unit: &Resolved) {
     for declaration in unit.outermost() {
-        show_declaration(&mut shown, declaration)?;
+        show_declaration(shown, declaration);
     }
     for (region, block) in unit.regions().iter().zip(unit.blocks().iter()) {
-        show_block(&mut shown, region, block)?;
+        show_block(shown, region, block);
     }
-    shown.push_str(" uses")?;
+}
+
+/// What uses, and names in OFFSET and in BASED, mean.
+fn show_targets(shown: &mut Shown, unit: &Resolved) {
+    shown.put(" uses");
     for at in 0..TOKENS {
-        show_target(&mut shown, at, unit.meaning_at(at))?;
+        show_target(shown, at, unit.meaning_at(at));
     }
-    shown.push_str(" areas")?;
+    shown.put(" areas");
     for at in 0..TOKENS {
-        show_target(&mut shown, at, unit.area_at(at))?;
+        show_target(shown, at, unit.area_at(at));
     }
-    shown.push_str(" locators")?;
+    shown.put(" locators");
     for at in 0..TOKENS {
-        show_target(&mut shown, at, unit.locator_at(at))?;
+        show_target(shown, at, unit.locator_at(at));
     }
-    Ok(shown)
+}
+
+/// Blocks with what they declare, and what names mean.
+pub(crate) fn show_resolved(shown: &mut Shown, unit: &Resolved) {
+    show_blocks(shown, unit);
+    show_targets(shown, unit);
 }
 
 /// Names, the blocks that declare them, and five blocks, one in another.
@@ -340,59 +347,23 @@ static ITEMS: [(&str, &str); 2] = [
     ),
 ];
 
-/// A text, resolved, or the same of a copy.
-fn resolved(alloc: Global, text: &str, copies: bool) -> Result<String, AllocError> {
-    match unit_of(alloc, text)? {
-        Ok(unit) => match resolve(alloc, &unit) {
-            Ok(resolved) if copies => show_resolved(alloc, &resolved.copy(alloc)?),
-            Ok(resolved) => show_resolved(alloc, &resolved),
-            Err(ResolveError::Faulty(_)) => String::from_str(alloc, "FAULTY"),
-            Err(ResolveError::OutOfMemory) => Err(AllocError),
-        },
-        Err(_) => String::from_str(alloc, "NOT READ"),
-    }
-}
-
-/// Fails at the first text of a table that is not resolved as the table says, or whose copy differs, with its answer.
+/// Fails at the first text of a table whose names are not as the table says, or those of a copy.
 fn are_resolved(alloc: Global, texts: &[(&str, &str)]) -> Result<(), Fail> {
-    for (text, wanted) in texts {
-        for copies in [false, true] {
-            let shown = resolved(alloc, text, copies)?;
-            if shown.as_str() != *wanted {
-                return Err(Fail::new(format!(in alloc; "{text}: {shown}")?));
-            }
-        }
-    }
-    Ok(())
+    all(alloc, Asked::Names, texts)?;
+    all(alloc, Asked::NamesOfCopy, texts)
 }
 
 #[test]
-fn blocks_are_resolved(rt: HostRuntime) -> Result<(), Fail> {
-    are_resolved(rt.alloc(), &BLOCKS)
-}
-
-#[test]
-fn structures_are_resolved(rt: HostRuntime) -> Result<(), Fail> {
-    are_resolved(rt.alloc(), &STRUCTURES)
-}
-
-#[test]
-fn labels_are_resolved(rt: HostRuntime) -> Result<(), Fail> {
+fn blocks_and_structures_are_resolved(rt: HostRuntime) -> Result<(), Fail> {
+    are_resolved(rt.alloc(), &BLOCKS)?;
+    are_resolved(rt.alloc(), &STRUCTURES)?;
     are_resolved(rt.alloc(), &LABELS)
 }
 
 #[test]
-fn functions_are_resolved(rt: HostRuntime) -> Result<(), Fail> {
-    are_resolved(rt.alloc(), &FUNCTIONS)
-}
-
-#[test]
-fn locators_are_resolved(rt: HostRuntime) -> Result<(), Fail> {
-    are_resolved(rt.alloc(), &LOCATORS)
-}
-
-#[test]
-fn items_are_resolved(rt: HostRuntime) -> Result<(), Fail> {
+fn functions_and_items_are_resolved(rt: HostRuntime) -> Result<(), Fail> {
+    are_resolved(rt.alloc(), &FUNCTIONS)?;
+    are_resolved(rt.alloc(), &LOCATORS)?;
     are_resolved(rt.alloc(), &ITEMS)
 }
 

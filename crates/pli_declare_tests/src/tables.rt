@@ -1,73 +1,89 @@
 //! What the blocks of units declare, and which item a reference means.
-use crate::units::{push_name, unit_of};
+use crate::answers::{Asked, all};
 use pli_base::Name;
-use pli_declare_constructs::Nesting;
-use pli_declare_outline::outline;
 use pli_declare_scopes::{Block, Found, Verdict};
 use pli_declare_tables::{Entity, Entry, Table, Tables, owners_stand_before};
+use pli_text_tests::Shown;
 use std::alloc::{AllocError, Global};
-use std::fmt::Write;
 use std::test::*;
 
-/// `A^1!`: a name, its owner, and whether its level is bad; `L:2`: a label and its region; `F#1`: a procedure and its region.
-fn show_entry(shown: &mut String, entry: &Entry<'_>) -> Result<(), AllocError> {
-    push_name(shown, &entry.identifier.name)?;
+/// `A^1!`: a name, its owner, and whether its level is bad; `L:2`: a label and its region; `F#1`: a procedure and its
+/// region.
+fn show_entry(shown: &mut Shown, entry: &Entry<'_>) {
+    shown.put_bytes(entry.identifier.name.bytes());
     if let Some(owner) = entry.owner {
-        write!(shown, "^{owner}")?;
+        shown.put_number("^", owner as u64);
     }
     match &entry.entity {
-        Entity::Item { is_bad_level, .. } => {
-            if *is_bad_level {
-                shown.push('!')?;
-            }
-        }
-        Entity::Label { region } => {
-            let region = *region;
-            write!(shown, ":{region}")?;
-        }
-        Entity::Procedure { region, .. } => {
-            let region = *region;
-            write!(shown, "#{region}")?;
-        }
+        Entity::Item { is_bad_level, .. } => shown.put(if *is_bad_level { "!" } else { "" }),
+        Entity::Label { region } => shown.put_number(":", *region as u64),
+        Entity::Procedure { region, .. } => shown.put_number("#", *region as u64),
     }
-    Ok(())
 }
 
 /// The names of a table, a `*` behind one that is declared twice, and a `-` behind one beneath such.
-fn show_table(shown: &mut String, table: &Table<'_>) -> Result<(), AllocError> {
+fn show_table(shown: &mut Shown, table: &Table<'_>) {
     for (entry, verdict) in table.entries.iter().zip(table.verdicts.iter()) {
-        shown.push(' ')?;
-        show_entry(shown, entry)?;
-        match verdict {
-            Verdict::Counts => {}
-            Verdict::Twice => shown.push('*')?,
-            Verdict::Beneath => shown.push('-')?,
+        shown.put(" ");
+        show_entry(shown, entry);
+        shown.put(match verdict {
+            Verdict::Counts => "",
+            Verdict::Twice => "*",
+            Verdict::Beneath => "-",
+        });
+    }
+}
+
+/// The unit's own table, then that of each block behind a `|`.
+pub(crate) fn show_tables(shown: &mut Shown, tables: &Tables<'_>) {
+    show_table(shown, &tables.unit);
+    for table in tables.blocks.iter() {
+        shown.put(" |");
+        show_table(shown, table);
+    }
+}
+
+/// The names of a reference, which stand apart.
+fn names_of(alloc: Global, reference: &str) -> Result<Vec<Name>, AllocError> {
+    let mut names = Vec::new(alloc);
+    for word in reference.split(' ') {
+        if let Some(name) = Name::read(word.as_bytes()) {
+            names.push(name)?;
+        }
+    }
+    Ok(names)
+}
+
+/// ` 4`: the number of what references mean in a block, ` -` for nothing, ` *` for several.
+fn show_found(
+    shown: &mut Shown,
+    alloc: Global,
+    block: &Block,
+    references: &[&str],
+) -> Result<(), AllocError> {
+    for reference in references {
+        match block.find(&names_of(alloc, reference)?) {
+            Found::Nothing => shown.put(" -"),
+            Found::One(number) => shown.put_number(" ", number as u64),
+            Found::Several => shown.put(" *"),
         }
     }
     Ok(())
 }
 
-/// The unit's own table, then that of each block behind a `|`.
-fn show_tables(alloc: Global, tables: &Tables<'_>) -> Result<String, AllocError> {
-    let mut shown = String::new(alloc);
-    show_table(&mut shown, &tables.unit)?;
+/// What references mean in the outermost block, which declares the unit's own name, then in each block behind a `|`.
+pub(crate) fn show_meanings(
+    shown: &mut Shown,
+    alloc: Global,
+    tables: &Tables<'_>,
+    references: &[&str],
+) -> Result<(), AllocError> {
+    show_found(shown, alloc, &tables.unit.block, references)?;
     for table in tables.blocks.iter() {
-        shown.push_str(" |")?;
-        show_table(&mut shown, table)?;
+        shown.put(" |");
+        show_found(shown, alloc, &table.block, references)?;
     }
-    Ok(shown)
-}
-
-fn tabled(alloc: Global, text: &str) -> Result<String, AllocError> {
-    match unit_of(alloc, text)? {
-        Ok(unit) => {
-            let outline = outline(alloc, &unit)?;
-            let nesting = Nesting::new(alloc, outline.regions.as_slice())?;
-            let tables = Tables::new(alloc, &outline, &nesting)?;
-            show_tables(alloc, &tables)
-        }
-        Err(_) => Ok(String::new(alloc)),
-    }
+    Ok(())
 }
 
 /// Texts with their tables.
@@ -108,70 +124,19 @@ static TABLES: [(&str, &str); 10] = [
     ("M : PROC ; M : ; END ;", " M#0 | M:0 |"),
 ];
 
-/// The names of a reference, which stand apart.
-fn names_of(alloc: Global, reference: &str) -> Result<Vec<Name>, AllocError> {
-    let mut names = Vec::new(alloc);
-    for word in reference.split(' ') {
-        if let Some(name) = Name::read(word.as_bytes()) {
-            names.push(name)?;
-        }
-    }
-    Ok(names)
-}
+/// References in a unit whose block declares a name twice, and two structures with members of one name.
+static REFERENCES: [&str; 6] = ["S A", "T A", "T B", "S B", "A", "M"];
 
-/// Fails at the first reference of a table that does not mean in a block what the table says.
-fn are_found(alloc: Global, block: &Block, references: &[(&str, Found)]) -> Result<(), Fail> {
-    for (reference, wanted) in references {
-        let names = names_of(alloc, reference)?;
-        if block.find(&names) != *wanted {
-            return Err(Fail::new(*reference));
-        }
-    }
-    Ok(())
-}
-
-/// A unit whose block declares a name twice, and two structures with members of one name.
-static LOOKED_UP: &str = "M : PROC ; DCL 1 S , 2 A , 2 A , 1 T , 2 A , 2 B ; END ;";
-
-/// References, with what they mean in the block of that unit.
-static IN_THE_BLOCK: [(&str, Found); 6] = [
-    ("S A", Found::One(1)),
-    ("T A", Found::One(4)),
-    ("T B", Found::One(5)),
-    ("S B", Found::Nothing),
-    ("A", Found::Several),
-    ("M", Found::Nothing),
-];
-
-/// References, with what they mean in the outermost block, which declares the unit's own name.
-static OUTERMOST: [(&str, Found); 1] = [("M", Found::One(0))];
-
-fn are_looked_up(alloc: Global, tables: &Tables<'_>) -> Result<(), Fail> {
-    let table = tables.blocks.first().ok_or("a block")?;
-    are_found(alloc, &table.block, &IN_THE_BLOCK)?;
-    are_found(alloc, &tables.unit.block, &OUTERMOST)
-}
+/// That unit, with what they mean.
+static MEANINGS: [(&str, &str); 1] = [(
+    "M : PROC ; DCL 1 S , 2 A , 2 A , 1 T , 2 A , 2 B ; END ;",
+    " - - - - - 0 | 1 4 5 - * - | - - - - - -",
+)];
 
 #[test]
 fn tables_of_texts(rt: HostRuntime) -> Result<(), Fail> {
-    let alloc = rt.alloc();
-    for (text, wanted) in TABLES.iter() {
-        let shown = tabled(alloc, text)?;
-        if shown.as_str() != *wanted {
-            return Err(Fail::new(format!(in alloc; "{text}: {shown}")?));
-        }
-    }
-    Ok(())
-}
-
-#[test]
-fn names_are_looked_up(rt: HostRuntime) -> Result<(), Fail> {
-    let alloc = rt.alloc();
-    let unit = unit_of(alloc, LOOKED_UP)?.ok().ok_or("a unit")?;
-    let outline = outline(alloc, &unit)?;
-    let nesting = Nesting::new(alloc, outline.regions.as_slice())?;
-    let tables = Tables::new(alloc, &outline, &nesting)?;
-    are_looked_up(alloc, &tables)
+    all(rt.alloc(), Asked::Tables, &TABLES)?;
+    all(rt.alloc(), Asked::Meanings(&REFERENCES), &MEANINGS)
 }
 
 #[test]
