@@ -76,25 +76,35 @@ static RESTS: [(&str, i64, Option<&str>); 9] = [
 ];
 
 /// A string, the length of its target, and what CHARACTER and CHARACTER VARYING of that length hold then.
-static ASSIGNED: [(&str, usize, &str, &str); 5] = [
+static ASSIGNED: [(&str, usize, &str, &str); 8] = [
     ("ABC", 2, "AB", "AB"),
     ("ABC", 3, "ABC", "ABC"),
     ("ABC", 5, "ABC  ", "ABC"),
     ("", 2, "  ", ""),
     ("", 0, "", ""),
+    ("", 1, " ", ""),
+    ("AB", 1, "A", "A"),
+    ("ABC", 0, "", ""),
 ];
 
-static NUMBERS: [(i64, usize, &str); 6] = [
+static NUMBERS: [(i64, usize, &str); 9] = [
     (5, 4, "   5"),
     (-5, 4, "  -5"),
     (0, 1, "0"),
+    (0, 5, "    0"),
+    (-1, 2, "-1"),
+    (-2_147_483_647, 11, "-2147483647"),
     (-2_147_483_647, 14, "   -2147483647"),
     (2_147_483_647, 20, "          2147483647"),
     (-9_223_372_036_854_775_807, 20, "-9223372036854775807"),
 ];
 
 /// How long two strings are, and how long `||` of them is.
-static LENGTHS: [(usize, usize, Option<usize>); 4] = [
+static LENGTHS: [(usize, usize, Option<usize>); 8] = [
+    (0, 0, Some(0)),
+    (0, 1, Some(1)),
+    (0, STRING_LIMIT, Some(32_767)),
+    (STRING_LIMIT, STRING_LIMIT, None),
     (STRING_LIMIT - 1, 1, Some(32_767)),
     (STRING_LIMIT, 0, Some(32_767)),
     (STRING_LIMIT - 1, 2, None),
@@ -175,7 +185,8 @@ fn long_concatenations(rt: HostRuntime) -> Result<(), Fail> {
     Ok(())
 }
 
-/// Whether the places and parts of a string are right that has one `A`, its last character, the last that a string can have.
+/// Whether the places and parts of a string are right that has one `A`, its last character, the last that a string can
+/// have.
 fn places_are_right(longest: &[u8]) -> bool {
     index(longest, b"A") == 32_767
         && index(longest, longest) == 1

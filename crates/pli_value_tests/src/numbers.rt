@@ -15,42 +15,53 @@ const WIDE: i64 = 9_223_372_036_854_775_807;
 /// Two operands, the greatest precision, the result.
 type Row = (i64, i64, u8, Result<i64, Raised>);
 
-static SUMS: [Row; 10] = [
+static SUMS: [Row; 13] = [
     (2, 3, 31, Ok(5)),
     (MOST, 0, 31, Ok(MOST)),
     (MOST, 1, 31, Err(Overflow)),
     (-MOST, -1, 31, Err(Overflow)),
     (-MOST, 0, 31, Ok(-MOST)),
     (MOST, -MOST, 31, Ok(0)),
+    (-MOST, MOST, 31, Ok(0)),
+    (MOST, MOST, 31, Err(Overflow)),
+    (-MOST, -MOST, 31, Err(Overflow)),
     (MOST, 1, 63, Ok(2_147_483_648)),
     (WIDE, 1, 63, Err(Overflow)),
     (-WIDE, -1, 63, Err(Overflow)),
     (-WIDE, WIDE, 63, Ok(0)),
 ];
 
-static DIFFERENCES: [Row; 6] = [
+static DIFFERENCES: [Row; 10] = [
     (2, 3, 31, Ok(-1)),
     (-MOST, 1, 31, Err(Overflow)),
     (-MOST, -1, 31, Ok(-2_147_483_646)),
     (MOST, -1, 31, Err(Overflow)),
+    (0, 0, 31, Ok(0)),
+    (MOST, MOST, 31, Ok(0)),
+    (-MOST, -MOST, 31, Ok(0)),
+    (-MOST, MOST, 31, Err(Overflow)),
     (-WIDE, 1, 63, Err(Overflow)),
     (-WIDE, 2, 63, Err(Overflow)),
 ];
 
-static PRODUCTS: [Row; 9] = [
+static PRODUCTS: [Row; 13] = [
     (-6, 7, 31, Ok(-42)),
     (46_341, 46_341, 31, Err(Overflow)),
     (46_340, -46_341, 31, Ok(-2_147_441_940)),
     (65_536, 32_768, 63, Ok(2_147_483_648)),
     (WIDE, 2, 63, Err(Overflow)),
     (-MOST, 0, 31, Ok(0)),
+    (0, -MOST, 31, Ok(0)),
     (MOST, -1, 31, Ok(-MOST)),
+    (-MOST, -1, 31, Ok(MOST)),
+    (MOST, MOST, 31, Err(Overflow)),
+    (MOST, -MOST, 63, Ok(-4_611_686_014_132_420_609)),
     (65_536, -32_768, 31, Err(Overflow)),
     (-WIDE, -1, 63, Ok(WIDE)),
 ];
 
 /// Dividend, divisor, precision of the quotient.
-static QUOTIENTS: [Row; 12] = [
+static QUOTIENTS: [Row; 16] = [
     (7, 2, 31, Ok(3)),
     (-7, 2, 31, Ok(-3)),
     (7, -2, 31, Ok(-3)),
@@ -60,24 +71,33 @@ static QUOTIENTS: [Row; 12] = [
     (0, 0, 3, Err(ZeroDivide)),
     (8, 1, 3, Err(Overflow)),
     (-7, 1, 3, Ok(-7)),
+    (-1, 2, 31, Ok(0)),
+    (MOST, -MOST, 1, Ok(-1)),
+    (-MOST, -MOST, 31, Ok(1)),
+    (-MOST, 1, 31, Ok(-MOST)),
     (MOST, -1, 31, Ok(-MOST)),
     (2_147_483_648, -1, 31, Err(Overflow)),
     (-WIDE, -1, 63, Ok(WIDE)),
 ];
 
 /// What is assigned, and the precision of the target.
-static ASSIGNED: [(i64, u8, Result<i64, Raised>); 8] = [
+static ASSIGNED: [(i64, u8, Result<i64, Raised>); 13] = [
     (7, 3, Ok(7)),
     (-7, 3, Ok(-7)),
     (8, 3, Err(Overflow)),
     (-8, 3, Err(Overflow)),
     (1, 1, Ok(1)),
     (2, 1, Err(Overflow)),
+    (0, 1, Ok(0)),
+    (MOST, 31, Ok(MOST)),
     (-MOST, 31, Ok(-MOST)),
+    (MOST, 30, Err(Overflow)),
+    (2_147_483_648, 31, Err(Overflow)),
+    (-2_147_483_648, 31, Err(Overflow)),
     (WIDE, 63, Ok(WIDE)),
 ];
 
-static REMAINDERS: [(i64, i64, Result<i64, Raised>); 11] = [
+static REMAINDERS: [(i64, i64, Result<i64, Raised>); 15] = [
     (7, 3, Ok(1)),
     (-7, 3, Ok(2)),
     (7, -3, Ok(1)),
@@ -85,6 +105,10 @@ static REMAINDERS: [(i64, i64, Result<i64, Raised>); 11] = [
     (-6, 3, Ok(0)),
     (2, 5, Ok(2)),
     (-MOST, -1, Ok(0)),
+    (MOST, -MOST, Ok(0)),
+    (-1, MOST, Ok(2_147_483_646)),
+    (-1, -MOST, Ok(2_147_483_646)),
+    (MOST, 2, Ok(1)),
     (-1, WIDE, Ok(9_223_372_036_854_775_806)),
     (5, 0, Err(ZeroDivide)),
     (0, -5, Ok(0)),
