@@ -40,13 +40,15 @@ fn put_blocks(
 ) -> Result<(), AllocError> {
     let nesting = Nesting::new(alloc, outline.regions.as_slice())?;
     let tables = Tables::new(alloc, outline, &nesting)?;
-    match asked {
+    let put = match asked {
         Asked::Meanings(references) => show_meanings(shown, alloc, &tables, references),
         _ => {
             show_tables(shown, &tables);
             Ok(())
         }
-    }
+    };
+    drop(tables);
+    put
 }
 
 /// Puts the outline of a unit, or what is asked of its blocks.
@@ -75,7 +77,11 @@ fn put_names(
 ) -> Result<(), AllocError> {
     match asked {
         Asked::Names => show_resolved(shown, resolved),
-        Asked::NamesOfCopy => show_resolved(shown, &resolved.copy(alloc)?),
+        Asked::NamesOfCopy => {
+            let copy = resolved.copy(alloc)?;
+            show_resolved(shown, &copy);
+            drop(copy);
+        }
         _ => {}
     }
     Ok(())
@@ -89,7 +95,11 @@ fn put_resolved(
     unit: &Procedure,
 ) -> Result<(), AllocError> {
     match resolve(alloc, unit) {
-        Ok(resolved) => put_names(shown, alloc, asked, &resolved),
+        Ok(resolved) => {
+            let put = put_names(shown, alloc, asked, &resolved);
+            drop(resolved);
+            put
+        }
         Err(ResolveError::Faulty(faults)) => {
             show_faults(shown, &faults);
             Ok(())

@@ -475,7 +475,9 @@ fn put_resolved(
     resolved: &ResolvedUnit,
 ) -> Result<(), AllocError> {
     if copies {
-        show_unit(shown, &resolved.copy(alloc)?);
+        let copy = resolved.copy(alloc)?;
+        show_unit(shown, &copy);
+        drop(copy);
     } else {
         show_unit(shown, resolved);
     }
@@ -490,7 +492,11 @@ fn put_unit(
     unit: &Procedure,
 ) -> Result<(), AllocError> {
     match resolve_unit(alloc, unit) {
-        Ok(resolved) => put_resolved(shown, alloc, copies, &resolved),
+        Ok(resolved) => {
+            let put = put_resolved(shown, alloc, copies, &resolved);
+            drop(resolved);
+            put
+        }
         Err(ResolveError::Faulty(_)) => {
             shown.put("FAULTY");
             Ok(())
