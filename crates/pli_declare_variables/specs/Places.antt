@@ -58,18 +58,6 @@ built_in_names =
     ∷ codes "INDEX" ∷ codes "ALLOCATION" ∷ codes "LBOUND" ∷ codes "HBOUND"
     ∷ codes "SUBSTR" ∷ codes "ADDR" ∷ codes "NULL" ∷ codes "EMPTY" ∷ codes "POINTER" ∷ codes "OFFSET" ∷ []
 
--- the same in three parts
-abbrev pub arithmetic_names : List Name
-arithmetic_names = codes "ABS" ∷ codes "MAX" ∷ codes "MIN" ∷ codes "MOD" ∷ codes "DIVIDE" ∷ codes "SIGN" ∷ []
-
-abbrev pub inquiring_names : List Name
-inquiring_names =
-    codes "LENGTH" ∷ codes "INDEX" ∷ codes "ALLOCATION" ∷ codes "LBOUND" ∷ codes "HBOUND" ∷ []
-
-abbrev pub storage_names : List Name
-storage_names =
-    codes "SUBSTR" ∷ codes "ADDR" ∷ codes "NULL" ∷ codes "EMPTY" ∷ codes "POINTER" ∷ codes "OFFSET" ∷ []
-
 -- the name of a built-in function
 unfoldable pub is_built_in : Name → Bool
 is_built_in name = list_any (same_name name) built_in_names

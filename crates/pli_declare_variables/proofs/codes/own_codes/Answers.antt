@@ -20,11 +20,9 @@ pub loop-number-preserved : goal.loop-number-preserved
 loop-number-preserved c =
     let entries = entries_view c.args.entries.now in
     let names = c.args.parameters.now in
-    let count = length c.args.entries.now in
     let n = c.loop-number.number in
-    let lt = c.loop-number-test.true in
-    let place = element_at (cut_place_in entries names) c.in_ok-places.places.items count n c.index.result.now c.in_ok-places.ensures lt c.index.ensures in
-    let view = view_at c.args.entries.now n c.index-entries-number.result lt c.index-entries-number.is in
+    let place = element_at (cut_place_in entries names) c.in_ok-places.places.items (length c.args.entries.now) n c.index.result.now c.in_ok-places.ensures c.loop-number-test.true c.index.ensures in
+    let view = view_at c.args.entries.now n c.index-entries-number.result c.loop-number-test.true c.index-entries-number.is in
     let here = c.own_code.ensures (place_in entries names n) place
     ∙ ap (λ (x : plain.Entry). item_fault (place_in entries names n) (item_in x.entity)) (sym view) in
     c.in_ok-push.ensures.items ∙ mapped_more (own_code entries names) c.loop-number.codes.items n c.own_code.result c.loop-number.invariant here
