@@ -14,41 +14,15 @@ use Rattle.pli_declare.specs.Resolution.{attribute_is_good}
 use Rattle.pli_declare.specs.answers.Walks.{entity_is_good, item_goodness, mark_goodness}
 use Rattle.pli_declare.proofs.NumberLists.{number_at, set_of_numbers}
 use Rattle.pli_declare.proofs.ParametersOfBlocks.{not_equal}
-use Rattle.pli_declare.proofs.MarkWalkLemmas.{length_standings, entries_both}
+use Rattle.pli_declare.proofs.MarkWalkLemmas.{of_declared, entries_both}
 
 module _ (o : Outline) (b : ℕ) where
-  abbrev of_named : Identifier × tree.Item → Bool
-  of_named x = list_all (attribute_is_good o b) x.1.attributes
-
   abbrev of_entry : Entry → Bool
   of_entry e = entity_is_good o b e.entity
 
-  good_entries : (base : ℕ) (xs : List (Identifier × tree.Item)) (ss : List Standing) → length ss ≡ length xs
-      → map of_entry (item_entries base xs ss) ≡ map of_named xs
-  good_entries base [] ss h = refl
-  good_entries base (x ∷ xs) [] h = absurd (omega (arith, h))
-  good_entries base (x ∷ xs) (s ∷ ss) h = ap (λ gs. of_named x ∷ gs) (good_entries base xs ss (omega (arith, h)))
-
-  good_alone : (item : tree.Item) (names : List Identifier) → map of_named (map (λ (i : Identifier). (i, item)) names)
-      ≡ map (λ (i : Identifier). list_all (attribute_is_good o b) item.attributes) names
-  good_alone item [] = refl
-  good_alone item (n ∷ ns) = ap (λ gs. list_all (attribute_is_good o b) item.attributes ∷ gs) (good_alone item ns)
-
-  good_items : (items : List tree.Item) → map of_named (flat_map named items) ≡ flat_map (item_goodness o b) items
-  good_items [] = refl
-  good_items (item ∷ items) =
-      map-append of_named (named item) (flat_map named items)
-      ∙ ap (λ gs. gs ++ map of_named (flat_map named items)) (good_alone item item.names)
-      ∙ ap (λ gs. item_goodness o b item ++ gs) (good_items items)
-
   -- the names that a mark declares, from whatever number on
   good_mark : (base here : ℕ) (mark : Mark) → map of_entry (entries_of base here mark) ≡ mark_goodness o b mark
-  good_mark base here (Declared items) =
-      let names = flat_map named items in
-      let levels = map (λ (x : Identifier × tree.Item). x.1.level) names in
-      good_entries base names (standings_of levels)
-      (length_standings [] 0 (map level_of levels) ∙ length-map levels level_of ∙ length-map names (λ (x : Identifier × tree.Item). x.1.level))
-      ∙ good_items items
+  good_mark base here (Declared items) = of_declared of_entry (λ i item. list_all (attribute_is_good o b) item.attributes) (λ base i item s. refl) base items
   good_mark base here (Labelled label) = refl
   good_mark base here (Entered heading region) = refl
   good_mark base here (Used names) = refl

@@ -208,9 +208,14 @@ module _ (o : Outline) (region : ℕ) (names : List Name) where
     pub found_nowhere : (b : Bool) → declares_first (unit_block o) names ≡ b → b ≡ false → meant (scope_of o region) names ≡ NotDeclared
     found_nowhere b f h = sym w.meant ∙ sym (passed w.out (unit_block o) [] b f h)
 
-pub first_is : (names : List Name) (first : Name) (block : Block) → 0 < length names → first ≡ get_or names 0 first → declares_first block names ≡ declares block first
+first_is : (names : List Name) (first : Name) (block : Block) → 0 < length names → first ≡ get_or names 0 first → declares_first block names ≡ declares block first
 first_is [] first block some e = absurd (omega arith)
 first_is (n ∷ ns) first block some e = ap (declares block) (sym e)
+
+-- whether a block that was read declares the first of the names
+pub first_declared : (names : List Name) (first : Name) (block read : Block) (found : Bool) → 0 < length names → first ≡ get_or names 0 first → read ≡ block → found ≡ declares read first
+    → declares_first block names ≡ found
+first_declared names first block read found some e same is = first_is names first block some e ∙ ap (λ b. declares b first) (sym same) ∙ sym is
 
 -- tables by their blocks
 

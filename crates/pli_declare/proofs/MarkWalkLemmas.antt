@@ -2,7 +2,7 @@
 use Rattle.std.proofs.Common.{◌≡◌, ◌≢◌, ℕ, zero, suc, ◌+◌, ◌<◌, ◌≤◌, ◌==◌, Option, None, List, [], ◌∷◌, ◌++◌, map, length, get_or, set, take, drop, if◌then◌else◌, refl, sym, ap, ◌∙◌, append_assoc, add-zero, zero-add, length-append, Vec, Global, arith}
 use Rattle.std.specs.List.{flat_map}
 use Rattle.std.proofs.lemmas.Bool.{eq-eqb}
-use Rattle.std.proofs.lemmas.List.{drop_more, map-append, length-map, get_or-map, append-nil}
+use Rattle.std.proofs.lemmas.List.{drop_more, map-append, length-map, get_or-map, append-nil, map-id}
 use Rattle.pli_base.specs.declared.code.Code.{Code}
 use Rattle.pli_base.specs.declared.syntax.Identifier.{Identifier}
 use Rattle.pli_base.specs.declared.token.Fault.{Fault}
@@ -16,7 +16,7 @@ use Rattle.pli_declare_constructs.specs.Regions.{block_of}
 use Rattle.pli_declare_scopes.specs.Levels.{standings_of, standings_after, level_of}
 use Rattle.pli_declare_scopes.specs.declared.level.Numbered.{Numbered}
 use Rattle.pli_declare_scopes.specs.declared.level.Standing.{Standing}
-use Rattle.pli_declare_tables.specs.Tables.{Entry, named, item_entries, entries_of, entries_after, entries_in, inner_marks, numbers_from}
+use Rattle.pli_declare_tables.specs.Tables.{Entry, named, item_entry, item_entries, declared_entries, entries_of, entries_after, entries_in, inner_marks, numbers_from}
 use Rattle.pli_declare.specs.Resolution.{at_token, item_code, codes_from, parameter_faults, used_faults, declared_by, faults_after}
 use Rattle.pli_declare.specs.answers.Walks.{of_blocks, block_codes, declared_names, name_faults}
 use Rattle.pli_declare.proofs.NumberLists.{number_at, length_of_numbers, set_of_numbers}
@@ -56,32 +56,45 @@ module _ (items : List Item) (n : ℕ) (x : Item) (lt : n < length items) (read 
 
 -- what a mark declares are its names
 
-pub length_standings : (before : List Numbered) (number : ℕ) (levels : List ℕ) → length (standings_after before number levels) ≡ length levels
+length_standings : (before : List Numbered) (number : ℕ) (levels : List ℕ) → length (standings_after before number levels) ≡ length levels
 length_standings before number [] = refl
 length_standings before number (l ∷ ls) = ap suc (length_standings (before ++ record { number = number; level = l } ∷ []) (number + 1) ls)
 
-named_entries : (base : ℕ) (xs : List (Identifier × tree.Item)) (ss : List Standing) → length ss ≡ length xs → map (λ e. e.identifier) (item_entries base xs ss) ≡ map (λ (x : Identifier × tree.Item). x.0) xs
-named_entries base [] ss h = refl
-named_entries base (x ∷ xs) [] h = absurd (omega (arith, h))
-named_entries base (x ∷ xs) (s ∷ ss) h = ap (λ is. x.0 ∷ is) (named_entries base xs ss (omega (arith, h)))
+-- what is made of each entry that items declare is what is made of each of their names
+module _ {A : Type 0} (of_entry : Entry → A) (of_name : Identifier → tree.Item → A) (alike : (base : ℕ) (i : Identifier) (item : tree.Item) (s : Standing) → of_entry (item_entry base (i, item) s) ≡ of_name i item) where
+  abbrev of_pair : Identifier × tree.Item → A
+  of_pair x = of_name x.0 x.1
 
-names_alone : (item : tree.Item) (names : List Identifier) → map (λ (x : Identifier × tree.Item). x.0) (map (λ (i : Identifier). (i, item)) names) ≡ names
-names_alone item [] = refl
-names_alone item (n ∷ ns) = ap (λ is. n ∷ is) (names_alone item ns)
+  of_entries : (base : ℕ) (xs : List (Identifier × tree.Item)) (ss : List Standing) → length ss ≡ length xs → map of_entry (item_entries base xs ss) ≡ map of_pair xs
+  of_entries base [] ss h = refl
+  of_entries base (x ∷ xs) [] h = absurd (omega (arith, h))
+  of_entries base (x ∷ xs) (s ∷ ss) h = ap (λ e. e ∷ map of_entry (item_entries base xs ss)) (alike base x.0 x.1 s) ∙ ap (λ es. of_pair x ∷ es) (of_entries base xs ss (omega (arith, h)))
 
-names_of_items : (items : List tree.Item) → map (λ (x : Identifier × tree.Item). x.0) (flat_map named items) ≡ flat_map (λ i. i.names) items
-names_of_items [] = refl
-names_of_items (item ∷ items) =
-    map-append (λ (x : Identifier × tree.Item). x.0) (named item) (flat_map named items) ∙ ap (λ is. is ++ map (λ (x : Identifier × tree.Item). x.0) (flat_map named items)) (names_alone item item.names)
-    ∙ ap (λ is. item.names ++ is) (names_of_items items)
+  of_names : (item : tree.Item) (names : List Identifier) → map of_pair (map (λ (i : Identifier). (i, item)) names) ≡ map (λ (i : Identifier). of_name i item) names
+  of_names item [] = refl
+  of_names item (n ∷ ns) = ap (λ es. of_name n item ∷ es) (of_names item ns)
+
+  of_items : (items : List tree.Item) → map of_pair (flat_map named items) ≡ flat_map (λ item. map (λ i. of_name i item) item.names) items
+  of_items [] = refl
+  of_items (item ∷ items) =
+      map-append of_pair (named item) (flat_map named items)
+      ∙ ap (λ es. es ++ map of_pair (flat_map named items)) (of_names item item.names)
+      ∙ ap (λ es. map (λ (i : Identifier). of_name i item) item.names ++ es) (of_items items)
+
+  pub of_declared : (base : ℕ) (items : List tree.Item) → map of_entry (declared_entries base (flat_map named items)) ≡ flat_map (λ item. map (λ i. of_name i item) item.names) items
+  of_declared base items =
+      let names = flat_map named items in
+      let levels = map (λ (x : Identifier × tree.Item). x.1.level) names in
+      of_entries base names (standings_of levels)
+      (length_standings [] 0 (map level_of levels) ∙ length-map levels level_of ∙ length-map names (λ (x : Identifier × tree.Item). x.1.level))
+      ∙ of_items items
+
+names_alone : (items : List tree.Item) → flat_map (λ item. map (λ (i : Identifier). i) item.names) items ≡ flat_map (λ i. i.names) items
+names_alone [] = refl
+names_alone (item ∷ items) = ap (λ ns. ns ++ flat_map (λ item. map (λ (i : Identifier). i) item.names) items) (map-id item.names) ∙ ap (λ ns. item.names ++ ns) (names_alone items)
 
 pub declared_are : (base here : ℕ) (mark : Mark) → map (λ e. e.identifier) (entries_of base here mark) ≡ declared_names mark
-declared_are base here (Declared items) =
-    let names = flat_map named items in
-    let levels = map (λ (x : Identifier × tree.Item). x.1.level) names in
-    named_entries base names (standings_of levels)
-    (length_standings [] 0 (map level_of levels) ∙ length-map levels level_of ∙ length-map names (λ (x : Identifier × tree.Item). x.1.level))
-    ∙ names_of_items items
+declared_are base here (Declared items) = of_declared (λ e. e.identifier) (λ i item. i) (λ base i item s. refl) base items ∙ names_alone items
 declared_are base here (Labelled label) = refl
 declared_are base here (Entered heading region) = refl
 declared_are base here (Used names) = refl
@@ -186,11 +199,15 @@ at_block o f xs region block d e all =
     ap (λ ys. get_or ys block d) all
     ∙ number_at f 0 (length o.regions + 1) block d (omega (arith, e, block_within o.regions region)) ∙ ap f (zero-add block ∙ e)
 
-pub codes_at : (o : Outline) (codes : List (Vec (Option Code) Global)) (region block : ℕ) (x : Vec (Option Code) Global) → block < length codes → x ≡ get_or codes block x
-    → block ≡ block_of o.regions region → map (λ list. list.items) codes ≡ of_blocks o (block_codes o) → x.items ≡ block_codes o (block_of o.regions region)
-codes_at o codes region block x lt read e all =
-    let items : Vec (Option Code) Global → List (Option Code) = λ list. list.items in
-    ap items read ∙ sym (get_or-map items codes block x x.items lt) ∙ at_block o (block_codes o) (map items codes) region block x.items e all
+-- the codes of the block of a mark
+module _ (o : Outline) (codes : List (Vec (Option Code) Global)) (region block : ℕ) (e : block ≡ block_of o.regions region) (all : map (λ list. list.items) codes ≡ of_blocks o (block_codes o)) where
+  pub codes_within : block < length codes
+  codes_within = omega (arith, length-map codes (λ list. list.items), block_in o (block_codes o) (map (λ list. list.items) codes) region block e all)
+
+  pub codes_at : (x : Vec (Option Code) Global) → x ≡ get_or codes block x → x.items ≡ block_codes o (block_of o.regions region)
+  codes_at x read =
+      let items : Vec (Option Code) Global → List (Option Code) = λ list. list.items in
+      ap items read ∙ sym (get_or-map items codes block x x.items codes_within) ∙ at_block o (block_codes o) (map items codes) region block x.items e all
 
 -- marks that are left
 pub left_marks : (marks : List written.Placed) (n : ℕ) (x : written.Placed) → n < length marks → x ≡ get_or marks n x → marks_view (drop n marks) ≡ placed_view x ∷ marks_view (drop (n + 1) marks)
