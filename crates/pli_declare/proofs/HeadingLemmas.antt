@@ -1,16 +1,13 @@
 -- The headings of procedures, by the parts of their trees; the least of codes.
-use Rattle.std.proofs.Common.{◌≡◌, Option, Some, None, map, refl, ap}
+use Rattle.std.proofs.Common.{◌≡◌, Option, Some, None, refl, ap}
 use Rattle.pli_base.specs.declared.code.Code.{Code}
 use Rattle.pli_declare_attributes.specs.Faults.{lesser}
 use Rattle.pli_base.specs.laws.StatementLaws.{unit_out}
-use Rattle.pli_base.specs.views.StatementView.{option_view, unit_view}
+use Rattle.pli_base.specs.views.StatementView.{unit_view}
 use Rattle.pli_base.specs.declared.statement.Procedure.{Procedure, out-Procedure}
 
 pub parameters_out : (p : Procedure) → (unit_view p).heading.parameters ≡ (out-Procedure p).parameters.items
 parameters_out p = ap (λ u. u.heading.parameters) (unit_out p)
-
-pub options_out : (p : Procedure) → (unit_view p).heading.options ≡ map option_view (out-Procedure p).options.items
-options_out p = ap (λ u. u.heading.options) (unit_out p)
 
 pub lesser_none : (code : Option Code) → lesser code None ≡ code
 lesser_none None = refl

@@ -2,8 +2,7 @@
 use Rattle.std.specs.Prelude.{ℕ, nat_eq, Option, Some, None, List, [], ◌∷◌, map, length, if◌then◌else◌}
 use Rattle.std.specs.List.{flat_map, slice_get}
 use Rattle.pli_base.specs.Name.{Name}
-use Rattle.pli_base.specs.Declarations.{Item, SimpleAttribute, Offset, Based, DescribedAttribute, Plain}
-use Rattle.pli_base.specs.Declarations.{Attribute, Simple, Entry, Returns}
+use Rattle.pli_base.specs.Declarations.{Item, SimpleAttribute}
 use Rattle.pli_base.specs.Statements.{ExternalProcedure}
 use Rattle.pli_base.specs.declared.syntax.Identifier.{Identifier}
 use Rattle.pli_declare_outline.specs.Outlines.{Region, Mark, Declared, Entered, Used, Jumped, Placed, Outline}
@@ -14,6 +13,7 @@ use Rattle.pli_declare_scopes.specs.declared.found.Meant.{Meant}
 use Rattle.pli_declare_scopes.specs.declared.found.Meant.TheVariants.{Item as Means, Ambiguous as Several}
 use Rattle.pli_declare_scopes.specs.declared.found.Meant.TheVariants.{NotDeclared as Nothing}
 use Rattle.pli_declare_tables.specs.Tables.{entries_in, unit_entries, inner_marks, numbers_from, scope_of}
+use Rattle.pli_declare_variables.specs.AttributeNames.{plain_of, simple_of, area_in, locator_in}
 use Rattle.pli_declare_variables.specs.Declarations.{Declaration, declared_in, returned_by}
 use Rattle.pli_declare.specs.Resolution.{is_function, names_of, parameters_of}
 use Rattle.pli_declare.specs.declared.block.Use.{Use}
@@ -74,29 +74,6 @@ uses_at o here mark = []
 -- what names in a declaration mean
 abbrev pub named_at : Outline → (here : ℕ) → List Name → Identifier → List Use
 named_at o here names i = used_as o here i.at [] (meant (scope_of o here) names)
-
--- the attributes of a result
-abbrev pub plain_of : DescribedAttribute → List SimpleAttribute
-plain_of (Plain attribute) = attribute ∷ []
-plain_of other = []
-
--- the simple attributes of an attribute, those of RETURNS among them
-abbrev pub simple_of : Attribute → List SimpleAttribute
-simple_of (Simple attribute) = attribute ∷ []
-simple_of (Entry parameters) = []
-simple_of (Returns attributes) = flat_map plain_of attributes
-
--- the first area that is named; without any there are no names
-abbrev pub area_in : List SimpleAttribute → List Name
-area_in [] = []
-area_in (Offset (Some name) ∷ more) = name ∷ []
-area_in (attribute ∷ more) = area_in more
-
--- the names in BASED
-abbrev pub locator_in : List SimpleAttribute → List Name
-locator_in [] = []
-locator_in (Based (Some names) ∷ more) = names
-locator_in (attribute ∷ more) = locator_in more
 
 -- what the names in an item's attributes mean, for each of its names
 abbrev pub item_names : Outline → (here : ℕ) → (List SimpleAttribute → List Name) → Item → List Use

@@ -3,17 +3,17 @@ ghost use Rattle.std.specs.Prelude.{◌≡◌, ◌++◌, map, IfOk, OnOk};
 ghost use Rattle.std.specs.List.{flat_map};
 ghost use Rattle.pli_base.specs.views.DeclarationView.{item_view};
 ghost use Rattle.pli_declare_outline.specs.views.OutlineView.{outline_view, marks_view, mark_view};
-ghost use Rattle.pli_declare.specs.Resolved.{of_marks, areas_at, locators_at, area_in, locator_in, item_names, named_at};
+ghost use Rattle.pli_declare_variables.specs.AttributeNames.{area_in, locator_in};
+ghost use Rattle.pli_declare.specs.Resolved.{of_marks, areas_at, locators_at, item_names, named_at};
 
 use crate::block::{Target, Use};
-use crate::heading::options_of;
 use crate::look_up::{Looked, look_up};
-use crate::named::{area_of, locator_of, returned_area};
 use crate::scopes::Scopes;
 use pli_base::Name;
 use pli_base::declaration::Item;
 use pli_base::syntax::Identifier;
 use pli_declare_outline::{Mark, Placed};
+use pli_declare_variables::{area_of, locator_of, options_of, returned_area};
 use std::alloc::{AllocError, Global};
 
 /// What names in a region mean, at each of these identifiers, behind other uses.

@@ -15,6 +15,7 @@ use pli_base::Code;
 use pli_base::declaration::{DescribedAttribute, SimpleAttribute};
 use pli_base::statement::{Procedure, ProcedureOption};
 use pli_declare_attributes::{lesser, result_fault};
+use pli_declare_variables::options_of;
 
 /// How many parameters a procedure may have (own).
 const PARAMETER_LIMIT: usize = 64;
@@ -25,14 +26,6 @@ fn parameter_count(procedure: &Procedure) -> usize
     ensures { result ≡ length (unit_view procedure.now).heading.parameters }
 {
     procedure.parameters.len()
-}
-
-/// The options of a procedure.
-#[tactic(auto, using(crate::proofs::HeadingLemmas::options_out))]
-pub(crate) fn options_of(procedure: &Procedure) -> &[ProcedureOption]
-    ensures { map option_view result.now ≡ (unit_view procedure.now).heading.options }
-{
-    procedure.options.as_slice()
 }
 
 /// How often RETURNS stands.

@@ -1,28 +1,18 @@
 //! For each declared name whether the names of locators and areas in its attributes are good: looked up once for an item, whatever
 //! number of names it has.
-ghost use Rattle.std.specs.Prelude.{◌≡◌, ◌++◌, [], map, get_or, slice_set, replicate, IfOk, OnOk};
+ghost use Rattle.std.specs.Prelude.{◌≡◌, ◌++◌, [], map, get_or, slice_set, IfOk, OnOk};
 ghost use Rattle.std.specs.List.{flat_map};
 ghost use Rattle.pli_base.specs.views.DeclarationView.{item_view};
 ghost use Rattle.pli_declare_outline.specs.views.OutlineView.{outline_view, mark_view};
 ghost use Rattle.pli_declare.specs.answers.Walks.{item_goodness, mark_goodness, AreGoodness};
 
 use crate::known::Known;
+use crate::lists::no_lists;
 use crate::marks::block_of;
 use pli_base::declaration::Item;
 use pli_base::syntax::Identifier;
 use pli_declare_outline::Mark;
 use std::alloc::{AllocError, AllocFailed, Global};
-
-/// Lists without an answer in them, so many.
-fn no_answers(alloc: Global, count: usize) -> Result<Vec<Vec<bool>>, AllocError>
-    ensures { IfOk result (λ lists. map (λ list. list.items) lists.items ≡ replicate count []) }
-{
-    let mut lists = Vec::new(alloc);
-    for _list in 0..count {
-        lists.push(Vec::new(alloc))?;
-    }
-    Ok(lists)
-}
 
 /// The same answer for each of some names, behind others.
 fn append_answer(
@@ -97,7 +87,7 @@ impl Known<'_> {
     pub(crate) fn goodness(&self, alloc: Global) -> Result<Vec<Vec<bool>>, AllocError>
         ensures { IfOk result (λ all. AreGoodness (map (λ list. list.items) all.items) (outline_view self.now.scopes.outline.now)) }
     {
-        let mut all = no_answers(alloc, self.scopes.outline.regions.len() + 1)?;
+        let mut all = no_lists(alloc, self.scopes.outline.regions.len() + 1)?;
         let Some((_, marks)) = self.scopes.outline.marks.split_first() else {
             return Ok(all);
         };

@@ -1,5 +1,5 @@
 //! The parameters of procedures.
-ghost use Rattle.std.specs.Prelude.{◌≡◌, ◌++◌, ◌∷◌, [], if◌then◌else◌, not, map, get_or, slice_set, replicate, IfOk, OnOk};
+ghost use Rattle.std.specs.Prelude.{◌≡◌, ◌++◌, ◌∷◌, [], if◌then◌else◌, not, map, get_or, slice_set, IfOk, OnOk};
 ghost use Rattle.std.specs.List.{list_any};
 ghost use Rattle.pli_base.specs.Name.{Name as Characters};
 ghost use Rattle.pli_base.specs.Words.{same_name};
@@ -11,6 +11,7 @@ ghost use Rattle.pli_declare.specs.Resolution.{at_token, is_item_named, paramete
 ghost use Rattle.pli_declare.specs.answers.Answers.{AreKnown};
 ghost use Rattle.pli_declare.specs.answers.Walks.{AreParameters, code_of_parameter};
 
+use crate::lists::no_lists;
 use crate::told::tell;
 use indexmap::IndexSet;
 use pli_base::syntax::Identifier;
@@ -19,17 +20,6 @@ use pli_declare_outline::{Mark, Outline};
 use pli_declare_tables::{Entity, Entry, Tables, owners_stand_before};
 use pli_declare_variables::{Judged, judge};
 use std::alloc::{AllocError, AllocFailed, Global};
-
-/// Lists without a name in them, so many.
-fn no_names(alloc: Global, count: usize) -> Result<Vec<Vec<Name>>, AllocError>
-    ensures { IfOk result (λ lists. map (λ list. list.items) lists.items ≡ replicate count []) }
-{
-    let mut lists = Vec::new(alloc);
-    for _list in 0..count {
-        lists.push(Vec::new(alloc))?;
-    }
-    Ok(lists)
-}
 
 /// The names of parameters, behind others.
 fn append_names(names: &mut Vec<Name>, parameters: &[Identifier]) -> Result<(), AllocError>
@@ -61,7 +51,7 @@ fn append_at(
 pub(crate) fn parameters(alloc: Global, outline: &Outline) -> Result<Vec<Vec<Name>>, AllocError>
     ensures { IfOk result (λ all. AreParameters (map (λ list. list.items) all.items) (outline_view outline.now)) }
 {
-    let mut all = no_names(alloc, outline.regions.len() + 1)?;
+    let mut all = no_lists(alloc, outline.regions.len() + 1)?;
     for placed in &outline.marks {
         let Mark::Entered { procedure, region } = &placed.mark else {
             continue;

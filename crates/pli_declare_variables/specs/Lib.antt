@@ -2,5 +2,6 @@ pub mod Places
 pub mod Descriptions
 pub mod Judging
 pub mod Declarations
+pub mod AttributeNames
 pub mod answers
 pub mod views

@@ -1,6 +1,7 @@
 //! The items of a block as variables: where each stands, its least fault, its size, and what it is declared as.
 #![tactic(auto)]
 
+mod attribute_names;
 mod codes;
 mod declaration;
 mod declared;
@@ -13,7 +14,9 @@ mod returned;
 mod sizes;
 mod words;
 
+pub use attribute_names::{area_of, locator_of, returned_area};
 pub use declaration::{Declaration, Kind};
 pub use declared::declare;
 pub use judged::{Judged, judge};
+pub use returned::options_of;
 pub use words::is_built_in;

@@ -35,11 +35,18 @@ fn first_returned(options: &[ProcedureOption]) -> Option<Description>
     None
 }
 
-/// What a procedure returns, if it does, where no RETURNS of it has a fault.
+/// The options of a procedure.
 #[tactic(auto, using(crate::proofs::Options::options_out))]
+pub fn options_of(procedure: &Procedure) -> &[ProcedureOption]
+    ensures { map option_view result.now ≡ (unit_view procedure.now).heading.options }
+{
+    procedure.options.as_slice()
+}
+
+/// What a procedure returns, if it does, where no RETURNS of it has a fault.
 pub(crate) fn returned(procedure: &Procedure) -> Option<Description>
     requires { AreSound (returned_by (unit_view procedure.now).heading.options) }
     ensures { option_map description_view result ≡ described_result (returned_by (unit_view procedure.now).heading.options) }
 {
-    first_returned(procedure.options.as_slice())
+    first_returned(options_of(procedure))
 }

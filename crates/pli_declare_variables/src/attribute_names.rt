@@ -5,7 +5,7 @@ ghost use Rattle.std.specs.Option.{unwrap_or, option_copied};
 ghost use Rattle.pli_base.specs.Declarations.{SimpleAttribute as Said};
 ghost use Rattle.pli_base.specs.views.DeclarationView.{simple_view, described_view, attribute_view};
 ghost use Rattle.pli_base.specs.views.StatementView.{option_view};
-ghost use Rattle.pli_declare.specs.Resolved.{plain_of, simple_of, area_in, locator_in};
+ghost use Rattle.pli_declare_variables.specs.AttributeNames.{plain_of, simple_of, area_in, locator_in};
 ghost use Rattle.pli_declare_variables.specs.Declarations.{returned_by};
 
 use pli_base::Name;
@@ -49,7 +49,7 @@ fn attribute_area(attribute: &Attribute) -> Option<Name>
 }
 
 /// The first area that the attributes of an item name.
-pub(crate) fn area_of(attributes: &[Attribute]) -> Option<Name>
+pub fn area_of(attributes: &[Attribute]) -> Option<Name>
     ensures { unwrap_or (option_map (λ name. name ∷ []) result) [] ≡ area_in (flat_map simple_of (map attribute_view attributes.now)) }
 {
     for attribute in attributes {
@@ -61,7 +61,7 @@ pub(crate) fn area_of(attributes: &[Attribute]) -> Option<Name>
 }
 
 /// The first area that the RETURNS of a procedure names.
-pub(crate) fn returned_area(options: &[ProcedureOption]) -> Option<Name>
+pub fn returned_area(options: &[ProcedureOption]) -> Option<Name>
     ensures { unwrap_or (option_map (λ name. name ∷ []) result) [] ≡ area_in (flat_map plain_of (flat_map (λ attributes. attributes) (returned_by (map option_view options.now)))) }
 {
     for option in options {
@@ -112,7 +112,7 @@ fn attribute_locator<'a>(attribute: &'a Attribute) -> Option<&'a [Name]>
 }
 
 /// The first locator that the attributes of an item name; without any it has no names.
-pub(crate) fn locator_of<'a>(attributes: &'a [Attribute]) -> &'a [Name]
+pub fn locator_of<'a>(attributes: &'a [Attribute]) -> &'a [Name]
     ensures { result.now ≡ locator_in (flat_map simple_of (map attribute_view attributes.now)) }
 {
     for attribute in attributes {
