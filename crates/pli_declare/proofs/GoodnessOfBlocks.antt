@@ -1,17 +1,14 @@
 -- Whether the names in attributes are good, for each name of each block, by the marks so far and one more.
-use Rattle.std.proofs.Common.{◌≡◌, ℕ, ◌+◌, ◌<◌, ◌==◌, Bool, true, false, List, [], ◌∷◌, ◌++◌, map, length, get_or, set, if◌then◌else◌, refl, sym, ap, ◌∙◌, zero-add, arith}
-use Rattle.std.specs.List.{flat_map, list_all}
+use Rattle.std.proofs.Common.{◌≡◌, ℕ, ◌+◌, ◌<◌, ◌==◌, Bool, true, false, List, [], ◌∷◌, ◌++◌, map, length, get_or, set, if◌then◌else◌, refl, sym, ap, ◌∙◌, zero-add}
+use Rattle.std.specs.List.{list_all}
 use Rattle.std.proofs.lemmas.Bool.{eq-eqb}
-use Rattle.std.proofs.lemmas.List.{map-append, length-map, append-nil}
-use Rattle.pli_base.specs.declared.syntax.Identifier.{Identifier}
+use Rattle.std.proofs.lemmas.List.{map-append, append-nil}
 use Rattle.pli_base.specs.Declarations as tree
 use Rattle.pli_declare_outline.specs.Outlines.{Mark, Declared, Labelled, Entered, Used, Jumped, Placed, Outline}
 use Rattle.pli_declare_constructs.specs.Regions.{block_of}
-use Rattle.pli_declare_scopes.specs.Levels.{standings_of, level_of}
-use Rattle.pli_declare_scopes.specs.declared.level.Standing.{Standing}
-use Rattle.pli_declare_tables.specs.Tables.{Entry, named, item_entries, entries_of, entries_after, numbers_from}
+use Rattle.pli_declare_tables.specs.Tables.{Entry, entries_of, entries_after, numbers_from}
 use Rattle.pli_declare.specs.Resolution.{attribute_is_good}
-use Rattle.pli_declare.specs.answers.Walks.{entity_is_good, item_goodness, mark_goodness}
+use Rattle.pli_declare.specs.answers.Walks.{entity_is_good, mark_goodness}
 use Rattle.pli_declare.proofs.NumberLists.{number_at, set_of_numbers}
 use Rattle.pli_declare.proofs.ParametersOfBlocks.{not_equal}
 use Rattle.pli_declare.proofs.MarkWalkLemmas.{of_declared, entries_both}

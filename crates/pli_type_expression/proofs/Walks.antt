@@ -1,10 +1,14 @@
 -- The walk over expressions and references, step by step.
-use Rattle.std.proofs.Common.{◌≡◌, ℕ, ◌+◌, ◌∷◌, ◌++◌, [], List, true, false, Result, Ok, Err, refl, ap}
+use Rattle.std.proofs.Common.{◌≡◌, ℕ, ◌+◌, ◌∷◌, ◌++◌, [], List, Bool, true, false, Result, Ok, Err, refl, ap, sym}
 use Rattle.std.proofs.Common.{◌∙◌, suc, zero, drop, get_or, add-one}
 use Rattle.pli_base.specs.Reading.{◌>>=◌}
 use Rattle.pli_base.specs.Syntax.{Expression, Parenthesized, Prefix, Infix, Named, JoinedParts, Alone, Joined}
 use Rattle.pli_base.specs.Syntax.{Arguments, Expressions, Listed}
 use Rattle.pli_base.specs.declared.syntax.Identifier.{Identifier}
+use Rattle.pli_base.specs.declared.syntax.JoinedPart.{JoinedPart}
+use Rattle.pli_base.specs.declared.syntax.Reference.{Reference, out-Reference}
+use Rattle.pli_base.specs.laws.SyntaxLaws.{reference_out}
+use Rattle.pli_base.specs.views.SyntaxView.{reference_view, arguments_view, joined_view}
 use Rattle.pli_base.specs.declared.syntax.PrefixOperator.{PrefixOperator}
 use Rattle.pli_base.specs.declared.syntax.InfixOperator.{InfixOperator}
 use Rattle.pli_base.specs.declared.syntax.Joining.TheVariants.{Member, Located}
@@ -135,26 +139,60 @@ joined_ends n role s (Joined Located name arguments more) =
     behind ih (Ok d) (Err f) = refl
 
 -- a reference by its parts
-pub referred_ends : (n : Naming) (role : Role) (name : Identifier) (arguments : Arguments) (more : JoinedParts)
+referred_ends : (n : Naming) (role : Role) (name : Identifier) (arguments : Arguments) (more : JoinedParts)
     (s t : Segment) → begun n (n.meaning name.at) (is_call role false more) false name.at arguments ≡ Ok s
     → last_segment n s more ≡ Ok t → referred n role (Named name arguments more) ≡ ended role t
 referred_ends n role name arguments more s t p q =
     bind_ok (begun n (n.meaning name.at) (is_call role false more) false name.at arguments) s (λ s. joined n role s more) p
     ∙ joined_ends n role s more ∙ bind_ok (last_segment n s more) t (ended role) q
 
-pub reference_unbegun : (n : Naming) (role : Role) (name : Identifier) (arguments : Arguments) (more : JoinedParts)
+reference_unbegun : (n : Naming) (role : Role) (name : Identifier) (arguments : Arguments) (more : JoinedParts)
     (error : TypeError) → Fails error (begun n (n.meaning name.at) (is_call role false more) false name.at arguments)
     → Fails error (referred n role (Named name arguments more))
 reference_unbegun n role name arguments more error p =
     fails_on error (begun n (n.meaning name.at) (is_call role false more) false name.at arguments) (λ s. joined n role s more) p
 
-pub reference_unended : (n : Naming) (role : Role) (name : Identifier) (arguments : Arguments) (more : JoinedParts)
+reference_unended : (n : Naming) (role : Role) (name : Identifier) (arguments : Arguments) (more : JoinedParts)
     (s : Segment) (error : TypeError)
     → begun n (n.meaning name.at) (is_call role false more) false name.at arguments ≡ Ok s
     → Fails error (last_segment n s more) → Fails error (referred n role (Named name arguments more))
 reference_unended n role name arguments more s error p q =
     fails_as error _ _ (bind_ok (begun n (n.meaning name.at) (is_call role false more) false name.at arguments) s (λ s. joined n role s more) p
     ∙ joined_ends n role s more) (fails_on error (last_segment n s more) (ended role) q)
+
+-- a reference as code has it
+module _ (n : Naming) (role : Role) (r : Reference) (parts : List JoinedPart) (call : Bool)
+    (same : parts ≡ (out-Reference r).joined.items) (is : call ≡ is_call role false (joined_view parts)) where
+  abbrev begins : Bool → Result Segment Fault
+  begins k =
+      let first = (out-Reference r).first in
+      begun n (n.meaning first.name.at) k false first.name.at (arguments_view first.arguments)
+
+  so : begins (is_call role false (joined_view (out-Reference r).joined.items)) ≡ begins call
+  so = sym (ap begins (is ∙ ap (λ xs. is_call role false (joined_view xs)) same))
+
+  pub written_unbegun : (error : TypeError) → Fails error (begins call) → Fails error (referred n role (reference_view r))
+  written_unbegun error p =
+      let x = out-Reference r in
+      fails_as error _ _ (ap (referred n role) (reference_out r))
+      (reference_unbegun n role x.first.name (arguments_view x.first.arguments) (joined_view x.joined.items) error
+      (fails_as error _ _ so p))
+
+  pub written_unended : (s : Segment) (error : TypeError) → begins call ≡ Ok s
+      → Fails error (last_segment n s (joined_view parts)) → Fails error (referred n role (reference_view r))
+  written_unended s error p q =
+      let x = out-Reference r in
+      fails_as error _ _ (ap (referred n role) (reference_out r))
+      (reference_unended n role x.first.name (arguments_view x.first.arguments) (joined_view x.joined.items) s error (so ∙ p)
+      (fails_as error _ _ (sym (ap (λ xs. last_segment n s (joined_view xs)) same)) q))
+
+  pub written_ends : (s t : Segment) → begins call ≡ Ok s → last_segment n s (joined_view parts) ≡ Ok t
+      → referred n role (reference_view r) ≡ ended role t
+  written_ends s t p q =
+      let x = out-Reference r in
+      ap (referred n role) (reference_out r)
+      ∙ referred_ends n role x.first.name (arguments_view x.first.arguments) (joined_view x.joined.items) s t (so ∙ p)
+      (sym (ap (λ xs. last_segment n s (joined_view xs)) same) ∙ q)
 
 -- parentheses and operators
 

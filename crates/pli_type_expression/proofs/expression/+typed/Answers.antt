@@ -1,4 +1,4 @@
-use Rattle.std.proofs.Common.{rules, ◌≡◌, map, drop, length, false, true, [], Some, None, Ok, ap, ◌∙◌, sym, arith, Bool, Vec, Global}
+use Rattle.std.proofs.Common.{rules, ◌≡◌, map, drop, length, false, true, [], Some, None, Ok, ap, ◌∙◌, sym, arith, Vec, Global}
 use Rattle.std.proofs.lemmas.Bool.{or_parts}
 use Rattle.std.proofs.lemmas.Result.{err_from_is_err_and}
 use Rattle.pli_base.specs.views.SyntaxView as syntax
@@ -6,7 +6,6 @@ use Rattle.pli_base.specs.Syntax.{Given}
 use Rattle.pli_base.specs.laws.SyntaxLaws.{reference_out}
 use Rattle.pli_base.specs.declared.code.Code.TheVariants.{WrongOperandType}
 use Rattle.pli_base.specs.declared.syntax.Expression.{Expression}
-use Rattle.pli_base.specs.declared.syntax.Reference.{out-Reference}
 use Rattle.pli_type.specs.ExpressionTypes as types
 use Rattle.pli_type.specs.FunctionCalls as calls
 use Rattle.pli_type.specs.References.{AsLocator, AsValue}
@@ -20,8 +19,8 @@ use Rattle.pli_type_expression.proofs.Binds.{fails_as, fails_on, bind_ok}
 use Rattle.pli_type_expression.proofs.Called.{gives_as, call_unmeant, call_typed}
 use Rattle.pli_type_expression.proofs.Meanings.{begun_at_variable, begun_at_function, call_given, begun_beside_function, begun_beside_procedure, begun_alone, procedure_unmeant}
 use Rattle.pli_type_expression.proofs.Sizes.{item_size, part_size, expression_size, reference_size, arguments_size, list_size, parts_size}
-use Rattle.pli_type_expression.proofs.Walks.{referred_ends, reference_unbegun, reference_unended, parenthesized_typed, parenthesized_unmeant, prefix_typed, prefix_unmeant, prefix_refused, infix_typed, left_unmeant, right_unmeant, infix_refused}
-use Rattle.pli_type_expression.specs.Segments.{next_segment, last_segment, function_typed}
+use Rattle.pli_type_expression.proofs.Walks.{written_ends, written_unbegun, written_unended, parenthesized_typed, parenthesized_unmeant, prefix_typed, prefix_unmeant, prefix_refused, infix_typed, left_unmeant, right_unmeant, infix_refused}
+use Rattle.pli_type_expression.specs.Segments.{next_segment, function_typed}
 use Rattle.pli_type_expression.specs.declared.argument.Argument.{Argument}
 use Rattle.pli_type_tree.specs.declared.expression.TypedExpression.{TypedExpression}
 use Rattle.pli_type_expression.proofs.Built.{item_built, part_built, reference_built, constant_built}
@@ -203,37 +202,30 @@ begun-returns-in-Some t c =
 
 pub begun_with-all_subscripts-requires : goal.begun_with-all_subscripts-requires
 begun_with-all_subscripts-requires t c =
-    let n = naming_in c.args.naming.now in
     (omega (arith, c.decreases), c.requires)
 
 pub begun_with-called-requires : goal.begun_with-called-requires
 begun_with-called-requires t c =
-    let n = naming_in c.args.naming.now in
     (omega (arith, c.decreases), c.requires)
 
 pub begun_with-all_arguments-requires : goal.begun_with-all_arguments-requires
 begun_with-all_arguments-requires t c =
-    let n = naming_in c.args.naming.now in
     (omega (arith, c.decreases), c.requires)
 
 pub begun_with-all_arguments-requires-in-Procedure : goal.begun_with-all_arguments-requires-in-Procedure
 begun_with-all_arguments-requires-in-Procedure t c =
-    let n = naming_in c.args.naming.now in
     (omega (arith, c.decreases), c.requires)
 
 pub begun_with-all_arguments-requires-in-Label : goal.begun_with-all_arguments-requires-in-Label
 begun_with-all_arguments-requires-in-Label t c =
-    let n = naming_in c.args.naming.now in
     (omega (arith, c.decreases), c.requires)
 
 pub called-all_arguments-requires : goal.called-all_arguments-requires
 called-all_arguments-requires t c =
-    let n = naming_in c.args.naming.now in
     (omega (arith, c.decreases), c.requires)
 
 pub called-all_arguments-requires-2 : goal.called-all_arguments-requires-2
 called-all_arguments-requires-2 t c =
-    let n = naming_in c.args.naming.now in
     (omega (arith, c.decreases), c.requires)
 
 pub begun_with-returns-in_err-subscripts-in-Variable : goal.begun_with-returns-in_err-subscripts-in-Variable
@@ -383,12 +375,10 @@ subscripts_in-returns-in-Some t c =
 
 pub with_part-subscripts_in-requires : goal.with_part-subscripts_in-requires
 with_part-subscripts_in-requires t c =
-    let n = naming_in c.args.naming.now in
     (omega (arith, c.decreases), c.requires)
 
 pub with_part-begun-requires : goal.with_part-begun-requires
 with_part-begun-requires t c =
-    let n = naming_in c.args.naming.now in
     (omega (arith, c.decreases), c.requires)
 
 pub with_part-returns-in_err-more-in-Member : goal.with_part-returns-in_err-more-in-Member
@@ -439,77 +429,38 @@ with_part-returns-in_ok-ended-in-Located t c =
 
 pub referred-begun-requires : goal.referred-begun-requires
 referred-begun-requires t c =
-    let n = naming_in c.args.naming.now in
     let r = c.args.reference.now in
-    let x = out-Reference r in
-    let role = role_view c.args.role in
-    let more = syntax.joined_view x.joined.items in
-    let first = syntax.arguments_view x.first.arguments in
-    let name = x.first.name in
     (omega (arith, c.decreases, ap reference_size (reference_out r)), (reference_built (compiled_in c.args.naming.now) r c.requires).0)
 
 pub referred-continued-requires : goal.referred-continued-requires
 referred-continued-requires t c =
-    let n = naming_in c.args.naming.now in
-    let r = c.args.reference.now in
-    let x = out-Reference r in
-    let role = role_view c.args.role in
-    let more = syntax.joined_view x.joined.items in
-    let first = syntax.arguments_view x.first.arguments in
-    let name = x.first.name in (
+    let r = c.args.reference.now in (
       omega (arith, c.decreases, ap reference_size (reference_out r), ap (λ xs. parts_size (syntax.joined_view xs)) c.as_slice-joined.ensures.value),
       ap (λ xs. later_joined (compiled_in c.args.naming.now) (syntax.joined_view xs)) c.as_slice-joined.ensures.value ∙ (reference_built (compiled_in c.args.naming.now) r c.requires).1,
     )
 
 pub referred-returns-in_err-first : goal.referred-returns-in_err-first
 referred-returns-in_err-first t c =
-    let n = naming_in c.args.naming.now in
-    let r = c.args.reference.now in
-    let x = out-Reference r in
-    let role = role_view c.args.role in
-    let more = syntax.joined_view x.joined.items in
-    let first = syntax.arguments_view x.first.arguments in
-    let name = x.first.name in
-    let call : c.is_call-call.result ≡ typing.is_call role false more = c.is_call-call.ensures ∙ ap (λ xs. typing.is_call role false (syntax.joined_view xs)) c.as_slice-joined.ensures.value in
-    let begins = λ (k : Bool). typing.begun n (n.meaning name.at) k false name.at first in
-    let e = c.in_err-first.field-0.0 in
     let p = err_from_is_err_and c.from_residual.result c.from_residual.ensures.1 in
     rw (p.1, p.2)
-    (fails_as e _ _ (ap (typing.referred n role) (reference_out r)) (reference_unbegun n role name first more e (fails_as e _ _ (sym (ap begins call)) c.in_err-first.ensures)))
+    (written_unbegun (naming_in c.args.naming.now) (role_view c.args.role) c.args.reference.now c.as_slice-joined.result.now c.is_call-call.result c.as_slice-joined.ensures.value c.is_call-call.ensures
+    c.in_err-first.field-0.0 c.in_err-first.ensures)
 
 pub referred-returns-in_err-last : goal.referred-returns-in_err-last
 referred-returns-in_err-last t c =
     let n = naming_in c.args.naming.now in
-    let r = c.args.reference.now in
-    let x = out-Reference r in
-    let role = role_view c.args.role in
-    let more = syntax.joined_view x.joined.items in
-    let first = syntax.arguments_view x.first.arguments in
-    let name = x.first.name in
-    let call : c.is_call-call.result ≡ typing.is_call role false more = c.is_call-call.ensures ∙ ap (λ xs. typing.is_call role false (syntax.joined_view xs)) c.as_slice-joined.ensures.value in
-    let begins = λ (k : Bool). typing.begun n (n.meaning name.at) k false name.at first in
-    let s = segment_view n c.in_ok-first.first in
-    let e = c.in_err-last.field-0.0 in
     let p = err_from_is_err_and c.from_residual-in_err-last.result c.from_residual-in_err-last.ensures.1 in
     rw (p.1, p.2)
-    (fails_as e _ _ (ap (typing.referred n role) (reference_out r)) (reference_unended n role name first more s e (sym (ap begins call) ∙ c.in_ok-first.ensures)
-    (fails_as e _ _ (sym (ap (λ xs. last_segment n s (syntax.joined_view xs)) c.as_slice-joined.ensures.value)) c.in_err-last.ensures)))
+    (written_unended n (role_view c.args.role) c.args.reference.now c.as_slice-joined.result.now c.is_call-call.result c.as_slice-joined.ensures.value c.is_call-call.ensures
+    (segment_view n c.in_ok-first.first) c.in_err-last.field-0.0 c.in_ok-first.ensures c.in_err-last.ensures)
 
 pub referred-returns : goal.referred-returns
 referred-returns t c =
     let n = naming_in c.args.naming.now in
-    let r = c.args.reference.now in
-    let x = out-Reference r in
-    let role = role_view c.args.role in
-    let more = syntax.joined_view x.joined.items in
-    let first = syntax.arguments_view x.first.arguments in
-    let name = x.first.name in
-    let call : c.is_call-call.result ≡ typing.is_call role false more = c.is_call-call.ensures ∙ ap (λ xs. typing.is_call role false (syntax.joined_view xs)) c.as_slice-joined.ensures.value in
-    let begins = λ (k : Bool). typing.begun n (n.meaning name.at) k false name.at first in
-    let s = segment_view n c.in_ok-first.first in
     gives_as denoted_view c.ended.result _ _
-    (ap (typing.referred n role) (reference_out r) ∙ referred_ends n role name first more s (segment_view n c.in_ok-last.last) (sym (ap begins call) ∙ c.in_ok-first.ensures)
-    (sym (ap (λ xs. last_segment n s (syntax.joined_view xs)) c.as_slice-joined.ensures.value) ∙ c.in_ok-last.ensures)) c.ended.ensures
+    (written_ends n (role_view c.args.role) c.args.reference.now c.as_slice-joined.result.now c.is_call-call.result c.as_slice-joined.ensures.value c.is_call-call.ensures
+    (segment_view n c.in_ok-first.first) (segment_view n c.in_ok-last.last) c.in_ok-first.ensures c.in_ok-last.ensures)
+    c.ended.ensures
 
 pub value_of-denoted-requires : goal.value_of-denoted-requires
 value_of-denoted-requires t c = (omega (arith, c.decreases), c.requires)
