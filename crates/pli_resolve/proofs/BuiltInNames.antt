@@ -70,20 +70,26 @@ leading : (a b c d e f g h : Bool) → (a && b && c && d && e && f && g && h) �
 leading true b c d e f g h k = refl
 leading false b c d e f g h k = cc
 
--- the name is one
-pub named_so : (p : Place) (i : Item) → item_fault p i ≡ None → completed_of p i ≡ OfBuiltIn → p.built_in_name ≡ true
-unfolding item_fault own_fault completed_of shape_fault set_agrees
-named_so p i h is =
+-- the attributes of an item without a fault agree
+pub agreed : (p : Place) (i : Item) → item_fault p i ≡ None → set_agrees p (is_array i.dimensions) (set_of (map outermost i.attributes)) ≡ true
+unfolding item_fault own_fault shape_fault
+agreed p i h =
     let attributes = map outermost i.attributes in
     let s = set_of attributes in
     let n = number_of attributes in
+    let own = (parts_none p i (or_none (attributes_fault p i) (entry_fault (parameters_in i.attributes)) h).0).0 in
+    right_true (each_once 0 attributes) (set_agrees p (is_array i.dimensions) s)
+    (agrees (each_once 0 attributes && set_agrees p (is_array i.dimensions) s) (is_missing p s) (is_bad_precision s n) (is_bad_length s n) (are_bad_bounds i.dimensions)
+    AttributesConflict AttributesMissing BadPrecision BadLength BadBounds (or_none _ _ own).0)
+
+-- the name is one
+pub named_so : (p : Place) (i : Item) → item_fault p i ≡ None → completed_of p i ≡ OfBuiltIn → p.built_in_name ≡ true
+unfolding completed_of set_agrees
+named_so p i h is =
+    let s = set_of (map outermost i.attributes) in
     let array = is_array i.dimensions in
     let two = built_in_left (has s entry) (has s built_in) _ _ (variable_of p i) is in
-    let own = (parts_none p i (or_none (attributes_fault p i) (entry_fault (parameters_in i.attributes)) h).0).0 in
-    let whole =
-    right_true (each_once 0 attributes) (set_agrees p array s)
-    (agrees (each_once 0 attributes && set_agrees p array s) (is_missing p s) (is_bad_precision s n) (is_bad_length s n) (are_bad_bounds i.dimensions)
-    AttributesConflict AttributesMissing BadPrecision BadLength BadBounds (or_none _ _ own).0) in
+    let whole = agreed p i h in
     let no_entry = no_middle (is_plain p array) (has s entry) _ two.0 in
     let no_variable = not_true (agrees_as_variable p s) (λ v. not_beside s two.1 (leading (none_of s 98304) _ _ _ _ _ _ _ v)) in
     middle_true (is_plain p array) p.built_in_name (s == built_in)
@@ -119,17 +125,11 @@ variable_left false false ps r w h k = refl
 
 pub with_members : (p : Place) (i : Item) → item_fault p i ≡ None → p.has_members ≡ true
     → (v : Variable) × (completed_of p i ≡ OfVariable v) × (none_of (set_of (map outermost i.attributes)) (entry + built_in) ≡ true)
-unfolding item_fault own_fault completed_of shape_fault set_agrees
+unfolding completed_of set_agrees
 with_members p i h many =
-    let attributes = map outermost i.attributes in
-    let s = set_of attributes in
-    let n = number_of attributes in
+    let s = set_of (map outermost i.attributes) in
     let array = is_array i.dimensions in
-    let own = (parts_none p i (or_none (attributes_fault p i) (entry_fault (parameters_in i.attributes)) h).0).0 in
-    let whole =
-    right_true (each_once 0 attributes) (set_agrees p array s)
-    (agrees (each_once 0 attributes && set_agrees p array s) (is_missing p s) (is_bad_precision s n) (is_bad_length s n) (are_bad_bounds i.dimensions)
-    AttributesConflict AttributesMissing BadPrecision BadLength BadBounds (or_none _ _ own).0) in
+    let whole = agreed p i h in
     let plain = not_plain (is_at_level_one p.position) p.has_members array many in
     let variable =
     third_of (agrees_as_entry p array s) (agrees_as_built_in p array s) (agrees_as_variable p s) whole
@@ -139,6 +139,30 @@ with_members p i h many =
       variable_left (has s entry) (has s built_in) _ _ (variable_of p i) (not_true (has s entry) (no_entry_beside s none)) (not_true (has s built_in) (λ b. not_beside s b none)),
       none,
     )
+
+-- an item that is a variable agrees as one
+last_false : (a b c : Bool) → c ≡ false → (a && b && c) ≡ false
+last_false true true c h = h
+last_false true false c h = refl
+last_false false b c h = refl
+
+pub agrees_so : (p : Place) (i : Item) → item_fault p i ≡ None → none_of (set_of (map outermost i.attributes)) (entry + built_in) ≡ true
+    → agrees_as_variable p (set_of (map outermost i.attributes)) ≡ true
+unfolding set_agrees
+agrees_so p i h none =
+    let s = set_of (map outermost i.attributes) in
+    let array = is_array i.dimensions in
+    let alone : (s == built_in) ≡ false =
+    not_true (s == built_in) (λ e. not_beside s (ap (λ m. has m built_in) (eqb-true s built_in e)) none) in
+    third_of (agrees_as_entry p array s) (agrees_as_built_in p array s) (agrees_as_variable p s) (agreed p i h)
+    (no_middle (is_plain p array) (has s entry) _ (not_true (has s entry) (no_entry_beside s none)))
+    (last_false (is_plain p array) p.built_in_name (s == built_in) alone)
+
+pub variable_so : (p : Place) (i : Item) → none_of (set_of (map outermost i.attributes)) (entry + built_in) ≡ true → completed_of p i ≡ OfVariable (variable_of p i)
+unfolding completed_of
+variable_so p i none =
+    let s = set_of (map outermost i.attributes) in
+    variable_left (has s entry) (has s built_in) _ _ (variable_of p i) (not_true (has s entry) (no_entry_beside s none)) (not_true (has s built_in) (λ b. not_beside s b none))
 
 -- and has a function
 abbrev name_of : Name × BuiltInFunction → Name

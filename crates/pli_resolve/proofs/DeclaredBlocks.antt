@@ -128,16 +128,16 @@ ways_length ws cs (d ∷ ds) =
 abbrev pub HasSymbol : SymbolFacts → Declaration → Option Symbol → Type 0
 HasSymbol f d found = (ps : List Name) × (w : Way) × (found ≡ Some (symbol_of f ps w d))
 
-pub symbol_among : (f : SymbolFacts) (ps : List Name) (ds : List Declaration) (n : ℕ) (d : Declaration) → slice_get ds n ≡ Some d → HasSymbol f d (slice_get (symbols_of f ps ds) n)
-symbol_among f ps ds n d h =
+pub symbol_by : (f : SymbolFacts) (ps : List Name) (ds : List Declaration) (n : ℕ) (d : Declaration) → slice_get ds n ≡ Some d
+    → slice_get (symbols_of f ps ds) n ≡ Some (symbol_of f ps (get_or (ways_of ds) n no_way) d)
+symbol_by f ps ds n d h =
     let ws = ways_of ds in
     let within : n < length ws = omega (arith, ways_length [] [] ds, slice_get_within ds n d h) in
-    let w = get_or ws n no_way in (
-      ps,
-      w,
-      symbols_at f ps ws ds n ∙ ap (λ o. option_and_then (λ w. option_map (symbol_of f ps w) (slice_get ds n)) o) (slice_get-get_or ws n no_way within)
-          ∙ ap (option_map (symbol_of f ps w)) h,
-    )
+    symbols_at f ps ws ds n ∙ ap (λ o. option_and_then (λ w. option_map (symbol_of f ps w) (slice_get ds n)) o) (slice_get-get_or ws n no_way within)
+    ∙ ap (option_map (symbol_of f ps (get_or ws n no_way))) h
+
+pub symbol_among : (f : SymbolFacts) (ps : List Name) (ds : List Declaration) (n : ℕ) (d : Declaration) → slice_get ds n ≡ Some d → HasSymbol f d (slice_get (symbols_of f ps ds) n)
+symbol_among f ps ds n d h = (ps, get_or (ways_of ds) n no_way, symbol_by f ps ds n d h)
 
 -- the symbol under the key of a declared name
 abbrev pub key_in : ExternalProcedure → (region : Option ℕ) → (number : ℕ) → SymbolKey
@@ -147,14 +147,19 @@ abbrev pub IsRegion : List Region → Option ℕ → Type 0
 IsRegion rs None = Unit {0}
 IsRegion rs (Some b) = (b < length rs) × (is_block (kind_at rs b) ≡ true)
 
+-- the block of a region that is one
+pub block_there : (u : ExternalProcedure) (b number : ℕ) → IsRegion (resolved_of u).regions (Some b)
+    → (kind : ResolvedBlockKind) × (slice_get (block_regions_of u) (key_in u (Some b) number).block ≡ Some (record { region = b; kind = kind; outer = (get_or (resolved_of u).regions b outside).outer }))
+block_there u b number good =
+    let rs = (resolved_of u).regions in
+    let kind = kind_of_block (kind_at rs b) good.1 in
+    (kind.0, numbered_block rs [] [] 0 0 b b kind.0 refl refl good.0 (omega arith) kind.1)
+
 pub declared_symbol : (u : ExternalProcedure) (region : Option ℕ) (number : ℕ) (d : Declaration) → IsRegion (resolved_of u).regions region
     → slice_get (declared_by (resolved_of u) region) number ≡ Some d → HasSymbol (facts_of u) d (symbol_at (resolved_unit_of u) (key_in u region number))
 declared_symbol u None number d good h =
     subst (HasSymbol (facts_of u) d) (sym (symbol_outside u (key_in u None number) refl)) (symbol_among (facts_of u) [] (resolved_of u).outermost number d h)
 declared_symbol u (Some b) number d good h =
-    let rs = (resolved_of u).regions in
-    let kind = kind_of_block (kind_at rs b) good.1 in
-    let at : slice_get (block_regions_of u) (key_in u (Some b) number).block ≡ Some (record { region = b; kind = kind.0; outer = (get_or rs b outside).outer }) =
-    numbered_block rs [] [] 0 0 b b kind.0 refl refl good.0 (omega arith) kind.1 in
-    subst (HasSymbol (facts_of u) d) (sym (symbol_inside u (key_in u (Some b) number) _ at))
+    let at = block_there u b number good in
+    subst (HasSymbol (facts_of u) d) (sym (symbol_inside u (key_in u (Some b) number) _ at.1))
     (symbol_among (facts_of u) (region_block u b).parameters (region_block u b).declarations number d h)

@@ -8,8 +8,15 @@ pub mod BlocksOfTrees
 pub mod BuiltInNames
 pub mod DeclaredBlocks
 pub mod MeantNames
+pub mod MarksStand
+pub mod BlocksThere
+pub mod NamesOfMarks
+pub mod LabelsStand
 pub mod UsesMean
 pub mod WaysToMembers
 pub mod PartsOfMembers
 pub mod OwnersAreItems
 pub mod MembersAreParts
+pub mod TypesOfLocators
+pub mod NamesFit
+pub mod NamedLocators

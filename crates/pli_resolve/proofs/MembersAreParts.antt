@@ -1,23 +1,27 @@
 -- Members are parts of variables.
 use Rattle.std.proofs.Common.{◌≡◌, ℕ, zero, suc, ◌+◌, ◌<◌, ◌≤◌, ◌==◌, Bool, true, false, not, ◌&&◌, if◌then◌else◌, Option, Some, None, is_none, option_map, option_and_then, List, [], ◌∷◌, ◌++◌, length, get_or, slice_get, inl, inr, refl, sym, ap, ◌∙◌, subst, arith}
-use Rattle.std.proofs.lemmas.Bool.{cases_lt, cases_eq, eqb-true}
+use Rattle.std.specs.List.{list_all}
+use Rattle.std.proofs.lemmas.Bool.{cases_lt, cases_eq, eqb-true, lt-ltb}
 use Rattle.std.proofs.lemmas.List.{get_or_past}
 use Rattle.std.proofs.lemmas.Option.{slice_get_within, get_or_from_slice_get}
 use Rattle.pli_base.specs.Name.{Name}
 use Rattle.pli_base.specs.Statements.{ExternalProcedure}
+use Rattle.pli_base.specs.declared.declaration.Bounds.{Bounds}
 use Rattle.pli_base.specs.declared.declaration.InitialValue.{InitialValue}
 use Rattle.pli_base.specs.declared.syntax.Identifier.{Identifier}
 use Rattle.pli_map.specs.Description.{Description}
 use Rattle.pli_declare_attributes.specs.Completed.{Variable as AVariable, OfVariable, OfEntry, OfBuiltIn}
+use Rattle.pli_declare_attributes.specs.Extents.{is_array}
 use Rattle.pli_declare_attributes.specs.Faults.{item_fault}
 use Rattle.pli_declare_outline.specs.Outlines.{Mark, Declared, Labelled, Entered, Used, Jumped, Placed, outline_of}
 use Rattle.pli_declare_tables.specs.Tables.{Entity, Entry, no_entry, entries_in, heading_entries, unit_entries}
 use Rattle.pli_declare_tables.specs.answers.Answers.{AreBehindOwners}
 use Rattle.pli_declare_tables.proofs.MembersStandBehind.{owners_stand_before}
-use Rattle.pli_declare_variables.specs.Places.{members_of, place_in, item_in, own_code, is_variable}
+use Rattle.pli_declare_variables.specs.Places.{members_of, owners_of, place_in, item_in, item_of, own_code, is_variable, is_unsubscripted}
 use Rattle.pli_declare_variables.specs.Descriptions.{is_of_shape, own_codes, description_of}
 use Rattle.pli_declare_variables.specs.Declarations.{Declaration, Kind, OfItem, OfLabel, OfProcedure, IsGood, AreGood, declaration_at, declared_in, kind_of, whole_description}
 use Rattle.pli_declare_variables.proofs.MembersFound.{before}
+use Rattle.pli_declare_variables.proofs.Owners.{owners_next}
 use Rattle.pli_declare_variables.proofs.NumbersOn.{filtered}
 use Rattle.pli_declare.specs.Resolution.{parameters_of, resolution_faults}
 use Rattle.pli_declare.specs.Resolved.{resolved_of, block_at}
@@ -25,12 +29,13 @@ use Rattle.pli_declare.specs.Resolved as declare
 use Rattle.pli_declare.proofs.ListsByNumber.{made_at, made_length}
 use Rattle.pli_resolve.specs.Symbols.{Symbol, SymbolFacts, Variable, Member, Way, no_way, ways_of, class_of, place_among, locator_of, area_of, symbol_kind, symbol_of, symbols_with}
 use Rattle.pli_resolve.specs.ResolvedUnits.{resolved_unit_of, symbol_at, facts_of, region_block, block_regions_of, no_block}
-use Rattle.pli_resolve.specs.laws.MemberLaws.{part_on, IsPart, MembersAreParts}
+use Rattle.pli_resolve.specs.laws.LocatorLaws.{plain_member, plain_part}
+use Rattle.pli_resolve.specs.laws.MemberLaws.{member_of, part_on, IsPart, MembersAreParts}
 use Rattle.pli_resolve.specs.declared.block_numbers.BlockRegion.{BlockRegion}
 use Rattle.pli_resolve.specs.declared.symbol.SymbolKey.{SymbolKey}
 use Rattle.pli_resolve.proofs.SymbolsAt.{symbols_at, symbol_inside, symbol_outside, symbol_beyond}
 use Rattle.pli_resolve.proofs.WaysToMembers.{hits, at_hit, is_owner, owner_here, way_by, ways_are}
-use Rattle.pli_resolve.proofs.PartsOfMembers.{of_owner, part_further, each_described}
+use Rattle.pli_resolve.proofs.PartsOfMembers.{of_owner, part_further, plain_further, structure_alone, each_described}
 use Rattle.pli_resolve.proofs.OwnersAreItems.{IsItem, OwnersAreItems, owners_are_items}
 use Rattle.pli_resolve.proofs.BuiltInNames.{with_members}
 use Rattle.pli_resolve.proofs.DeclaredBlocks.{symbol_among}
@@ -43,35 +48,65 @@ some_there n lt = by (n == 0) refl
     by true e = absurd (omega (arith, lt, eqb-true n 0 e))
     by false e = refl
 
+left_true : (a b : Bool) → (a && b) ≡ true → a ≡ true
+left_true true b h = refl
+left_true false b h = cc
+
+right_true : (a b : Bool) → (a && b) ≡ true → b ≡ true
+right_true true b h = h
+right_true false b h = cc
+
+only_one : {A : Type 0} {x y : A} → Some x ≡ Some y → x ≡ y
+only_one e = cc
+
+pub no_dimensions : (es : List Entry) (n : ℕ) → not (is_array (item_of es n).dimensions) ≡ true → (item_of es n).dimensions ≡ []
+no_dimensions es n h = by (item_of es n).dimensions h
+  where
+    by : (bounds : List Bounds) → not (is_array bounds) ≡ true → bounds ≡ []
+    by [] f = refl
+    by (b ∷ bs) f =
+        let bad : false ≡ true = sym (ap not (lt-ltb 0 (length (b ∷ bs)) (omega arith))) ∙ f in
+        cc
+
 -- names that stand behind their owners, where owners are items, and none has a fault of its own
 module _ (es : List Entry) (ps : List Name) (owners : AreBehindOwners es) (items : OwnersAreItems es) (good : AreGood es ps) where
-  abbrev size : ℕ
+  abbrev pub size : ℕ
   size = length es
 
-  abbrev owner : ℕ → Option ℕ
+  abbrev pub owner : ℕ → Option ℕ
   owner n = (get_or es n no_entry).owner
 
-  abbrev way : ℕ → Way
+  abbrev pub way : ℕ → Way
   way n = get_or (ways_of (declared_in es ps)) n no_way
 
   abbrev place : (number owned_by : ℕ) → ℕ
   place n o = hits (λ k. is_owner o (owner k)) 0 n
 
-  way_is : (n : ℕ) → n < size → way n ≡ way_by (ways_of (declared_in es ps)) n (place n) (owner n)
+  pub way_is : (n : ℕ) → n < size → way n ≡ way_by (ways_of (declared_in es ps)) n (place n) (owner n)
   way_is n lt = ways_are owner (declaration_at es ps) (λ k. refl) size (λ k o low e. before es owners k o low e) n lt
 
-  member_here : (n o : ℕ) → n < size → owner n ≡ Some o → (get_or (members_of es o) (place n o) 0 ≡ n) × (place n o < length (members_of es o))
+  pub member_here : (n o : ℕ) → n < size → owner n ≡ Some o → (get_or (members_of es o) (place n o) 0 ≡ n) × (place n o < length (members_of es o))
   member_here n o lt e =
       let same : 0 + n ≡ n = omega arith in
       let hit = at_hit (λ k. is_owner o (owner k)) 0 size n lt (ap (λ k. is_owner o (owner k)) same ∙ ap (is_owner o) e ∙ owner_here o) in
       (hit.0 ∙ same, hit.1)
 
   -- what is known of the way to a name
-  record Rooted (n : ℕ) (w : Way) : Type 0 where
-    low : w.root < size
-    alone : owner w.root ≡ None
-    leads : (d : Description) → description_of es ps w.root ≡ Some d → (e : Description) × (description_of es ps n ≡ Some e) × (part_on d w.path ≡ Some e)
-    parent : (o : ℕ) → owner n ≡ Some o → 0 < length (members_of es w.root)
+  pub record Rooted (n : ℕ) (w : Way) : Type 0 where
+    pub low : w.root < size
+    pub alone : owner w.root ≡ None
+    pub leads : (d : Description) → description_of es ps w.root ≡ Some d → (e : Description) × (description_of es ps n ≡ Some e) × (part_on d w.path ≡ Some e)
+    pub parent : (o : ℕ) → owner n ≡ Some o → 0 < length (members_of es w.root)
+    pub over : (test : ℕ → Bool) → list_all test (n ∷ owners_of es n) ≡ true → test w.root ≡ true
+    pub plain : is_unsubscripted es n ≡ true → (d e : Description) → description_of es ps w.root ≡ Some d → description_of es ps n ≡ Some e → plain_part d w.path ≡ Some e
+
+  -- what holds of it and of all that it is a member of holds of its owner and of all that that is one of
+  tests_above : (n o : ℕ) → o < size → owner n ≡ Some o → (test : ℕ → Bool) → list_all test (n ∷ owners_of es n) ≡ true → list_all test (o ∷ owners_of es o) ≡ true
+  tests_above n o low e test h =
+      ap (list_all test) (sym (owners_next es owners n o low e)) ∙ right_true (test n) (list_all test (owners_of es n)) h
+
+  unsubscripted_above : (n o : ℕ) → o < size → owner n ≡ Some o → is_unsubscripted es n ≡ true → is_unsubscripted es o ≡ true
+  unsubscripted_above n o low e h = tests_above n o low e (λ k. not (is_array (item_of es k).dimensions)) h
 
   rooted_alone : (n : ℕ) → n < size → owner n ≡ None → Rooted n (record { root = n; path = [] })
   rooted_alone n lt e = record {
@@ -79,6 +114,8 @@ module _ (es : List Entry) (ps : List Name) (owners : AreBehindOwners es) (items
     alone = e;
     leads = λ d h. (d, h, refl);
     parent = λ o f. absurd (none o (sym e ∙ f));
+    over = λ test h. left_true (test n) (list_all test (owners_of es n)) h;
+    plain = λ h d x f g. sym f ∙ g;
   }
     where
       none : (o : ℕ) → None ≡ Some o → ⊥
@@ -91,12 +128,27 @@ module _ (es : List Entry) (ps : List Name) (owners : AreBehindOwners es) (items
       subst (λ k. 0 < length (members_of es k)) (sym same) some
   parent_of n o lt low e r (Some p) f = r.parent p f
 
+  plain_below : (n o : ℕ) → n < size → o < size → owner n ≡ Some o → (w : Way) → Rooted o w → is_unsubscripted es n ≡ true → (d x : Description) → description_of es ps w.root ≡ Some d
+      → description_of es ps n ≡ Some x → plain_part d (w.path ++ place n o ∷ []) ≡ Some x
+  plain_below n o lt low e w r h d x f g =
+      let above = unsubscripted_above n o low e h in
+      let it = r.leads d f in
+      let here = member_here n o lt e in
+      let many : 0 < length (members_of es o) = omega (arith, here.1) in
+      let shape = structure_alone (length es) es (own_codes es ps) o it.0 it.1 (no_dimensions es o (left_true _ _ above)) many in
+      let there = of_owner (length es) es owners (own_codes es ps) refl o (place n o) it.0 it.1 here.1 in
+      let same : there.0 ≡ x = only_one (sym there.1 ∙ ap (description_of es ps) here.0 ∙ g) in
+      plain_further d w.path (place n o) it.0 x (r.plain above d it.0 f it.1)
+      (ap (λ y. plain_member y (place n o)) shape.1 ∙ sym (ap (λ y. member_of y (place n o)) shape.1) ∙ there.2 ∙ ap (λ y. Some y) same)
+
   rooted_below : (n o : ℕ) → n < size → o < size → owner n ≡ Some o → Rooted o (way o) → Rooted n (record { root = (way o).root; path = (way o).path ++ place n o ∷ [] })
   rooted_below n o lt low e r = record {
     low = r.low;
     alone = r.alone;
     leads = λ d h. further d (r.leads d h);
     parent = λ p f. parent_of n o lt low e r (owner o) refl;
+    over = λ test h. r.over test (tests_above n o low e test h);
+    plain = λ h d x f g. plain_below n o lt low e (way o) r h d x f g;
   }
     where
       further : (d : Description) → (x : Description) × (description_of es ps o ≡ Some x) × (part_on d (way o).path ≡ Some x)
@@ -118,19 +170,19 @@ module _ (es : List Entry) (ps : List Name) (owners : AreBehindOwners es) (items
   rooted_under zero n less lt = absurd (omega (arith, less))
   rooted_under (suc m) n less lt = rooted_by n lt (owner n) refl (λ o low within. rooted_under m o (omega (arith, less, low)) within)
 
-  rooted : (n : ℕ) → n < size → Rooted n (way n)
+  pub rooted : (n : ℕ) → n < size → Rooted n (way n)
   rooted n lt = rooted_under (suc n) n (omega arith) lt
 
   -- the root is a variable, and is described
-  abbrev ItemAt : ℕ → Type 0
+  abbrev pub ItemAt : ℕ → Type 0
   ItemAt n = IsItem (get_or es n no_entry).entity
 
-  own_none : (n : ℕ) → n < size → (x : ItemAt n) → item_fault (place_in es ps n) x.0 ≡ None
+  pub own_none : (n : ℕ) → n < size → (x : ItemAt n) → item_fault (place_in es ps n) x.0 ≡ None
   own_none n lt x =
       let fine = subst (IsGood es ps n) x.2 (good n lt) in
       subst (λ (e : Entity). item_fault (place_in es ps n) (item_in e) ≡ None) x.2 fine.1
 
-  shape_good : (n : ℕ) → n < size → ItemAt n → is_of_shape (get_or (own_codes es ps) n None) ≡ false
+  pub shape_good : (n : ℕ) → n < size → ItemAt n → is_of_shape (get_or (own_codes es ps) n None) ≡ false
   shape_good n lt x =
       ap is_of_shape
       (made_at (own_code es ps) (length es) n None lt ∙ ap (λ (e : Entity). item_fault (place_in es ps n) (item_in e)) x.2 ∙ own_none n lt x)
@@ -150,7 +202,7 @@ module _ (es : List Entry) (ps : List Name) (owners : AreBehindOwners es) (items
   item_described n lt x = each_described ItemAt (length es) es owners (own_codes es ps) shape_good members_items n lt x (omega arith)
 
   -- a root with members is an item
-  root_item : (n o : ℕ) → n < size → owner n ≡ Some o → ItemAt (way n).root
+  pub root_item : (n o : ℕ) → n < size → owner n ≡ Some o → ItemAt (way n).root
   root_item n o lt e =
       let r = rooted n lt in
       let some = r.parent o e in
@@ -167,7 +219,7 @@ module _ (es : List Entry) (ps : List Name) (owners : AreBehindOwners es) (items
           filtered (λ k. is_owner r (owner k)) (λ k. (owner k ≡ Some r) × (k < size)) 0 (length es) (λ k from to e. (owner_so r (owner k) e, omega (arith, to))) 0 some
 
   -- what the root is declared as
-  root_kind : (n o : ℕ) → n < size → owner n ≡ Some o → (v : AVariable) × (d : Description) × (description_of es ps (way n).root ≡ Some d)
+  pub root_kind : (n o : ℕ) → n < size → owner n ≡ Some o → (v : AVariable) × (d : Description) × (description_of es ps (way n).root ≡ Some d)
       × ((declaration_at es ps (way n).root).kind ≡ OfItem (OfVariable v) (Some d))
   root_kind n o lt e =
       let r = rooted n lt in
@@ -187,13 +239,13 @@ module _ (es : List Entry) (ps : List Name) (owners : AreBehindOwners es) (items
 
 -- a symbol and what it is of
 
-nothing_there : {A : Type 0} {x : A} → None ≡ Some x → ⊥
+pub nothing_there : {A : Type 0} {x : A} → None ≡ Some x → ⊥
 nothing_there e = cc
 
-abbrev IsOf : SymbolFacts → List Name → List Way → List Declaration → ℕ → Symbol → Type 0
+abbrev pub IsOf : SymbolFacts → List Name → List Way → List Declaration → ℕ → Symbol → Type 0
 IsOf f ps ws ds n s = (w : Way) × (d : Declaration) × (slice_get ws n ≡ Some w) × (slice_get ds n ≡ Some d) × (symbol_of f ps w d ≡ s)
 
-found_of : (f : SymbolFacts) (ps : List Name) (ws : List Way) (ds : List Declaration) (n : ℕ) (s : Symbol) → slice_get (symbols_with f ps ws ds) n ≡ Some s → IsOf f ps ws ds n s
+pub found_of : (f : SymbolFacts) (ps : List Name) (ws : List Way) (ds : List Declaration) (n : ℕ) (s : Symbol) → slice_get (symbols_with f ps ws ds) n ≡ Some s → IsOf f ps ws ds n s
 found_of f ps ws ds n s e = by (slice_get ws n) refl (slice_get ds n) refl
   where
     all : option_and_then (λ w. option_map (symbol_of f ps w) (slice_get ds n)) (slice_get ws n) ≡ Some s
@@ -226,19 +278,19 @@ only_member f ps w i (Some o) (OfLabel region) root path initial area e = cc
 only_member f ps w i (Some o) (OfProcedure returned region) root path initial area e = cc
 
 -- a variable of its own
-own_kind : (f : SymbolFacts) (ps : List Name) (w : Way) (i : Identifier) (owner : Option ℕ) (kind : Kind) (v : AVariable) (d : Description) → owner ≡ None → kind ≡ OfItem (OfVariable v) (Some d)
+pub own_kind : (f : SymbolFacts) (ps : List Name) (w : Way) (i : Identifier) (owner : Option ℕ) (kind : Kind) (v : AVariable) (d : Description) → owner ≡ None → kind ≡ OfItem (OfVariable v) (Some d)
     → symbol_kind f ps w i owner kind ≡ Variable d (class_of v.storage (place_among ps i.name) (locator_of f i.at)) v.scope v.initial (area_of f i.at)
 own_kind f ps w i owner kind v d e k =
     ap (λ o. symbol_kind f ps w i o kind) e ∙ ap (symbol_kind f ps w i None) k
 
 module _ (u : ExternalProcedure) (h : resolution_faults u ≡ []) (key : SymbolKey) (b : BlockRegion) (found : slice_get (block_regions_of u) key.block ≡ Some b) where
-  abbrev entries : List Entry
+  abbrev pub entries : List Entry
   entries = entries_in (outline_of u) b.region
 
-  abbrev names : List Name
+  abbrev pub names : List Name
   names = parameters_of (outline_of u) b.region
 
-  declared_region : b.region < length (outline_of u).regions → region_block u b.region ≡ block_at (outline_of u) b.region
+  pub declared_region : b.region < length (outline_of u).regions → region_block u b.region ≡ block_at (outline_of u) b.region
   unfolding resolved_of
   declared_region lt = made_at (block_at (outline_of u)) (length (outline_of u).regions) b.region no_block lt
 
@@ -248,25 +300,26 @@ module _ (u : ExternalProcedure) (h : resolution_faults u ≡ []) (key : SymbolK
       get_or_past (resolved_of u).blocks b.region no_block (omega (arith, past, made_length (block_at (outline_of u)) (length (outline_of u).regions)))
 
   module _ (lt : b.region < length (outline_of u).regions) where
-    region_owners : AreBehindOwners entries
+    pub region_owners : AreBehindOwners entries
     region_owners = owners_stand_before (outline_of u) b.region
 
-    region_items : OwnersAreItems entries
+    pub region_items : OwnersAreItems entries
     region_items = owners_are_items (outline_of u) b.region
 
-    region_good : AreGood entries names
+    pub region_good : AreGood entries names
     region_good = all_good u h (Some b.region)
 
     -- the symbol of a number
-    symbol_there : (n : ℕ) → symbol_at (resolved_unit_of u) (record { block = key.block; number = n }) ≡ slice_get (symbols_with (facts_of u) names (ways_of (declared_in entries names)) (declared_in entries names)) n
+    pub symbol_there : (n : ℕ) → symbol_at (resolved_unit_of u) (record { block = key.block; number = n }) ≡ slice_get (symbols_with (facts_of u) names (ways_of (declared_in entries names)) (declared_in entries names)) n
     symbol_there n =
         symbol_inside u (record { block = key.block; number = n }) b found
         ∙ ap (λ (x : declare.Block). slice_get (symbols_with (facts_of u) x.parameters (ways_of x.declarations) x.declarations) n) (declared_region lt)
 
     part_of : (n o root : ℕ) (path : List ℕ) → n < length entries → (get_or entries n no_entry).owner ≡ Some o
         → (get_or (ways_of (declared_in entries names)) n no_way).root ≡ root → (get_or (ways_of (declared_in entries names)) n no_way).path ≡ path
-        → IsPart u (record { block = key.block; number = n }) root path
-    part_of n o root path low e r p =
+        → (whole : Symbol) → (get_or entries n no_entry).identifier ≡ whole.identifier
+        → IsPart u (record { block = key.block; number = n }) whole root path
+    part_of n o root path low e r p whole named =
         let w = get_or (ways_of (declared_in entries names)) n no_way in
         let known = rooted entries names region_owners region_items region_good n low in
         let kind = root_kind entries names region_owners region_items region_good n o low e in
@@ -283,14 +336,16 @@ module _ (u : ExternalProcedure) (h : resolution_faults u ≡ []) (key : SymbolK
           area = area_of (facts_of u) i.at;
           there = ap (λ k. symbol_at (resolved_unit_of u) (record { block = key.block; number = k })) (sym r) ∙ symbol_there w.root ∙ s.2;
           is_variable = own_kind (facts_of u) s.0 s.1 i d.owner d.kind kind.0 kind.1 known.alone kind.3;
-          region = b.region;
+          block = b;
+          stands = found;
           part = leads.0;
           leads = ap (part_on kind.1) (sym p) ∙ leads.2;
+          named = named;
           described = leads.1;
         }
 
     in_region : (s : Symbol) (root : ℕ) (path : List ℕ) (initial : List InitialValue) (area : Option SymbolKey)
-        → symbol_at (resolved_unit_of u) key ≡ Some s → s.kind ≡ Member root path initial area → IsPart u key root path
+        → symbol_at (resolved_unit_of u) key ≡ Some s → s.kind ≡ Member root path initial area → IsPart u key s root path
     in_region s root path initial area e k =
         let n = key.number in
         let of = found_of (facts_of u) names (ways_of (declared_in entries names)) (declared_in entries names) n s (sym (symbol_there n) ∙ e) in
@@ -301,13 +356,18 @@ module _ (u : ExternalProcedure) (h : resolution_faults u ≡ []) (key : SymbolK
         let member = only_member (facts_of u) names of.0 of.1.identifier of.1.owner of.1.kind root path initial area (ap (λ (x : Symbol). x.kind) of.4 ∙ k) in
         part_of n member.0 root path low (ap (λ (x : Declaration). x.owner) it ∙ member.1)
         (ap (λ (w : Way). w.root) way_it ∙ member.2) (ap (λ (w : Way). w.path) way_it ∙ member.3)
+        s (ap (λ (x : Declaration). x.identifier) it ∙ ap (λ (x : Symbol). x.identifier) of.4)
+
+  pub symbol_nowhere : length (outline_of u).regions ≤ b.region → symbol_at (resolved_unit_of u) key ≡ None
+  symbol_nowhere past =
+      symbol_inside u key b found
+      ∙ ap (λ (x : declare.Block). slice_get (symbols_with (facts_of u) x.parameters (ways_of x.declarations) x.declarations) key.number) (declared_beyond past)
 
   in_block : (s : Symbol) (root : ℕ) (path : List ℕ) (initial : List InitialValue) (area : Option SymbolKey)
-      → symbol_at (resolved_unit_of u) key ≡ Some s → s.kind ≡ Member root path initial area → IsPart u key root path
+      → symbol_at (resolved_unit_of u) key ≡ Some s → s.kind ≡ Member root path initial area → IsPart u key s root path
   in_block s root path initial area e k = elim (cases_lt b.region (length (outline_of u).regions)) [
     | inl lt ↦ in_region lt s root path initial area e k
-    | inr past ↦ absurd (nothing_there (sym (symbol_inside u key b found
-        ∙ ap (λ (x : declare.Block). slice_get (symbols_with (facts_of u) x.parameters (ways_of x.declarations) x.declarations) key.number) (declared_beyond past)) ∙ e))
+    | inr past ↦ absurd (nothing_there (sym (symbol_nowhere past) ∙ e))
   ]
 
 -- the outermost block has no members
@@ -342,7 +402,7 @@ in_outermost u key s root path initial area last e k =
 pub members_are_parts : MembersAreParts
 members_are_parts u h key s root path initial area e k = by (slice_get (block_regions_of u) key.block) refl
   where
-    by : (b : Option BlockRegion) → slice_get (block_regions_of u) key.block ≡ b → IsPart u key root path
+    by : (b : Option BlockRegion) → slice_get (block_regions_of u) key.block ≡ b → IsPart u key s root path
     by (Some b) found = in_block u h key b found s root path initial area e k
     by None found = elim (cases_eq key.block (length (block_regions_of u))) [
       | inl last ↦ absurd (in_outermost u key s root path initial area last e k)

@@ -27,7 +27,7 @@ OwnersAreItems es = (k o : ℕ) → k < length es → (get_or es k no_entry).own
 abbrev OfMark : (base : ℕ) → List Entry → Type 0
 OfMark base es = (k o : ℕ) → k < length es → owner_at es k ≡ Some o → (base ≤ o) × ((j : ℕ) → j < length es → IsItem (entity_at es j))
 
-item_there : (base : ℕ) (xs : List (Identifier × Item)) (ss : List Standing) (j : ℕ) → j < length (item_entries base xs ss) → IsItem (entity_at (item_entries base xs ss) j)
+pub item_there : (base : ℕ) (xs : List (Identifier × Item)) (ss : List Standing) (j : ℕ) → j < length (item_entries base xs ss) → IsItem (entity_at (item_entries base xs ss) j)
 item_there base [] ss j lt = absurd (omega (arith, lt))
 item_there base (x ∷ xs) [] j lt = absurd (omega (arith, lt))
 item_there base (x ∷ xs) (s ∷ ss) zero lt = (x.1, s.is_bad, refl)

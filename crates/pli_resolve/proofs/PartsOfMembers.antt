@@ -10,6 +10,7 @@ use Rattle.pli_declare_tables.specs.answers.Answers.{AreBehindOwners}
 use Rattle.pli_declare_variables.specs.Places.{item_of, members_of}
 use Rattle.pli_declare_variables.specs.Descriptions.{is_of_shape, scalar_at, member_then, members_made, inside, described}
 use Rattle.pli_declare_variables.proofs.MembersFound.{members_stand, enough}
+use Rattle.pli_resolve.specs.laws.LocatorLaws.{plain_member, plain_part}
 use Rattle.pli_resolve.specs.laws.MemberLaws.{member_at, member_of, part_on}
 
 -- the member at a place of a list
@@ -86,6 +87,53 @@ part_further d (k ∷ ks) place e x p m = by (member_of d k) refl (λ y q. part_
     by None f rest = absurd (none_left e (sym (ap (option_and_then (λ y. part_on y ks)) f) ∙ p))
     by (Some y) f rest =
         ap (option_and_then (λ y. part_on y (ks ++ place ∷ []))) f ∙ rest y (sym (ap (option_and_then (λ y. part_on y ks)) f) ∙ p)
+
+pub plain_further : (d : Description) (path : List ℕ) (place : ℕ) (e x : Description) → plain_part d path ≡ Some e → plain_member e place ≡ Some x → plain_part d (path ++ place ∷ []) ≡ Some x
+plain_further d [] place e x p m =
+    let same : d ≡ e = cc in
+    ap (option_and_then (λ y. Some y)) (ap (λ y. plain_member y place) same ∙ m)
+plain_further d (k ∷ ks) place e x p m = by (plain_member d k) refl (λ y q. plain_further y ks place e x q m)
+  where
+    by : (found : Option Description) → plain_member d k ≡ found → ((y : Description) → plain_part y ks ≡ Some e → plain_part y (ks ++ place ∷ []) ≡ Some x)
+        → option_and_then (λ y. plain_part y (ks ++ place ∷ [])) (plain_member d k) ≡ Some x
+    by None f rest = absurd (none_left e (sym (ap (option_and_then (λ y. plain_part y ks)) f) ∙ p))
+    by (Some y) f rest =
+        ap (option_and_then (λ y. plain_part y (ks ++ place ∷ []))) f ∙ rest y (sym (ap (option_and_then (λ y. plain_part y ks)) f) ∙ p)
+
+-- an item without dimensions that has members is a structure
+bare : (find : ℕ → Option Description) (scalar : Description) (ks : List ℕ) (bounds : List Bounds) (d : Description) → bounds ≡ []
+    → option_map (with_bounds bounds) (inside find scalar ks) ≡ Some d → 0 < length ks → (ms : Members) × (d ≡ Structure ms)
+bare find scalar [] bounds d b e lt = absurd (omega (arith, lt))
+bare find scalar (k ∷ ks) bounds d b e lt = by (members_made find (k ∷ ks)) refl
+  where
+    by : (ms : Option Members) → members_made find (k ∷ ks) ≡ ms → (ms : Members) × (d ≡ Structure ms)
+    by None f = absurd (none_left d (sym (ap (λ x. option_map (with_bounds bounds) (option_map Structure x)) f) ∙ e))
+    by (Some ms) f =
+        let all : Some (with_bounds bounds (Structure ms)) ≡ Some d = sym (ap (λ x. option_map (with_bounds bounds) (option_map Structure x)) f) ∙ e in
+        let same : with_bounds bounds (Structure ms) ≡ d = cc in
+        (ms, sym same ∙ ap (λ x. with_bounds x (Structure ms)) b)
+
+pub structure_alone : (size : ℕ) (entries : List Entry) (codes : List (Option Code)) (o : ℕ) (d : Description) → described size entries codes o ≡ Some d
+    → (item_of entries o).dimensions ≡ [] → 0 < length (members_of entries o) → (ms : Members) × (d ≡ Structure ms)
+structure_alone zero entries codes o d e alone some = absurd (none_left d e)
+structure_alone (suc size) entries codes o d e alone some = by (is_of_shape (get_or codes o None)) refl
+  where
+    by : (b : Bool) → is_of_shape (get_or codes o None) ≡ b → (ms : Members) × (d ≡ Structure ms)
+    by true f =
+        absurd (none_left d (sym (ap (λ (b : Bool). if b then None else option_map (with_bounds (all_bounds (item_of entries o).dimensions)) (inside (described size entries codes) (scalar_at entries o) (members_of entries o))) f) ∙ e))
+    by false f =
+        bare (described size entries codes) (scalar_at entries o) (members_of entries o) (all_bounds (item_of entries o).dimensions) d (ap all_bounds alone)
+        (sym (ap (λ (b : Bool). if b then None else option_map (with_bounds (all_bounds (item_of entries o).dimensions)) (inside (described size entries codes) (scalar_at entries o) (members_of entries o))) f) ∙ e)
+        some
+
+-- one without members too is its type
+pub scalar_alone : (size : ℕ) (entries : List Entry) (codes : List (Option Code)) (n : ℕ) → 0 < size → is_of_shape (get_or codes n None) ≡ false
+    → (item_of entries n).dimensions ≡ [] → members_of entries n ≡ [] → described size entries codes n ≡ Some (scalar_at entries n)
+scalar_alone zero entries codes n lt shape alone none = absurd (omega (arith, lt))
+scalar_alone (suc size) entries codes n lt shape alone none =
+    ap (λ (b : Bool). if b then None else option_map (with_bounds (all_bounds (item_of entries n).dimensions)) (inside (described size entries codes) (scalar_at entries n) (members_of entries n))) shape
+    ∙ ap (λ ks. option_map (with_bounds (all_bounds (item_of entries n).dimensions)) (inside (described size entries codes) (scalar_at entries n) ks)) none
+    ∙ ap (λ ds. Some (with_bounds (all_bounds ds) (scalar_at entries n))) alone
 
 -- without faults each item is described
 all_made : (find : ℕ → Option Description) (ks : List ℕ) → ((i : ℕ) → i < length ks → (d : Description) × (find (get_or ks i 0) ≡ Some d)) → (ms : Members) × (members_made find ks ≡ Some ms)

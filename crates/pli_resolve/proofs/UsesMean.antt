@@ -14,6 +14,7 @@ use Rattle.pli_declare_attributes.specs.Completed.{Completed, OfVariable, OfEntr
 use Rattle.pli_declare_attributes.specs.Faults.{item_fault}
 use Rattle.pli_declare_attributes.specs.declared.place.Place.{Place}
 use Rattle.pli_declare_outline.specs.Outlines.{Mark, Declared, Labelled, Entered, Used, Jumped, Placed, Outline, outline_of}
+use Rattle.pli_declare_constructs.specs.Reach.{reaches}
 use Rattle.pli_declare_scopes.specs.Scopes.{meant}
 use Rattle.pli_declare_scopes.specs.declared.found.Meant.{Meant}
 use Rattle.pli_declare_scopes.specs.declared.found.Meant.TheVariants.{Item, Ambiguous, NotDeclared}
@@ -27,16 +28,19 @@ use Rattle.pli_declare.specs.declared.block.Use.{Use}
 use Rattle.pli_declare.specs.declared.block.Target.{Target}
 use Rattle.pli_declare.specs.declared.block.Target.TheVariants.{Name as AName, Function as AFunction}
 use Rattle.pli_declare.proofs.FaultsAreExact.{faults_are_least_codes}
+use Rattle.pli_resolve.specs.StatementPlaces.{unit_places}
 use Rattle.pli_resolve.specs.ResolvedUnits.{resolved_unit_of, symbol_at, functions_at, function_at, functions_in, kind_meaning, declared_meaning, target_meaning, facts_of}
 use Rattle.pli_resolve.specs.Symbols.{Symbol, Label, SymbolFacts, Way, symbol_kind, symbol_of, found_after, found_in}
-use Rattle.pli_resolve.specs.laws.UseLaws.{IsThere, MeansSomething, HasMeaning, UsesHaveMeanings, IsUsedAt, MeansLabel, JumpsMeanLabels}
+use Rattle.pli_resolve.specs.laws.UseLaws.{IsThere, MeansSomething, HasMeaning, UsesHaveMeanings, IsUsedAt, IsLabelledAt, MeansLabel, JumpsMeanLabels}
 use Rattle.pli_resolve.specs.declared.built_in.BuiltInFunction.{BuiltInFunction}
+use Rattle.pli_resolve.specs.declared.statement_places.StatementPlace.{StatementPlace}
 use Rattle.pli_resolve.specs.declared.symbol.NameMeaning.{NameMeaning}
 use Rattle.pli_resolve.specs.declared.symbol.NameMeaning.TheVariants as meanings
 use Rattle.pli_resolve.specs.declared.symbol.SymbolKey.{SymbolKey}
 use Rattle.pli_resolve.proofs.LookUps.{found_behind}
 use Rattle.pli_resolve.proofs.BuiltInNames.{named_so, has_function}
 use Rattle.pli_resolve.proofs.DeclaredBlocks.{IsRegion, HasSymbol, key_in, declared_symbol}
+use Rattle.pli_resolve.proofs.LabelsStand.{label_found, label_place}
 use Rattle.pli_resolve.proofs.MeantNames.{entries_at, parameters_at, region_of, meant_in, declared_there, regions_same, all_good}
 
 -- the last use at a token
@@ -121,9 +125,13 @@ single : (i : Identifier) (is : List Identifier) → is_function (i ∷ is) ≡ 
 single i [] h = (refl, h)
 single i (j ∷ js) h = cc
 
--- what a GOTO reaches is a label
-only_label : (o : Outline) (here : ℕ) (entity : Entity) → target_code o here entity ≡ None → (inner : ℕ) × (entity ≡ AsLabel inner)
-only_label o here (AsLabel inner) h = (inner, refl)
+-- what a GOTO without a fault means is a label that it reaches
+only_label : (o : Outline) (here : ℕ) (entity : Entity) → target_code o here entity ≡ None → (inner : ℕ) × (entity ≡ AsLabel inner) × (reaches o.regions here inner ≡ true)
+only_label o here (AsLabel inner) h = (inner, refl, reached (reaches o.regions here inner) h)
+  where
+    reached : (b : Bool) → (if b then None else Some BadGoto) ≡ None → b ≡ true
+    reached true f = refl
+    reached false f = absurd (let bad : Some BadGoto ≡ None = f in cc)
 only_label o here (AsItem item is_bad) h = absurd (let bad : Some BadGoto ≡ None = h in cc)
 only_label o here (AsProcedure heading region) h = absurd (let bad : Some BadGoto ≡ None = h in cc)
 
@@ -277,22 +285,28 @@ module _ (u : ExternalProcedure) (h : resolution_faults u ≡ []) where
 
   -- labels
 
-  -- a target that is a label
-  pub record IsLabel (at : ℕ) (t : Target) : Type 0 where
+  -- a target that is a label, which a GOTO of the region here reaches
+  pub record IsLabel (here at : ℕ) (t : Target) : Type 0 where
     pub key : SymbolKey
     pub symbol : Symbol
     pub statement : ℕ
     pub means : target_meaning u (function_there at) t ≡ Some (meanings.Symbol key)
     pub there : symbol_at (resolved_unit_of u) key ≡ Some symbol
     pub is_label : symbol.kind ≡ Label statement
+    pub place : StatementPlace
+    pub stands : Contains (unit_places u) place
+    pub labelled : place.label ≡ Some symbol.identifier
+    pub reached : reaches o.regions here place.region ≡ true
+    pub numbered : ((q : StatementPlace) → Contains (unit_places u) q → IsLabelledAt symbol.identifier.at q.label → q.number ≡ place.number) → statement ≡ place.number
 
-  label_good : (region : Option ℕ) (number at inner : ℕ) → IsRegion o.regions region → number < length (entries_at o region)
-      → (get_or (entries_at o region) number no_entry).entity ≡ AsLabel inner → IsLabel at (AName region number)
-  label_good region number at inner good lt e =
+  label_good : (region : Option ℕ) (number here at inner : ℕ) → IsRegion o.regions region → number < length (entries_at o region)
+      → (get_or (entries_at o region) number no_entry).entity ≡ AsLabel inner → reaches o.regions here inner ≡ true → IsLabel here at (AName region number)
+  label_good region number here at inner good lt e to =
       let key = key_in u region number in
       let d = declaration region number in
       let s = found_symbol region number good lt in
       let kind : d.kind ≡ OfLabel inner = ap (kind_of (entries_at o region) (parameters_at o region) number) e in
+      let q = label_place u region number inner lt e in
       record {
         key = key;
         symbol = symbol_of (facts_of u) s.0 s.1 d;
@@ -300,10 +314,16 @@ module _ (u : ExternalProcedure) (h : resolution_faults u ≡ []) where
         means = ap (declared_meaning key) (declared_there u region number good lt) ∙ ap (kind_meaning key d.identifier.name) kind;
         there = s.2;
         is_label = ap (symbol_kind (facts_of u) s.0 s.1 d.identifier d.owner) kind ∙ label_kind (facts_of u) s.0 s.1 d.identifier d.owner inner;
+        place = q.0;
+        stands = q.1;
+        labelled = q.3;
+        reached = ap (reaches o.regions here) q.2 ∙ to;
+        numbered = λ alike. ap (λ n. unwrap_or n 0)
+            (label_found None (unit_places u) q.1.0 q.0 d.identifier q.1.1 q.1.2 q.3 (λ k r low f l. alike r (k, low, f) l));
       }
 
   abbrev OneLabel : (here : ℕ) → (label : Identifier) → Type 0
-  OneLabel here label = (t : Target) × (uses_at o here (Jumped label) ≡ record { at = label.at; target = t } ∷ []) × IsLabel label.at t
+  OneLabel here label = (t : Target) × (uses_at o here (Jumped label) ≡ record { at = label.at; target = t } ∷ []) × IsLabel here label.at t
 
   label_one : (p : Placed) (label : Identifier) → Contains marks p → p.mark ≡ Jumped label → OneLabel p.region label
   label_one p label c e = by (meant (scope_of o p.region) (label.name ∷ [])) refl
@@ -318,7 +338,7 @@ module _ (u : ExternalProcedure) (h : resolution_faults u ≡ []) where
           let code : target_code o p.region (get_or (entries_at o region) number no_entry).entity ≡ None =
           ap (λ (es : List Entry). target_code o p.region (get_or es number no_entry).entity) (sym w.2) ∙ ap (jump_code o p.region) (sym m) ∙ none in
           let it = only_label o p.region (get_or (entries_at o region) number no_entry).entity code in
-          (AName region number, ap (used_as o p.region label.at []) m, label_good region number label.at it.0 w.0 w.1 it.1)
+          (AName region number, ap (used_as o p.region label.at []) m, label_good region number p.region label.at it.0 w.0 w.1 it.1 it.2)
       by Ambiguous m = absurd (let bad : Some Several ≡ None = ap (jump_code o p.region) (sym m) ∙ none in cc)
       by NotDeclared m = absurd (let bad : Some NoName ≡ None = ap (jump_code o p.region) (sym m) ∙ none in cc)
 
@@ -329,17 +349,21 @@ module _ (u : ExternalProcedure) (h : resolution_faults u ≡ []) where
     one = label_one p label c e
 
     abbrev AllLabels : (q : Placed) → Mark → Type 0
-    AllLabels q m = Fit (IsLabel label.at) label.at (uses_at o q.region m)
+    AllLabels q m = Fit (IsLabel p.region label.at) label.at (uses_at o q.region m)
 
     same_one : (q : Placed) (l : Identifier) → Contains marks q → q.mark ≡ Jumped l → AllLabels q (Jumped l)
     same_one q l d f =
         let other = label_one q l d f in
-        subst (Fit (IsLabel label.at) label.at) (sym other.1) ((λ at. subst (λ k. IsLabel k other.0) at other.2), tt)
+        subst (Fit (IsLabel p.region label.at) label.at) (sym other.1) (
+          (λ at. let same : q ≡ p = alone q d (subst (IsUsedAt label.at) (sym f) at) in
+              subst (λ (r : Placed). IsLabel r.region label.at other.0) same (subst (λ k. IsLabel q.region k other.0) at other.2)),
+          tt,
+        )
 
     no_other : (q : Placed) (i : Identifier) (is : List Identifier) → Contains marks q → q.mark ≡ Used (i ∷ is) → AllLabels q (Used (i ∷ is))
     no_other q i is d f =
         let other = used_one q i is d f in
-        subst (Fit (IsLabel label.at) label.at) (sym other.1)
+        subst (Fit (IsLabel p.region label.at) label.at) (sym other.1)
         ((λ at. absurd (differs (sym f ∙ ap (λ (r : Placed). r.mark) (alone q d (subst (IsUsedAt label.at) (sym f) at)) ∙ e))), tt)
 
     labels_fit : (q : Placed) → Contains marks q → AllLabels q q.mark
@@ -353,11 +377,11 @@ module _ (u : ExternalProcedure) (h : resolution_faults u ≡ []) where
         by (Labelled l) f = subst (AllLabels q) (sym f) tt
         by (Entered heading region) f = subst (AllLabels q) (sym f) tt
 
-    label_means : MeansLabel (resolved_unit_of u) label.at
+    label_means : MeansLabel u p.region label.at
     unfolding resolved_of
     label_means =
         let here : uses_at o p.region p.mark ≡ record { at = label.at; target = one.0 } ∷ [] = ap (uses_at o p.region) e ∙ one.1 in
-        let found = used_last (IsLabel label.at) label.at (uses_at o) marks None c.0 p one.0 c.1 c.2 here one.2 (λ k lt q f. labels_fit q (k, lt, f)) in
+        let found = used_last (IsLabel p.region label.at) label.at (uses_at o) marks None c.0 p one.0 c.1 c.2 here one.2 (λ k lt q f. labels_fit q (k, lt, f)) in
         let l = found.2 in
         record {
           key = l.key;
@@ -366,6 +390,11 @@ module _ (u : ExternalProcedure) (h : resolution_faults u ≡ []) where
           means = ap (option_and_then (target_meaning u (function_there label.at))) found.1 ∙ l.means;
           there = l.there;
           is_label = l.is_label;
+          place = l.place;
+          stands = l.stands;
+          labelled = l.labelled;
+          reached = l.reached;
+          numbered = l.numbered;
         }
 
 pub uses_have_meanings : UsesHaveMeanings

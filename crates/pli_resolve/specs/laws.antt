@@ -1,3 +1,4 @@
 pub mod BlockLaws
 pub mod UseLaws
 pub mod MemberLaws
+pub mod LocatorLaws

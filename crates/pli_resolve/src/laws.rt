@@ -1,5 +1,6 @@
 //! Laws of resolved units.
 ghost use Rattle.pli_resolve.specs.laws.BlockLaws.{BlocksAreOfTheTree};
+ghost use Rattle.pli_resolve.specs.laws.LocatorLaws.{LocatorsAndAreasAreNamed};
 ghost use Rattle.pli_resolve.specs.laws.MemberLaws.{MembersAreParts};
 ghost use Rattle.pli_resolve.specs.laws.UseLaws.{UsesHaveMeanings, JumpsMeanLabels};
 
@@ -17,13 +18,19 @@ pub fn uses_have_meanings()
 {}
 
 /// A law: in a unit whose declarations have no faults the name in a GOTO means the label of a statement, where no other
-/// name is used at its token.
+/// name is used at its token. The statement stands on a list that the GOTO reaches, and has that label.
 pub fn jumps_mean_labels()
     ensures { JumpsMeanLabels }
 {}
 
 /// A law: in a unit whose declarations have no faults the path of a member of a structure leads to a part of a variable
-/// of its block.
+/// of its block, which is what the member's own declaration describes.
 pub fn members_are_parts()
     ensures { MembersAreParts }
+{}
+
+/// A law: in a unit whose declarations have no faults a name in BASED means a locator without subscripts, which is not
+/// based itself, and the name in OFFSET an AREA without subscripts.
+pub fn locators_and_areas_are_named()
+    ensures { LocatorsAndAreasAreNamed }
 {}

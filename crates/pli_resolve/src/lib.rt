@@ -16,7 +16,10 @@ mod ways;
 
 pub use block_numbers::ResolvedBlockKind;
 pub use built_in::{BuiltInFunction, function_named};
-pub use laws::{blocks_are_of_the_tree, jumps_mean_labels, members_are_parts, uses_have_meanings};
+pub use laws::{
+    blocks_are_of_the_tree, jumps_mean_labels, locators_and_areas_are_named, members_are_parts,
+    uses_have_meanings,
+};
 pub use resolving::resolve_unit;
 pub use symbol::{NameMeaning, StorageClass, Symbol, SymbolKey, SymbolKind};
 pub use unit::{ResolvedBlock, ResolvedUnit};

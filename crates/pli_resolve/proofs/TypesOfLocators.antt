@@ -1,0 +1,203 @@
+-- What the attributes of an item without faults say, where POINTER, OFFSET or AREA is one of them.
+use Rattle.std.proofs.Common.{◌≡◌, ℕ, ◌==◌, ◌+◌, ◌&&◌, ◌||◌, Bool, true, false, not, if◌then◌else◌, Option, Some, None, is_none, List, [], ◌∷◌, map, length, bit_and, refl, sym, ap, ◌∙◌, subst}
+use Rattle.std.specs.List.{list_any}
+use Rattle.std.proofs.lemmas.Bool.{eqb-true}
+use Rattle.std.proofs.lemmas.Nat.{and_assoc}
+use Rattle.pli_base.specs.Declarations.{Item}
+use Rattle.pli_base.specs.declared.code.Code.{Code}
+use Rattle.pli_base.specs.declared.code.Code.TheVariants.{AreaNotAllowedHere}
+use Rattle.pli_map.specs.Description as described
+use Rattle.pli_map.specs.Description.{Description}
+use Rattle.pli_declare_attributes.specs.Sets.{fixed, character, varying, bit, pointer, offset, area, based, automatic, controlled, static, internal, external, built_in, entry, returns, data_attributes, storage_attributes, scope_attributes, has, none_of, is_one_of, outermost, set_of}
+use Rattle.pli_declare_attributes.specs.Agreement.{data_types, excluded_at, is_member, may_have_members, agrees_as_variable}
+use Rattle.pli_declare_attributes.specs.Types.{scalar_of}
+use Rattle.pli_declare_attributes.specs.Extents.{is_array}
+use Rattle.pli_declare_attributes.specs.Faults.{first_of, is_bad_area, area_fault, own_fault, attributes_fault, item_fault, entry_fault, parameters_in}
+use Rattle.pli_declare_attributes.specs.Completed.{Completed, Variable, OfVariable, OfEntry, OfBuiltIn, storage_at, variable_of, completed_of}
+use Rattle.pli_declare_attributes.specs.declared.completed.Storage.TheVariants as storage
+use Rattle.pli_declare_attributes.specs.declared.place.Place.{Place}
+use Rattle.pli_declare_attributes.specs.declared.place.Position.{Position}
+use Rattle.pli_declare_attributes.specs.declared.place.Position.TheVariants.{AtLevelOne, Member, Parameter, Result}
+use Rattle.pli_declare_attributes.proofs.Shapes.{or_none, parts_none}
+use Rattle.pli_resolve.specs.Symbols.{class_of}
+use Rattle.pli_resolve.specs.laws.LocatorLaws.{IsLocating, IsNotBased}
+use Rattle.pli_resolve.specs.declared.symbol.SymbolKey.{SymbolKey}
+use Rattle.pli_resolve.proofs.BuiltInNames.{agrees_so}
+use Rattle.pli_resolve.proofs.MarksStand.{Each}
+
+-- one of some sets
+among : (P : ℕ → Type 0) (m : ℕ) (sets : List ℕ) → list_any (λ c. c == m) sets ≡ true → Each P sets → P m
+among P m [] h each = cc
+among P m (c ∷ cs) h each = by (c == m) refl h (λ k. among P m cs k each.1)
+  where
+    by : (b : Bool) → (c == m) ≡ b → (b || list_any (λ c. c == m) cs) ≡ true → (list_any (λ c. c == m) cs ≡ true → P m) → P m
+    by true e k rest = subst P (eqb-true c m e) each.0
+    by false e k rest = rest k
+
+-- a data attribute is seen among the data attributes alone
+apart : (s k : ℕ) → bit_and data_attributes k ≡ k → has (bit_and s data_attributes) k ≡ has s k
+apart s k e = ap (λ m. m == k) (and_assoc k s data_attributes ∙ ap (bit_and s) e)
+
+-- no other type stands beside a POINTER, an OFFSET and an AREA
+abbrev NoneBefore : ℕ → Type 0
+NoneBefore m = (has m fixed ≡ false) × (has m varying ≡ false) × (has m character ≡ false) × (has m bit ≡ false)
+
+abbrev BesidePointer : ℕ → Type 0
+BesidePointer m = has m pointer ≡ true → NoneBefore m
+
+abbrev BesideOffset : ℕ → Type 0
+BesideOffset m = has m offset ≡ true → NoneBefore m × (has m pointer ≡ false)
+
+abbrev BesideArea : ℕ → Type 0
+BesideArea m = has m area ≡ true → NoneBefore m × (has m pointer ≡ false) × (has m offset ≡ false)
+
+pointers : Each BesidePointer data_types
+pointers = (λ h. cc, (λ h. cc, (λ h. cc, (λ h. cc, (λ h. cc, (λ h. cc, (λ h. cc, (λ h. (refl, refl, refl, refl), (λ h. cc, (λ h. cc, tt))))))))))
+
+offsets : Each BesideOffset data_types
+offsets = (λ h. cc, (λ h. cc, (λ h. cc, (λ h. cc, (λ h. cc, (λ h. cc, (λ h. cc, (λ h. cc, (λ h. ((refl, refl, refl, refl), refl), (λ h. cc, tt))))))))))
+
+areas : Each BesideArea data_types
+areas = (λ h. cc, (λ h. cc, (λ h. cc, (λ h. cc, (λ h. cc, (λ h. cc, (λ h. cc, (λ h. cc, (λ h. cc, (λ h. ((refl, refl, refl, refl), refl, refl), tt))))))))))
+
+-- the type that is chosen
+behind_four : {A : Type 0} (a b c d : Bool) (v w x y z : A) → a ≡ false → b ≡ false → c ≡ false → d ≡ false
+    → (if a then v else if b then w else if c then x else if d then y else z) ≡ z
+behind_four true b c d v w x y z h k l m = cc
+behind_four false true c d v w x y z h k l m = cc
+behind_four false false true d v w x y z h k l m = cc
+behind_four false false false true v w x y z h k l m = cc
+behind_four false false false false v w x y z h k l m = refl
+
+module _ (s : ℕ) (n : Option ℕ) (one : is_one_of (bit_and s data_attributes) data_types ≡ true) where
+  abbrev m : ℕ
+  m = bit_and s data_attributes
+
+  behind_those : NoneBefore m → scalar_of s n ≡ (if has s pointer then described.Pointer else if has s offset then described.Offset else scalar_of area n)
+  unfolding scalar_of
+  behind_those none =
+      behind_four (has s fixed) (has s varying) (has s character) (has s bit) _ _ _ _ _
+      (sym (apart s fixed refl) ∙ none.0) (sym (apart s varying refl) ∙ none.1) (sym (apart s character refl) ∙ none.2) (sym (apart s bit refl) ∙ none.3)
+
+  pub pointer_of : has s pointer ≡ true → scalar_of s n ≡ described.Pointer
+  pointer_of h =
+      behind_those (among BesidePointer m data_types one pointers (apart s pointer refl ∙ h))
+      ∙ ap (λ (b : Bool). if b then described.Pointer else if has s offset then described.Offset else scalar_of area n) h
+
+  pub offset_of : has s offset ≡ true → scalar_of s n ≡ described.Offset
+  offset_of h =
+      let none = among BesideOffset m data_types one offsets (apart s offset refl ∙ h) in
+      behind_those none.0
+      ∙ ap (λ (b : Bool). if b then described.Pointer else if has s offset then described.Offset else scalar_of area n) (sym (apart s pointer refl) ∙ none.1)
+      ∙ ap (λ (b : Bool). if b then described.Offset else scalar_of area n) h
+
+  pub area_of : has s area ≡ true → scalar_of s n ≡ scalar_of area n
+  area_of h =
+      let none = among BesideArea m data_types one areas (apart s area refl ∙ h) in
+      behind_those none.0
+      ∙ ap (λ (b : Bool). if b then described.Pointer else if has s offset then described.Offset else scalar_of area n) (sym (apart s pointer refl) ∙ none.1)
+      ∙ ap (λ (b : Bool). if b then described.Offset else scalar_of area n) (sym (apart s offset refl) ∙ none.2)
+
+  pub locating : (has s pointer || has s offset) ≡ true → IsLocating (scalar_of s n)
+  locating h = by (has s pointer) refl h
+    where
+      by : (b : Bool) → has s pointer ≡ b → (b || has s offset) ≡ true → IsLocating (scalar_of s n)
+      by true e k = subst IsLocating (sym (pointer_of e)) tt
+      by false e k = subst IsLocating (sym (offset_of k)) tt
+
+-- an area says how many bytes
+pub area_bytes : (n : Option ℕ) → (bytes : ℕ) × (scalar_of area n ≡ described.Area bytes)
+unfolding scalar_of
+area_bytes n = (_, refl)
+
+-- a variable's attributes
+types_one : (a b c d e f g h : Bool) → (a && b && c && d && e && f && g && h) ≡ true → (b ≡ true) × (h ≡ true)
+types_one true true true true true true true h k = (refl, k)
+types_one false b c d e f g h k = cc
+types_one true false c d e f g h k = cc
+types_one true true false d e f g h k = cc
+types_one true true true false e f g h k = cc
+types_one true true true true false f g h k = cc
+types_one true true true true true false g h k = cc
+types_one true true true true true true false h k = cc
+
+no_more : (a b c : Bool) → (not a || b && c) ≡ true → c ≡ false → a ≡ false
+no_more false b c h k = refl
+no_more true true true h k = cc
+no_more true true false h k = cc
+no_more true false c h k = cc
+
+not_all : (b : Bool) → (b ≡ true → ⊥) → b ≡ false
+not_all true h = absurd (h refl)
+not_all false h = refl
+
+-- an attribute of these stands, so not none of them
+some_data : (s k : ℕ) → bit_and data_attributes k ≡ k → has s k ≡ true → has 0 k ≡ false → none_of s data_attributes ≡ false
+some_data s k e h z = not_all (none_of s data_attributes) (λ none.
+    let it : bit_and s data_attributes ≡ 0 = eqb-true (bit_and s data_attributes) 0 none in
+    let other : false ≡ true = sym z ∙ ap (λ x. has x k) (sym it) ∙ apart s k e ∙ h in
+    absurd (differ other))
+  where
+    differ : false ≡ true → ⊥
+    differ f = cc
+
+-- what agrees as a variable has one data type, and none beside members
+agrees_parts : (p : Place) (s : ℕ) → agrees_as_variable p s ≡ true
+    → (is_one_of (bit_and s data_attributes) data_types ≡ true) × ((not p.has_members || may_have_members p.position && none_of s data_attributes) ≡ true)
+agrees_parts p s h =
+    types_one (none_of s (entry + built_in)) (is_one_of (bit_and s data_attributes) data_types)
+    (is_one_of (bit_and s storage_attributes) (0 ∷ automatic ∷ static ∷ based ∷ controlled ∷ [])) (is_one_of (bit_and s scope_attributes) (0 ∷ internal ∷ external ∷ []))
+    (none_of s external || none_of s (automatic + based)) (none_of s returns || none_of s data_attributes && not p.has_members) (none_of s (excluded_at p.position))
+    (not p.has_members || may_have_members p.position && none_of s data_attributes) h
+
+pub type_of : (p : Place) (i : Item) → item_fault p i ≡ None → none_of (set_of (map outermost i.attributes)) (entry + built_in) ≡ true
+    → is_one_of (bit_and (set_of (map outermost i.attributes)) data_attributes) data_types ≡ true
+type_of p i h none = (agrees_parts p (set_of (map outermost i.attributes)) (agrees_so p i h none)).0
+
+pub no_members : (p : Place) (i : Item) (k : ℕ) → item_fault p i ≡ None → none_of (set_of (map outermost i.attributes)) (entry + built_in) ≡ true
+    → bit_and data_attributes k ≡ k → has (set_of (map outermost i.attributes)) k ≡ true → has 0 k ≡ false → p.has_members ≡ false
+no_members p i k h none e there z =
+    let s = set_of (map outermost i.attributes) in
+    no_more p.has_members (may_have_members p.position) (none_of s data_attributes) (agrees_parts p s (agrees_so p i h none)).1 (some_data s k e there z)
+
+-- an area is no member
+bad_area : (a b c d e : Bool) → first_of ((a && (b || c || d || e), AreaNotAllowedHere) ∷ []) ≡ None → a ≡ true → b ≡ false
+bad_area true true c d e h k = cc
+bad_area true false c d e h k = refl
+bad_area false b c d e h k = cc
+
+pub area_alone : (p : Place) (i : Item) → item_fault p i ≡ None → has (set_of (map outermost i.attributes)) area ≡ true → is_member p.position ≡ false
+unfolding item_fault own_fault is_bad_area
+area_alone p i h there =
+    let s = set_of (map outermost i.attributes) in
+    let own = (parts_none p i (or_none (attributes_fault p i) (entry_fault (parameters_in i.attributes)) h).0).0 in
+    let fault : area_fault p i.dimensions s ≡ None = (or_none _ _ (or_none _ _ own).1).1 in
+    bad_area (has s area) (is_member p.position) (is_array i.dimensions) p.in_array (has s based) fault there
+
+-- the storage of a variable
+variable_same : (e b : Bool) (ps : List Description) (r : Option Description) (w v : Variable) → (if e then OfEntry ps r else if b then OfBuiltIn else OfVariable w) ≡ OfVariable v → w ≡ v
+variable_same true b ps r w v h = cc
+variable_same false true ps r w v h = cc
+variable_same false false ps r w v h = cc
+
+pub storage_so : (p : Place) (i : Item) (v : Variable) → completed_of p i ≡ OfVariable v → v.storage ≡ storage_at p.position (set_of (map outermost i.attributes))
+unfolding completed_of variable_of
+storage_so p i v h =
+    let s = set_of (map outermost i.attributes) in
+    ap (λ (x : Variable). x.storage) (sym (variable_same (has s entry) (has s built_in) _ _ (variable_of p i) v h))
+
+pub not_based : (position : Position) (s slot : ℕ) (locator : Option SymbolKey) → none_of s based ≡ true → IsNotBased (class_of (storage_at position s) slot locator)
+not_based AtLevelOne s slot locator h =
+    let none : bit_and s based ≡ 0 = eqb-true (bit_and s based) 0 h in
+    by (has s controlled) (has s based) (has s static) (has s external) (ap (λ m. m == based) none)
+  where
+    by : (c b t x : Bool) → b ≡ false
+        → IsNotBased (class_of (Some (if c then storage.Controlled else if b then storage.Based else if t then storage.Static else if x then storage.Static else storage.Automatic)) slot locator)
+    by true b t x e = tt
+    by false true t x e = cc
+    by false false true x e = tt
+    by false false false true e = tt
+    by false false false false e = tt
+not_based Member s slot locator h = tt
+not_based Parameter s slot locator h = tt
+not_based Result s slot locator h = tt
