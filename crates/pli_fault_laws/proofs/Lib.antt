@@ -1,0 +1,9 @@
+pub mod Below
+pub mod DeclarationFaultsRise
+pub mod ExpressionFaultsStand
+pub mod Keeping
+pub mod MarksRise
+pub mod PlacesHold
+pub mod StatementsBegin
+pub mod TypeFaultsStand
+pub mod UnbuiltStands

@@ -1,0 +1,5 @@
+pub mod DiagnosticPlaces
+pub mod FaultOrder
+pub mod MarkTokens
+pub mod StatementStarts
+pub mod TypeFaultPlaces
