@@ -11,3 +11,4 @@ pub mod Judged
 pub mod PathsKept
 pub mod LeapsKept
 pub mod ReachesKept
+pub mod Recalled

@@ -2,3 +2,4 @@ pub mod Indexes
 pub mod Paths
 pub mod Leaps
 pub mod Reaches
+pub mod Remembered

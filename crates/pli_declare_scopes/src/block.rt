@@ -13,6 +13,7 @@ use crate::found::Found;
 use crate::leap::{Leap, leap_on};
 use crate::path::{Step, note_end, path_above, path_of};
 use crate::reach::reach_on;
+use crate::remembered::{keep, recalled};
 use crate::room::{make_room, push_within};
 use indexmap::{IndexMap, IndexSet};
 use pli_base::Name;
@@ -51,6 +52,8 @@ pub struct Block {
     tops: Vec<usize>,
     /// Whether all items stand in order: each behind what its owner has so far, and one that counts within one that counts.
     is_ordered: bool,
+    /// What the names of references were found to fit, among all these items.
+    remembered: IndexMap<Vec<Name>, Found>,
 }
 
 impl Model for Block {
@@ -60,12 +63,13 @@ impl Model for Block {
     ghost use Rattle.pli_declare_scopes.specs.answers.Paths.{ArePaths};
     ghost use Rattle.pli_declare_scopes.specs.answers.Leaps.{AreLeaps};
     ghost use Rattle.pli_declare_scopes.specs.answers.Reaches.{AreReaching};
+    ghost use Rattle.pli_declare_scopes.specs.answers.Remembered.{AreRemembered};
 
     ghost Value = { List Item };
 
     ghost view = { λ b. b.items.items };
 
-    ghost invariant = { λ b. IsIndexed b.items.items b.earlier.items b.latest × ArePaths b.items.items b.steps.keys b.paths.items b.ended.items × AreLeaps b.items.items b.leaps.items × AreReaching b.items.items b.lasts.items b.tops.items b.is_ordered };
+    ghost invariant = { λ b. IsIndexed b.items.items b.earlier.items b.latest × ArePaths b.items.items b.steps.keys b.paths.items b.ended.items × AreLeaps b.items.items b.leaps.items × AreReaching b.items.items b.lasts.items b.tops.items b.is_ordered × AreRemembered b.items.items b.remembered.entries };
 }
 
 /// Whether names fit the item of this number, where the last of them is its own name. No more levels are looked at than it takes.
@@ -122,6 +126,7 @@ impl Block {
             lasts: Vec::new(alloc),
             tops: Vec::new(alloc),
             is_ordered: true,
+            remembered: IndexMap::new(alloc),
         }
     }
 
@@ -168,6 +173,7 @@ impl Block {
             self.is_ordered,
         );
         push_within(&mut self.items, item);
+        self.remembered.clear();
         Ok(number)
     }
 
@@ -268,13 +274,37 @@ impl Block {
         found
     }
 
-    /// What items fit the names of a reference: one that they qualify fully is preferred.
-    pub fn find(&self, names: &[Name]) -> Found
+    /// What items fit the names of a reference, searched for: one that they qualify fully is preferred.
+    fn searched(&self, names: &[Name]) -> Found
         ensures { result ≡ found_in self.now names.now }
     {
         match self.found_fully(names) {
             Found::Nothing => self.found_partly(names),
             fully => fully,
         }
+    }
+
+    /// What items fit the names of a reference: one that they qualify fully is preferred. They are searched for unless they are
+    /// remembered.
+    pub fn find(&self, names: &[Name]) -> Found
+        ensures { result ≡ found_in self.now names.now }
+    {
+        match recalled(&self.remembered, names) {
+            Some(found) => found,
+            None => self.searched(names),
+        }
+    }
+
+    /// Searches for the names of a reference and remembers what they fit, until one more item is declared. Without memory for it
+    /// the block can be used on.
+    pub fn remember(&mut self, alloc: Global, names: &[Name]) -> Result<(), AllocError>
+        ensures { self.new ≡ self.old }
+    {
+        if recalled(&self.remembered, names).is_some() {
+            return Ok(());
+        }
+        let found = self.searched(names);
+        let names = Vec::from_slice(alloc, names)?;
+        keep(&mut self.remembered, names, found)
     }
 }

@@ -8,6 +8,7 @@ mod leap;
 mod level;
 mod path;
 mod reach;
+mod remembered;
 mod repeat;
 mod room;
 mod scope;

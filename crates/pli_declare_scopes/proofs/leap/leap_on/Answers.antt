@@ -1,5 +1,4 @@
 use Rattle.std.proofs.Common.{◌≡◌, ◌<◌, ℕ, length, IfSome, sym, subst, ◌∙◌}
-use Rattle.std.specs.Cmp.Lexicographic.{same_text}
 use Rattle.pli_declare_scopes.specs.answers.Leaps.{AreLeaps}
 use Rattle.pli_declare_scopes.proofs.LeapsKept.{leaps_more}
 use Rattle.pli_declare_scopes.proofs.leap.leap_on.Goals as goal

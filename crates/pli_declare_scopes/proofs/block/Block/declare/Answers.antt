@@ -1,4 +1,4 @@
-use Rattle.std.proofs.Common.{ℕ, true, ◌≡◌, ◌++◌, ◌∷◌, [], ◌&&◌, length, get_or, set, Some, option_map, if◌then◌else◌, IfSome, ◌<◌, refl, sym, ap, subst, ◌∙◌, rules}
+use Rattle.std.proofs.Common.{ℕ, ◌≡◌, ◌++◌, ◌∷◌, [], ◌&&◌, length, get_or, set, Some, option_map, if◌then◌else◌, IfSome, ◌<◌, refl, sym, ap, subst, ◌∙◌, rules}
 use Rattle.indexmap.specs.IndexMap.{get}
 use Rattle.pli_base.specs.Words.{same_name}
 use Rattle.std.specs.Cmp.Lexicographic.{same_text}
@@ -7,6 +7,7 @@ use Rattle.pli_declare_scopes.specs.Scopes.{with_number, is_named}
 use Rattle.pli_declare_scopes.specs.answers.Indexes.{IsIndexed, last_below}
 use Rattle.pli_declare_scopes.specs.answers.Leaps.{AreLeaps}
 use Rattle.pli_declare_scopes.specs.answers.Reaches.{AreReaching}
+use Rattle.pli_declare_scopes.specs.answers.Remembered.{AreRemembered}
 use Rattle.pli_declare_scopes.proofs.IndexKept.{indexed_more}
 use Rattle.pli_declare_scopes.proofs.PathsKept.{path_more}
 use Rattle.pli_declare_scopes.proofs.ReachesKept.{noted_within}
@@ -47,7 +48,9 @@ invariant_of-self-2 c =
     let reaching : AreReaching (items ++ item ∷ []) c.reach_on-self-inside.new.lasts.items c.reach_on-self-inside.new.tops.items c.reach_on-self-inside.result =
     subst (λ is. AreReaching (is ++ item ∷ []) c.reach_on-self-inside.new.lasts.items c.reach_on-self-inside.new.tops.items c.reach_on-self-inside.result)
     (c.deref-2.ensures.value ∙ room.items) c.reach_on-self-inside.ensures in
-    (rw all (rw links index), rw all (rw ways (rw ends made)), rw all leapt, rw all reaching)
+    let fresh : AreRemembered (items ++ item ∷ []) c.clear.new.self.entries =
+    subst (AreRemembered (items ++ item ∷ [])) (sym c.clear.ensures.empty) tt in
+    (rw all (rw links index), rw all (rw ways (rw ends made)), rw all leapt, rw all reaching, rw all fresh)
 
 pub leap_on-requires-clause-within : goal.leap_on-requires-clause-within
 leap_on-requires-clause-within c =

@@ -1,0 +1,9 @@
+use Rattle.std.proofs.Common.{sym, subst}
+use Rattle.pli_declare_scopes.specs.answers.Remembered.{AreRemembered}
+use Rattle.pli_declare_scopes.proofs.Recalled.{one_more}
+use Rattle.pli_declare_scopes.proofs.remembered.keep.Goals as goal
+
+pub returns : goal.returns
+returns c =
+    λ items all e. subst (AreRemembered items) (sym c.in_ok-insert.ensures.entries)
+    (one_more items c.args.remembered.now.entries c.args.names c.args.found all e)
