@@ -1,6 +1,6 @@
 -- Tokens below a bound.
-use Rattle.std.proofs.Common.{◌+◌, ◌≤◌, ◌<◌, ℕ, List, [], ◌∷◌, ◌++◌, Option, Some, None, arith}
-use Rattle.pli_base.specs.TreeTokens.{Rises, tokens_of_each, tokens_of_some}
+use Rattle.std.proofs.Common.{◌+◌, ◌≤◌, ◌<◌, ℕ, List, [], ◌∷◌, ◌++◌, arith}
+use Rattle.pli_base.specs.TreeTokens.{Rises}
 use Rattle.pli_base.specs.laws.TreeTokenLaws.{rises_up}
 
 -- all of them stand before it

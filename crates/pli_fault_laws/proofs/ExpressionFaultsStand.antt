@@ -1,5 +1,5 @@
 -- The faults of types of an expression stand at its tokens.
-use Rattle.std.proofs.Common.{ℕ, ◌<◌, Bool, true, false, Option, Some, None, List, [], ◌∷◌, ◌++◌, Result, Ok, Err, if◌then◌else◌}
+use Rattle.std.proofs.Common.{ℕ, ◌<◌, Bool, true, false, Option, Some, None, List, [], ◌∷◌, Result, Ok, Err, if◌then◌else◌}
 use Rattle.pli_base.specs.Reading.{◌>>=◌}
 use Rattle.pli_base.specs.Syntax.{Expression, Referred, Constant, Parenthesized, Prefix, Infix, Reference, Named}
 use Rattle.pli_base.specs.Syntax.{JoinedParts, Alone, Joined, Arguments, Absent, Given, Expressions, Empty, Listed}
@@ -10,7 +10,7 @@ use Rattle.pli_base.specs.declared.syntax.Joining.TheVariants.{Member, Located}
 use Rattle.pli_base.specs.declared.token.Fault.{Fault}
 use Rattle.pli_resolve.specs.declared.built_in.BuiltInFunction.{BuiltInFunction}
 use Rattle.pli_type.specs.ExpressionTypes.{TypedValue}
-use Rattle.pli_type.specs.FunctionCalls.{Denoted, DenotesVariable, DenotesResult, Meant, OneValue, WholeAggregate}
+use Rattle.pli_type.specs.FunctionCalls.{Denoted, Meant, OneValue, WholeAggregate}
 use Rattle.pli_type.specs.FunctionCalls.{Argument, function_called, or_bad_argument}
 use Rattle.pli_type.specs.Names.{NamedAs, AVariable, AFunction, AProcedure, ALabel, Untyped, NamedVariable}
 use Rattle.pli_type.specs.Names.{NamedProcedure, Naming}

@@ -1,5 +1,5 @@
 -- Tokens that rise wherever others do.
-use Rattle.std.proofs.Common.{◌≡◌, ◌+◌, ◌≤◌, ◌<◌, ℕ, List, [], ◌∷◌, ◌++◌, refl, ap, subst, sym, append_assoc, ◌∙◌, arith}
+use Rattle.std.proofs.Common.{◌≡◌, ◌+◌, ℕ, List, [], ◌∷◌, ◌++◌, refl, ap, subst, sym, append_assoc, ◌∙◌, arith}
 use Rattle.pli_base.specs.TreeTokens.{Rises, tokens_of_each}
 use Rattle.pli_base.specs.laws.TreeTokenLaws.{rises_within, rises_on, rises_up}
 

@@ -1,18 +1,18 @@
 -- The marks of an outline stand in the order of the text.
-use Rattle.std.proofs.Common.{◌≡◌, ◌+◌, ◌≤◌, ◌<◌, ℕ, suc, cond, List, [], ◌∷◌, ◌++◌, Option, Some, None, map, refl, ap, ◌∙◌, subst, sym, append_assoc, arith, inl, inr}
+use Rattle.std.proofs.Common.{◌≡◌, ◌+◌, ◌≤◌, ℕ, cond, List, [], ◌∷◌, ◌++◌, Option, Some, None, refl, ap, ◌∙◌, subst, sym, append_assoc, arith, inl, inr}
 use Rattle.std.specs.List.{flat_map}
 use Rattle.std.proofs.lemmas.Bool.{cases_lt, lt-ltb, le-ltb}
 use Rattle.std.proofs.lemmas.List.{append-nil}
 use Rattle.pli_base.specs.Syntax.{Expression, Referred, Constant, Parenthesized, Prefix, Infix, Reference, Named, JoinedParts, Alone, Joined, Arguments, Absent, Given, Expressions, Empty, Listed}
-use Rattle.pli_base.specs.Statements.{Range, To, By, Repeat, Control, While, Iterate, Allocation, Statement, Numbered, Body, Null, Assign, Declare, Procedure, Begin, Do, If, On, Revert, Signal, Stop, Allocate, Free, Call, Goto, Return, Put, Statements, Ended, Before, Alternative, NoElse, Else, ExternalProcedure}
-use Rattle.pli_base.specs.TreeTokens.{Rises, expression_tokens, reference_tokens, joined_tokens, argument_tokens, listed_tokens, tokens_of_each, tokens_of_some, name_tokens, item_tokens, range_tokens, control_tokens, placed_tokens, allocation_tokens, statement_tokens, begun_tokens, statements_tokens, alternative_tokens, unit_tokens}
+use Rattle.pli_base.specs.Statements.{Range, To, By, Repeat, Control, While, Iterate, Allocation, Statement, Numbered, Body, Null, Assign, Declare, Procedure, Begin, Do, If, On, Revert, Signal, Stop, Allocate, Free, Call, Goto, Return, Put, Statements, Ended, Before, Alternative, NoElse, Else}
+use Rattle.pli_base.specs.TreeTokens.{Rises, expression_tokens, reference_tokens, joined_tokens, argument_tokens, listed_tokens, tokens_of_each, tokens_of_some, name_tokens, item_tokens, range_tokens, control_tokens, placed_tokens, allocation_tokens, statement_tokens, begun_tokens, statements_tokens, alternative_tokens}
 use Rattle.pli_base.specs.laws.TreeTokenLaws.{rises_up}
 use Rattle.pli_base.specs.declared.syntax.Identifier.{Identifier}
 use Rattle.pli_base.specs.declared.syntax.Joining.TheVariants.{Member, Located}
-use Rattle.pli_declare_outline.specs.Outlines.{Mark, Declared, Labelled, Entered, Used, Jumped, Placed, outline_of, placed, reference_marks, joined_marks, argument_marks, list_marks, expression_marks, optional_marks, range_marks, control_marks, both_marks, allocation_marks, label_marks, statement_marks, body_marks, statements_marks, alternative_marks, regions_in}
+use Rattle.pli_declare_outline.specs.Outlines.{Mark, Declared, Used, Jumped, Placed, outline_of, placed, reference_marks, joined_marks, argument_marks, list_marks, expression_marks, optional_marks, range_marks, control_marks, both_marks, allocation_marks, label_marks, statement_marks, body_marks, statements_marks, alternative_marks, regions_in}
 use Rattle.pli_fault_laws.specs.MarkTokens.{mark_tokens, placed_mark_tokens, MarksRise}
 use Rattle.pli_fault_laws.specs.StatementStarts.{Begins, BodyBegins, AllBegin, ElseBegins}
-use Rattle.pli_fault_laws.proofs.Keeping.{Keeps, kept, none_kept, token_kept, token_left, rises_apart, both_kept, each_apart, each_kept}
+use Rattle.pli_fault_laws.proofs.Keeping.{Keeps, kept, none_kept, token_kept, token_left, rises_apart, both_kept, each_kept}
 
 -- the tokens of these marks rise where those of the text do
 abbrev Marked : List Mark → List ℕ → Type 0

@@ -1,5 +1,5 @@
 -- Each fault of a unit stands at a token of its text, and each diagnostic where that token comes from.
-use Rattle.std.proofs.Common.{◌≡◌, ℕ, zero, suc, ◌<◌, Bool, true, false, List, [], ◌∷◌, ◌++◌, Result, Ok, Err, map, length, slice_get, if◌then◌else◌, refl, sym, ap, subst, ◌∙◌, arith}
+use Rattle.std.proofs.Common.{◌≡◌, ℕ, zero, suc, ◌<◌, Bool, true, false, List, [], ◌∷◌, Result, Ok, Err, map, length, slice_get, if◌then◌else◌, refl, sym, ap, subst, ◌∙◌, arith}
 use Rattle.std.specs.List.{Contains}
 use Rattle.std.proofs.lemmas.List.Elements.{Contains-append_right}
 use Rattle.pli_base.specs.Name.{Name}
@@ -11,11 +11,11 @@ use Rattle.pli_base.specs.declared.token.Origin.{Origin}
 use Rattle.pli_declare.specs.Resolution.{resolution_faults}
 use Rattle.pli_gen_tree.specs.Encoding.{code_of}
 use Rattle.pli_gen_tree.specs.Limits.{is_too_long}
-use Rattle.pli_include.specs.Expanded.{look_in, outcome_of}
-use Rattle.pli_include.specs.Expansion.{Progress, token_limit}
+use Rattle.pli_include.specs.Expanded.{look_in}
+use Rattle.pli_include.specs.Expansion.{token_limit}
 use Rattle.pli_include.proofs.StepsKeep.{texts_have_origins}
 use Rattle.pli_link.specs.Link.{Compiled}
-use Rattle.pli_meaning.specs.Scratch.{Diagnostic, origin_of, located, typed_unless, program_from, program_of, all_located, too_long, coded, coded_from, compiled_texts, compiled_from, compiled_of}
+use Rattle.pli_meaning.specs.Scratch.{Diagnostic, origin_of, located, typed_unless, program_from, program_of, all_located, too_long, coded_from, compiled_texts, compiled_from, compiled_of}
 use Rattle.pli_parse.proofs.StatementFaultPlaces.{unit_fault_stands}
 use Rattle.pli_parse_statement.specs.StatementReading.{unit_of}
 use Rattle.pli_resolve.specs.ResolvedUnits.{resolved_unit_of}

@@ -1,6 +1,5 @@
 -- The faults of types of a unit stand at tokens of its text.
-use Rattle.std.proofs.Common.{◌≡◌, ℕ, ◌<◌, Bool, true, false, Option, Some, None, List, [], ◌∷◌, ◌++◌, Result, Ok, Err, length, sym, subst, arith}
-use Rattle.pli_base.specs.Reading.{◌>>=◌}
+use Rattle.std.proofs.Common.{◌≡◌, ℕ, ◌<◌, Bool, true, false, Option, Some, None, List, [], ◌∷◌, ◌++◌, Result, Ok, Err, length, subst, arith}
 use Rattle.pli_base.specs.Statements as tree
 use Rattle.pli_base.specs.Statements.{Statement, Numbered, Body, Statements, Ended, Before, Alternative}
 use Rattle.pli_base.specs.Syntax.{Expression, Referred, Reference, Named, Arguments, Absent, Given}
@@ -12,7 +11,6 @@ use Rattle.pli_base.specs.declared.syntax.Identifier.{Identifier}
 use Rattle.pli_base.specs.declared.token.Fault.{Fault}
 use Rattle.pli_map.specs.Description.{Description}
 use Rattle.pli_parse.proofs.StatementTokens.{unit_read_rises}
-use Rattle.pli_parse_statement.specs.StatementReading.{unit_of}
 use Rattle.pli_type.specs.Checked.{checked, unless_unbuilt, typed_as}
 use Rattle.pli_type.specs.ExpressionTypes.{TypedValue}
 use Rattle.pli_type.specs.FunctionCalls.{Denoted, DenotesVariable, DenotesResult, Meant, OneValue, WholeAggregate, Argument}
@@ -22,14 +20,13 @@ use Rattle.pli_type.specs.StatementTyping as statements
 use Rattle.pli_type.specs.StatementTyping.{WithProcedures}
 use Rattle.pli_type.specs.Temporaries.{Next}
 use Rattle.pli_type.specs.Typing.{first_token}
-use Rattle.pli_type.specs.Unbuilt.{first_unbuilt}
 use Rattle.pli_type_tree.specs.TypedTree.{TypedArguments, TypedRange, TypedStatements, TypedProcedure, TypedUnit}
 use Rattle.pli_fault_laws.specs.StatementStarts.{Begins, BodyBegins, AllBegin, ElseBegins}
 use Rattle.pli_fault_laws.specs.TypeFaultPlaces.{AllStand, TypeFaultsStandAtTokens}
 use Rattle.pli_fault_laws.proofs.Below.{Below, rising_below, below_left, below_right}
 use Rattle.pli_fault_laws.proofs.ExpressionFaultsStand.{Only, fine, told, only_then, only_or, only_if, first_below, only_passed, only_denoted, only_referred, only_arguments, only_value_of}
 use Rattle.pli_fault_laws.proofs.StatementsBegin.{statements_begin}
-use Rattle.pli_fault_laws.proofs.UnbuiltStands.{AtBelow, is_below, start_below, unit_below}
+use Rattle.pli_fault_laws.proofs.UnbuiltStands.{AtBelow, start_below, unit_below}
 
 -- parts of statements
 

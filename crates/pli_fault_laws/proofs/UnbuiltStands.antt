@@ -1,10 +1,10 @@
 -- Z1 stands at a token of the text.
-use Rattle.std.proofs.Common.{◌≡◌, ◌+◌, ◌<◌, ℕ, Bool, true, false, List, [], ◌∷◌, ◌++◌, Option, Some, None, Ok, length, sym, subst}
+use Rattle.std.proofs.Common.{◌≡◌, ◌<◌, ℕ, Bool, true, false, ◌++◌, Option, Some, None, length, sym, subst}
 use Rattle.std.specs.List.{list_any}
-use Rattle.pli_base.specs.Syntax.{Reference, Named}
+use Rattle.pli_base.specs.Syntax.{Named}
 use Rattle.pli_base.specs.Statements as tree
 use Rattle.pli_base.specs.Statements.{Heading, Statement, Numbered, Body, Statements, Ended, Before, Alternative, ExternalProcedure}
-use Rattle.pli_base.specs.TreeTokens.{first_token, tokens_of_each, tokens_of_some, name_tokens, expression_tokens, reference_tokens, control_tokens, statement_tokens, begun_tokens, statements_tokens, alternative_tokens, unit_tokens}
+use Rattle.pli_base.specs.TreeTokens.{tokens_of_each, tokens_of_some, name_tokens, expression_tokens, control_tokens, statement_tokens, begun_tokens, statements_tokens, alternative_tokens, unit_tokens}
 use Rattle.pli_base.specs.declared.syntax.Identifier.{Identifier}
 use Rattle.pli_parse.proofs.StatementTokens.{unit_read_rises}
 use Rattle.pli_type.specs.Names.{Compiled}

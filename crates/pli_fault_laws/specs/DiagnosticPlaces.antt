@@ -11,8 +11,8 @@ use Rattle.pli_meaning.specs.Scratch.{Diagnostic, compiled_texts, compiled_of}
 use Rattle.pli_members.specs.Members.{Member}
 use Rattle.pli_fault_laws.specs.TypeFaultPlaces.{AllStand}
 
--- each fault of a unit, of its grammar, its declarations, its types or its code, stands at a token of its text,
--- and at 0 where the text has none
+-- each fault of a unit, of its grammar, its declarations, its types or its code, stands at a token of its
+-- text, and at 0 where the text has none
 abbrev pub FaultsHavePlaces : Type 0
 FaultsHavePlaces =
     (unit : Name) (ts : Tokens) (fs : List Fault) → compiled_texts unit ts ≡ Err fs → AllStand ts fs

@@ -1,5 +1,5 @@
--- Where the statements of a tree begin: an assignment at the first token of its target, and an inner procedure is
--- labelled by its own name.
+-- Where the statements of a tree begin: an assignment at the first token of its target, and an inner
+-- procedure is labelled by its own name.
 use Rattle.std.specs.Prelude.{◌≡◌, ℕ, Option, Some, Ok}
 use Rattle.pli_base.specs.Statements.{Statement, Numbered, Body, Assign, Procedure, Begin, Do, If, On}
 use Rattle.pli_base.specs.Statements.{Statements, Ended, Before, Alternative, NoElse, Else, ExternalProcedure}

@@ -38,9 +38,9 @@ pub fn type_faults_stand_at_tokens()
     ensures { TypeFaultsStandAtTokens }
 {}
 
-/// A law: each fault of a unit, of its grammar, its declarations, its types or its code, stands at a token of its text, and
-/// at 0 where the text has none; so each diagnostic of a unit that could be expanded stands where a token of the expansion
-/// comes from, and at line 1 of the unit where the expansion has no token.
+/// A law: each fault of a unit, of its grammar, its declarations, its types or its code, stands at a token of its text,
+/// and at 0 where the text has none; so each diagnostic of a unit that could be expanded stands where a token of the
+/// expansion comes from, and at line 1 of the unit where the expansion has no token.
 #[tactic(auto, using(crate::proofs::PlacesHold::faults_have_places, crate::proofs::PlacesHold::diagnostics_have_places))]
 pub fn faults_have_places()
     ensures faults { FaultsHavePlaces }
