@@ -33,9 +33,9 @@ def each(form, tokens, names):
     return [form.format(names[number % len(names)]) for number in range(count)]
 
 
-def levels(name, tokens):
+def levels(name, tokens, first=1):
     """A chain of levels of one name, each item a member of the one before it."""
-    return [f"{level} {name}" for level in range(1, tokens // 3 + 1)]
+    return [f"{level} {name}" for level in range(first, tokens // 3 + first)]
 
 
 def structures(form, tokens):
@@ -46,6 +46,23 @@ def structures(form, tokens):
 def deep(tokens):
     yield from ["DCL "] + joined(levels("A", tokens // 2)) + [";"]
     yield from many("A=A;", tokens // 2)
+
+
+def deep_pair(tokens):
+    yield from ["DCL "] + joined(levels("A", tokens // 2)) + [";"]
+    yield from many("A.A=0;", tokens // 2)
+
+
+def deep_within(tokens):
+    yield from ["DCL 1 B,2 C,"] + joined(levels("A", tokens // 2, 3)) + [";"]
+    yield from many("B.A=0;", tokens // 2)
+
+
+def deep_within_each(tokens):
+    count = tokens // 12
+    yield from ["DCL "] + [f"{level} B{level}," for level in range(1, count + 1)]
+    yield from joined(levels("A", tokens // 4, count + 1)) + [";"]
+    yield from each("B{0}.A=0;", tokens // 2, range(1, count + 1))
 
 
 def deep_qualified(tokens):
@@ -73,6 +90,24 @@ def member_of_parts(tokens):
     parts = structures("2 G{0},3 X FIXED BIN", tokens // 2)
     yield from ["DCL 1 S,"] + joined(parts) + [";"]
     yield from each("G{0}.X=0;", tokens // 2, range(len(parts)))
+
+
+def member_apart(tokens):
+    yield from ["DCL 1 Q,2 F,3 S,4 X FIXED BIN,"]
+    yield from joined(structures("2 G{0},3 S,4 Y FIXED BIN,2 H{0},3 X FIXED BIN", tokens // 2)) + [";"]
+    yield from many("S.X=0;", tokens // 2)
+
+
+def locators_apart(tokens):
+    yield from ["DCL 1 Q,2 F,3 S,4 X PTR,"]
+    yield from joined(structures("2 G{0},3 S,4 Y PTR,2 H{0},3 X PTR", tokens // 2)) + [";DCL "]
+    yield from joined([f"N{number} PTR BASED(S.X)" for number in range(tokens // 18)]) + [";"]
+
+
+def member_turned(tokens):
+    yield from ["DCL 1 Q,2 F,3 A,4 B,5 X FIXED BIN,"]
+    yield from joined(structures("2 G{0},3 B,4 A,5 X FIXED BIN", tokens // 2)) + [";"]
+    yield from many("A.B.X=0;", tokens // 2)
 
 
 def member_of_none(tokens):
@@ -115,12 +150,18 @@ def parameters(tokens):
 
 TEXTS = (
     ("a chain of levels of one name, and its name", deep),
+    ("the same, and references of two names", deep_pair),
+    ("the same within two structures, qualified by the first", deep_within),
+    ("the same within many structures, qualified by each", deep_within_each),
     ("the same, and references that qualify too much", deep_qualified),
     ("the same, and references of 32 names", deep_long),
     ("structures with a member of one name, and its name", one_member),
     ("the same, qualified by each structure in turn", member_of_each),
     ("the same within one structure, qualified in part", member_of_parts),
     ("the same, qualified by another structure", member_of_none),
+    ("structures and members of one name each, mostly apart", member_apart),
+    ("the same, in BASED", locators_apart),
+    ("structures of two names, mostly one within the other", member_turned),
     ("INITIAL with many values, of many names", first_values),
     ("an attribute that stands many times, of many names", repeated),
     ("ENTRY with many descriptions, of many names", descriptions),

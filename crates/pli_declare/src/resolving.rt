@@ -25,6 +25,7 @@ use crate::uses::uses;
 use pli_base::statement::Procedure;
 use pli_base::{Fault, Name};
 use pli_declare_constructs::Nesting;
+use pli_declare_found::searched_tables;
 use pli_declare_outline::{Outline, Placed};
 use pli_declare_tables::{Tables, owners_stand_before};
 use pli_declare_variables::{Declaration, declare};
@@ -167,6 +168,6 @@ pub fn resolve(alloc: Global, unit: &Procedure) -> Result<Resolved<'_>, ResolveE
 {
     let outline = pli_declare_outline::outline(alloc, unit)?;
     let nesting = Nesting::new(alloc, &outline.regions)?;
-    let tables = Tables::new(alloc, &outline, &nesting)?;
+    let tables = searched_tables(alloc, &outline, &nesting)?;
     resolve_told(alloc, unit, &outline, &nesting, &tables)
 }
