@@ -163,12 +163,7 @@ fn infix_from<'a>(
         next = right.next;
         rest = right.rest;
     }
-    Ok(Front {
-        value: sum,
-        operators,
-        next,
-        rest,
-    })
+    Ok(Front::new(sum, operators, next, rest))
 }
 
 /// Behind the infix operator at `at`: its right operand, which takes all that binds tighter.
@@ -237,12 +232,12 @@ fn operand_at<'a>(
     match texts {
         [TokenText::Word(_), ..] => {
             let reference = reference_of(alloc, false, levels, operators, at, texts)?;
-            Ok(Front {
-                value: Expression::Reference(reference.value),
-                operators: reference.operators,
-                next: reference.next,
-                rest: reference.rest,
-            })
+            Ok(Front::new(
+                Expression::Reference(reference.value),
+                reference.operators,
+                reference.next,
+                reference.rest,
+            ))
         }
         [TokenText::Sign(Sign::OpenParenthesis), rest @ ..] => {
             parenthesis_of(alloc, levels, operators, at, rest)
@@ -288,12 +283,7 @@ fn constant_at<'a>(
         TokenText::Bits(string) => ConstantValue::Bits(string.copy(alloc)?),
         _ => return Err(misfit(Code::ExpressionExpected, at, texts)),
     };
-    Ok(Front {
-        value: Expression::Constant { at, value },
-        operators,
-        next: at + 1,
-        rest,
-    })
+    Ok(Front::new(Expression::Constant { at, value }, operators, at + 1, rest))
 }
 
 /// A prefix operator at `at`, which opens a level, and its operand.
@@ -315,16 +305,16 @@ fn prefix_of<'a>(
         return Err(fault(Code::NestedTooDeep, at));
     }
     let operand = operand_at(alloc, levels - 1, operators + 1, at + 1, rest)?;
-    Ok(Front {
-        value: Expression::Prefix {
+    Ok(Front::new(
+        Expression::Prefix {
             operator,
             at,
             operand: Box::new(alloc, operand.value)?,
         },
-        operators: operand.operators,
-        next: operand.next,
-        rest: operand.rest,
-    })
+        operand.operators,
+        operand.next,
+        operand.rest,
+    ))
 }
 
 /// Behind the `(` at `at`, which opens a level: an expression and `)`.
@@ -346,15 +336,15 @@ fn parenthesis_of<'a>(
     }
     let inner = expression_at(alloc, levels - 1, operators, at + 1, rest)?;
     let behind = close_taken(inner.next, inner.rest)?;
-    Ok(Front {
-        value: Expression::Parenthesized {
+    Ok(Front::new(
+        Expression::Parenthesized {
             at,
             inner: Box::new(alloc, inner.value)?,
         },
-        operators: inner.operators,
-        next: inner.next + 1,
-        rest: behind,
-    })
+        inner.operators,
+        inner.next + 1,
+        behind,
+    ))
 }
 
 /// A reference. Where it is no part of an expression, each of its arguments is an outermost expression.
@@ -390,15 +380,15 @@ fn reference_of<'a>(
         list.next,
         list.rest,
     )?;
-    Ok(Front {
-        value: Reference {
+    Ok(Front::new(
+        Reference {
             first,
             joined: joined.value,
         },
-        operators: joined.operators,
-        next: joined.next,
-        rest: joined.rest,
-    })
+        joined.operators,
+        joined.next,
+        joined.rest,
+    ))
 }
 
 /// Parts of a reference, as long as `.` or `->` comes.
@@ -437,12 +427,7 @@ fn joined_from<'a>(
         next = list.next;
         rest = list.rest;
     }
-    Ok(Front {
-        value: parts,
-        operators,
-        next,
-        rest,
-    })
+    Ok(Front::new(parts, operators, next, rest))
 }
 
 /// What stands in parentheses behind a name, if there are some.
@@ -461,23 +446,13 @@ fn arguments_at<'a>(
     ensures place { IfOk result (Stays at texts.now) }
 {
     let [TokenText::Sign(Sign::OpenParenthesis), rest @ ..] = texts else {
-        return Ok(Front {
-            value: None,
-            operators,
-            next: at,
-            rest: texts,
-        });
+        return Ok(Front::new(None, operators, at, texts));
     };
     if levels == 0 {
         return Err(fault(Code::NestedTooDeep, at));
     }
     let list = list_at(alloc, outermost, levels - 1, operators, at + 1, rest)?;
-    Ok(Front {
-        value: Some(list.value),
-        operators: list.operators,
-        next: list.next,
-        rest: list.rest,
-    })
+    Ok(Front::new(Some(list.value), list.operators, list.next, list.rest))
 }
 
 /// Behind `(`: expressions and `)`, or `)` alone.
@@ -499,12 +474,7 @@ fn list_at<'a>(
         return listed_at(alloc, outermost, levels, operators, at, texts);
     }
     let behind = close_taken(at, texts)?;
-    Ok(Front {
-        value: Vec::new(alloc),
-        operators,
-        next: at + 1,
-        rest: behind,
-    })
+    Ok(Front::new(Vec::new(alloc), operators, at + 1, behind))
 }
 
 /// One expression or more, with commas between, and `)`.
@@ -536,12 +506,7 @@ fn listed_at<'a>(
         rest = one.rest;
     }
     let behind = close_taken(next, rest)?;
-    Ok(Front {
-        value: list,
-        operators,
-        next: next + 1,
-        rest: behind,
-    })
+    Ok(Front::new(list, operators, next + 1, behind))
 }
 
 /// An argument: an outermost expression, or a part of one.
@@ -561,16 +526,16 @@ fn argument_at<'a>(
 {
     let before = if outermost { 0 } else { operators };
     let argument = expression_at(alloc, levels, before, at, texts)?;
-    Ok(Front {
-        value: argument.value,
-        operators: if outermost {
+    Ok(Front::new(
+        argument.value,
+        if outermost {
             operators
         } else {
             argument.operators
         },
-        next: argument.next,
-        rest: argument.rest,
-    })
+        argument.next,
+        argument.rest,
+    ))
 }
 
 /// An outermost expression: the longest at the front. The tokens are counted from 0, of which `at` is the first here; so many

@@ -1,4 +1,6 @@
 //! What a reader of expressions gives: a tree, with the number of operators.
+ghost use Rattle.std.specs.Prelude.{◌≡◌};
+
 use pli_base::TokenText;
 
 /// What was read, how many operators the outermost expression has so far, the place behind it, and the tokens from there.
@@ -8,4 +10,18 @@ pub struct Front<'a, T> {
     pub operators: u32,
     pub next: u32,
     pub rest: &'a [TokenText],
+}
+
+impl<'a, T> Front<'a, T> {
+    /// A value that was read, with the operators so far, and the place and the tokens behind it.
+    pub fn new(value: T, operators: u32, next: u32, rest: &'a [TokenText]) -> Front<'a, T>
+        ensures { result ≡ record { value = value; operators = operators; next = next; rest = rest.entry } }
+    {
+        Front {
+            value,
+            operators,
+            next,
+            rest,
+        }
+    }
 }

@@ -47,8 +47,9 @@ infix_from-loop-operator-preserved t c =
 
 pub infix_from-returns-clause-value : goal.infix_from-returns-clause-value
 infix_from-returns-clause-value t c = λ bound small.
-    operators_end (operand_at c.args.levels) c.args.min c.loop-operator.operators (expression_view c.loop-operator.sum) c.loop-operator.next c.loop-operator.rest.now
-    (infix_from (operand_at c.args.levels) bound c.args.min c.args.operators (expression_view c.args.left) c.args.at c.args.texts.now) c.in_default.ensures.value (c.loop-operator.invariant.value bound small)
+    rw c.new.ensures
+    (operators_end (operand_at c.args.levels) c.args.min c.loop-operator.operators (expression_view c.loop-operator.sum) c.loop-operator.next c.loop-operator.rest.now
+    (infix_from (operand_at c.args.levels) bound c.args.min c.args.operators (expression_view c.args.left) c.args.at c.args.texts.now) c.in_default.ensures.value (c.loop-operator.invariant.value bound small))
 
 pub joined_from-loop-joining-init : goal.joined_from-loop-joining-init
 joined_from-loop-joining-init t c =
@@ -90,8 +91,9 @@ joined_from-loop-joining-preserved t c =
 
 pub joined_from-returns-clause-value : goal.joined_from-returns-clause-value
 joined_from-returns-clause-value t c = λ bound small.
-    parts_end (option_map (argument_of c.args.outermost) (inside c.args.levels)) c.loop-joining.parts.items c.loop-joining.operators c.loop-joining.next c.loop-joining.rest.now
-    (joined_from (option_map (argument_of c.args.outermost) (inside c.args.levels)) bound c.args.operators c.args.at c.args.texts.now) c.in_default.ensures.value (c.loop-joining.invariant.value bound small)
+    rw c.new.ensures
+    (parts_end (option_map (argument_of c.args.outermost) (inside c.args.levels)) c.loop-joining.parts.items c.loop-joining.operators c.loop-joining.next c.loop-joining.rest.now
+    (joined_from (option_map (argument_of c.args.outermost) (inside c.args.levels)) bound c.args.operators c.args.at c.args.texts.now) c.in_default.ensures.value (c.loop-joining.invariant.value bound small))
 
 pub listed_at-returns-in_err-first-clause-value : goal.listed_at-returns-in_err-first-clause-value
 listed_at-returns-in_err-first-clause-value t c =
@@ -133,12 +135,14 @@ listed_at-returns-in_err-behind-clause-value t c =
 
 pub listed_at-returns-clause-value : goal.listed_at-returns-clause-value
 listed_at-returns-clause-value t c =
-    list_ends (argument_of c.args.outermost (operand_at c.args.levels)) c.loop-behind.list.items c.loop-behind.operators c.loop-behind.next c.loop-behind.rest.now
-    (listed_at (argument_of c.args.outermost (operand_at c.args.levels)) c.args.operators c.args.at c.args.texts.now) c.in_default.ensures.value c.in_ok-behind.behind.now c.in_ok-behind.ensures.value c.loop-behind.invariant.value
+    rw c.new.ensures
+    (list_ends (argument_of c.args.outermost (operand_at c.args.levels)) c.loop-behind.list.items c.loop-behind.operators c.loop-behind.next c.loop-behind.rest.now
+    (listed_at (argument_of c.args.outermost (operand_at c.args.levels)) c.args.operators c.args.at c.args.texts.now) c.in_default.ensures.value c.in_ok-behind.behind.now c.in_ok-behind.ensures.value c.loop-behind.invariant.value)
 
 pub reference_of-returns-clause-value : goal.reference_of-returns-clause-value
 reference_of-returns-clause-value t c =
-    reference_done (option_map (argument_of c.args.outermost) (inside c.args.levels)) c.args.operators c.args.at c.args.texts.now (c.in-Some.named.0, c.in-Some.named.1.now) (front_view arguments_view c.in_ok-list.list)
+    rw c.new.ensures
+    (reference_done (option_map (argument_of c.args.outermost) (inside c.args.levels)) c.args.operators c.args.at c.args.texts.now (c.in-Some.named.0, c.in-Some.named.1.now) (front_view arguments_view c.in_ok-list.list)
     (front_view (λ (v : Vec JoinedPart Global). joined_view v.items) c.in_ok-joined.joined) c.in-Some.ensures.value c.in_ok-list.ensures.value c.in_ok-joined.ensures.value
     ∙ ap (λ v. Ok (record { value = v; count = c.in_ok-joined.joined.operators; next = c.in_ok-joined.joined.next; rest = c.in_ok-joined.joined.rest.now }))
-    (sym (reference_made (record { name = c.in-Some.named.0; at = c.args.at }) c.in_ok-list.list.value c.in_ok-joined.joined.value))
+    (sym (reference_made (record { name = c.in-Some.named.0; at = c.args.at }) c.in_ok-list.list.value c.in_ok-joined.joined.value)))
