@@ -64,17 +64,9 @@ fn optional_expression<'a>(
     match behind_word(word, texts) {
         Some(behind) => {
             let read = expression_in(alloc, levels, at + 1, behind)?;
-            Ok(Front {
-                value: Some(read.value),
-                next: read.next,
-                rest: read.rest,
-            })
+            Ok(Front::new(Some(read.value), read.next, read.rest))
         }
-        None => Ok(Front {
-            value: None,
-            next: at,
-            rest: texts,
-        }),
+        None => Ok(Front::new(None, at, texts)),
     }
 }
 
@@ -93,17 +85,9 @@ fn optional_condition<'a>(
     match behind_word(b"WHILE", texts) {
         Some(behind) => {
             let read = parenthesized(&EachExpression { alloc, levels }, at + 1, behind)?;
-            Ok(Front {
-                value: Some(read.value),
-                next: read.next,
-                rest: read.rest,
-            })
+            Ok(Front::new(Some(read.value), read.next, read.rest))
         }
-        None => Ok(Front {
-            value: None,
-            next: at,
-            rest: texts,
-        }),
+        None => Ok(Front::new(None, at, texts)),
     }
 }
 
@@ -120,42 +104,34 @@ fn range_at<'a>(
     ensures place { IfOk result (Continues at texts.now) }
 {
     match range_first(texts) {
-        None => Ok(Front {
-            value: None,
-            next: at,
-            rest: texts,
-        }),
+        None => Ok(Front::new(None, at, texts)),
         Some((RangeWord::To, behind)) => {
             let to = expression_in(alloc, levels, at + 1, behind)?;
             let by = optional_expression(alloc, levels, b"BY", to.next, to.rest)?;
-            Ok(Front {
-                value: Some(Range::To {
+            Ok(Front::new(
+                Some(Range::To {
                     to: to.value,
                     by: by.value,
                 }),
-                next: by.next,
-                rest: by.rest,
-            })
+                by.next,
+                by.rest,
+            ))
         }
         Some((RangeWord::By, behind)) => {
             let by = expression_in(alloc, levels, at + 1, behind)?;
             let to = optional_expression(alloc, levels, b"TO", by.next, by.rest)?;
-            Ok(Front {
-                value: Some(Range::By {
+            Ok(Front::new(
+                Some(Range::By {
                     by: by.value,
                     to: to.value,
                 }),
-                next: to.next,
-                rest: to.rest,
-            })
+                to.next,
+                to.rest,
+            ))
         }
         Some((RangeWord::Repeat, behind)) => {
             let next = expression_in(alloc, levels, at + 1, behind)?;
-            Ok(Front {
-                value: Some(Range::Repeat(next.value)),
-                next: next.next,
-                rest: next.rest,
-            })
+            Ok(Front::new(Some(Range::Repeat(next.value)), next.next, next.rest))
         }
     }
 }
@@ -183,17 +159,17 @@ fn iteration_at<'a>(
             return Err(error);
         }
     };
-    Ok(Front {
-        value: Some(Control::Iterate {
+    Ok(Front::new(
+        Some(Control::Iterate {
             variable: variable.value,
             equals: variable.next,
             first: first.value,
             range: range.value,
             condition: condition.value,
         }),
-        next: condition.next,
-        rest: condition.rest,
-    })
+        condition.next,
+        condition.rest,
+    ))
 }
 
 /// What stands behind DO: WHILE with its condition, an iteration, or nothing.
@@ -209,18 +185,14 @@ pub fn control_at<'a>(
     ensures place { IfOk result (Continues at texts.now) }
 {
     match specified(texts) {
-        Beginning::Unspecified => Ok(Front {
-            value: None,
-            next: at,
-            rest: texts,
-        }),
+        Beginning::Unspecified => Ok(Front::new(None, at, texts)),
         Beginning::Conditioned(behind) => {
             let condition = parenthesized(&EachExpression { alloc, levels }, at + 1, behind)?;
-            Ok(Front {
-                value: Some(Control::While(condition.value)),
-                next: condition.next,
-                rest: condition.rest,
-            })
+            Ok(Front::new(
+                Some(Control::While(condition.value)),
+                condition.next,
+                condition.rest,
+            ))
         }
         Beginning::Iterated => iteration_at(alloc, levels, at, texts),
     }

@@ -60,11 +60,7 @@ pub fn equals_taken(code: Code, at: u32, texts: &[TokenText]) -> Result<&[TokenT
 fn uncounted<T>(read: CountedFront<'_, T>) -> Front<'_, T>
     ensures { result ≡ record { value = read.entry.value; next = read.entry.next; rest = read.entry.rest } }
 {
-    Front {
-        value: read.value,
-        next: read.next,
-        rest: read.rest,
-    }
+    Front::new(read.value, read.next, read.rest)
 }
 
 /// An outermost expression.
@@ -184,11 +180,7 @@ pub fn parenthesized<'a, R: ReadsOne>(
     let inside = open_taken(at, texts)?;
     let read = reader.read(at + 1, inside)?;
     let rest = close_taken(read.next, read.rest)?;
-    Ok(Front {
-        value: read.value,
-        next: read.next + 1,
-        rest,
-    })
+    Ok(Front::new(read.value, read.next + 1, rest))
 }
 
 /// Expressions in parentheses, with commas between.
@@ -212,9 +204,5 @@ pub fn parenthesized_expressions<'a>(
         inside,
     )?;
     let rest = close_taken(read.next, read.rest)?;
-    Ok(Front {
-        value: read.value,
-        next: read.next + 1,
-        rest,
-    })
+    Ok(Front::new(read.value, read.next + 1, rest))
 }

@@ -145,16 +145,8 @@ pub fn label_at(at: u32, texts: &[TokenText]) -> Front<'_, Option<Identifier>>
             TokenText::Word(name),
             TokenText::Sign(Sign::Colon),
             rest @ ..,
-        ] => Front {
-            value: Some(Identifier { name: *name, at }),
-            next: at + 2,
-            rest,
-        },
-        _ => Front {
-            value: None,
-            next: at,
-            rest: texts,
-        },
+        ] => Front::new(Some(Identifier { name: *name, at }), at + 2, rest),
+        _ => Front::new(None, at, texts),
     }
 }
 

@@ -65,11 +65,7 @@ fn main_at(at: u32, texts: &[TokenText]) -> Result<Front<'_, ProcedureOption>, P
     let inside = open_taken(at, texts)?;
     let behind = word_taken(b"MAIN", Code::BadOption, at + 1, inside)?;
     let rest = close_taken(at + 2, behind)?;
-    Ok(Front {
-        value: ProcedureOption::Main,
-        next: at + 3,
-        rest,
-    })
+    Ok(Front::new(ProcedureOption::Main, at + 3, rest))
 }
 
 /// An option behind its word.
@@ -88,17 +84,9 @@ fn option_at<'a>(
         OptionWord::Options => main_at(at, texts),
         OptionWord::Returns => {
             let read = returned_at(alloc, at, texts)?;
-            Ok(Front {
-                value: ProcedureOption::Returns(read.value),
-                next: read.next,
-                rest: read.rest,
-            })
+            Ok(Front::new(ProcedureOption::Returns(read.value), read.next, read.rest))
         }
-        OptionWord::Recursive => Ok(Front {
-            value: ProcedureOption::Recursive,
-            next: at,
-            rest: texts,
-        }),
+        OptionWord::Recursive => Ok(Front::new(ProcedureOption::Recursive, at, texts)),
     }
 }
 
@@ -121,11 +109,7 @@ fn options_from<'a>(
         next = read.next;
         rest = read.rest;
     }
-    Ok(Front {
-        value: options,
-        next,
-        rest,
-    })
+    Ok(Front::new(options, next, rest))
 }
 
 /// The parameters in parentheses, if there are some.
@@ -143,17 +127,9 @@ fn parameters_at<'a>(
         Some(inside) => {
             let names = identifiers_at(alloc, at + 1, inside)?;
             let rest = close_taken(names.next, names.rest)?;
-            Ok(Front {
-                value: names.value,
-                next: names.next + 1,
-                rest,
-            })
+            Ok(Front::new(names.value, names.next + 1, rest))
         }
-        None => Ok(Front {
-            value: Vec::new(alloc),
-            next: at,
-            rest: texts,
-        }),
+        None => Ok(Front::new(Vec::new(alloc), at, texts)),
     }
 }
 
@@ -171,12 +147,12 @@ pub fn heading_at<'a>(
     let parameters = parameters_at(alloc, at, texts)?;
     let options = options_from(alloc, parameters.next, parameters.rest)?;
     let rest = semicolon_taken(options.next, options.rest)?;
-    Ok(Front {
-        value: Heading {
+    Ok(Front::new(
+        Heading {
             parameters: parameters.value,
             options: options.value,
         },
-        next: options.next + 1,
+        options.next + 1,
         rest,
-    })
+    ))
 }

@@ -37,11 +37,7 @@ pub fn stopped(body: Body, at: u32, texts: &[TokenText]) -> Result<Front<'_, Bod
     ensures place { IfOk result (Advances at texts.now) }
 {
     match semicolon_taken(at, texts) {
-        Ok(rest) => Ok(Front {
-            value: body,
-            next: at + 1,
-            rest,
-        }),
+        Ok(rest) => Ok(Front::new(body, at + 1, rest)),
         Err(error) => {
             drop(body);
             Err(error)
@@ -84,11 +80,7 @@ pub fn condition_at(at: u32, texts: &[TokenText]) -> Result<Front<'_, Condition>
         return Err(misfit(Code::BadCondition, at, texts));
     };
     match named_condition(name) {
-        Some(condition) => Ok(Front {
-            value: condition,
-            next: at + 1,
-            rest,
-        }),
+        Some(condition) => Ok(Front::new(condition, at + 1, rest)),
         None => Err(fault(Code::BadCondition, at)),
     }
 }
@@ -142,11 +134,7 @@ fn places_from<'a>(
         return Err(fault(Code::BadOption, at));
     }
     match place_first(texts) {
-        None => Ok(Front {
-            value: allocation,
-            next: at,
-            rest: texts,
-        }),
+        None => Ok(Front::new(allocation, at, texts)),
         Some((word, rest)) => {
             if has_place(word, &allocation) {
                 drop(allocation);
@@ -224,11 +212,7 @@ fn put_from<'a>(
         return Err(fault(Code::BadOption, at));
     }
     match put_first(texts) {
-        None => Ok(Front {
-            value: Body::Put { skip, items },
-            next: at,
-            rest: texts,
-        }),
+        None => Ok(Front::new(Body::Put { skip, items }, at, texts)),
         Some((PutWord::Skip, rest)) => {
             if skip {
                 return Err(fault(Code::BadOption, at));
@@ -345,11 +329,7 @@ fn declare_at(alloc: Global, at: u32, texts: &[TokenText]) -> Result<Front<'_, B
     ensures place { IfOk result (Advances at texts.now) }
 {
     let items = declaration_at(alloc, at, texts)?;
-    Ok(Front {
-        value: Body::Declare(items.value),
-        next: items.next,
-        rest: items.rest,
-    })
+    Ok(Front::new(Body::Declare(items.value), items.next, items.rest))
 }
 
 /// What stands behind REVERT.

@@ -28,5 +28,6 @@ loop-word-preserved c =
 
 pub returns-clause-value : goal.returns-clause-value
 returns-clause-value c =
-    is_done (map option_view c.loop-word.options.items) c.loop-word.next c.loop-word.rest.now
-    (options_from (length c.args.texts.now + 1) c.args.at c.args.texts.now) c.in_default.ensures.value c.loop-word.invariant.value
+    rw c.new.ensures
+    (is_done (map option_view c.loop-word.options.items) c.loop-word.next c.loop-word.rest.now
+    (options_from (length c.args.texts.now + 1) c.args.at c.args.texts.now) c.in_default.ensures.value c.loop-word.invariant.value)
