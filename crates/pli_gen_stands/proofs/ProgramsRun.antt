@@ -2,7 +2,7 @@
 use Rattle.std.specs.Prelude.{List, [], ◌∷◌, map, refl}
 use Rattle.pli_machine_step.proofs.OutcomesAreOne.{one_outcome}
 use Rattle.pli_type_tree.specs.TypedTree.{TypedUnit}
-use Rattle.pli_gen_tree.specs.TreeTranslation.{unit_code}
+use Rattle.pli_gen_emit.specs.TreeTranslation.{unit_code}
 use Rattle.pli_meaning_simulation.specs.CodeStands.{ProgramStands, UnitsStand}
 use Rattle.pli_meaning_simulation.proofs.ProgramsSimulate.{simulation}
 use Rattle.pli_meaning_tree.specs.TreeMeaning.{TypedProgram}

@@ -14,11 +14,11 @@ use Rattle.pli_type_tree.specs.TypedTree.{Form, Null, Assign, AssignAggregate, P
 use Rattle.pli_type_tree.specs.Iterations.{kept_by, limit_number, step_number, is_iterated}
 use Rattle.pli_type_tree.specs.TypedTree.{Iteration, TypedRange, Once, ToBy, ByTo, Repeated}
 use Rattle.pli_type_tree.specs.TypedTree.{OtherWise, NoElse, Else, TypedStatements, NoStatement, StatementThen, TypedProcedure, TypedUnit}
-use Rattle.pli_gen_tree.specs.TreeTranslation.{argument_count, root_code, value_code, place_code, operands_code, subscripts_code, arguments_code, call_code, skip_code, items_code, behind}
-use Rattle.pli_gen_tree.specs.TreeTranslation.{statement_code, form_code, list_code, places_in, places_in_form, places_in_else, places_among, statement_place, with_target, BlockTree, begin_block}
-use Rattle.pli_gen_tree.specs.TreeTranslation.{blocks_in, blocks_of_form, blocks_among, blocks_of_procedure, blocks_of, end_code, block_code, blocks_code, places_of, block_at, blocks_at, unit_code}
-use Rattle.pli_gen_tree.specs.TreeTranslation.{keeps_code, conversion_code, sets_code, start_code, test_against, limit_test, while_test, guarded, tests_code, advances_code, back_code}
-use Rattle.pli_gen_tree.specs.TreeTranslation.{turn_place, list_place}
+use Rattle.pli_gen_emit.specs.TreeTranslation.{argument_count, root_code, value_code, place_code, operands_code, subscripts_code, arguments_code, call_code, skip_code, items_code, behind}
+use Rattle.pli_gen_emit.specs.TreeTranslation.{statement_code, form_code, list_code, places_in, places_in_form, places_in_else, places_among, statement_place, with_target, BlockTree, begin_block}
+use Rattle.pli_gen_emit.specs.TreeTranslation.{blocks_in, blocks_of_form, blocks_among, blocks_of_procedure, blocks_of, end_code, block_code, blocks_code, places_of, block_at, blocks_at, unit_code}
+use Rattle.pli_gen_emit.specs.TreeTranslation.{keeps_code, conversion_code, sets_code, start_code, test_against, limit_test, while_test, guarded, tests_code, advances_code, back_code}
+use Rattle.pli_gen_emit.specs.TreeTranslation.{turn_place, list_place}
 use Rattle.pli_gen_tree.proofs.IterationCode.{tests_length, iterate_ends}
 use Rattle.pli_gen_tree.specs.laws.ListLaws.{all_front, all_back}
 use Rattle.pli_gen_tree.specs.WellNumbered.{AreDistinct, HasTurns, HasRoom, HaveRoom, next_temporary, KeepsApart, KeepApart, IsWellNumbered}

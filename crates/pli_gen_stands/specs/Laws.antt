@@ -4,7 +4,7 @@ use Rattle.std.specs.Prelude.{◌≡◌, ℕ, Some, List, [], ◌∷◌, map}
 use Rattle.pli_machine_step.specs.Program.{Program}
 use Rattle.pli_machine_step.specs.Runs.{Outcome, ProgramRunsTo}
 use Rattle.pli_type_tree.specs.TypedTree.{TypedUnit}
-use Rattle.pli_gen_tree.specs.TreeTranslation.{unit_code}
+use Rattle.pli_gen_emit.specs.TreeTranslation.{unit_code}
 use Rattle.pli_gen_tree.specs.WellNumbered.{IsWellNumbered}
 use Rattle.pli_meaning_simulation.specs.CodeStands.{UnitStands}
 use Rattle.pli_meaning_tree.specs.TreeMeaning.{TypedProgram, whole_run}

@@ -5,13 +5,14 @@ use Rattle.pli_machine_step.specs.Program as op
 use Rattle.pli_type_tree.specs.TypedTree.{TypedExpression, TypedStatement, Statement, TypedStatements, NoStatement, StatementThen, NoElse, Else}
 use Rattle.pli_type_tree.specs.TypedTree.{Form, Null, Assign, AssignAggregate, Put, If, Begin, Group, While, Iterate, Call, Goto, Return, ReturnValue, Stop}
 use Rattle.pli_type_tree.specs.Iterations.{is_iterated}
-use Rattle.pli_gen_tree.specs.TreeTranslation.{start_code, tests_code, advances_code, back_code, turn_place, list_place}
-use Rattle.pli_gen_tree.specs.TreeTranslation.{BlockTree, behind, value_code, statement_code, form_code, list_code, end_code, block_code, blocks_code}
-use Rattle.pli_gen_tree.specs.answers.Pieces.{simple_code, entries_of, step_place, Fits}
-use Rattle.pli_gen_tree.specs.views.NamingView.{naming_view, naming_code}
-use Rattle.pli_gen_tree.specs.declared.naming.NamingInstruction.{NamingInstruction}
+use Rattle.pli_gen_emit.specs.TreeTranslation.{start_code, tests_code, advances_code, back_code, turn_place, list_place}
+use Rattle.pli_gen_emit.specs.TreeTranslation.{BlockTree, behind, value_code, statement_code, form_code, list_code, end_code, block_code, blocks_code}
+use Rattle.pli_gen_emit.specs.answers.Pieces.{simple_code, entries_of}
+use Rattle.pli_gen_tree.specs.answers.Pieces.{step_place, Fits}
+use Rattle.pli_gen_emit.specs.views.NamingView.{naming_view, naming_code}
+use Rattle.pli_gen_emit.specs.declared.naming.NamingInstruction.{NamingInstruction}
 use Rattle.pli_gen_tree.proofs.IterationCode.{start_simple, advances_simple, tests_fit, back_fits, tests_length, iterate_ends}
-use Rattle.pli_gen_tree.proofs.JumpLemmas.{behind_is}
+use Rattle.pli_gen_emit.proofs.JumpLemmas.{behind_is}
 use Rattle.pli_gen_tree.proofs.SimpleCode.{all_both, value_simple, form_simple, simple_fits, behind_both}
 
 abbrev AllFit : (limit : ℕ) → List op.Instruction → Type 0

@@ -5,8 +5,8 @@ use Rattle.pli_machine_step.specs.Program as op
 use Rattle.pli_operation.specs.Operations as calculate
 use Rattle.pli_type_tree.specs.Iterations.{kept_by, limit_number, step_number, is_iterated}
 use Rattle.pli_type_tree.specs.TypedTree.{TypedExpression, Iteration, TypedRange, Once, ToBy, ByTo, Repeated}
-use Rattle.pli_gen_tree.specs.TreeTranslation.{value_code, place_code, behind, keeps_code, conversion_code, sets_code, start_code, test_against, limit_test, while_test, guarded}
-use Rattle.pli_gen_tree.specs.TreeTranslation.{tests_code, counted_code, advances_code, back_code, turn_place, list_place, iterate_code}
+use Rattle.pli_gen_emit.specs.TreeTranslation.{value_code, place_code, behind, keeps_code, conversion_code, sets_code, start_code, test_against, limit_test, while_test, guarded}
+use Rattle.pli_gen_emit.specs.TreeTranslation.{tests_code, counted_code, advances_code, back_code, turn_place, list_place, iterate_code}
 use Rattle.pli_gen_tree.specs.answers.Pieces.{step_place, Fits}
 use Rattle.pli_gen_tree.proofs.SimpleCode.{Simple, AllSimple, all_both, front_within, back_within, rest_within, short, value_simple, place_simple, simple_fits, none_begins}
 use Rattle.pli_gen_tree.proofs.SimpleCode.{step_place_behind, behind_both}

@@ -1,6 +1,9 @@
 -- Entries that are put into tables.
 use Rattle.std.proofs.Common.{◌≡◌, ℕ, zero, suc, ◌+◌, ◌<◌, ◌||◌, Bool, true, false, List, [], ◌∷◌, ◌++◌, map, length, get_or, drop, replicate, refl, sym, ap, ◌∙◌, if◌then◌else◌}
 use Rattle.std.specs.Bool.{Decides}
+use Rattle.std.specs.Prelude.{Result, Ok, Err}
+use Rattle.std.specs.Result.{IfOk, is_ok}
+use Rattle.std.proofs.lemmas.Bool.{false≢true}
 use Rattle.std.specs.List.{list_any}
 use Rattle.std.specs.Ordering.{on}
 use Rattle.std.proofs.lemmas.List.{at_drop_more, map-append}
@@ -79,3 +82,8 @@ pub in_turn : {X : Type 0} (alike : X → X → Bool) (none first second third x
 in_turn alike none first second third xs ys zs empty a b c =
     c ∙ ap (λ t. numbered alike t zs) (b ∙ ap (λ t. numbered alike t ys) (a ∙ ap (λ t. numbered alike t xs) empty) ∙ sym (numbered_after alike [] xs ys))
     ∙ sym (numbered_after alike [] (xs ++ ys) zs)
+
+-- what is so where a call succeeded
+pub at_ok : (X : Type 0) {T E : Type 0} (r : Result T E) → IfOk r (λ _. X) → is_ok r ≡ true → X
+at_ok X (Ok v) h e = h
+at_ok X (Err x) h e = absurd (false≢true e)

@@ -1,13 +1,9 @@
-pub mod BlockLemmas
 pub mod CodeFits
-pub mod EmitLemmas
-pub mod EndLemmas
 pub mod IterationCode
-pub mod IterationLemmas
-pub mod JumpLemmas
 pub mod KeyLemmas
 pub mod LimitLemmas
 pub mod NumberLemmas
+pub mod NumberingLemmas
 pub mod SimpleCode
 pub mod StepPlaces
 pub mod TableNumbers

@@ -16,16 +16,16 @@ use Rattle.pli_map.specs.declared.description.Description.TheFolds as folds
 use Rattle.pli_map.specs.views.DescriptionView as view
 use Rattle.pli_map.specs.views.DescriptionView.{description_view, members_view}
 use Rattle.pli_type_tree.specs.Templates.{InitialScalar, Template}
-use Rattle.pli_gen_tree.specs.TreeTranslation.{BlockTree, behind, block_code}
+use Rattle.pli_gen_emit.specs.TreeTranslation.{BlockTree, behind, block_code}
 use Rattle.pli_gen_tree.specs.Encoding.{Tables, number_in, template_number, template_code, instruction_code, coded_blocks, coded_unit}
 use Rattle.pli_gen_tree.specs.Limits.{is_over, member_count, has_many_members, one_has_many, has_many_slots, bytes_of, initial_bytes_of, initial_bytes, is_too_long}
 use Rattle.pli_gen_tree.specs.answers.Pieces.{takes_many_slots, template_bytes, HaveDescriptions}
 use Rattle.pli_gen_tree.proofs.TableNumbers.{Has, number_stands}
-use Rattle.pli_gen_tree.specs.views.BlockView.{block_tree, block_trees}
+use Rattle.pli_gen_emit.specs.views.BlockView.{block_tree, block_trees}
 use Rattle.pli_gen_tree.specs.views.KeyView.{templated}
-use Rattle.pli_gen_tree.specs.views.NamingView.{naming_view, naming_code}
-use Rattle.pli_gen_tree.specs.declared.block.BlockSource.{BlockSource}
-use Rattle.pli_gen_tree.specs.declared.naming.NamingInstruction.{NamingInstruction}
+use Rattle.pli_gen_emit.specs.views.NamingView.{naming_view, naming_code}
+use Rattle.pli_gen_emit.specs.declared.block.BlockSource.{BlockSource}
+use Rattle.pli_gen_emit.specs.declared.naming.NamingInstruction.{NamingInstruction}
 use Rattle.pli_gen_tree.specs.declared.key.TemplateKey.{TemplateKey}
 
 pub over : (limit n : ℕ) → limit < n → nat_lt limit n ≡ true

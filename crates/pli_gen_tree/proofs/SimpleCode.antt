@@ -6,8 +6,9 @@ use Rattle.pli_machine_step.specs.Program as op
 use Rattle.pli_type_tree.specs.TypedTree.{Root, InSlot, OfProgram, TypedExpression, Literal, Held, Calculated, Called, TypedReference, Whole, Part}
 use Rattle.pli_type_tree.specs.TypedTree.{Operands, NoOperand, OperandThen, Subscripts, NoSubscript, SubscriptThen, TypedArguments, NoArgument, ByPlace, ByDummy}
 use Rattle.pli_type_tree.specs.TypedTree.{Form, Null, Assign, AssignAggregate, Put, If, Begin, Group, While, Iterate, Call, Goto, Return, ReturnValue, Stop}
-use Rattle.pli_gen_tree.specs.TreeTranslation.{argument_count, root_code, value_code, place_code, operands_code, subscripts_code, arguments_code, skip_code, items_code, behind}
-use Rattle.pli_gen_tree.specs.answers.Pieces.{simple_code, step_place, Fits}
+use Rattle.pli_gen_emit.specs.TreeTranslation.{argument_count, root_code, value_code, place_code, operands_code, subscripts_code, arguments_code, skip_code, items_code, behind}
+use Rattle.pli_gen_emit.specs.answers.Pieces.{simple_code}
+use Rattle.pli_gen_tree.specs.answers.Pieces.{step_place, Fits}
 
 -- no step and no jump, and no more arguments than a limit
 abbrev pub Simple : (limit : ℕ) → op.Instruction → Type 0

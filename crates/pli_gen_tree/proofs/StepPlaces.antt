@@ -4,11 +4,11 @@ use Rattle.std.proofs.lemmas.List.{at_drop_more}
 use Rattle.pli_machine_step.specs.Program as op
 use Rattle.pli_type_tree.specs.TypedTree.{TypedExpression, TypedStatement, Statement, TypedStatements, NoStatement, StatementThen, NoElse, Else}
 use Rattle.pli_type_tree.specs.TypedTree.{Form, Null, Assign, AssignAggregate, Put, If, Begin, Group, While, Iterate, Call, Goto, Return, ReturnValue, Stop}
-use Rattle.pli_gen_tree.specs.TreeTranslation.{BlockTree, behind, value_code, statement_code, form_code, list_code, end_code, block_code, blocks_code}
-use Rattle.pli_gen_tree.specs.TreeTranslation.{places_in, places_in_form, places_among, places_of, statement_place, list_place}
+use Rattle.pli_gen_emit.specs.TreeTranslation.{BlockTree, behind, value_code, statement_code, form_code, list_code, end_code, block_code, blocks_code}
+use Rattle.pli_gen_emit.specs.TreeTranslation.{places_in, places_in_form, places_among, places_of, statement_place, list_place}
 use Rattle.pli_gen_tree.specs.answers.Pieces.{step_place}
-use Rattle.pli_gen_tree.specs.views.NamingView.{naming_view, naming_code}
-use Rattle.pli_gen_tree.specs.declared.naming.NamingInstruction.{NamingInstruction}
+use Rattle.pli_gen_emit.specs.views.NamingView.{naming_view, naming_code}
+use Rattle.pli_gen_emit.specs.declared.naming.NamingInstruction.{NamingInstruction}
 use Rattle.pli_gen_tree.proofs.IterationCode.{iterate_passed}
 use Rattle.pli_gen_tree.proofs.SimpleCode.{none_in_value, none_in_form, step_place_behind, behind_both}
 

@@ -14,7 +14,7 @@ use Rattle.pli_machine_step.specs.Program.{Block, UnitCode}
 use Rattle.pli_type_tree.specs.Templates.{Template, variable_of}
 use Rattle.pli_type_tree.specs.TypedTree.{TypedUnit}
 use Rattle.pli_unit_code.specs.CodeTables.{Code, looked_up, template_at, variables_at, block_looked_up, program_of, there, naming, with_description, described}
-use Rattle.pli_gen_tree.specs.TreeTranslation.{BlockTree, blocks_of, blocks_at, block_at, block_code, behind, instructions_of, unit_code}
+use Rattle.pli_gen_emit.specs.TreeTranslation.{BlockTree, blocks_of, blocks_at, block_at, block_code, behind, instructions_of, unit_code}
 use Rattle.pli_gen_tree.specs.Encoding.{Tables, tables_for, descriptions_named, templates_named, values_named, dummy, fitted_by, same_value, same_template}
 use Rattle.pli_gen_tree.specs.Encoding.{description_number, template_number, relation_code, operation_code, instruction_code, template_code, coded_blocks, coded_unit, variables_of, code_of}
 use Rattle.pli_gen_tree.specs.laws.ListLaws.{all_front, all_back}

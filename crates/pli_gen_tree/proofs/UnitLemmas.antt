@@ -11,12 +11,13 @@ use Rattle.pli_type_tree.specs.Templates.{Template}
 use Rattle.pli_type_tree.specs.TypedTree.{TypedUnit}
 use Rattle.pli_unit_code.specs.CodeTables.{CodedTemplate, CodedBlock, Code}
 use Rattle.pli_unit_code.specs.declared.instruction.Instruction.{Instruction}
-use Rattle.pli_gen_tree.specs.TreeTranslation.{BlockTree, behind, block_code, blocks_code, blocks_of, places_of, statement_place, with_target, instructions_of}
+use Rattle.pli_gen_emit.specs.TreeTranslation.{BlockTree, behind, block_code, blocks_code, blocks_of, places_of, statement_place, with_target, instructions_of}
 use Rattle.pli_gen_tree.specs.Encoding.{Tables, tables_for, numbered, same_template, same_value, descriptions_named, templates_named, values_named}
 use Rattle.pli_gen_tree.specs.Encoding.{template_number, template_code, instruction_code, coded_block, coded_blocks, coded_unit, variables_of, code_of}
 use Rattle.pli_gen_tree.specs.Limits.{is_over, has_many_slots, has_many_members, initial_bytes, is_too_long}
 use Rattle.pli_gen_tree.specs.laws.ListLaws.{all_front, all_back}
-use Rattle.pli_gen_tree.specs.answers.Pieces.{entries_of, step_place, retargeted, blocks_with_entries, HaveDescriptions}
+use Rattle.pli_gen_emit.specs.answers.Pieces.{entries_of}
+use Rattle.pli_gen_tree.specs.answers.Pieces.{step_place, retargeted, blocks_with_entries, HaveDescriptions, no_code}
 use Rattle.pli_gen_tree.proofs.SimpleCode.{all_both}
 use Rattle.pli_gen_tree.proofs.StepPlaces.{steps_are_places}
 use Rattle.pli_gen_tree.proofs.TableNumbers.{Has, has_all}
@@ -87,13 +88,13 @@ module _ (places : List (ℕ × ℕ)) where
     all_targets [] = refl
     all_targets (i ∷ is) = ap (λ x. x ∷ map (retargeted place) is) (one_target i) ∙ ap (λ xs. with_target places i ∷ xs) (all_targets is)
 
+abbrev pub coded : List Description → List CodedTemplate → List Value → List ℕ → List CodedBlock → List Instruction → Code
+coded ds ts vs gs bs is = record { descriptions = ds; templates = ts; values = vs; globals = gs; blocks = bs; instructions = is }
+
 module _ (t : Tables) where
   blocks_placed : (bs : List BlockTree) (p : ℕ) → blocks_with_entries t bs (entries_of bs p) ≡ coded_blocks t bs p
   blocks_placed [] p = refl
   blocks_placed (b ∷ bs) p = ap (λ cs. coded_block t b p ∷ cs) (blocks_placed bs (behind (block_code b p) p))
-
-  abbrev pub code_with : List Description → List CodedTemplate → List Value → List ℕ → List CodedBlock → List Instruction → Code
-  code_with ds ts vs gs bs is = record { descriptions = ds; templates = ts; values = vs; globals = gs; blocks = bs; instructions = is }
 
   -- a unit's code, part by part
   pub unit_coded : (statics : List Template) (bs : List BlockTree) (code : List op.Instruction) (place : ℕ → ℕ) (entries : List ℕ)
@@ -101,18 +102,18 @@ module _ (t : Tables) where
       → entries ≡ entries_of bs 0 → code ≡ blocks_code bs 0 → ((n : ℕ) → place n ≡ step_place code 0 n 0)
       → ds ≡ t.descriptions → ts ≡ map (template_code t) t.templates → vs ≡ t.values → gs ≡ map (template_number t) statics → cs ≡ blocks_with_entries t bs entries
       → is ≡ map (instruction_code t) (map (retargeted place) code)
-      → code_with ds ts vs gs cs is ≡ coded_unit t statics bs (instructions_of bs)
+      → coded ds ts vs gs cs is ≡ coded_unit t statics bs (instructions_of bs)
   unit_coded statics bs code place entries ds ts vs gs cs is begin made leads d te v g c i =
       let blocks : cs ≡ coded_blocks t bs 0 = c ∙ ap (blocks_with_entries t bs) begin ∙ blocks_placed bs 0 in
       let targets : (n : ℕ) → place n ≡ statement_place (places_of bs 0) n =
       λ n. leads n ∙ ap (λ is. step_place is 0 n 0) made ∙ steps_are_places bs n in
       let instructions : is ≡ map (instruction_code t) (instructions_of bs) =
       i ∙ ap (λ is. map (instruction_code t) (map (retargeted place) is)) made ∙ ap (map (instruction_code t)) (all_targets (places_of bs 0) place targets (blocks_code bs 0)) in
-      ap (λ x. code_with x ts vs gs cs is) d ∙ ap (λ x. code_with t.descriptions x vs gs cs is) te
-      ∙ ap (λ x. code_with t.descriptions (map (template_code t) t.templates) x gs cs is) v
-      ∙ ap (λ x. code_with t.descriptions (map (template_code t) t.templates) t.values x cs is) g
-      ∙ ap (λ x. code_with t.descriptions (map (template_code t) t.templates) t.values (map (template_number t) statics) x is) blocks
-      ∙ ap (code_with t.descriptions (map (template_code t) t.templates) t.values (map (template_number t) statics) (coded_blocks t bs 0)) instructions
+      ap (λ x. coded x ts vs gs cs is) d ∙ ap (λ x. coded t.descriptions x vs gs cs is) te
+      ∙ ap (λ x. coded t.descriptions (map (template_code t) t.templates) x gs cs is) v
+      ∙ ap (λ x. coded t.descriptions (map (template_code t) t.templates) t.values x cs is) g
+      ∙ ap (λ x. coded t.descriptions (map (template_code t) t.templates) t.values (map (template_number t) statics) x is) blocks
+      ∙ ap (coded t.descriptions (map (template_code t) t.templates) t.values (map (template_number t) statics) (coded_blocks t bs 0)) instructions
 
 tables_again : (variables : List Template) (bs : List BlockTree) → tables_for variables (blocks_code bs 0) ≡ tables_for variables (instructions_of bs)
 tables_again variables bs =
@@ -157,3 +158,10 @@ module _ (u : TypedUnit) (bs : List BlockTree) (code : List op.Instruction) (t :
   limits_are =
       limits_again t u.statics bs code (instructions_of bs) (ap length made ∙ sym (length-map (blocks_code bs 0) (with_target (places_of bs 0))))
       ∙ ap is_too_long unit_is
+
+-- code whose parts are empty
+pub nothing_coded : (ds : List Description) (ts : List CodedTemplate) (vs : List Value) (gs : List ℕ) (cs : List CodedBlock) (is : List Instruction)
+    → ds ≡ [] → ts ≡ [] → vs ≡ [] → gs ≡ [] → cs ≡ [] → is ≡ [] → coded ds ts vs gs cs is ≡ no_code
+nothing_coded ds ts vs gs cs is d t v g c i =
+    ap (λ x. coded x ts vs gs cs is) d ∙ ap (λ x. coded [] x vs gs cs is) t ∙ ap (λ x. coded [] [] x gs cs is) v
+    ∙ ap (λ x. coded [] [] [] x cs is) g ∙ ap (λ x. coded [] [] [] [] x is) c ∙ ap (coded [] [] [] [] []) i

@@ -20,7 +20,7 @@ use Rattle.pli_type_tree.specs.TypedTree.{TypedUnit}
 use Rattle.pli_unit_code.specs.CodeTables.{CodedTemplate, CodedBlock, Code}
 use Rattle.pli_unit_code.specs.declared.instruction.Instruction.{Instruction}
 use Rattle.pli_unit_code.specs.declared.instruction.Instruction.TheVariants as coded
-use Rattle.pli_gen_tree.specs.TreeTranslation.{BlockTree, blocks_of, block_code, behind, instructions_of}
+use Rattle.pli_gen_emit.specs.TreeTranslation.{BlockTree, blocks_of, block_code, behind, instructions_of}
 
 -- equal values and templates
 abbrev pub same_value : Value → Value → Bool

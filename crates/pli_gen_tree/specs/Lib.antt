@@ -1,7 +1,6 @@
 pub mod answers
 pub mod Encoding
 pub mod Limits
-pub mod TreeTranslation
 pub mod WellNumbered
 pub mod examples
 pub mod laws

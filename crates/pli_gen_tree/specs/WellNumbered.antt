@@ -7,7 +7,7 @@ use Rattle.pli_type_tree.specs.Iterations.{temporaries_of, is_iterated}
 use Rattle.pli_type_tree.specs.TypedTree.{TypedStatement, Statement, Form, If, Group, While, Iterate}
 use Rattle.pli_type_tree.specs.TypedTree.{Iteration, OtherWise, NoElse, Else, TypedStatements, NoStatement}
 use Rattle.pli_type_tree.specs.TypedTree.{StatementThen, TypedUnit}
-use Rattle.pli_gen_tree.specs.TreeTranslation.{BlockTree, blocks_of_procedure, blocks_of}
+use Rattle.pli_gen_emit.specs.TreeTranslation.{BlockTree, blocks_of_procedure, blocks_of}
 
 -- no number stands twice in a list
 abbrev pub AreDistinct : List ℕ → Type 0

@@ -1,4 +1,4 @@
 pub mod Answers
 pub mod Digests
-pub mod Ends
+pub mod Numbering
 pub mod Pieces

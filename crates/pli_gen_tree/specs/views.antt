@@ -1,4 +1,2 @@
-pub mod BlockView
 pub mod KeyView
-pub mod NamingView
 pub mod TableView

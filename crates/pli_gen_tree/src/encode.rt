@@ -1,19 +1,19 @@
 //! Instructions with numbers in place of what they name.
-ghost use Rattle.std.specs.Prelude.{◌≡◌, ℕ, nat_eq, unwrap_or, map, IfOk};
+ghost use Rattle.std.specs.Prelude.{◌≡◌, ◌++◌, ℕ, nat_eq, unwrap_or, map, OnOk};
 ghost use Rattle.std.specs.List.{AllByRecursion};
 ghost use Rattle.std.specs.HashMap.{get};
 ghost use Rattle.pli_operation.specs.views.OperationView.{operation_view};
 ghost use Rattle.pli_gen_tree.specs.Encoding.{operation_code, instruction_code};
 ghost use Rattle.pli_gen_tree.specs.answers.Pieces.{retargeted, Fits};
-ghost use Rattle.pli_gen_tree.specs.views.NamingView.{naming_view, naming_code};
+ghost use Rattle.pli_gen_emit.specs.views.NamingView.{naming_view, naming_code};
 ghost use Rattle.pli_gen_tree.specs.views.TableView.{tables_view};
 
 use crate::key::TemplateKey;
-use crate::naming::NamingInstruction;
 use crate::numbers::Numbers;
+use pli_gen_emit::NamingInstruction;
 use pli_operation::Operation;
 use pli_unit_code::Instruction;
-use std::alloc::{AllocError, Global};
+use std::alloc::AllocError;
 
 /// The instruction of an operation.
 fn encode_operation<'a>(numbers: Numbers<'_, 'a>, operation: &'a Operation) -> Instruction
@@ -120,21 +120,20 @@ fn encode_instruction<'a>(
     }
 }
 
-/// Code with its numbers.
+/// Appends code with its numbers.
 pub(crate) fn encode_code<'a>(
-    alloc: Global,
     numbers: Numbers<'_, 'a>,
     code: &[NamingInstruction<'a>],
-) -> Result<Vec<Instruction>, AllocError>
+    instructions: &mut Vec<Instruction>,
+) -> Result<(), AllocError>
     requires { AllByRecursion (Fits 65535) (naming_code code.now) }
-    ensures { IfOk result (λ instructions.
-        let place = λ (n : ℕ). unwrap_or (get nat_eq numbers.entry.places.now n) 0 in
-        instructions.items
-        ≡ map (instruction_code (tables_view numbers.entry.tables.now)) (map (retargeted place) (naming_code code.now))) }
+    ensures { let place = λ (n : ℕ). unwrap_or (get nat_eq numbers.entry.places.now n) 0 in
+        OnOk result
+        (instructions.new.items
+        ≡ instructions.old.items ++ map (instruction_code (tables_view numbers.entry.tables.now)) (map (retargeted place) (naming_code code.now))) }
 {
-    let mut instructions = Vec::with_capacity(alloc, code.len())?;
     for instruction in code {
         instructions.push(encode_instruction(numbers, *instruction))?;
     }
-    Ok(instructions)
+    Ok(())
 }

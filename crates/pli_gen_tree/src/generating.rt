@@ -1,24 +1,20 @@
 //! The code of a typed unit.
-ghost use Rattle.std.specs.Prelude.{◌≡◌};
+ghost use Rattle.std.specs.Prelude.{◌≡◌, false};
 ghost use Rattle.pli_type_tree.specs.views.TypedView.{unit_view};
-ghost use Rattle.pli_gen_tree.specs.Encoding.{code_of};
-ghost use Rattle.pli_gen_tree.specs.TreeTranslation.{blocks_of, blocks_code};
+ghost use Rattle.pli_gen_emit.specs.answers.Units.{IsEmitted};
+ghost use Rattle.pli_gen_emit.specs.views.BlockView.{block_trees};
+ghost use Rattle.pli_gen_emit.specs.views.NamingView.{naming_code};
+ghost use Rattle.pli_gen_tree.specs.Encoding.{code_of, tables_for, variables_of};
 ghost use Rattle.pli_gen_tree.specs.answers.Answers.{Generates};
-ghost use Rattle.pli_gen_tree.specs.answers.Ends.{no_tables};
-ghost use Rattle.pli_gen_tree.specs.answers.Pieces.{entries_of};
 ghost use Rattle.pli_gen_tree.specs.declared.generating.GenerateError.TheVariants.{OutOfMemory};
-ghost use Rattle.pli_gen_tree.specs.views.BlockView.{block_trees};
-ghost use Rattle.pli_gen_tree.specs.views.NamingView.{naming_code};
 ghost use Rattle.pli_gen_tree.specs.views.TableView.{tables_view};
 
-use crate::block::{BlockSource, blocks_by_number};
-use crate::layout::emit_blocks;
 use crate::limits::is_too_long;
-use crate::naming::NamingInstruction;
 use crate::one::One;
 use crate::table::{Tables, number_unit};
 use crate::unit::encode_unit;
 use indexmap::IndexSet;
+use pli_gen_emit::{Emitted, emit_procedures};
 use pli_type_tree::TypedUnit;
 use pli_unit_code::Code;
 use pli_value::Value;
@@ -45,70 +41,62 @@ impl From<AllocError> for GenerateError {
     }
 }
 
-/// The code of a unit with these blocks, whose instructions are these and begin there, unless it is too long (G1) or
-/// memory runs out. The tables have no entries before, and the code's after.
+/// The code of a unit whose blocks and instructions are these, with these tables, unless it is too long (G1) or memory
+/// runs out or was wanting for the tables.
 fn code_numbered<'a>(
     alloc: Global,
     one: One<'a>,
     unit: &'a TypedUnit,
-    blocks: &[BlockSource<'a>],
-    entries: &[usize],
-    code: &[NamingInstruction<'a>],
-    tables: &mut Tables<'a>,
+    emitted: &Emitted<'a>,
+    tables: &Tables<'a>,
 ) -> Result<Code, GenerateError>
-    requires blocks { block_trees blocks.now ≡ blocks_of (unit_view unit.now) }
-    requires entries { entries.now ≡ entries_of (block_trees blocks.now) 0 }
-    requires code { naming_code code.now ≡ blocks_code (block_trees blocks.now) 0 }
-    requires tables { tables_view tables.old ≡ no_tables }
+    requires emitted { IsEmitted (unit_view unit.now).procedures emitted.now }
+    requires tables { tables.now.lacks_memory ≡ false → tables_view tables.now
+        ≡ tables_for (variables_of (unit_view unit.now).statics (block_trees emitted.now.blocks.items)) (naming_code emitted.now.code.items) }
     ensures { Generates result (code_of (unit_view unit.now)) }
 {
+    if tables.lacks_memory {
+        return Err(GenerateError::OutOfMemory);
+    }
     let statics = unit.statics.as_slice();
-    number_unit(tables, statics, blocks, one, code)?;
-    if is_too_long(statics, blocks, tables, code) {
+    if is_too_long(statics, emitted, tables) {
         return Err(GenerateError::TooLong);
     }
-    let whole = encode_unit(alloc, tables, one, statics, blocks, entries, code)?;
-    Ok(whole)
+    let mut code = Code {
+        descriptions: Vec::new(alloc),
+        templates: Vec::new(alloc),
+        values: Vec::new(alloc),
+        globals: Vec::new(alloc),
+        blocks: Vec::new(alloc),
+        instructions: Vec::new(alloc),
+    };
+    if encode_unit(alloc, tables, one, statics, emitted, &mut code).is_err() {
+        drop(code);
+        return Err(GenerateError::OutOfMemory);
+    }
+    Ok(code)
 }
 
-/// The same, with tables of its own.
-fn code_with_tables<'a>(
+/// The code of a unit whose blocks and instructions are these, unless it is too long (G1) or memory runs out.
+fn code_emitted<'a>(
     alloc: Global,
     one: One<'a>,
     unit: &'a TypedUnit,
-    blocks: &[BlockSource<'a>],
-    entries: &[usize],
-    code: &[NamingInstruction<'a>],
+    emitted: &Emitted<'a>,
 ) -> Result<Code, GenerateError>
-    requires blocks { block_trees blocks.now ≡ blocks_of (unit_view unit.now) }
-    requires entries { entries.now ≡ entries_of (block_trees blocks.now) 0 }
-    requires code { naming_code code.now ≡ blocks_code (block_trees blocks.now) 0 }
+    requires { IsEmitted (unit_view unit.now).procedures emitted.now }
     ensures { Generates result (code_of (unit_view unit.now)) }
 {
     let mut tables = Tables {
         descriptions: IndexSet::new(alloc),
         templates: IndexSet::new(alloc),
         values: IndexSet::new(alloc),
+        lacks_memory: false,
     };
-    code_numbered(alloc, one, unit, blocks, entries, code, &mut tables)
-}
-
-/// The code of a unit with these blocks, unless it is too long (G1) or memory runs out.
-fn code_of_blocks<'a>(
-    alloc: Global,
-    one: One<'a>,
-    unit: &'a TypedUnit,
-    blocks: &[BlockSource<'a>],
-) -> Result<Code, GenerateError>
-    requires { block_trees blocks.now ≡ blocks_of (unit_view unit.now) }
-    ensures { Generates result (code_of (unit_view unit.now)) }
-{
-    let mut emitted = Vec::new(alloc);
-    let mut entries = Vec::new(alloc);
-    emit_blocks(blocks, &mut emitted, &mut entries)?;
-    let code = emitted.as_slice();
-    let places = entries.as_slice();
-    code_with_tables(alloc, one, unit, blocks, places, code)
+    number_unit(&mut tables, one, unit.statics.as_slice(), emitted);
+    let code = code_numbered(alloc, one, unit, emitted, &tables);
+    drop(tables);
+    code
 }
 
 /// The code of a typed unit, with the number 1 as a value that it may name, unless it is too long (G1) or memory runs
@@ -116,9 +104,10 @@ fn code_of_blocks<'a>(
 fn code_with<'a>(alloc: Global, one: One<'a>, unit: &'a TypedUnit) -> Result<Code, GenerateError>
     ensures { Generates result (code_of (unit_view unit.now)) }
 {
-    let sources = blocks_by_number(alloc, unit.procedures.as_slice())?;
-    let blocks = sources.as_slice();
-    code_of_blocks(alloc, one, unit, blocks)
+    let emitted = emit_procedures(alloc, unit.procedures.as_slice())?;
+    let code = code_emitted(alloc, one, unit, &emitted);
+    drop(emitted);
+    code
 }
 
 /// The code of a typed unit, unless it is too long (G1) or memory runs out.

@@ -6,15 +6,14 @@ ghost use Rattle.pli_type_tree.specs.views.TemplateView.{groups_view};
 ghost use Rattle.pli_gen_tree.specs.Encoding.{coded_unit};
 ghost use Rattle.pli_gen_tree.specs.Limits.{is_over, has_many_members, one_has_many, is_too_long};
 ghost use Rattle.pli_gen_tree.specs.answers.Pieces.{takes_many_slots, template_bytes, HaveDescriptions};
-ghost use Rattle.pli_gen_tree.specs.views.BlockView.{block_tree, block_trees};
+ghost use Rattle.pli_gen_emit.specs.views.BlockView.{block_tree, block_trees};
 ghost use Rattle.pli_gen_tree.specs.views.KeyView.{templated};
-ghost use Rattle.pli_gen_tree.specs.views.NamingView.{naming_code};
+ghost use Rattle.pli_gen_emit.specs.views.NamingView.{naming_code};
 ghost use Rattle.pli_gen_tree.specs.views.TableView.{tables_view};
 
-use crate::block::BlockSource;
 use crate::key::TemplateKey;
-use crate::naming::NamingInstruction;
 use crate::table::Tables;
+use pli_gen_emit::{BlockSource, Emitted};
 use pli_map::{Description, far_size};
 use pli_type_tree::VariableGroup;
 
@@ -124,14 +123,13 @@ fn has_long_table(tables: &Tables<'_>) -> bool
 
 /// Whether a unit has too many variables that are made before the program begins, too many blocks or too many
 /// instructions.
-fn has_long_list(
-    statics: &[VariableGroup],
-    blocks: &[BlockSource<'_>],
-    code: &[NamingInstruction<'_>],
-) -> bool
-    ensures { result ≡ is_over (groups_view statics.now) || is_over blocks.now || is_over code.now }
+fn has_long_list(statics: &[VariableGroup], emitted: &Emitted<'_>) -> bool
+    ensures { result
+        ≡ is_over (groups_view statics.now) || is_over emitted.now.blocks.items || is_over emitted.now.code.items }
 {
-    has_many_variables(0, statics) || blocks.len() > ENTRY_LIMIT || code.len() > ENTRY_LIMIT
+    has_many_variables(0, statics)
+        || emitted.blocks.len() > ENTRY_LIMIT
+        || emitted.code.len() > ENTRY_LIMIT
 }
 
 /// Whether a part of a unit is too large: a block, a structure, or all initial values.
@@ -147,13 +145,14 @@ fn has_large_part(blocks: &[BlockSource<'_>], tables: &Tables<'_>) -> bool
 /// Whether a unit's code is too long (G1).
 pub(crate) fn is_too_long(
     statics: &[VariableGroup],
-    blocks: &[BlockSource<'_>],
+    emitted: &Emitted<'_>,
     tables: &Tables<'_>,
-    code: &[NamingInstruction<'_>],
 ) -> bool
     requires { HaveDescriptions (tables_view tables.now) }
-    ensures { result
-        ≡ is_too_long (coded_unit (tables_view tables.now) (groups_view statics.now) (block_trees blocks.now) (naming_code code.now)) }
+    ensures { let blocks = block_trees emitted.now.blocks.items in
+        result ≡ is_too_long (coded_unit (tables_view tables.now) (groups_view statics.now) blocks (naming_code emitted.now.code.items)) }
 {
-    has_long_table(tables) || has_long_list(statics, blocks, code) || has_large_part(blocks, tables)
+    has_long_table(tables)
+        || has_long_list(statics, emitted)
+        || has_large_part(emitted.blocks.as_slice(), tables)
 }

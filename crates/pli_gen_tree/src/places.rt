@@ -2,9 +2,9 @@
 ghost use Rattle.std.specs.Prelude.{◌≡◌, ◌∷◌, [], ℕ, nat_eq, unwrap_or, IfOk, OnOk};
 ghost use Rattle.std.specs.HashMap.{get};
 ghost use Rattle.pli_gen_tree.specs.answers.Pieces.{step_place};
-ghost use Rattle.pli_gen_tree.specs.views.NamingView.{naming_view, naming_code};
+ghost use Rattle.pli_gen_emit.specs.views.NamingView.{naming_view, naming_code};
 
-use crate::naming::NamingInstruction;
+use pli_gen_emit::NamingInstruction;
 use std::alloc::{AllocError, Global};
 use std::collections::HashMap;
 

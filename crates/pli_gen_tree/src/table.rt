@@ -1,68 +1,67 @@
 //! The tables of a unit's code: entries numbered by first use.
-ghost use Rattle.std.specs.Prelude.{◌≡◌, ◌++◌, ◌∷◌, [], map, OnOk};
+ghost use Rattle.std.specs.Prelude.{◌≡◌, ◌∷◌, [], false, map};
 ghost use Rattle.std.specs.List.{flat_map};
-ghost use Rattle.pli_map.specs.Same.{same};
 ghost use Rattle.pli_map.specs.views.DescriptionView.{description_view};
 ghost use Rattle.pli_value.specs.Value.{value_view};
 ghost use Rattle.pli_type_tree.specs.views.TemplateView.{group_view, groups_view, template_view};
-ghost use Rattle.pli_gen_tree.specs.Encoding.{same_value, same_template, numbered, dummy, tables_for, variables_of};
+ghost use Rattle.pli_gen_emit.specs.views.BlockView.{block_trees};
+ghost use Rattle.pli_gen_emit.specs.views.NamingView.{naming_view, naming_code};
+ghost use Rattle.pli_gen_tree.specs.Encoding.{tables_for, variables_of};
 ghost use Rattle.pli_gen_tree.specs.Encoding.{descriptions_named, templates_named, values_named};
-ghost use Rattle.pli_gen_tree.specs.answers.Ends.{no_tables};
-ghost use Rattle.pli_gen_tree.specs.views.BlockView.{block_trees};
-ghost use Rattle.pli_gen_tree.specs.views.KeyView.{described, templated, valued};
-ghost use Rattle.pli_gen_tree.specs.views.NamingView.{naming_view, naming_code};
+ghost use Rattle.pli_gen_tree.specs.answers.Numbering.{Numbers};
+ghost use Rattle.pli_gen_tree.specs.answers.Pieces.{no_tables};
+ghost use Rattle.pli_gen_tree.specs.views.KeyView.{templated};
 ghost use Rattle.pli_gen_tree.specs.views.TableView.{tables_view};
 
-use crate::block::BlockSource;
 use crate::key::{DescriptionKey, TemplateKey, ValueKey};
-use crate::naming::NamingInstruction;
 use crate::one::One;
 use indexmap::IndexSet;
+use pli_gen_emit::{BlockSource, Emitted, NamingInstruction};
 use pli_map::Description;
 use pli_operation::Operation;
 use pli_type_tree::{Template, VariableGroup};
 use pli_value::Value;
-use std::alloc::AllocError;
 
-/// The tables of a unit's code, as they lie in the typed tree.
+/// The tables of a unit's code, as they lie in the typed tree, and whether memory was wanting for an entry. So
+/// numbering has no path that fails: what was numbered counts only if memory was not wanting, which is asked once, at
+/// the end.
 #[derive(Drop)]
 pub(crate) struct Tables<'a> {
     pub descriptions: IndexSet<DescriptionKey<'a>>,
     pub templates: IndexSet<TemplateKey<'a>>,
     pub values: IndexSet<ValueKey<'a>>,
+    pub lacks_memory: bool,
 }
 
-/// Puts a description at the end of a table that lacks it.
-fn number_description<'a>(
-    table: &mut IndexSet<DescriptionKey<'a>>,
-    description: &'a Description,
-) -> Result<(), AllocError>
-    ensures { OnOk result
-        (map described table.new.keys ≡ numbered same (map described table.old.keys) (description_view description.now ∷ [])) }
+/// Puts a description at the end of its table, if that lacks it.
+fn number_description<'a>(tables: &mut Tables<'a>, description: &'a Description)
+    ensures { Numbers tables.old tables.new (description_view description.now ∷ []) [] [] }
 {
-    table.insert(DescriptionKey { description })?;
-    Ok(())
+    if tables
+        .descriptions
+        .insert(DescriptionKey { description })
+        .is_err()
+    {
+        tables.lacks_memory = true;
+    }
 }
 
-/// Puts a template at the end of a table that lacks it.
-fn number_template<'a>(
-    table: &mut IndexSet<TemplateKey<'a>>,
-    template: TemplateKey<'a>,
-) -> Result<(), AllocError>
-    ensures { OnOk result
-        (map templated table.new.keys ≡ numbered same_template (map templated table.old.keys) (templated template.entry ∷ [])) }
+/// Puts a template at the end of its table, if that lacks it.
+fn number_template<'a>(tables: &mut Tables<'a>, template: TemplateKey<'a>)
+    ensures { Numbers tables.old tables.new [] (templated template.entry ∷ []) [] }
 {
-    table.insert(template)?;
-    Ok(())
+    if tables.templates.insert(template).is_err() {
+        tables.lacks_memory = true;
+    }
 }
 
-/// Puts a value at the end of a table that lacks it.
-fn number_value<'a>(table: &mut IndexSet<ValueKey<'a>>, value: &'a Value) -> Result<(), AllocError>
-    ensures { OnOk result
-        (map valued table.new.keys ≡ numbered same_value (map valued table.old.keys) (value_view value.now ∷ [])) }
+/// Puts a value at the end of its table, if that lacks it.
+fn number_value<'a>(tables: &mut Tables<'a>, value: &'a Value)
+    ensures { Numbers tables.old tables.new [] [] (value_view value.now ∷ []) }
 {
-    table.insert(ValueKey { value })?;
-    Ok(())
+    if tables.values.insert(ValueKey { value }).is_err() {
+        tables.lacks_memory = true;
+    }
 }
 
 /// A template as an entry of a table.
@@ -75,146 +74,87 @@ pub(crate) fn template_key(template: &Template) -> TemplateKey<'_>
     }
 }
 
-/// Puts the description of variables at the end of a table that lacks it, if there is a variable.
-fn number_group_description<'a>(
-    table: &mut IndexSet<DescriptionKey<'a>>,
-    group: &'a VariableGroup,
-) -> Result<(), AllocError>
-    ensures { OnOk result
-        (map described table.new.keys ≡ numbered same (map described table.old.keys) (map (λ t. t.description) (group_view group.now))) }
+/// Numbers the description and the template of variables, if there is a variable.
+fn number_group<'a>(tables: &mut Tables<'a>, group: &'a VariableGroup)
+    ensures { let templates = group_view group.now in
+        Numbers tables.old tables.new (map (λ t. t.description) templates) templates [] }
 {
     if group.count == 0 {
-        return Ok(());
+        return;
     }
-    number_description(table, &group.template.description)
+    number_description(tables, &group.template.description);
+    number_template(tables, template_key(&group.template));
 }
 
-/// Puts the template of variables at the end of a table that lacks it, if there is a variable.
-fn number_group_template<'a>(
-    table: &mut IndexSet<TemplateKey<'a>>,
-    group: &'a VariableGroup,
-) -> Result<(), AllocError>
-    ensures { OnOk result
-        (map templated table.new.keys ≡ numbered same_template (map templated table.old.keys) (group_view group.now)) }
-{
-    if group.count == 0 {
-        return Ok(());
-    }
-    number_template(table, template_key(&group.template))
-}
-
-/// Puts the descriptions and the templates of variables at the end of tables that lack them.
-fn number_variables<'a>(
-    tables: &mut Tables<'a>,
-    groups: &'a [VariableGroup],
-) -> Result<(), AllocError>
-    ensures descriptions { OnOk result
-        ((tables_view tables.new).descriptions
-        ≡ numbered same (tables_view tables.old).descriptions (map (λ t. t.description) (groups_view groups.now))) }
-    ensures templates { OnOk result
-        ((tables_view tables.new).templates ≡ numbered same_template (tables_view tables.old).templates (groups_view groups.now)) }
-    ensures values { OnOk result ((tables_view tables.new).values ≡ (tables_view tables.old).values) }
+/// Numbers the descriptions and the templates of variables.
+fn number_variables<'a>(tables: &mut Tables<'a>, groups: &'a [VariableGroup])
+    ensures { let templates = groups_view groups.now in
+        Numbers tables.old tables.new (map (λ t. t.description) templates) templates [] }
 {
     for group in groups {
-        number_group_description(&mut tables.descriptions, group)?;
-        number_group_template(&mut tables.templates, group)?;
+        number_group(tables, group);
     }
-    Ok(())
 }
 
 /// The same for the variables of blocks.
-fn number_block_variables<'a>(
-    tables: &mut Tables<'a>,
-    blocks: &[BlockSource<'a>],
-) -> Result<(), AllocError>
-    ensures descriptions { OnOk result (
-        let variables = flat_map (λ b. b.head.variables) (block_trees blocks.now) in
-        (tables_view tables.new).descriptions
-        ≡ numbered same (tables_view tables.old).descriptions (map (λ t. t.description) variables)) }
-    ensures templates { OnOk result (
-        let variables = flat_map (λ b. b.head.variables) (block_trees blocks.now) in
-        (tables_view tables.new).templates ≡ numbered same_template (tables_view tables.old).templates variables) }
-    ensures values { OnOk result ((tables_view tables.new).values ≡ (tables_view tables.old).values) }
+fn number_block_variables<'a>(tables: &mut Tables<'a>, blocks: &[BlockSource<'a>])
+    ensures { let templates = flat_map (λ b. b.head.variables) (block_trees blocks.now) in
+        Numbers tables.old tables.new (map (λ t. t.description) templates) templates [] }
 {
     for block in blocks {
-        number_variables(tables, block.head.variables.as_slice())?;
+        number_variables(tables, block.head.variables.as_slice());
     }
-    Ok(())
 }
 
-/// Puts what an instruction names at the end of tables that lack it.
-fn number_named<'a>(
-    tables: &mut Tables<'a>,
-    one: One<'a>,
-    instruction: NamingInstruction<'a>,
-) -> Result<(), AllocError>
-    ensures descriptions { OnOk result
-        ((tables_view tables.new).descriptions
-        ≡ numbered same (tables_view tables.old).descriptions (descriptions_named (naming_view instruction.entry))) }
-    ensures templates { OnOk result
-        ((tables_view tables.new).templates
-        ≡ numbered same_template (tables_view tables.old).templates (templates_named (naming_view instruction.entry))) }
-    ensures values { OnOk result
-        ((tables_view tables.new).values
-        ≡ numbered same_value (tables_view tables.old).values (values_named (naming_view instruction.entry))) }
+/// Numbers what an instruction names.
+fn number_named<'a>(tables: &mut Tables<'a>, one: One<'a>, instruction: NamingInstruction<'a>)
+    ensures { let i = naming_view instruction.entry in
+        Numbers tables.old tables.new (descriptions_named i) (templates_named i) (values_named i) }
 {
     match instruction {
-        NamingInstruction::Field { description, .. } => {
-            number_description(&mut tables.descriptions, description)
-        }
+        NamingInstruction::Field { description, .. } => number_description(tables, description),
         NamingInstruction::MakeDummy(description) => {
-            number_description(&mut tables.descriptions, description)?;
+            number_description(tables, description);
             let template = TemplateKey {
                 description,
                 initial: &[],
             };
-            number_template(&mut tables.templates, template)
+            number_template(tables, template);
         }
         NamingInstruction::Operate(Operation::Fit(description)) => {
-            number_description(&mut tables.descriptions, description)
+            number_description(tables, description);
         }
-        NamingInstruction::Constant(value) => number_value(&mut tables.values, value),
-        NamingInstruction::One => number_value(&mut tables.values, one.value),
-        _ => Ok(()),
+        NamingInstruction::Constant(value) => number_value(tables, value),
+        NamingInstruction::One => number_value(tables, one.value),
+        _ => {}
     }
 }
 
-/// Puts what code names at the end of tables that lack it.
-fn number_code<'a>(
-    tables: &mut Tables<'a>,
-    one: One<'a>,
-    code: &[NamingInstruction<'a>],
-) -> Result<(), AllocError>
-    ensures descriptions { OnOk result
-        ((tables_view tables.new).descriptions
-        ≡ numbered same (tables_view tables.old).descriptions (flat_map descriptions_named (naming_code code.now))) }
-    ensures templates { OnOk result
-        ((tables_view tables.new).templates
-        ≡ numbered same_template (tables_view tables.old).templates (flat_map templates_named (naming_code code.now))) }
-    ensures values { OnOk result
-        ((tables_view tables.new).values
-        ≡ numbered same_value (tables_view tables.old).values (flat_map values_named (naming_code code.now))) }
+/// Numbers what code names.
+fn number_code<'a>(tables: &mut Tables<'a>, one: One<'a>, code: &[NamingInstruction<'a>])
+    ensures { let is = naming_code code.now in
+        Numbers tables.old tables.new (flat_map descriptions_named is) (flat_map templates_named is) (flat_map values_named is) }
 {
     for instruction in code {
-        number_named(tables, one, *instruction)?;
+        number_named(tables, one, *instruction);
     }
-    Ok(())
 }
 
-/// Puts what a unit with these variables, blocks and instructions names into tables without entries.
+/// Numbers what a unit with these variables, blocks and instructions names, in tables without entries.
 pub(crate) fn number_unit<'a>(
     tables: &mut Tables<'a>,
-    statics: &'a [VariableGroup],
-    blocks: &[BlockSource<'a>],
     one: One<'a>,
-    code: &[NamingInstruction<'a>],
-) -> Result<(), AllocError>
+    statics: &'a [VariableGroup],
+    emitted: &Emitted<'a>,
+)
     requires { tables_view tables.old ≡ no_tables }
-    ensures { OnOk result (tables_view tables.new
-        ≡ tables_for (variables_of (groups_view statics.now) (block_trees blocks.now)) (naming_code code.now)) }
+    ensures { tables.new.lacks_memory ≡ false →
+        tables_view tables.new
+        ≡ tables_for (variables_of (groups_view statics.now) (block_trees emitted.now.blocks.items)) (naming_code emitted.now.code.items) }
 {
-    number_variables(tables, statics)?;
-    number_block_variables(tables, blocks)?;
-    number_code(tables, one, code)?;
-    Ok(())
+    let blocks = emitted.blocks.as_slice();
+    let code = emitted.code.as_slice();
+    number_variables(tables, statics);
+    number_block_variables(tables, blocks);
+    number_code(tables, one, code);
 }

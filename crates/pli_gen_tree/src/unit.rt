@@ -1,23 +1,23 @@
 //! The code of a unit within its limits.
-ghost use Rattle.std.specs.Prelude.{◌≡◌, ◌≤◌, ◌<◌, ℕ, false, map, length, slice_index, IfOk};
+ghost use Rattle.std.specs.Prelude.{◌≡◌, ◌≤◌, ◌<◌, ◌++◌, ℕ, false, map, length, slice_index, IfOk, OnOk};
 ghost use Rattle.pli_type_tree.specs.views.TemplateView.{groups_view};
 ghost use Rattle.pli_unit_code.specs.views.CodeView.{block_view, code_view};
+ghost use Rattle.pli_gen_emit.specs.TreeTranslation.{blocks_code, instructions_of};
+ghost use Rattle.pli_gen_emit.specs.answers.Pieces.{entries_of};
+ghost use Rattle.pli_gen_emit.specs.views.BlockView.{block_tree, block_trees};
+ghost use Rattle.pli_gen_emit.specs.views.NamingView.{naming_code};
 ghost use Rattle.pli_gen_tree.specs.Encoding.{coded_block, coded_unit};
 ghost use Rattle.pli_gen_tree.specs.Limits.{is_too_long};
-ghost use Rattle.pli_gen_tree.specs.TreeTranslation.{blocks_code, instructions_of};
-ghost use Rattle.pli_gen_tree.specs.answers.Pieces.{entries_of, blocks_with_entries};
-ghost use Rattle.pli_gen_tree.specs.views.BlockView.{block_tree, block_trees};
-ghost use Rattle.pli_gen_tree.specs.views.NamingView.{naming_code};
+ghost use Rattle.pli_gen_tree.specs.answers.Pieces.{blocks_with_entries, no_code};
 ghost use Rattle.pli_gen_tree.specs.views.TableView.{tables_view};
 
-use crate::block::BlockSource;
 use crate::encode::encode_code;
 use crate::entries::{copy_descriptions, copy_values, encode_templates, encode_variables};
-use crate::naming::NamingInstruction;
 use crate::numbers::Numbers;
 use crate::one::One;
 use crate::places::step_places;
 use crate::table::Tables;
+use pli_gen_emit::{BlockSource, Emitted};
 use pli_type_tree::VariableGroup;
 use pli_unit_code::{Block, Code};
 use std::alloc::{AllocError, Global};
@@ -33,7 +33,8 @@ fn encode_block<'a>(
     ensures { IfOk result (λ coded.
         block_view coded ≡ coded_block (tables_view numbers.entry.tables.now) (block_tree block.entry) first) }
 {
-    let variables = encode_variables(alloc, numbers, block.head.variables.as_slice())?;
+    let mut variables = Vec::new(alloc);
+    encode_variables(numbers, block.head.variables.as_slice(), &mut variables)?;
     Ok(Block {
         kind: block.kind,
         parent: block.parent,
@@ -45,56 +46,57 @@ fn encode_block<'a>(
     })
 }
 
-/// Blocks, each with the place of its first instruction.
+/// Appends blocks, each with the place of its first instruction.
 fn encode_blocks<'a>(
     alloc: Global,
     numbers: Numbers<'_, 'a>,
     blocks: &[BlockSource<'a>],
     entries: &[usize],
-) -> Result<Vec<Block>, AllocError>
+    coded: &mut Vec<Block>,
+) -> Result<(), AllocError>
     requires each { length entries.now ≡ length blocks.now }
     requires near { (k : ℕ) → k < length entries.now → slice_index entries.now k ≤ 65535 }
-    ensures { IfOk result (λ coded.
-        map block_view coded.items
-        ≡ blocks_with_entries (tables_view numbers.entry.tables.now) (block_trees blocks.now) entries.now) }
+    ensures { let placed = blocks_with_entries (tables_view numbers.entry.tables.now) (block_trees blocks.now) entries.now in
+        OnOk result (map block_view coded.new.items ≡ map block_view coded.old.items ++ placed) }
 {
-    let mut coded = Vec::with_capacity(alloc, blocks.len())?;
     for i in 0..blocks.len() {
         coded.push(encode_block(alloc, numbers, blocks[i], entries[i])?)?;
     }
-    Ok(coded)
+    Ok(())
 }
 
-/// The code of a unit that is not too long: its blocks with their entries, and its instructions.
+/// Fills the code of a unit that is not too long, which has nothing before: its tables, its blocks with their entries,
+/// and its instructions.
 pub(crate) fn encode_unit<'a>(
     alloc: Global,
     tables: &Tables<'a>,
     one: One<'a>,
     statics: &'a [VariableGroup],
-    blocks: &[BlockSource<'a>],
-    entries: &[usize],
-    code: &[NamingInstruction<'a>],
-) -> Result<Code, AllocError>
-    requires entries { entries.now ≡ entries_of (block_trees blocks.now) 0 }
-    requires code { naming_code code.now ≡ blocks_code (block_trees blocks.now) 0 }
-    requires short { is_too_long (coded_unit (tables_view tables.now) (groups_view statics.now) (block_trees blocks.now) (naming_code code.now)) ≡ false }
-    ensures { IfOk result (λ whole.
-        code_view whole
-        ≡ coded_unit (tables_view tables.now) (groups_view statics.now) (block_trees blocks.now)
-        (instructions_of (block_trees blocks.now))) }
+    emitted: &Emitted<'a>,
+    code: &mut Code,
+) -> Result<(), AllocError>
+    requires entries { emitted.now.entries.items ≡ entries_of (block_trees emitted.now.blocks.items) 0 }
+    requires code { naming_code emitted.now.code.items ≡ blocks_code (block_trees emitted.now.blocks.items) 0 }
+    requires short { let blocks = block_trees emitted.now.blocks.items in
+        is_too_long (coded_unit (tables_view tables.now) (groups_view statics.now) blocks (naming_code emitted.now.code.items)) ≡ false }
+    requires empty { code_view code.old ≡ no_code }
+    ensures { let blocks = block_trees emitted.now.blocks.items in
+        OnOk result
+        (code_view code.new ≡ coded_unit (tables_view tables.now) (groups_view statics.now) blocks (instructions_of blocks)) }
 {
-    let places = step_places(alloc, code)?;
+    let places = step_places(alloc, emitted.code.as_slice())?;
     let numbers = Numbers {
         tables,
         places: &places,
         one,
     };
-    Ok(Code {
-        descriptions: copy_descriptions(alloc, tables)?,
-        templates: encode_templates(alloc, numbers)?,
-        values: copy_values(alloc, tables)?,
-        globals: encode_variables(alloc, numbers, statics)?,
-        blocks: encode_blocks(alloc, numbers, blocks, entries)?,
-        instructions: encode_code(alloc, numbers, code)?,
-    })
+    copy_descriptions(alloc, tables, &mut code.descriptions)?;
+    encode_templates(alloc, numbers, &mut code.templates)?;
+    copy_values(alloc, tables, &mut code.values)?;
+    encode_variables(numbers, statics, &mut code.globals)?;
+    let blocks = emitted.blocks.as_slice();
+    let entries = emitted.entries.as_slice();
+    encode_blocks(alloc, numbers, blocks, entries, &mut code.blocks)?;
+    encode_code(numbers, emitted.code.as_slice(), &mut code.instructions)?;
+    Ok(())
 }

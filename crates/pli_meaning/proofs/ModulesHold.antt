@@ -15,7 +15,7 @@ use Rattle.pli_type_tree.specs.Templates.{Template, variable_of}
 use Rattle.pli_type_tree.specs.TypedTree.{TypedUnit}
 use Rattle.pli_gen_tree.specs.Encoding.{tables_for, template_number, variables_of, code_of}
 use Rattle.pli_gen_tree.specs.Limits.{is_over, has_many_slots, has_many_members, initial_bytes, is_too_long}
-use Rattle.pli_gen_tree.specs.TreeTranslation.{blocks_of, instructions_of}
+use Rattle.pli_gen_emit.specs.TreeTranslation.{blocks_of, instructions_of}
 use Rattle.pli_gen_tree.proofs.TablesLookUp.{looked_up_is_unit_code}
 use Rattle.pli_unit_code.specs.CodeTables.{Code}
 use Rattle.pli_meaning_typed.specs.TypedPrograms.{bytes_of, WellTyped}

@@ -2,8 +2,8 @@
 use Rattle.std.specs.Prelude.{◌≡◌, ℕ, zero, suc, ◌+◌, ◌≤◌, ◌<◌, List, [], ◌∷◌, ◌++◌, length}
 use Rattle.std.specs.List.{flat_map, AllByRecursion}
 use Rattle.std.proofs.Common.{arith, sym, ap, subst, length-append}
-use Rattle.pli_gen_tree.specs.TreeTranslation.{BlockTree, blocks_of_procedure, blocks_in, blocks_of_form}
-use Rattle.pli_gen_tree.specs.TreeTranslation.{blocks_of_else, blocks_among}
+use Rattle.pli_gen_emit.specs.TreeTranslation.{BlockTree, blocks_of_procedure, blocks_in, blocks_of_form}
+use Rattle.pli_gen_emit.specs.TreeTranslation.{blocks_of_else, blocks_among}
 use Rattle.pli_gen_tree.specs.WellNumbered.{numbers_in, numbers_in_form, numbers_in_else, numbers_among, HasRoom, HasRoomForm}
 use Rattle.pli_gen_tree.specs.WellNumbered.{HasRoomElse, HaveRoom, KeepsApart, KeepsApartForm, KeepsApartElse, KeepApart}
 use Rattle.pli_type.specs.StatementTyping.{WithProcedures, alone}

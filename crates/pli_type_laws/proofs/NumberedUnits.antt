@@ -8,7 +8,7 @@ use Rattle.pli_base.specs.Statements as tree
 use Rattle.pli_base.specs.Statements.{Statement, Numbered, Body, Range, Statements, Ended, Before, Alternative, count, body_count}
 use Rattle.pli_base.specs.Statements.{list_count, alternative_count}
 use Rattle.pli_base.specs.declared.token.Fault.{Fault}
-use Rattle.pli_gen_tree.specs.TreeTranslation.{BlockTree, blocks_of_procedure, blocks_in, blocks_of_form, blocks_of_else, blocks_among}
+use Rattle.pli_gen_emit.specs.TreeTranslation.{BlockTree, blocks_of_procedure, blocks_in, blocks_of_form, blocks_of_else, blocks_among}
 use Rattle.pli_gen_tree.specs.WellNumbered.{numbers_in, numbers_in_form, numbers_in_else, numbers_among, HasTurns, HaveRoom}
 use Rattle.pli_gen_tree.specs.WellNumbered.{KeepApart, next_temporary, IsWellNumbered}
 use Rattle.pli_parse_expression.specs.Expressions.{Deeper}

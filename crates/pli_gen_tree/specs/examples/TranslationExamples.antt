@@ -19,7 +19,7 @@ use Rattle.pli_unit_code.specs.declared.instruction.Instruction.TheVariants as c
 use Rattle.pli_gen_tree.specs.Encoding.{code_of}
 use Rattle.pli_gen_tree.specs.Limits.{is_too_long}
 use Rattle.pli_gen_tree.specs.WellNumbered.{IsWellNumbered}
-use Rattle.pli_gen_tree.specs.TreeTranslation.{list_code, place_code, statement_code, unit_code}
+use Rattle.pli_gen_emit.specs.TreeTranslation.{list_code, place_code, statement_code, unit_code}
 
 -- the variable in the first slot, and in the second
 abbrev first : TypedReference

@@ -2,7 +2,7 @@
 use Rattle.std.specs.Prelude.{◌≡◌}
 use Rattle.pli_type_tree.specs.TypedTree.{TypedUnit}
 use Rattle.pli_unit_code.specs.CodeTables.{program_of}
-use Rattle.pli_gen_tree.specs.TreeTranslation.{unit_code}
+use Rattle.pli_gen_emit.specs.TreeTranslation.{unit_code}
 use Rattle.pli_gen_tree.specs.Encoding.{code_of}
 
 -- the code with its tables is the unit's code, when all numbers are looked up

@@ -2,10 +2,10 @@ use Rattle.std.proofs.Common.{ℕ, ◌++◌, ◌∷◌, [], nat_eq, unwrap_or, m
 use Rattle.std.specs.HashMap.{get}
 use Rattle.pli_gen_tree.specs.Encoding.{instruction_code}
 use Rattle.pli_gen_tree.specs.answers.Pieces.{retargeted}
-use Rattle.pli_gen_tree.specs.views.NamingView.{naming_view, naming_code}
+use Rattle.pli_gen_emit.specs.views.NamingView.{naming_view, naming_code}
 use Rattle.pli_gen_tree.specs.views.TableView.{tables_view}
 use Rattle.pli_gen_tree.proofs.CodeFits.{fits_at}
-use Rattle.pli_gen_tree.proofs.EndLemmas.{more_mapped}
+use Rattle.pli_gen_emit.proofs.LoopLemmas.{more_mapped}
 use Rattle.pli_gen_tree.proofs.encode.encode_code.Goals as goal
 
 pub encode_instruction-requires : goal.encode_instruction-requires

@@ -2,7 +2,7 @@ use Rattle.std.proofs.Common.{◌≡◌, ◌++◌, ℕ, nat_eq, unwrap_or, map, 
 use Rattle.std.specs.HashMap.{get}
 use Rattle.pli_gen_tree.specs.Encoding.{instruction_code}
 use Rattle.pli_gen_tree.specs.answers.Pieces.{retargeted}
-use Rattle.pli_gen_tree.specs.views.NamingView.{naming_code}
+use Rattle.pli_gen_emit.specs.views.NamingView.{naming_code}
 use Rattle.pli_gen_tree.specs.views.TableView.{tables_view}
 use Rattle.pli_gen_tree.proofs.encode.encode_code.Given as goal
 
@@ -11,4 +11,4 @@ invariant-loop-instruction l =
     let place = λ (n : ℕ). unwrap_or (get nat_eq l.numbers.places.now n) 0 in
     let coded = instruction_code (tables_view l.numbers.tables.now) in
     l.instructions.items ++ map coded (map (retargeted place) (naming_code (drop l.instruction-index l.code)))
-    ≡ map coded (map (retargeted place) (naming_code l.code))
+    ≡ l.initial.instructions.items ++ map coded (map (retargeted place) (naming_code l.code))

@@ -4,4 +4,5 @@ use Rattle.pli_gen_tree.specs.views.KeyView.{described}
 use Rattle.pli_gen_tree.proofs.entries.copy_descriptions.Given as goal
 
 abbrev pub invariant-loop-key : goal.invariant-loop-key
-invariant-loop-key l = map description_view l.copied.items ++ map described (drop l.key-index l.key-items) ≡ map described l.tables.descriptions.keys
+invariant-loop-key l =
+    map description_view l.copied.items ++ map described (drop l.key-index l.key-items) ≡ map description_view l.initial.copied.items ++ map described l.tables.descriptions.keys

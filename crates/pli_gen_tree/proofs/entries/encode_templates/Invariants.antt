@@ -8,4 +8,5 @@ use Rattle.pli_gen_tree.proofs.entries.encode_templates.Given as goal
 abbrev pub invariant-loop-key : goal.invariant-loop-key
 invariant-loop-key l =
     let tables = tables_view l.numbers.tables.now in
-    map coded_template_view l.coded.items ++ map (template_code tables) (map templated (drop l.key-index l.keys)) ≡ map (template_code tables) tables.templates
+    map coded_template_view l.coded.items ++ map (template_code tables) (map templated (drop l.key-index l.key-items))
+    ≡ map coded_template_view l.initial.coded.items ++ map (template_code tables) tables.templates

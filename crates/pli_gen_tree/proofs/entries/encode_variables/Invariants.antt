@@ -7,4 +7,4 @@ use Rattle.pli_gen_tree.proofs.entries.encode_variables.Given as goal
 abbrev pub invariant-loop-group : goal.invariant-loop-group
 invariant-loop-group l =
     let number = template_number (tables_view l.numbers.tables.now) in
-    l.list.items ++ map number (groups_view (drop l.group-index l.groups)) ≡ map number (groups_view l.groups)
+    l.list.items ++ map number (groups_view (drop l.group-index l.groups)) ≡ l.initial.list.items ++ map number (groups_view l.groups)

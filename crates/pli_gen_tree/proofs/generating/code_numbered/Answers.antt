@@ -1,49 +1,57 @@
-use Rattle.std.proofs.Common.{◌≡◌, ◌∙◌, ap, sym}
+use Rattle.std.proofs.Common.{◌≡◌, ◌∙◌, true, not, ap, map, sym}
+use Rattle.std.specs.Result.{is_ok}
+use Rattle.pli_map.specs.views.DescriptionView.{description_view}
+use Rattle.pli_value.specs.Value.{value_view}
+use Rattle.pli_unit_code.specs.views.CodeView.{coded_template_view, block_view}
 use Rattle.pli_type_tree.specs.views.TemplateView.{groups_view}
 use Rattle.pli_type_tree.specs.views.TypedView.{unit_view}
-use Rattle.pli_gen_tree.specs.Encoding.{tables_for, variables_of, coded_unit}
+use Rattle.pli_gen_emit.specs.TreeTranslation.{instructions_of}
+use Rattle.pli_gen_emit.specs.views.BlockView.{block_trees}
+use Rattle.pli_gen_emit.specs.views.NamingView.{naming_code}
+use Rattle.pli_gen_tree.specs.Encoding.{coded_unit}
 use Rattle.pli_gen_tree.specs.Limits.{is_too_long}
-use Rattle.pli_gen_tree.specs.TreeTranslation.{instructions_of}
-use Rattle.pli_gen_tree.specs.views.BlockView.{block_trees}
-use Rattle.pli_gen_tree.specs.views.NamingView.{naming_code}
 use Rattle.pli_gen_tree.specs.views.TableView.{tables_view}
-use Rattle.pli_gen_tree.proofs.UnitLemmas.{have_descriptions, unit_is, limits_are}
+use Rattle.pli_gen_tree.proofs.KeyLemmas.{at_ok}
+use Rattle.pli_gen_tree.proofs.UnitLemmas.{nothing_coded, have_descriptions, unit_is, limits_are}
 use Rattle.pli_gen_tree.proofs.generating.code_numbered.Goals as goal
 
 pub is_too_long-requires : goal.is_too_long-requires
 is_too_long-requires c =
-    let u = unit_view c.args.unit.now in
-    let bs = block_trees c.args.blocks.now in
-    let code = naming_code c.args.code.now in
-    let t = tables_view c.number_unit.new.tables in
-    let numbers : t ≡ tables_for (variables_of u.statics bs) code =
-    c.in_ok-number_unit.ensures ∙ ap (λ gs. tables_for (variables_of (groups_view gs) bs) code) c.as_slice-statics.ensures.value in
-    have_descriptions u bs code t c.requires.blocks c.requires.code numbers
+    let e = c.args.emitted.now in
+    have_descriptions (unit_view c.args.unit.now) (block_trees e.blocks.items) (naming_code e.code.items) (tables_view c.args.tables.now) c.requires.emitted.blocks c.requires.emitted.code (c.requires.tables c.if-tables.false)
 
 pub returns-then-is_too_long : goal.returns-then-is_too_long
 returns-then-is_too_long c =
     let u = unit_view c.args.unit.now in
-    let bs = block_trees c.args.blocks.now in
-    let code = naming_code c.args.code.now in
-    let t = tables_view c.number_unit.new.tables in
-    let numbers : t ≡ tables_for (variables_of u.statics bs) code =
-    c.in_ok-number_unit.ensures ∙ ap (λ gs. tables_for (variables_of (groups_view gs) bs) code) c.as_slice-statics.ensures.value in
-    sym (limits_are u bs code t c.requires.blocks c.requires.code numbers)
+    let e = c.args.emitted.now in
+    let bs = block_trees e.blocks.items in
+    let code = naming_code e.code.items in
+    let t = tables_view c.args.tables.now in
+    sym (limits_are u bs code t c.requires.emitted.blocks c.requires.emitted.code (c.requires.tables c.if-tables.false))
     ∙ ap (λ gs. is_too_long (coded_unit t (groups_view gs) bs code)) (sym c.as_slice-statics.ensures.value)
     ∙ sym c.is_too_long.ensures ∙ c.if-is_too_long.true
+
+pub encode_unit-requires-clause-short : goal.encode_unit-requires-clause-short
+encode_unit-requires-clause-short c = sym c.is_too_long.ensures ∙ c.if-is_too_long.false
+
+pub encode_unit-requires-clause-empty : goal.encode_unit-requires-clause-empty
+encode_unit-requires-clause-empty c =
+    nothing_coded _ _ _ _ _ _ (ap (map description_view) c.new.ensures.items) (ap (map coded_template_view) c.new-2.ensures.items) (ap (map value_view) c.new-3.ensures.items)
+    c.new-4.ensures.items (ap (map block_view) c.new-5.ensures.items) c.new-6.ensures.items
 
 pub returns : goal.returns
 returns c =
     let u = unit_view c.args.unit.now in
-    let bs = block_trees c.args.blocks.now in
-    let code = naming_code c.args.code.now in
-    let t = tables_view c.number_unit.new.tables in
-    let numbers : t ≡ tables_for (variables_of u.statics bs) code =
-    c.in_ok-number_unit.ensures ∙ ap (λ gs. tables_for (variables_of (groups_view gs) bs) code) c.as_slice-statics.ensures.value in
-    let within = sym (limits_are u bs code t c.requires.blocks c.requires.code numbers)
+    let e = c.args.emitted.now in
+    let bs = block_trees e.blocks.items in
+    let code = naming_code e.code.items in
+    let t = tables_view c.args.tables.now in
+    let numbers = c.requires.tables c.if-tables.false in
+    let ok : is_ok c.encode_unit.result ≡ true = c.is_err.ensures.negation ∙ ap not c.if-is_err.false in
+    let within = sym (limits_are u bs code t c.requires.emitted.blocks c.requires.emitted.code numbers)
     ∙ ap (λ gs. is_too_long (coded_unit t (groups_view gs) bs code)) (sym c.as_slice-statics.ensures.value)
     ∙ sym c.is_too_long.ensures ∙ c.if-is_too_long.false in (
       within,
-      c.in_ok-whole.ensures ∙ ap (λ gs. coded_unit t (groups_view gs) bs (instructions_of bs)) c.as_slice-statics.ensures.value
-          ∙ unit_is u bs code t c.requires.blocks c.requires.code numbers,
+      at_ok _ c.encode_unit.result c.encode_unit.ensures ok ∙ ap (λ gs. coded_unit t (groups_view gs) bs (instructions_of bs)) c.as_slice-statics.ensures.value
+          ∙ unit_is u bs code t c.requires.emitted.blocks c.requires.emitted.code numbers,
     )

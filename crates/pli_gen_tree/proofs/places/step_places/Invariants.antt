@@ -1,7 +1,7 @@
 use Rattle.std.proofs.Common.{◌≡◌, ℕ, nat_eq, unwrap_or, drop}
 use Rattle.std.specs.HashMap.{get}
 use Rattle.pli_gen_tree.specs.answers.Pieces.{step_place}
-use Rattle.pli_gen_tree.specs.views.NamingView.{naming_code}
+use Rattle.pli_gen_emit.specs.views.NamingView.{naming_code}
 use Rattle.pli_gen_tree.proofs.places.step_places.Given as goal
 
 -- what has begun so far, and what begins in the code that is left

@@ -1,7 +1,16 @@
+use Rattle.std.proofs.Common.{◌≡◌, true, not, ap, ◌∙◌, refl}
+use Rattle.std.specs.Result.{is_ok}
 use Rattle.pli_gen_tree.specs.Encoding.{same_template}
 use Rattle.pli_gen_tree.specs.views.KeyView.{templated}
-use Rattle.pli_gen_tree.proofs.KeyLemmas.{inserted}
+use Rattle.pli_gen_tree.proofs.KeyLemmas.{inserted, at_ok}
 use Rattle.pli_gen_tree.proofs.table.number_template.Goals as goal
 
-pub returns : goal.returns
-returns c = inserted templated same_template c.args.table.now.keys c.insert.new.self.keys c.args.template c.in_ok-insert.ensures.keys
+pub returns-else-is_err : goal.returns-else-is_err
+returns-else-is_err c =
+    let ok : is_ok c.insert.result ≡ true = c.is_err.ensures.negation ∙ ap not c.if-is_err.false in
+    record {
+      memory = λ h. h;
+      descriptions = λ h. refl;
+      templates = λ h. inserted templated same_template c.args.tables.now.templates.keys c.insert.new.self.keys (c.args.template) (at_ok _ c.insert.result c.insert.ensures.keys ok);
+      values = λ h. refl;
+    }

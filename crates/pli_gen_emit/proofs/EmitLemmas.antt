@@ -1,0 +1,38 @@
+-- Instructions that were emitted, unless memory was wanting.
+use Rattle.std.proofs.Common.{◌≡◌, ◌<◌, ◌+◌, ◌++◌, ◌∷◌, ℕ, List, false, length, drop, get_or, ap, ◌∙◌, sym}
+use Rattle.std.proofs.lemmas.List.{append_assoc, at_drop_more}
+use Rattle.pli_machine_step.specs.Program.{Instruction}
+use Rattle.pli_gen_emit.specs.answers.Emitting.{Emits}
+use Rattle.pli_gen_emit.specs.declared.emitter.Emitter.{Emitter}
+use Rattle.pli_gen_emit.specs.views.NamingView.{naming_code}
+
+-- the same instructions in other words
+pub emits_as : (old new : Emitter) (part whole : List Instruction) → Emits old new part → part ≡ whole → Emits old new whole
+emits_as old new part whole e is = (e.0, λ h. e.1 h ∙ ap (λ xs. naming_code old.code.items ++ xs) is)
+
+-- one part behind the other
+pub emits_both : (old mid new : Emitter) (first second : List Instruction) → Emits old mid first → Emits mid new second → Emits old new (first ++ second)
+emits_both old mid new first second e f =
+    (λ h. e.0 (f.0 h), λ h. f.1 h ∙ ap (λ xs. xs ++ second) (e.1 (f.0 h)) ∙ append_assoc (naming_code old.code.items) first second)
+
+pub then_emits : (old mid new : Emitter) (first second whole : List Instruction) → Emits old mid first → Emits mid new second → first ++ second ≡ whole → Emits old new whole
+then_emits old mid new first second whole e f is = emits_as old new (first ++ second) whole (emits_both old mid new first second e f) is
+
+-- in a loop: what was emitted so far and what is left come to the whole
+abbrev pub IsAmid : (initial now : Emitter) → (left whole : List Instruction) → Type 0
+IsAmid initial now left whole =
+    (now.lacks_memory ≡ false → initial.lacks_memory ≡ false)
+    × (now.lacks_memory ≡ false → naming_code now.code.items ++ left ≡ naming_code initial.code.items ++ whole)
+
+pub amid_more : (initial now new : Emitter) (here rest left whole : List Instruction) → Emits now new here → left ≡ here ++ rest
+    → IsAmid initial now left whole → IsAmid initial new rest whole
+amid_more initial now new here rest left whole e splits was =
+    (λ h. was.0 (e.0 h), λ h. ap (λ xs. xs ++ rest) (e.1 h) ∙ append_assoc (naming_code now.code.items) here rest ∙ ap (λ xs. naming_code now.code.items ++ xs) (sym splits) ∙ was.1 (e.0 h))
+
+-- and the next element
+pub amid_next : {X : Type 0} (all : List X → List Instruction) (each : X → List Instruction) (initial now new : Emitter) (xs : List X) (i : ℕ) (d : X) (whole : List Instruction)
+    → ((x : X) (ys : List X) → all (x ∷ ys) ≡ each x ++ all ys)
+    → i < length xs → d ≡ get_or xs i d → Emits now new (each d) → IsAmid initial now (all (drop i xs)) whole → IsAmid initial new (all (drop (i + 1) xs)) whole
+amid_next all each initial now new xs i d whole splits lt read e was =
+    amid_more initial now new (each (get_or xs i d)) (all (drop (i + 1) xs)) (all (drop i xs)) whole (emits_as now new (each d) (each (get_or xs i d)) e (ap each read))
+    (at_drop_more all xs i d lt ∙ splits (get_or xs i d) (drop (i + 1) xs)) was

@@ -1,0 +1,46 @@
+-- The code of trees that lie in vectors.
+use Rattle.std.proofs.Common.{◌≡◌, ◌++◌, ◌∷◌, [], ℕ, suc, List, length, refl, ap, ◌∙◌, sym, Vec, Global}
+use Rattle.std.proofs.lemmas.List.{append-nil, append_assoc}
+use Rattle.pli_map.specs.declared.description.Description.{Description}
+use Rattle.pli_map.specs.views.DescriptionView.{description_view}
+use Rattle.pli_operation.specs.declared.operation.Operation.{Operation}
+use Rattle.pli_operation.specs.views.OperationView.{operation_view}
+use Rattle.pli_machine_step.specs.Program as op
+use Rattle.pli_type_tree.specs.TypedTree.{TypedArguments, NoArgument}
+use Rattle.pli_type_tree.specs.views.TypedView.{root_view, expression_view, reference_view, argument_before, operands_view, subscripts_view, arguments_view}
+use Rattle.pli_type_tree.specs.laws.TypedTreeLaws.{calculated_made, called_made, part_made}
+use Rattle.pli_type_tree.specs.declared.expression.Root.{Root}
+use Rattle.pli_type_tree.specs.declared.expression.TypedExpression.{TypedExpression, Calculated, Called}
+use Rattle.pli_type_tree.specs.declared.expression.TypedReference.{Part}
+use Rattle.pli_type_tree.specs.declared.expression.TypedSubscript.{TypedSubscript}
+use Rattle.pli_type_tree.specs.declared.expression.TypedArgument.{TypedArgument, ByPlace, ByDummy}
+use Rattle.pli_gen_emit.specs.TreeTranslation.{argument_count, root_code, value_code, place_code, operands_code, subscripts_code, arguments_code}
+
+pub operation_code_made : (operation : Operation) (operands : Vec TypedExpression Global)
+    → value_code (expression_view (Calculated operation operands)) ≡ operands_code (operands_view operands.items) ++ op.Operate (operation_view operation) ∷ []
+operation_code_made operation operands = ap value_code (calculated_made operation operands)
+
+one_more : (a : TypedArgument) (more : TypedArguments) → argument_count (argument_before a more) ≡ suc (argument_count more)
+one_more (ByPlace r) more = refl
+one_more (ByDummy d e) more = refl
+
+pub arguments_counted : (xs : List TypedArgument) → argument_count (arguments_view xs) ≡ length xs
+arguments_counted [] = refl
+arguments_counted (a ∷ xs) = one_more a (arguments_view xs) ∙ ap suc (arguments_counted xs)
+
+pub call_code_made : (block : ℕ) (arguments : Vec TypedArgument Global)
+    → value_code (expression_view (Called block arguments)) ≡ arguments_code (arguments_view arguments.items) ++ op.Call block (length arguments.items) ∷ []
+call_code_made block arguments =
+    ap value_code (called_made block arguments)
+    ∙ ap (λ n. arguments_code (arguments_view arguments.items) ++ op.Call block n ∷ []) (arguments_counted arguments.items)
+
+pub part_code_made : (root : Root) (offset : ℕ) (description : Description) (subscripts : Vec TypedSubscript Global)
+    → place_code (reference_view (Part root offset description subscripts))
+    ≡ root_code (root_view root) ++ op.Field offset (description_view description) ∷ subscripts_code (subscripts_view subscripts.items)
+part_code_made root offset description subscripts = ap place_code (part_made root offset description subscripts)
+
+-- an argument's code, and that of the others
+pub argument_first : (a : TypedArgument) (more : TypedArguments) → arguments_code (argument_before a more) ≡ arguments_code (argument_before a NoArgument) ++ arguments_code more
+argument_first (ByPlace r) more = ap (λ x. x ++ arguments_code more) (sym (append-nil (place_code (reference_view r))))
+argument_first (ByDummy d e) more =
+    sym (append_assoc (value_code (expression_view e)) (op.MakeDummy (description_view d) ∷ []) (arguments_code more))

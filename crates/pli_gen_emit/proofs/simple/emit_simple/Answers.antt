@@ -1,0 +1,16 @@
+use Rattle.std.proofs.Common.{◌++◌, ◌∷◌, [], length, ap, ◌∙◌, sym}
+use Rattle.pli_machine_step.specs.Program as op
+use Rattle.pli_type_tree.specs.views.TypedView.{arguments_view, form_view}
+use Rattle.pli_gen_emit.specs.TreeTranslation.{arguments_code}
+use Rattle.pli_gen_emit.specs.answers.Pieces.{simple_code}
+use Rattle.pli_gen_emit.proofs.EmitLemmas.{then_emits}
+use Rattle.pli_gen_emit.proofs.TreeCode.{arguments_counted}
+use Rattle.pli_gen_emit.proofs.simple.emit_simple.Goals as goal
+
+pub returns-in-Call : goal.returns-in-Call
+returns-in-Call c =
+    let b = c.in-Call in
+    then_emits c.args.code.now c.emit_arguments.new.code c.emit-in-Call.new.self _ _ _ c.emit_arguments.ensures c.emit-in-Call.ensures
+    (ap (λ xs. arguments_code (arguments_view xs) ++ op.Call b.block (length xs) ∷ []) c.as_slice-arguments.ensures.value
+    ∙ ap (λ n. arguments_code (arguments_view b.arguments.items) ++ op.Call b.block n ∷ []) (sym (arguments_counted b.arguments.items))
+    ∙ sym (ap (λ f. simple_code (form_view f)) b.is))

@@ -1,0 +1,3 @@
+pub mod answers
+pub mod TreeTranslation
+pub mod views

@@ -1,0 +1,4 @@
+pub mod Collecting
+pub mod Emitting
+pub mod Pieces
+pub mod Units

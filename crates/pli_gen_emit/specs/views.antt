@@ -1,0 +1,2 @@
+pub mod BlockView
+pub mod NamingView

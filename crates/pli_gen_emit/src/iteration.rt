@@ -1,0 +1,224 @@
+//! The code of groups with a control variable, round their lists.
+ghost use Rattle.std.specs.Prelude.{◌≡◌, ◌++◌, ◌∷◌, [], false, suc, map, length};
+ghost use Rattle.pli_machine_step.specs.Program as op;
+ghost use Rattle.pli_operation.specs.views.OperationView.{operation_view};
+ghost use Rattle.pli_type_tree.specs.Iterations as plain;
+ghost use Rattle.pli_type_tree.specs.Iterations.{kept_by};
+ghost use Rattle.pli_type_tree.specs.views.TypedView.{iteration_view, range_view};
+ghost use Rattle.pli_gen_emit.specs.TreeTranslation.{keeps_code, conversion_code, start_code};
+ghost use Rattle.pli_gen_emit.specs.TreeTranslation.{limit_test, while_test, guarded, tests_code};
+ghost use Rattle.pli_gen_emit.specs.TreeTranslation.{counted_code, advances_code, back_code};
+ghost use Rattle.pli_gen_emit.specs.answers.Emitting.{Emits};
+ghost use Rattle.pli_gen_emit.specs.answers.Pieces.{jump_place, landed, IsTurn};
+
+use crate::emitter::Emitter;
+use crate::expression::{emit_place, emit_value};
+use crate::jump::land_guard;
+use crate::naming::NamingInstruction;
+use pli_operation::Operation;
+use pli_type_tree::{Iteration, TypedRange};
+
+/// Where the tests before a turn stand, and the jumps out of the group behind the limit's and behind WHILE's.
+#[derive(Clone, Copy)]
+pub(crate) struct Turn {
+    pub place: usize,
+    pub limit: Option<usize>,
+    pub condition: Option<usize>,
+}
+
+/// Emits what keeps TO and BY, behind the temporary of the start.
+fn emit_kept<'a>(range: &'a TypedRange, start: u32, code: &mut Emitter<'a>)
+    ensures { Emits code.old code.new (keeps_code (suc start) (kept_by (range_view range.now))) }
+{
+    let first = u64::from(start) + 1;
+    let second = u64::from(start) + 2;
+    match range {
+        TypedRange::Once | TypedRange::Repeated(_) => {}
+        TypedRange::ToBy { to, by } => {
+            emit_value(to, code);
+            code.emit(NamingInstruction::SetTemporary { number: first });
+            match by {
+                None => code.emit(NamingInstruction::One),
+                Some(by) => emit_value(by, code),
+            }
+            code.emit(NamingInstruction::SetTemporary { number: second });
+        }
+        TypedRange::ByTo { by, to } => {
+            emit_value(by, code);
+            code.emit(NamingInstruction::SetTemporary { number: first });
+            if let Some(to) = to {
+                emit_value(to, code);
+                code.emit(NamingInstruction::SetTemporary { number: second });
+            }
+        }
+    }
+}
+
+/// Emits the conversion to the control variable and the store.
+fn emit_store<'a>(conversion: &'a [Operation], code: &mut Emitter<'a>)
+    ensures { Emits code.old code.new (conversion_code (map operation_view conversion.now) ++ op.Store ∷ []) }
+{
+    for operation in conversion {
+        code.emit(NamingInstruction::Operate(operation));
+    }
+    code.emit(NamingInstruction::Store);
+}
+
+/// Emits what is done before the first turn.
+pub(crate) fn emit_start<'a>(iteration: &'a Iteration, code: &mut Emitter<'a>)
+    ensures { Emits code.old code.new (start_code (iteration_view iteration.now)) }
+{
+    let number = u64::from(iteration.temporary);
+    emit_value(&iteration.start, code);
+    code.emit(NamingInstruction::SetTemporary { number });
+    emit_kept(&iteration.range, iteration.temporary, code);
+    emit_place(&iteration.control, code);
+    code.emit(NamingInstruction::TakeTemporary { number });
+    emit_store(iteration.conversion.as_slice(), code);
+}
+
+/// The number of the limit among what is kept, if there is a limit.
+fn limit_number(range: &TypedRange) -> Option<u8>
+    ensures { result ≡ plain.limit_number (range_view range.now) }
+{
+    match range {
+        TypedRange::Once | TypedRange::Repeated(_) => None,
+        TypedRange::ToBy { .. } => Some(1),
+        TypedRange::ByTo { to, .. } => match to {
+            None => None,
+            Some(_) => Some(2),
+        },
+    }
+}
+
+/// The number of the step among what is kept; 0 where there is none.
+fn step_number(range: &TypedRange) -> u8
+    ensures { result ≡ plain.step_number (range_view range.now) }
+{
+    match range {
+        TypedRange::Once | TypedRange::Repeated(_) => 0,
+        TypedRange::ToBy { .. } => 2,
+        TypedRange::ByTo { .. } => 1,
+    }
+}
+
+/// Emits the test against the limit, if there is one, and says where its jump stands.
+fn emit_limit<'a>(iteration: &'a Iteration, code: &mut Emitter<'a>) -> Option<usize>
+    ensures code { Emits code.old code.new (guarded (limit_test (iteration_view iteration.now)) 0) }
+    ensures place { code.new.lacks_memory ≡ false →
+        result ≡ jump_place (limit_test (iteration_view iteration.now)) (length code.old.code.items) }
+{
+    let Some(limit) = limit_number(&iteration.range) else {
+        return None;
+    };
+    let first = u64::from(iteration.temporary);
+    let limit = first + u64::from(limit);
+    let step = first + u64::from(step_number(&iteration.range));
+    emit_place(&iteration.control, code);
+    code.emit(NamingInstruction::Load);
+    code.emit(NamingInstruction::TakeTemporary { number: limit });
+    code.emit(NamingInstruction::TakeTemporary { number: step });
+    code.emit(NamingInstruction::Within);
+    let test = code.place();
+    code.emit(NamingInstruction::JumpUnless { target: 0 });
+    Some(test)
+}
+
+/// Emits the test of WHILE, if there is one, and says where its jump stands.
+fn emit_while<'a>(iteration: &'a Iteration, code: &mut Emitter<'a>) -> Option<usize>
+    ensures code { Emits code.old code.new (guarded (while_test (iteration_view iteration.now).condition) 0) }
+    ensures place { code.new.lacks_memory ≡ false →
+        result ≡ jump_place (while_test (iteration_view iteration.now).condition) (length code.old.code.items) }
+{
+    match &iteration.condition {
+        None => None,
+        Some(condition) => {
+            emit_value(condition, code);
+            let test = code.place();
+            code.emit(NamingInstruction::JumpUnless { target: 0 });
+            Some(test)
+        }
+    }
+}
+
+/// Emits the tests before a turn, whose jumps have no targets yet.
+pub(crate) fn emit_tests<'a>(iteration: &'a Iteration, code: &mut Emitter<'a>) -> Turn
+    ensures code { Emits code.old code.new (tests_code (iteration_view iteration.now) 0) }
+    ensures turn { code.new.lacks_memory ≡ false →
+        IsTurn (iteration_view iteration.now) (length code.old.code.items) result }
+{
+    let place = code.place();
+    let limit = emit_limit(iteration, code);
+    let condition = emit_while(iteration, code);
+    Turn {
+        place,
+        limit,
+        condition,
+    }
+}
+
+/// Emits what adds the step of this number to the control variable.
+fn emit_count<'a>(iteration: &'a Iteration, step: u8, code: &mut Emitter<'a>)
+    ensures { Emits code.old code.new (counted_code (iteration_view iteration.now) step) }
+{
+    let number = u64::from(iteration.temporary) + u64::from(step);
+    emit_place(&iteration.control, code);
+    emit_place(&iteration.control, code);
+    code.emit(NamingInstruction::Load);
+    code.emit(NamingInstruction::TakeTemporary { number });
+    code.emit(NamingInstruction::Add);
+    emit_store(iteration.conversion.as_slice(), code);
+}
+
+/// Emits what gives the control variable its next value.
+fn emit_advance<'a>(iteration: &'a Iteration, code: &mut Emitter<'a>)
+    ensures { Emits code.old code.new
+        (advances_code (iteration_view iteration.now).range (iteration_view iteration.now)) }
+{
+    match &iteration.range {
+        TypedRange::Once => {}
+        TypedRange::ToBy { .. } => emit_count(iteration, 2, code),
+        TypedRange::ByTo { .. } => emit_count(iteration, 1, code),
+        TypedRange::Repeated(next) => {
+            emit_place(&iteration.control, code);
+            emit_value(next, code);
+            code.emit(NamingInstruction::Store);
+        }
+    }
+}
+
+/// Whether there may be more than one turn.
+fn is_iterated(range: &TypedRange) -> bool
+    ensures { result ≡ plain.is_iterated (range_view range.now) }
+{
+    !matches!(range, TypedRange::Once)
+}
+
+/// Emits what comes between two turns, and the jump back to the tests.
+pub(crate) fn emit_back<'a>(
+    number: u32,
+    iteration: &'a Iteration,
+    turn: usize,
+    code: &mut Emitter<'a>,
+)
+    ensures { let i = iteration_view iteration.now in
+        Emits code.old code.new (back_code (plain.is_iterated i.range) number (advances_code i.range i) turn) }
+{
+    if !is_iterated(&iteration.range) {
+        return;
+    }
+    code.emit(NamingInstruction::Line { statement: number });
+    emit_advance(iteration, code);
+    code.emit(NamingInstruction::Jump { target: turn });
+}
+
+/// The targets of the jumps behind the tests are the place behind the code so far.
+pub(crate) fn land_tests(code: &mut Emitter<'_>, turn: Turn)
+    ensures code { let behind = length code.old.code.items in
+        code.new.code.items ≡ landed (landed code.old.code.items turn.limit behind) turn.condition behind }
+    ensures memory { code.new.lacks_memory ≡ code.old.lacks_memory }
+{
+    let limit = turn.limit;
+    land_guard(code, limit);
+    land_guard(code, turn.condition);
+}

@@ -1,0 +1,66 @@
+//! The code of statements in which no other stands.
+ghost use Rattle.std.specs.Prelude.{map};
+ghost use Rattle.pli_type_tree.specs.views.TypedView.{expression_view, form_view};
+ghost use Rattle.pli_gen_emit.specs.TreeTranslation.{items_code};
+ghost use Rattle.pli_gen_emit.specs.answers.Emitting.{Emits};
+ghost use Rattle.pli_gen_emit.specs.answers.Pieces.{simple_code};
+
+use crate::emitter::Emitter;
+use crate::expression::{emit_arguments, emit_place, emit_value};
+use crate::naming::NamingInstruction;
+use pli_type_tree::{Form, TypedExpression};
+
+/// Emits the code of items that are printed.
+fn emit_items<'a>(items: &'a [TypedExpression], code: &mut Emitter<'a>)
+    ensures { Emits code.old code.new (items_code (map expression_view items.now)) }
+{
+    for item in items {
+        emit_value(item, code);
+        code.emit(NamingInstruction::Put);
+    }
+}
+
+/// Emits the code of a form without jumps; nothing for another form.
+pub(crate) fn emit_simple<'a>(form: &'a Form, code: &mut Emitter<'a>)
+    ensures { Emits code.old code.new (simple_code (form_view form.now)) }
+{
+    match form {
+        Form::Assign { target, value } => {
+            emit_place(target, code);
+            emit_value(value, code);
+            code.emit(NamingInstruction::Store);
+        }
+        Form::AssignAggregate { target, source } => {
+            emit_place(target, code);
+            emit_place(source, code);
+            code.emit(NamingInstruction::CopyParts);
+        }
+        Form::Put { skip, items } => {
+            if *skip {
+                code.emit(NamingInstruction::Skip);
+            }
+            emit_items(items.as_slice(), code);
+        }
+        Form::Begin { head, .. } => code.emit(NamingInstruction::Begin { block: head.number }),
+        Form::Call { block, arguments } => {
+            let arguments = arguments.as_slice();
+            emit_arguments(arguments, code);
+            code.emit(NamingInstruction::Call {
+                block: *block,
+                arguments: arguments.len(),
+            });
+        }
+        Form::Goto { outward, label } => code.emit(NamingInstruction::Goto {
+            outward: *outward,
+            label: *label,
+        }),
+        Form::Return { outward } => code.emit(NamingInstruction::Return { outward: *outward }),
+        Form::ReturnValue { outward, value } => {
+            emit_value(value, code);
+            code.emit(NamingInstruction::ReturnValue { outward: *outward });
+        }
+        Form::Stop => code.emit(NamingInstruction::Stop),
+        Form::Null | Form::If { .. } | Form::Group(_) | Form::While { .. } | Form::Iterate { .. } =>
+            {}
+    }
+}

@@ -1,8 +1,0 @@
-use Rattle.std.proofs.Common.{ap, map}
-use Rattle.pli_gen_tree.specs.views.KeyView.{described, templated, valued}
-use Rattle.pli_gen_tree.proofs.KeyLemmas.{same_tables}
-use Rattle.pli_gen_tree.proofs.generating.code_with_tables.Goals as goal
-
-pub code_numbered-requires-clause-tables : goal.code_numbered-requires-clause-tables
-code_numbered-requires-clause-tables c =
-    same_tables _ _ _ _ _ _ (ap (map described) c.new.ensures.empty) (ap (map templated) c.new-2.ensures.empty) (ap (map valued) c.new-3.ensures.empty)
