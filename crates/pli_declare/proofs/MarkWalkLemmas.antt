@@ -56,7 +56,7 @@ module _ (items : List Item) (n : ℕ) (x : Item) (lt : n < length items) (read 
 
 -- what a mark declares are its names
 
-length_standings : (before : List Numbered) (number : ℕ) (levels : List ℕ) → length (standings_after before number levels) ≡ length levels
+pub length_standings : (before : List Numbered) (number : ℕ) (levels : List ℕ) → length (standings_after before number levels) ≡ length levels
 length_standings before number [] = refl
 length_standings before number (l ∷ ls) = ap suc (length_standings (before ++ record { number = number; level = l } ∷ []) (number + 1) ls)
 

@@ -28,7 +28,8 @@ use Rattle.pli_declare_variables.specs.Places.{members_of, owners_of, place_in, 
 use Rattle.pli_declare_variables.specs.Descriptions.{is_of_shape, scalar_at, own_codes, description_of}
 use Rattle.pli_declare_variables.specs.Declarations.{Declaration, Kind, OfItem, OfLabel, OfProcedure, IsGood, AreGood, returned_by, declaration_at, declared_in, kind_of, whole_description}
 use Rattle.pli_declare.specs.Resolution.{names_nothing, returned_are, heading_code, parameters_of, resolution_faults}
-use Rattle.pli_declare.specs.Resolved.{resolved_of, plain_of, area_in, meaning_at}
+use Rattle.pli_declare.specs.Resolved.{resolved_of, meaning_at}
+use Rattle.pli_declare_variables.specs.AttributeNames.{plain_of, area_in}
 use Rattle.pli_declare.specs.Resolved as declare
 use Rattle.pli_declare.specs.laws.FaultLaws.{AtUnit, HasHeading}
 use Rattle.pli_declare.specs.declared.block.Target.{Target}

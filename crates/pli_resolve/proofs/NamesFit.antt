@@ -28,7 +28,8 @@ use Rattle.pli_declare_variables.specs.Places.{own_code, is_locator, is_area}
 use Rattle.pli_declare_variables.specs.Descriptions.{is_too_large_variable}
 use Rattle.pli_declare_variables.specs.Declarations.{returned_by}
 use Rattle.pli_declare.specs.Resolution.{is_main, names_fit, is_good, simple_is_good, described_is_good, attribute_is_good, twice_code, returned_are, least, heading_code, entity_codes, item_code, parameters_of, resolution_faults}
-use Rattle.pli_declare.specs.Resolved.{resolved_of, used_as, named_at, plain_of, simple_of, area_in, locator_in, item_names, areas_at, locators_at, of_marks, meaning_after, meaning_at}
+use Rattle.pli_declare.specs.Resolved.{resolved_of, used_as, named_at, item_names, areas_at, locators_at, of_marks, meaning_after, meaning_at}
+use Rattle.pli_declare_variables.specs.AttributeNames.{plain_of, simple_of, area_in, locator_in}
 use Rattle.pli_declare.specs.laws.FaultLaws.{AtName}
 use Rattle.pli_declare.specs.declared.block.Use.{Use}
 use Rattle.pli_declare.specs.declared.block.Target.{Target}

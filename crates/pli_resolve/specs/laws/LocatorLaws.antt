@@ -7,7 +7,7 @@ use Rattle.pli_base.specs.Statements.{ExternalProcedure}
 use Rattle.pli_base.specs.declared.declaration.InitialValue.{InitialValue}
 use Rattle.pli_map.specs.Description.{Description, Pointer, Offset, Area, Structure}
 use Rattle.pli_declare.specs.Resolution.{resolution_faults}
-use Rattle.pli_declare.specs.Resolved.{plain_of, simple_of, area_in, locator_in}
+use Rattle.pli_declare_variables.specs.AttributeNames.{plain_of, simple_of, area_in, locator_in}
 use Rattle.pli_declare_attributes.specs.declared.completed.Scope.{Scope}
 use Rattle.pli_declare_outline.specs.Outlines.{Outline, outline_of}
 use Rattle.pli_declare_tables.specs.Tables.{Entity, AsItem, AsLabel, AsProcedure, Entry, no_entry}
