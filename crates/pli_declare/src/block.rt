@@ -25,17 +25,17 @@ pub struct Use {
 
 /// What a block declares.
 #[derive(Drop)]
-pub struct Block {
+pub struct Block<'a> {
     /// The names of its parameters, if it is a procedure.
     pub parameters: Vec<Name>,
-    pub declarations: Vec<Declaration>,
+    pub declarations: Vec<Declaration<'a>>,
 }
 
 /// Declarations that say the same.
-pub(crate) fn copied_declarations(
+pub(crate) fn copied_declarations<'a>(
     alloc: Global,
-    declarations: &[Declaration],
-) -> Result<Vec<Declaration>, AllocError>
+    declarations: &[Declaration<'a>],
+) -> Result<Vec<Declaration<'a>>, AllocError>
     ensures { IfOk result (λ copied. map declaration_view copied.items ≡ map declaration_view declarations.now) }
 {
     let mut copied = Vec::new(alloc);
@@ -45,9 +45,9 @@ pub(crate) fn copied_declarations(
     Ok(copied)
 }
 
-impl Block {
+impl<'a> Block<'a> {
     /// A block that says the same.
-    pub fn copy(&self, alloc: Global) -> Result<Block, AllocError>
+    pub fn copy(&self, alloc: Global) -> Result<Block<'a>, AllocError>
         ensures { IfOk result (λ copied. block_view copied ≡ block_view self.now) }
     {
         Ok(Block {
@@ -58,7 +58,10 @@ impl Block {
 }
 
 /// Blocks that say the same.
-pub(crate) fn copied_blocks(alloc: Global, blocks: &[Block]) -> Result<Vec<Block>, AllocError>
+pub(crate) fn copied_blocks<'a>(
+    alloc: Global,
+    blocks: &[Block<'a>],
+) -> Result<Vec<Block<'a>>, AllocError>
     ensures { IfOk result (λ copied. map block_view copied.items ≡ map block_view blocks.now) }
 {
     let mut copied = Vec::new(alloc);

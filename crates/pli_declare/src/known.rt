@@ -14,7 +14,7 @@ use pli_declare_variables::Judged;
 /// The names of a unit, and what is known of each.
 #[derive(Clone, Copy)]
 pub(crate) struct Known<'a> {
-    pub scopes: Scopes<'a>,
+    pub scopes: Scopes<'a, 'a>,
     /// For each table what is known of each of its names.
     pub judged: &'a Vec<Vec<Judged>>,
     ghost known: { AreKnown (map (λ v. v.items) judged.now.items) (outline_view scopes.outline.now) },

@@ -21,8 +21,8 @@ use std::marker::Model;
 pub struct Resolved<'a> {
     pub(crate) unit: &'a Procedure,
     pub(crate) regions: Vec<Region>,
-    pub(crate) outermost: Vec<Declaration>,
-    pub(crate) blocks: Vec<Block>,
+    pub(crate) outermost: Vec<Declaration<'a>>,
+    pub(crate) blocks: Vec<Block<'a>>,
     pub(crate) meanings: IndexMap<u32, Target>,
     pub(crate) areas: IndexMap<u32, Target>,
     pub(crate) locators: IndexMap<u32, Target>,
@@ -66,14 +66,14 @@ impl<'a> Resolved<'a> {
     }
 
     /// What the outermost block declares: the unit's own name.
-    pub fn outermost(&self) -> &[Declaration]
+    pub fn outermost(&self) -> &[Declaration<'a>]
         ensures { map declaration_view result.now ≡ (resolved_of (unit_view self.now)).outermost }
     {
         &self.outermost
     }
 
     /// For each region what it declares; that of a group or an ON-unit is empty.
-    pub fn blocks(&self) -> &[Block]
+    pub fn blocks(&self) -> &[Block<'a>]
         ensures { map block_view result.now ≡ (resolved_of (unit_view self.now)).blocks }
     {
         &self.blocks

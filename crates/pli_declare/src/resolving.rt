@@ -48,13 +48,13 @@ impl From<AllocError> for ResolveError {
 }
 
 /// What a region declares, where no declaration has a fault.
-fn declared_block(
+fn declared_block<'a>(
     alloc: Global,
-    outline: &Outline,
-    tables: &Tables,
+    outline: &Outline<'a>,
+    tables: &Tables<'a>,
     parameters: &[Vec<Name>],
     block: usize,
-) -> Result<Block, AllocError>
+) -> Result<Block<'a>, AllocError>
     requires tabled { AreOf tables.now (outline_view outline.now) }
     requires faultless { outline_faults (outline_view outline.now) (outline_view outline.now).marks ≡ [] }
     requires parameters { AreParameters (map (λ list. list.items) parameters.now) (outline_view outline.now) }
@@ -71,7 +71,11 @@ fn declared_block(
 }
 
 /// What each region declares, where no declaration has a fault.
-fn blocks(alloc: Global, outline: &Outline, tables: &Tables) -> Result<Vec<Block>, AllocError>
+fn blocks<'a>(
+    alloc: Global,
+    outline: &Outline<'a>,
+    tables: &Tables<'a>,
+) -> Result<Vec<Block<'a>>, AllocError>
     requires tabled { AreOf tables.now (outline_view outline.now) }
     requires faultless { outline_faults (outline_view outline.now) (outline_view outline.now).marks ≡ [] }
     ensures { IfOk result (λ blocks. map block_view blocks.items
@@ -96,11 +100,11 @@ fn marks_behind<'a, 'b>(outline: &'a Outline<'b>) -> &'a [Placed<'b>]
 }
 
 /// What the outermost block declares: the unit's own name, where its heading has no fault.
-fn outermost(
+fn outermost<'a>(
     alloc: Global,
-    outline: &Outline,
-    tables: &Tables,
-) -> Result<Vec<Declaration>, AllocError>
+    outline: &Outline<'a>,
+    tables: &Tables<'a>,
+) -> Result<Vec<Declaration<'a>>, AllocError>
     requires tabled { AreOf tables.now (outline_view outline.now) }
     requires faultless { outline_faults (outline_view outline.now) (outline_view outline.now).marks ≡ [] }
     ensures { IfOk result (λ declarations. map declaration_view declarations.items ≡ declared_in (unit_entries (outline_view outline.now).marks) []) }
@@ -113,7 +117,7 @@ fn outermost(
 fn resolved<'a>(
     alloc: Global,
     unit: &'a Procedure,
-    scopes: &Scopes,
+    scopes: &Scopes<'_, 'a>,
 ) -> Result<Resolved<'a>, AllocError>
     requires outlined { outline_view scopes.now.outline.now ≡ outline_of (unit_view unit.now) }
     requires faultless { outline_faults (outline_view scopes.now.outline.now) (outline_view scopes.now.outline.now).marks ≡ [] }
@@ -139,9 +143,9 @@ fn resolved<'a>(
 fn resolve_told<'a>(
     alloc: Global,
     unit: &'a Procedure,
-    outline: &Outline,
+    outline: &Outline<'a>,
     nesting: &Nesting,
-    tables: &Tables,
+    tables: &Tables<'a>,
 ) -> Result<Resolved<'a>, ResolveError>
     requires outlined { outline_view outline.now ≡ outline_of (unit_view unit.now) }
     requires nested { nesting.now ≡ regions_view outline.now.regions.items }

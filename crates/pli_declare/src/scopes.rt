@@ -9,10 +9,10 @@ use pli_declare_tables::Tables;
 
 /// The outline of a unit, how its regions nest, and the tables of what its blocks declare.
 #[derive(Clone, Copy)]
-pub(crate) struct Scopes<'a> {
-    pub outline: &'a Outline<'a>,
-    pub nesting: &'a Nesting,
-    pub tables: &'a Tables<'a>,
+pub(crate) struct Scopes<'s, 'a> {
+    pub outline: &'s Outline<'a>,
+    pub nesting: &'s Nesting,
+    pub tables: &'s Tables<'a>,
     ghost nested: { nesting.now ≡ regions_view outline.now.regions.items },
     ghost tabled: { AreOf tables.now (outline_view outline.now) },
 }

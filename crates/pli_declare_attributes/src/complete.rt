@@ -21,7 +21,7 @@ use crate::set::AttributeSet;
 use crate::summary::Summary;
 use crate::types::scalar;
 use pli_base::Code;
-use pli_base::declaration::{Attribute, DescribedAttribute, ParameterDescription, copied_values};
+use pli_base::declaration::{Attribute, DescribedAttribute, ParameterDescription};
 use pli_map::{Bounds, Description, size};
 use std::alloc::{AllocError, Global};
 
@@ -162,13 +162,17 @@ pub fn completed_result(attributes: &[DescribedAttribute]) -> Result<Description
 
 /// What the attributes of a variable or member say, where they have no fault.
 #[tactic(auto, unfolding(crate::specs::Completed::variable_of))]
-fn variable(alloc: Global, place: Place, facts: &ItemFacts) -> Result<Variable, AllocError>
+fn variable<'a>(
+    alloc: Global,
+    place: Place,
+    facts: &ItemFacts<'a>,
+) -> Result<Variable<'a>, AllocError>
     requires { own_fault place (item_view facts.now.item.now) ≡ None }
     ensures { IfOk result (λ v. variable_view v ≡ variable_of place (item_view facts.now.item.now)) }
 {
     let summary = facts.summary;
     let bounds = all_described(alloc, facts.item.dimensions.as_slice())?;
-    let initial = copied_values(alloc, values_of(facts.item.attributes.as_slice()))?;
+    let initial = values_of(facts.item.attributes.as_slice());
     let description = if place.has_members {
         None
     } else {
@@ -185,11 +189,11 @@ fn variable(alloc: Global, place: Place, facts: &ItemFacts) -> Result<Variable, 
 
 /// What an item is, by its attributes with their defaults; or the least of A3 to A7, A9 and A13 to A15 that holds, apart from
 /// faults of the names and the level that stand in it (own). Memory is taken only where the attributes have no fault.
-pub fn completed_item(
+pub fn completed_item<'a>(
     alloc: Global,
     place: Place,
-    facts: &ItemFacts,
-) -> Result<Completed, AttributeError>
+    facts: &ItemFacts<'a>,
+) -> Result<Completed<'a>, AttributeError>
     ensures { IsCompleted result place (item_view facts.now.item.now) }
 {
     if let Some(code) = item_fault(place, facts) {

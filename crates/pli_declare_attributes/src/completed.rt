@@ -3,7 +3,7 @@ ghost use Rattle.std.specs.Prelude.{◌≡◌, map, option_map, IfOk};
 ghost use Rattle.pli_map.specs.views.DescriptionView.{description_view};
 ghost use Rattle.pli_declare_attributes.specs.views.CompletedView.{variable_view, completed_view};
 
-use pli_base::declaration::{InitialValue, copied_values};
+use pli_base::declaration::InitialValue;
 use pli_map::{Bounds, Description};
 use std::alloc::{AllocError, Global};
 
@@ -25,7 +25,7 @@ pub enum Scope {
 
 /// A variable, or a member of one.
 #[derive(Drop)]
-pub struct Variable {
+pub struct Variable<'a> {
     /// Its type, apart from its own dimensions; `None` where it has members.
     pub description: Option<Description>,
     /// Its own dimensions, none where it is no array.
@@ -33,14 +33,14 @@ pub struct Variable {
     /// `None` of members and of parameters, which have their storage from elsewhere.
     pub storage: Option<Storage>,
     pub scope: Scope,
-    /// The values in INITIAL, none without it.
-    pub initial: Vec<InitialValue>,
+    /// The values in INITIAL as the tree has them, once for all names of the item; none without it.
+    pub initial: &'a [InitialValue],
 }
 
 /// What a name is.
 #[derive(Drop)]
-pub enum Completed {
-    Variable(Variable),
+pub enum Completed<'a> {
+    Variable(Variable<'a>),
     /// An entry, which is external. Without descriptions it has no parameters.
     Entry {
         parameters: Vec<Description>,
@@ -76,26 +76,25 @@ fn copied_parameters(
     Ok(copied)
 }
 
-impl Variable {
+impl<'a> Variable<'a> {
     /// A variable that says the same.
-    pub fn copy(&self, alloc: Global) -> Result<Variable, AllocError>
+    pub fn copy(&self, alloc: Global) -> Result<Variable<'a>, AllocError>
         ensures { IfOk result (λ copied. variable_view copied ≡ variable_view self.now) }
     {
         let bounds = Vec::from_slice(alloc, self.bounds.as_slice())?;
-        let initial = copied_values(alloc, self.initial.as_slice())?;
         Ok(Variable {
             description: copied_description(alloc, &self.description)?,
             bounds,
             storage: self.storage,
             scope: self.scope,
-            initial,
+            initial: self.initial,
         })
     }
 }
 
-impl Completed {
+impl<'a> Completed<'a> {
     /// What says the same.
-    pub fn copy(&self, alloc: Global) -> Result<Completed, AllocError>
+    pub fn copy(&self, alloc: Global) -> Result<Completed<'a>, AllocError>
         ensures { IfOk result (λ copied. completed_view copied ≡ completed_view self.now) }
     {
         match self {

@@ -124,7 +124,7 @@ fn show_variable(shown: &mut Shown, variable: &Variable) {
     } else {
         ""
     });
-    show_values(shown, &variable.initial);
+    show_values(shown, variable.initial);
 }
 
 /// A variable; `e(F15)>B1`, an entry with its parameters and its result; `f`, a built-in function.

@@ -9,10 +9,10 @@ use std::alloc::{AllocError, Global};
 
 /// What a name is declared as.
 #[derive(Drop)]
-pub enum Kind {
+pub enum Kind<'a> {
     /// An item. A variable of its own has its description; a member's is a part of it.
     Item {
-        completed: Completed,
+        completed: Completed<'a>,
         description: Option<Description>,
     },
     /// A label of a statement in the region of this number.
@@ -28,16 +28,16 @@ pub enum Kind {
 
 /// A declared name.
 #[derive(Drop)]
-pub struct Declaration {
+pub struct Declaration<'a> {
     pub identifier: Identifier,
     /// The number in its block of the item that it is a member of.
     pub owner: Option<usize>,
-    pub kind: Kind,
+    pub kind: Kind<'a>,
 }
 
-impl Kind {
+impl<'a> Kind<'a> {
     /// What says the same.
-    pub fn copy(&self, alloc: Global) -> Result<Kind, AllocError>
+    pub fn copy(&self, alloc: Global) -> Result<Kind<'a>, AllocError>
         ensures { IfOk result (λ copied. kind_view copied ≡ kind_view self.now) }
     {
         Ok(match self {
@@ -57,9 +57,9 @@ impl Kind {
     }
 }
 
-impl Declaration {
+impl<'a> Declaration<'a> {
     /// A declaration that says the same.
-    pub fn copy(&self, alloc: Global) -> Result<Declaration, AllocError>
+    pub fn copy(&self, alloc: Global) -> Result<Declaration<'a>, AllocError>
         ensures { IfOk result (λ copied. declaration_view copied ≡ declaration_view self.now) }
     {
         Ok(Declaration {

@@ -28,7 +28,11 @@ use pli_map::Description;
 use std::alloc::{AllocError, Global};
 
 /// What the attributes of an item are completed to, where it has no fault.
-fn completed(alloc: Global, place: Place, facts: &ItemFacts) -> Result<Completed, AllocError>
+fn completed<'a>(
+    alloc: Global,
+    place: Place,
+    facts: &ItemFacts<'a>,
+) -> Result<Completed<'a>, AllocError>
     requires { item_fault place (item_view facts.now.item.now) ≡ None }
     ensures { IfOk result (λ completed. completed_view completed ≡ completed_of place (item_view facts.now.item.now)) }
 {
@@ -63,12 +67,12 @@ fn whole_description(
 
 /// What a name without a fault is declared as, at its place, where its description is known; that the number of elements above is
 /// cut at a limit makes no fault.
-fn kind(
+fn kind<'a>(
     alloc: Global,
     place: Place,
-    entry: &Entry,
+    entry: &Entry<'a>,
     description: Option<Description>,
-) -> Result<Kind, AllocError>
+) -> Result<Kind<'a>, AllocError>
     requires { IsFaultlessCut place (entry_view entry.now).entity }
     ensures { IfOk result (λ kind. kind_view kind ≡ kind_with place (option_map description_view description) (entry_view entry.now).entity) }
 {
@@ -90,11 +94,11 @@ fn kind(
 
 /// What each name of a block is declared as, where the parameters are those of the procedure that is the block. It recurs as deep as
 /// structures nest, which is no deeper than levels go: at most 255, since no level is a fault.
-pub fn declare(
+pub fn declare<'a>(
     alloc: Global,
-    entries: &[Entry],
+    entries: &[Entry<'a>],
     parameters: &[Name],
-) -> Result<Vec<Declaration>, AllocError>
+) -> Result<Vec<Declaration<'a>>, AllocError>
     requires owners { AreBehindOwners (entries_view entries.now) }
     requires good { AreGood (entries_view entries.now) parameters.now }
     ensures { IfOk result (λ declarations. map declaration_view declarations.items ≡ declared_in (entries_view entries.now) parameters.now) }

@@ -116,7 +116,7 @@ fn show_variable(shown: &mut Shown, variable: &Variable) {
         Some(description) => show_type(shown, description),
         None => shown.put(" MEMBERS"),
     }
-    show_values(shown, &variable.initial)
+    show_values(shown, variable.initial)
 }
 
 fn show_completed(shown: &mut Shown, completed: &Completed) {

@@ -107,7 +107,10 @@ pub(crate) fn way_at(ways: &[Way], number: usize) -> Option<&Way>
 }
 
 /// The declaration of this number.
-pub(crate) fn declaration_at(declarations: &[Declaration], number: usize) -> Option<&Declaration>
+pub(crate) fn declaration_at<'s>(
+    declarations: &'s [Declaration<'s>],
+    number: usize,
+) -> Option<&'s Declaration<'s>>
     ensures { option_map (λ d. declaration_view d.now) result ≡ slice_get (map declaration_view declarations.now) number }
 {
     declarations.get(number)

@@ -115,7 +115,7 @@ impl<'a> ResolvedUnit<'a> {
     }
 
     /// The name of this number that a region, or the outermost block, declares.
-    fn declaration(&self, region: Option<usize>, number: usize) -> Option<&Declaration>
+    fn declaration(&self, region: Option<usize>, number: usize) -> Option<&Declaration<'a>>
         ensures { option_map (λ d. declaration_view d.now) result ≡ slice_get (declared_by (resolved_of (unit_view self.now)) region) number }
     {
         match region {
@@ -204,7 +204,7 @@ impl<'a> ResolvedUnit<'a> {
         parameters: &[Name],
         way: &'s Way,
         declaration: &Declaration,
-        variable: &'s Variable,
+        variable: &'s Variable<'s>,
         description: &'s Option<Description>,
     ) -> SymbolKind<'s>
         ensures { symbol_kind_view result ≡ symbols.symbol_kind (facts_of (unit_view self.now)) parameters.now (way_view way.now) declaration.now.identifier declaration.now.owner
@@ -213,7 +213,7 @@ impl<'a> ResolvedUnit<'a> {
         let identifier = declaration.identifier;
         let owner = declaration.owner;
         let area = self.area_of(identifier.at);
-        let initial = variable.initial.as_slice();
+        let initial = variable.initial;
         if owner.is_some() {
             return SymbolKind::Member {
                 root: way.root,
@@ -238,7 +238,7 @@ impl<'a> ResolvedUnit<'a> {
         &'s self,
         parameters: &[Name],
         way: &'s Way,
-        declaration: &'s Declaration,
+        declaration: &'s Declaration<'s>,
     ) -> SymbolKind<'s>
         ensures { symbol_kind_view result ≡ (symbols.symbol_of (facts_of (unit_view self.now)) parameters.now (way_view way.now) (declaration_view declaration.now)).kind }
     {
@@ -282,7 +282,7 @@ impl<'a> ResolvedUnit<'a> {
         &'s self,
         parameters: &[Name],
         ways: &'s [Way],
-        declarations: &'s [Declaration],
+        declarations: &'s [Declaration<'s>],
         number: usize,
     ) -> Option<Symbol<'s>>
         ensures { option_map symbol_view result ≡ slice_get (symbols.symbols_with (facts_of (unit_view self.now)) parameters.now (map way_view ways.now) (map declaration_view declarations.now)) number }
@@ -333,7 +333,7 @@ impl<'a> ResolvedUnit<'a> {
     }
 
     /// What a region declares.
-    fn region_block(&self, region: usize) -> Option<&Block>
+    fn region_block(&self, region: usize) -> Option<&Block<'a>>
         ensures { option_map (λ b. declare_view b.now) result ≡ slice_get (resolved_of (unit_view self.now)).blocks region }
     {
         self.declared.blocks().get(region)

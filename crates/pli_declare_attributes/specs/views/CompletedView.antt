@@ -21,7 +21,7 @@ variable_view v =
       bounds = v.bounds.items;
       storage = v.storage;
       scope = v.scope;
-      initial = v.initial.items;
+      initial = v.initial.now;
     }
 
 abbrev pub completed_view : Completed → complete.Completed
