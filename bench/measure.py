@@ -150,4 +150,5 @@ def main():
         print(f"{title:65} {len(text):10,} {len(answers):10,} {statistics.median(times):8.3f}s")
 
 
-main()
+if __name__ == "__main__":
+    main()
