@@ -1,5 +1,5 @@
 -- How far items reach stands as items are added, and tells which items a reference can't mean.
-use Rattle.std.proofs.Common.{◌≡◌, ℕ, zero, suc, ◌+◌, ◌-◌, ◌<◌, ◌≤◌, ◌⊎◌, inl, inr, Bool, true, false, nat_eq, ◌&&◌, List, [], ◌∷◌, ◌++◌, length, get_or, set, take, length-append, Option, None, Some, IfSome, if◌then◌else◌, refl, sym, ap, subst, ◌∙◌, arith}
+use Rattle.std.proofs.Common.{◌≡◌, ℕ, zero, suc, ◌+◌, ◌-◌, ◌<◌, ◌≤◌, ◌⊎◌, inl, inr, Bool, true, false, nat_eq, nat_lt, ◌&&◌, List, [], ◌∷◌, ◌++◌, length, get_or, set, take, length-append, Option, None, Some, IfSome, if◌then◌else◌, refl, sym, ap, subst, ◌∙◌, arith}
 use Rattle.std.specs.Prelude.{reverse}
 use Rattle.std.specs.Option.{is_none}
 use Rattle.std.proofs.lemmas.Bool.Decides.{nat_tests}
@@ -34,26 +34,44 @@ climbs_back items owners (suc k) above below lt c =
     let before : c.0 < below = subst (λ o. IfSome o (λ n. n < below)) c.1 (owners below lt) in
     omega (arith, before, climbs_back items owners k above c.0 (omega (arith, before, lt)) c.2)
 
+pub some_is : (a b : ℕ) → Some a ≡ Some b → a ≡ b
+some_is a b e = cc
+
+-- of two items that one is within, the second is within the first
+within_both : (items : Block) → OwnersBefore items → (k j n o last : ℕ) → last < length items → Climbs items k n last → Climbs items j o last → n ≤ o
+    → IsWithin items n o
+within_both items owners k zero n o last lt c d le = (k, subst (λ m. Climbs items k n m) (sym d) c)
+within_both items owners zero (suc j) n o last lt c d le =
+    let before : d.0 < last = subst (λ p. IfSome p (λ m. m < last)) d.1 (owners last lt) in
+    absurd (omega (arith, c, le, before, climbs_back items owners j o d.0 (omega (arith, before, lt)) d.2))
+within_both items owners (suc k) (suc j) n o last lt c d le =
+    let before : d.0 < last = subst (λ p. IfSome p (λ m. m < last)) d.1 (owners last lt) in
+    within_both items owners k j n o d.0 (omega (arith, before, lt)) (subst (λ m. Climbs items k n m) (some_is c.0 d.0 (sym c.1 ∙ d.1)) c.2) d.2 le
+
 -- the walk over the items that the last one is within
 pub record Closing (items : Block) (before : List (Option ℕ)) (owner : Option ℕ) (after : List (Option ℕ)) (at : Option ℕ) : Type 0 where
   pub all : length after ≡ length before
   pub here : IfSome at (λ n. n < length items)
   pub kept : IfSome owner (λ o. (n : ℕ) → n ≤ o → last_of after n ≡ last_of before n)
-  pub closed : (n : ℕ) → (last_of after n ≡ last_of before n) ⊎ ((last : ℕ) × (suc last ≡ length items) × (last_of after n ≡ Some last))
+  pub closed : (n : ℕ) → (last_of after n ≡ last_of before n) ⊎ ((last : ℕ) × (suc last ≡ length items) × (last_of after n ≡ Some last) × IsWithin items n last)
   pub within : IfSome at (λ n. (last : ℕ) → suc last ≡ length items → IsWithin items n last)
+  pub ahead : (n last : ℕ) → suc last ≡ length items → IsWithin items n last
+      → (last_of after n ≡ Some last) ⊎ ((m : ℕ) × (at ≡ Some m) × IsWithin items n m)
 
 same_kept : (before : List (Option ℕ)) (owner : Option ℕ) → IfSome owner (λ o. (n : ℕ) → n ≤ o → last_of before n ≡ last_of before n)
 same_kept before None = tt
 same_kept before (Some o) = λ n le. refl
 
 module _ (items : Block) (before : List (Option ℕ)) (all : length before ≡ length items) (owner : Option ℕ) where
-  pub closing_first : (at : Option ℕ) → ((n : ℕ) → at ≡ Some n → suc n ≡ length items) → Closing items before owner before at
-  closing_first at e = record {
+  pub closing_first : (at : Option ℕ) → ((n : ℕ) → at ≡ Some n → suc n ≡ length items) → ((n : ℕ) → suc n ≡ length items → at ≡ Some n)
+      → Closing items before owner before at
+  closing_first at e last_is = record {
     all = refl;
     here = by at refl;
     kept = same_kept before owner;
     closed = λ n. inl refl;
     within = inside at refl;
+    ahead = λ n last f w. inr (last, last_is last f, w);
   }
     where
       by : (o : Option ℕ) → at ≡ o → IfSome o (λ n. n < length items)
@@ -75,6 +93,7 @@ module _ (items : Block) (before : List (Option ℕ)) (all : length before ≡ l
     kept = kept owner refl h.kept;
     closed = λ m. closed m (nat_eq n m) refl;
     within = inside (item_at items n).owner refl;
+    ahead = ahead;
   }
     where
       stands : n < length items
@@ -91,13 +110,37 @@ module _ (items : Block) (before : List (Option ℕ)) (all : length before ≡ l
       kept None f g = tt
       kept (Some k) f g = λ m le. other m (grind (arith, nat_tests, over k f, le)) ∙ g m le
 
-      closed : (m : ℕ) (b : Bool) → nat_eq n m ≡ b → (last_of now m ≡ last_of before m) ⊎ ((l : ℕ) × (suc l ≡ length items) × (last_of now m ≡ Some l))
+      itself : last_of now n ≡ Some last
+      itself = ap (λ ls. last_of ls n) told ∙ get_or-set_same after n (Some last) None (omega (arith, stands, h.all, all))
+
+      holds : IsWithin items n last
+      holds = subst (λ o. IfSome o (λ m. (l : ℕ) → suc l ≡ length items → IsWithin items m l)) is h.within last e
+
+      closed : (m : ℕ) (b : Bool) → nat_eq n m ≡ b → (last_of now m ≡ last_of before m) ⊎ ((l : ℕ) × (suc l ≡ length items) × (last_of now m ≡ Some l) × IsWithin items m l)
       closed m true f =
           let same : n ≡ m = grind (arith, nat_tests, f) in
-          inr (last, e, ap (λ ls. last_of ls m) told ∙ ap (last_of (set after n (Some last))) (sym same) ∙ get_or-set_same after n (Some last) None (omega (arith, stands, h.all, all)))
+          inr (last, e, ap (last_of now) (sym same) ∙ itself, subst (λ (k : ℕ). IsWithin items k last) same holds)
       closed m false f = elim (h.closed m) [
         | inl same ↦ inl (other m f ∙ same)
-        | inr p ↦ inr (p.0, p.1, other m f ∙ p.2)
+        | inr p ↦ inr (p.0, p.1, other m f ∙ p.2, p.3)
+      ]
+
+      still : (m l : ℕ) → suc l ≡ length items → last_of after m ≡ Some l → (b : Bool) → nat_eq n m ≡ b → last_of now m ≡ Some l
+      still m l f g true t =
+          let same : n ≡ m = grind (arith, nat_tests, t) in
+          let one : last ≡ l = omega (arith, e, f) in
+          ap (last_of now) (sym same) ∙ itself ∙ ap (λ (k : ℕ). Some k) one
+      still m l f g false t = other m t ∙ g
+
+      onward : (k m l : ℕ) → suc l ≡ length items → Climbs items k m n → (last_of now m ≡ Some l) ⊎ ((p : ℕ) × ((item_at items n).owner ≡ Some p) × IsWithin items m p)
+      onward zero m l f c = let one : last ≡ l = omega (arith, e, f) in inl (ap (last_of now) c ∙ itself ∙ ap (λ (k : ℕ). Some k) one)
+      onward (suc k) m l f c = inr (c.0, c.1, (k, c.2))
+
+      ahead : (m l : ℕ) → suc l ≡ length items → IsWithin items m l → (last_of now m ≡ Some l) ⊎ ((p : ℕ) × ((item_at items n).owner ≡ Some p) × IsWithin items m p)
+      ahead m l f w = elim (h.ahead m l f w) [
+        | inl done ↦ inl (still m l f done (nat_eq n m) refl)
+        | inr p ↦ (let here : p.0 ≡ n = some_is p.0 n (sym p.1 ∙ is) in
+            onward p.2.0 m l f (subst (λ (k : ℕ). Climbs items p.2.0 m k) here p.2.1))
       ]
 
       inside : (o : Option ℕ) → (item_at items n).owner ≡ o → IfSome o (λ k. (l : ℕ) → suc l ≡ length items → IsWithin items k l)
@@ -107,15 +150,27 @@ module _ (items : Block) (before : List (Option ℕ)) (all : length before ≡ l
           (suc c.0, climbs_more items c.0 l n k c.1 f)
 
 -- what is closed at last
-pub closing_ends : (items : Block) (before : List (Option ℕ)) (owner : Option ℕ) (after : List (Option ℕ)) (at : Option ℕ) (is_ordered : Bool) → Closing items before owner after at
-    → (is_ordered ≡ true → (o : ℕ) → owner ≡ Some o → at ≡ Some o) → AreClosed items before owner after is_ordered
-closing_ends items before owner after at is_ordered h met = record {
+pub closing_ends : (items : Block) → OwnersBefore items → (before : List (Option ℕ)) (owner : Option ℕ) (after : List (Option ℕ)) (at : Option ℕ) (is_ordered : Bool)
+    → Closing items before owner after at
+    → (is_ordered ≡ true → (o : ℕ) → owner ≡ Some o → at ≡ Some o) → ((m : ℕ) → at ≡ Some m → m < rank owner) → AreClosed items before owner after is_ordered
+closing_ends items owners before owner after at is_ordered h met up_to = record {
   all = h.all;
   kept = h.kept;
   closed = h.closed;
   within = λ e. by owner refl e;
+  taken = λ n last f w over. elim (h.ahead n last f w) [
+    | inl done ↦ done
+    | inr p ↦ absurd (none owner refl n p.0 p.1 p.2 over)
+  ];
 }
   where
+    none : (o : Option ℕ) → owner ≡ o → (n m : ℕ) → at ≡ Some m → IsWithin items n m → IfSome o (λ k. k < n) → ⊥
+    none None f n m g w over = let bad : m < 0 = subst (λ o. m < rank o) f (up_to m g) in omega (arith, bad)
+    none (Some k) f n m g w over =
+        let short : m < k + 1 = subst (λ o. m < rank o) f (up_to m g) in
+        let stands : m < length items = subst (λ o. IfSome o (λ j. j < length items)) g h.here in
+        omega (arith, short, over, climbs_back items owners w.0 n m stands w.1)
+
     by : (o : Option ℕ) → owner ≡ o → is_ordered ≡ true → IfSome o (λ k. (last : ℕ) → suc last ≡ length items → IsWithin items k last)
     by None f e = tt
     by (Some k) f e = subst (λ a. IfSome a (λ n. (last : ℕ) → suc last ≡ length items → IsWithin items n last)) (met e k f) h.within
@@ -131,6 +186,12 @@ module _ (items : Block) (i : Declared) where
       let owned : (item_at items below).owner ≡ Some c.0 = sym (ap (λ (j : Declared). j.owner) (item_front items i below lt)) ∙ c.1 in
       let before : c.0 < below = subst (λ o. IfSome o (λ n. n < below)) owned (owners below lt) in
       (c.0, owned, climbs_front owners k above c.0 (omega (arith, before, lt)) c.2)
+
+  climbs_later : OwnersBefore items → (k above below : ℕ) → below < length items → Climbs items k above below → Climbs more k above below
+  climbs_later owners zero above below lt c = c
+  climbs_later owners (suc k) above below lt c =
+      let before : c.0 < below = subst (λ o. IfSome o (λ n. n < below)) c.1 (owners below lt) in
+      (c.0, ap (λ (j : Declared). j.owner) (item_front items i below lt) ∙ c.1, climbs_later owners k above c.0 (omega (arith, before, lt)) c.2)
 
   -- the new item belongs to what its owner belongs to
   climbs_last : OwnersBefore items → IfSome i.owner (λ o. o < length items) → (k above : ℕ) → Climbs more (suc k) above (length items)
@@ -328,6 +389,131 @@ module _ (items : Block) (owners : OwnersBefore items) (lasts now : List (Option
             | inr p ↦ subst (λ o. IfSome o (λ last. below ≤ last)) (sym p.2) (omega (arith, old, p.1))
           ])
 
+  -- what the new item is within has no last number
+  opened_more : then_ordered ≡ true → (above : ℕ) → IsWithin later above (length items) → last_of (now ++ None ∷ []) above ≡ None
+  opened_more e above w = by w.0 w.1
+    where
+      by : (k : ℕ) → Climbs later k above (length items) → last_of (now ++ None ∷ []) above ≡ None
+      by zero c = ap (last_of (now ++ None ∷ [])) c ∙ last_last
+      by (suc k) c =
+          let up = climbs_last items i owners owned k above c in
+          let there : up.0 < length items = subst (λ o. IfSome o (λ m. m < length items)) up.1 owned in
+          let no_later : above ≤ up.0 = climbs_back items owners k above up.0 there up.2 in
+          let inside = subst (λ o. IfSome o (λ m. (last : ℕ) → suc last ≡ length items → IsWithin items m last)) up.1 (closed.within (behind e)) in
+          let on = inside (length items - 1) (omega (arith, there)) in
+          last_front above (omega (arith, there, no_later))
+          ∙ subst (λ o. IfSome o (λ m. (j : ℕ) → j ≤ m → last_of now j ≡ last_of lasts j)) up.1 closed.kept above no_later
+          ∙ kept.opened (was e) (length items - 1) above (omega (arith, there)) (climbs_through items k on.0 above up.0 (length items - 1) up.2 on.1)
+
+  -- an item that is not closed has the new one within it
+  inside_new : then_ordered ≡ true → (above : ℕ) → above < length items → last_of now above ≡ last_of lasts above → last_of lasts above ≡ None → IsWithin later above (length items)
+  inside_new e above lt same none = by i.owner refl owned closed.within closed.taken
+    where
+      end : ℕ
+      end = length items - 1
+
+      is_end : suc end ≡ length items
+      is_end = omega (arith, lt)
+
+      old : IsWithin items above end
+      old = kept.inside (was e) above end (omega (arith, lt)) (omega (arith, lt)) (subst (λ o. IfSome o (λ last. end ≤ last)) (sym none) tt)
+
+      untaken : last_of now above ≡ Some end → ⊥
+      untaken f = let bad : Some end ≡ None = sym f ∙ same ∙ none in cc
+
+      by : (o : Option ℕ) → i.owner ≡ o → IfSome o (λ m. m < length items)
+          → (is_behind ≡ true → IfSome o (λ m. (last : ℕ) → suc last ≡ length items → IsWithin items m last))
+          → ((n last : ℕ) → suc last ≡ length items → IsWithin items n last → IfSome o (λ m. m < n) → last_of now n ≡ Some last)
+          → IsWithin later above (length items)
+      by None f h within taken = absurd (untaken (taken above end is_end old tt))
+      by (Some o) f h within taken = pick (nat_lt o above) refl
+        where
+          on : above ≤ o → IsWithin later above (length items)
+          on short =
+              let holds = within (behind e) end is_end in
+              let up = within_both items owners old.0 holds.0 above o end (omega (arith, is_end)) old.1 holds.1 short in
+              (suc up.0, (o, ap (λ (j : Declared). j.owner) (item_last items i) ∙ f, climbs_later items i owners up.0 above o h up.1))
+
+          pick : (b : Bool) → nat_lt o above ≡ b → IsWithin later above (length items)
+          pick true g = absurd (untaken (taken above end is_end old (let over : o < above = grind (arith, nat_tests, g) in over)))
+          pick false g = on (grind (arith, nat_tests, g))
+
+  inside_more : then_ordered ≡ true → (above below : ℕ) → above ≤ below → below < length items + 1
+      → IfSome (last_of (now ++ None ∷ []) above) (λ last. below ≤ last) → IsWithin later above below
+  inside_more e above below le short h = elim (below_or_last below (length items) short) [
+    | inl old ↦ (let lt : above < length items = omega (arith, le, old) in front lt old (subst (λ o. IfSome o (λ last. below ≤ last)) (last_front above lt) h))
+    | inr new ↦ elim (below_or_last above (length items) (omega (arith, le, short))) [
+      | inl lt ↦ subst (λ k. IsWithin later above k) (sym new) (open_there lt new (subst (λ o. IfSome o (λ last. below ≤ last)) (last_front above lt) h))
+      | inr own ↦ (0, own ∙ sym new)
+    ]
+  ]
+    where
+      front : above < length items → below < length items → IfSome (last_of now above) (λ last. below ≤ last) → IsWithin later above below
+      front lt old g = (w.0, climbs_later items i owners w.0 above below old w.1)
+        where
+          known : IfSome (last_of lasts above) (λ last. below ≤ last)
+          known = elim (closed.closed above) [
+            | inl same ↦ subst (λ o. IfSome o (λ last. below ≤ last)) same g
+            | inr p ↦ subst (λ o. IfSome o (λ last. below ≤ last)) (sym (kept.opened (was e) p.0 above p.1 p.3)) tt
+          ]
+
+          w : IsWithin items above below
+          w = kept.inside (was e) above below le old known
+
+      open_there : above < length items → below ≡ length items → IfSome (last_of now above) (λ last. below ≤ last) → IsWithin later above (length items)
+      open_there lt new g = elim (closed.closed above) [
+        | inl same ↦ inside_new e above lt same (none (last_of lasts above) refl (kept.lasts_short above lt) (subst (λ o. IfSome o (λ last. below ≤ last)) same g))
+        | inr p ↦ absurd (let late : below ≤ p.0 = subst (λ o. IfSome o (λ last. below ≤ last)) p.2 g in omega (arith, late, p.1, new))
+      ]
+        where
+          none : (o : Option ℕ) → last_of lasts above ≡ o → IfSome o (λ last. last < length items) → IfSome o (λ last. below ≤ last) → last_of lasts above ≡ None
+          none None f a b = f
+          none (Some l) f a b = absurd (omega (arith, a, b, new))
+
+  lasts_short_more : (n : ℕ) → n < length items + 1 → IfSome (last_of (now ++ None ∷ []) n) (λ last. last < length items + 1)
+  lasts_short_more n lt = elim (below_or_last n (length items) lt) [
+    | inl front ↦ subst (λ o. IfSome o (λ last. last < length items + 1)) (sym (last_front n front)) (elim (closed.closed n) [
+        | inl same ↦ subst (λ o. IfSome o (λ last. last < length items + 1)) (sym same) (wider (last_of lasts n) (kept.lasts_short n front))
+        | inr p ↦ subst (λ o. IfSome o (λ last. last < length items + 1)) (sym p.2) (omega (arith, p.1))
+      ])
+    | inr last ↦ subst (λ o. IfSome o (λ l. l < length items + 1)) (sym (ap (last_of (now ++ None ∷ [])) last ∙ last_last)) tt
+  ]
+    where
+      wider : (o : Option ℕ) → IfSome o (λ last. last < length items) → IfSome o (λ last. last < length items + 1)
+      wider None h = tt
+      wider (Some l) h = omega (arith, h)
+
+  -- the outermost item of the new one's name has its name
+  top_named : (name : Name) → is_named later name (length items) ≡ true → is_named later name top ≡ true
+  top_named name h = by before link within
+    where
+      tests : (i.counts ≡ true) × (same_name i.name name ≡ true)
+      tests = both_true i.counts (same_name i.name name) (sym (ap (λ (j : Declared). j.counts && same_name j.name name) (item_last items i)) ∙ h)
+
+      by : (o : Option ℕ) → (i.counts ≡ true → o ≡ last_below (is_named items i.name) (length items)) → IfSome o (λ b. b < length items)
+          → is_named later name (outermost_of now tops o (length items)) ≡ true
+      by None f g = h
+      by (Some b) f g = pick (is_none (last_of now (get_or tops b 0)))
+        where
+          named : is_named items name b ≡ true
+          named = subst (λ n. is_named items n b ≡ true) (same_text i.name name (sym tests.1))
+              (subst (λ o. IfSome o (λ n. is_named items i.name n ≡ true)) (sym (f tests.0)) (last_passes (is_named items i.name) (length items)))
+
+          pick : (t : Bool) → is_named later name (if t then get_or tops b 0 else length items) ≡ true
+          pick true = named_front items i name (get_or tops b 0) (omega (arith, kept.tops_back b g, g)) ∙ kept.tops_named name b g named
+          pick false = h
+
+  tops_named_more : (name : Name) (n : ℕ) → n < length items + 1 → is_named later name n ≡ true → is_named later name (get_or (tops ++ top ∷ []) n 0) ≡ true
+  tops_named_more name n lt h = elim (below_or_last n (length items) lt) [
+    | inl front ↦ subst (λ k. is_named later name k ≡ true) (sym (top_front n front))
+        (named_front items i name (get_or tops n 0) (omega (arith, kept.tops_back n front, front)) ∙ kept.tops_named name n front (sym (named_front items i name n front) ∙ h))
+    | inr last ↦ subst (λ k. is_named later name (get_or (tops ++ top ∷ []) k 0) ≡ true) (sym last)
+        (subst (λ k. is_named later name k ≡ true) (sym top_last) (top_named name (subst (λ k. is_named later name k ≡ true) last h)))
+  ]
+
+  one_more : length later ≡ length items + 1
+  one_more = omega (arith, length-append items (i ∷ []))
+
   pub reaching_more : AreReaching later (now ++ None ∷ []) (tops ++ top ∷ []) then_ordered
   reaching_more = record {
     reach = reach_more;
@@ -335,6 +521,12 @@ module _ (items : Block) (owners : OwnersBefore items) (lasts now : List (Option
         let end : last ≡ length items = omega (arith, is, length-append items (i ∷ [])) in
         still_more e above n (subst (λ k. IsWithin later above k) end w) counts named le (omega (arith, short, length-append items (i ∷ [])));
     counted = counted_more;
+    opened = λ e last above is w.
+        let end : last ≡ length items = omega (arith, is, one_more) in
+        opened_more e above (subst (λ k. IsWithin later above k) end w);
+    inside = λ e above below le short h. inside_more e above below le (omega (arith, short, one_more)) h;
+    tops_named = λ name n lt h. tops_named_more name n (omega (arith, lt, one_more)) h;
+    lasts_short = λ n lt. subst (λ (k : ℕ). IfSome (last_of (now ++ None ∷ []) n) (λ last. last < k)) (sym one_more) (lasts_short_more n (omega (arith, lt, one_more)));
     tops_back = λ n lt. elim (below_or_last n (length items) (omega (arith, lt, length-append items (i ∷ [])))) [
       | inl front ↦ subst (λ (k : ℕ). k ≤ n) (sym (top_front n front)) (kept.tops_back n front)
       | inr last ↦ subst (λ (k : ℕ). get_or (tops ++ top ∷ []) k 0 ≤ k) (sym last) (subst (λ (k : ℕ). k ≤ length items) (sym top_last) top_short)

@@ -3,6 +3,7 @@ ghost use Rattle.std.specs.Prelude.{◌≡◌, ◌<◌, ◌≤◌, ◌++◌, [],
 ghost use Rattle.std.specs.Vec.{vec_len, vec_capacity};
 ghost use Rattle.pli_declare_scopes.specs.Scopes.{item_at, is_named};
 ghost use Rattle.pli_declare_scopes.specs.answers.Indexes.{last_below, OwnersBefore};
+ghost use Rattle.pli_declare_scopes.specs.answers.Leaps.{rank, IsLastUpTo};
 ghost use Rattle.pli_declare_scopes.specs.answers.Reaches.{AreClosed, AreReaching, outermost_of};
 
 use crate::block::Declared;
@@ -10,7 +11,8 @@ use crate::room::push_within;
 
 /// Whether a number is no greater than that of an owner, if there is one.
 fn is_up_to(number: usize, owner: Option<usize>) -> bool
-    ensures { result ≡ false → IfSome owner (λ o. o < number) }
+    ensures behind { result ≡ false → IfSome owner (λ o. o < number) }
+    ensures up_to { result ≡ true → number < rank owner }
 {
     match owner {
         Some(owner) => number <= owner,

@@ -34,7 +34,7 @@ pub record IsStillOpen (lasts : List (Option ℕ)) (tops : List ℕ) (above n : 
   pub last : last_of lasts (get_or tops n 0) ≡ None
 
 -- where items stand in order, all that is within an item of a name reaches no further than the outermost that
--- each later item of that name is within
+-- each later item of that name is within, and all behind an item up to its last number is within it
 pub record AreReaching (items : Block) (lasts : List (Option ℕ)) (tops : List ℕ) (is_ordered : Bool) :
     Type 0 where
   pub reach : is_ordered ≡ true → (above below n : ℕ) → below < length items
@@ -46,6 +46,13 @@ pub record AreReaching (items : Block) (lasts : List (Option ℕ)) (tops : List 
       → n < length items → IsStillOpen lasts tops above n
   pub counted : is_ordered ≡ true → (n owner : ℕ) → n < length items → (item_at items n).counts ≡ true
       → (item_at items n).owner ≡ Some owner → (item_at items owner).counts ≡ true
+  pub opened : is_ordered ≡ true → (last above : ℕ) → suc last ≡ length items → IsWithin items above last
+      → last_of lasts above ≡ None
+  pub inside : is_ordered ≡ true → (above below : ℕ) → above ≤ below → below < length items
+      → IfSome (last_of lasts above) (λ last. below ≤ last) → IsWithin items above below
+  pub tops_named : (name : Name) (n : ℕ) → n < length items → is_named items name n ≡ true
+      → is_named items name (get_or tops n 0) ≡ true
+  pub lasts_short : (n : ℕ) → n < length items → IfSome (last_of lasts n) (λ last. last < length items)
   pub tops_back : (n : ℕ) → n < length items → get_or tops n 0 ≤ n
   pub lasts_all : length lasts ≡ length items
   pub tops_all : length tops ≡ length items
@@ -56,7 +63,9 @@ pub record AreClosed (items : Block) (before : List (Option ℕ)) (owner : Optio
   pub all : length after ≡ length before
   pub kept : IfSome owner (λ o. (n : ℕ) → n ≤ o → last_of after n ≡ last_of before n)
   pub closed : (n : ℕ) → (last_of after n ≡ last_of before n)
-      ⊎ ((last : ℕ) × (suc last ≡ length items) × (last_of after n ≡ Some last))
+      ⊎ ((last : ℕ) × (suc last ≡ length items) × (last_of after n ≡ Some last) × IsWithin items n last)
+  pub taken : (n last : ℕ) → suc last ≡ length items → IsWithin items n last → IfSome owner (λ o. o < n)
+      → last_of after n ≡ Some last
   pub within : is_ordered ≡ true
       → IfSome owner (λ o. (last : ℕ) → suc last ≡ length items → IsWithin items o last)
 
