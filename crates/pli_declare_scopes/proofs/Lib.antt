@@ -11,4 +11,5 @@ pub mod Judged
 pub mod PathsKept
 pub mod LeapsKept
 pub mod ReachesKept
+pub mod StandsAbove
 pub mod Recalled

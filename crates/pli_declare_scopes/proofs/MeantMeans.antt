@@ -44,7 +44,7 @@ part_from_step x y xs ys false e go h = elim h [
   | inr p ↦ go (x ∷ xs) p
 ]
 
-part_from : (ys xs : List Name) → IsPart xs ys → is_part xs ys ≡ true
+pub part_from : (ys xs : List Name) → IsPart xs ys → is_part xs ys ≡ true
 part_from ys [] h = refl
 part_from [] (x ∷ xs) h = absurd h
 part_from (y ∷ ys) (x ∷ xs) h = part_from_step x y xs ys (same_name x y) refl (part_from ys) h

@@ -23,7 +23,7 @@ use Rattle.pli_declare_scopes.proofs.Candidates.{last_within, last_passes}
 use Rattle.pli_declare_scopes.proofs.LeapsKept.{passes_last}
 
 -- one level more, from the item below
-climbs_more : (items : Block) (k above n owner : ℕ) → Climbs items k n above → (item_at items n).owner ≡ Some owner → Climbs items (suc k) owner above
+pub climbs_more : (items : Block) (k above n owner : ℕ) → Climbs items k n above → (item_at items n).owner ≡ Some owner → Climbs items (suc k) owner above
 climbs_more items zero above n owner c e = (owner, subst (λ m. (item_at items m).owner ≡ Some owner) c e, refl)
 climbs_more items (suc k) above n owner c e = (c.0, c.1, climbs_more items k c.0 n owner c.2 e)
 
@@ -208,7 +208,7 @@ climbs_through items k (suc j) above middle below c d =
     (suc rest.0, (d.0, d.1, rest.1))
 
 -- what a counting item belongs to counts
-counts_up : (items : Block) → OwnersBefore items
+pub counts_up : (items : Block) → OwnersBefore items
     → ((n owner : ℕ) → n < length items → (item_at items n).counts ≡ true → (item_at items n).owner ≡ Some owner → (item_at items owner).counts ≡ true)
     → (k above below : ℕ) → below < length items → (item_at items below).counts ≡ true → Climbs items k above below → (item_at items above).counts ≡ true
 counts_up items owners counted zero above below lt h c = ap (λ n. (item_at items n).counts) c ∙ h
@@ -541,7 +541,7 @@ IsAmong x [] = ⊥
 IsAmong x (y ∷ ys) = (y ≡ x) ⊎ IsAmong x ys
 
 -- the names of a part are names of the whole
-part_among : (x : Name) (xs ys : List Name) → IsPart xs ys → IsAmong x xs → IsAmong x ys
+pub part_among : (x : Name) (xs ys : List Name) → IsPart xs ys → IsAmong x xs → IsAmong x ys
 part_among x [] ys h among = absurd among
 part_among x (z ∷ zs) [] h among = absurd h
 part_among x (z ∷ zs) (y ∷ ys) h among = elim h [
@@ -572,7 +572,7 @@ turned_among (n ∷ ns) (suc k) lt =
 
 module _ (items : Block) (owners : OwnersBefore items) where
   -- a name above an item is that of one that it is within
-  above_named : (x : Name) (m n : ℕ) → n < m → n < length items → IsAmong x (chain_over items (item_at items n).owner)
+  pub above_named : (x : Name) (m n : ℕ) → n < m → n < length items → IsAmong x (chain_over items (item_at items n).owner)
       → (above : ℕ) × (IsWithin items above n) × (above < n) × ((item_at items above).name ≡ x)
   above_named x zero n le lt among = absurd (omega (arith, le))
   above_named x (suc m) n le lt among = by (above_named x m) (item_at items n).owner refl (owners n lt) among

@@ -12,7 +12,7 @@ ghost use Rattle.pli_declare_scopes.specs.answers.Reaches.{IsReach, IsCandidate}
 use crate::found::Found;
 use crate::leap::{Leap, leap_on};
 use crate::path::{Step, note_end, path_above, path_of};
-use crate::reach::reach_on;
+use crate::reach::{reach_on, stands_above};
 use crate::remembered::{keep, recalled};
 use crate::room::{make_room, push_within};
 use indexmap::{IndexMap, IndexSet};
@@ -70,27 +70,6 @@ impl Model for Block {
     ghost view = { λ b. b.items.items };
 
     ghost invariant = { λ b. IsIndexed b.items.items b.earlier.items b.latest × ArePaths b.items.items b.steps.keys b.paths.items b.ended.items × AreLeaps b.items.items b.leaps.items × AreReaching b.items.items b.lasts.items b.tops.items b.is_ordered × AreRemembered b.items.items b.remembered.entries };
-}
-
-/// Whether names fit the item of this number, where the last of them is its own name. No more levels are looked at than it takes.
-fn fits(items: &[Declared], names: &[Name], number: usize) -> bool
-    requires within { number < length items.now }
-    requires owners { OwnersBefore items.now }
-    requires some { 0 < length names.now }
-    ensures { result ≡ is_part (reverse (take (length names.now - 1) names.now)) (chain_over items.now (item_at items.now number).owner) }
-{
-    let mut left = names.len() - 1;
-    let mut above = items[number].owner;
-    while left > 0 {
-        let Some(place) = above else {
-            return false;
-        };
-        if names[left - 1] == items[place].name {
-            left -= 1;
-        }
-        above = items[place].owner;
-    }
-    true
 }
 
 /// Notes an item that counts as the last of its name. Gives the one before it.
@@ -249,11 +228,36 @@ impl Block {
         self.last_up_to(*last, bound.min(number))
     }
 
+    /// Whether names fit the item of this number, where the last of them is its own name. No more levels are looked at than it
+    /// takes, and none for the first of them where items stand in order.
+    fn fits(&self, names: &[Name], number: usize) -> bool
+        requires within { number < length self.now }
+        requires counts { (item_at self.now number).counts ≡ true }
+        requires some { 0 < length names.now }
+        ensures { result ≡ is_part (reverse (take (length names.now - 1) names.now)) (chain_over self.now (item_at self.now number).owner) }
+    {
+        let mut left = names.len() - 1;
+        let mut above = self.items[number].owner;
+        while left > 0 {
+            let Some(place) = above else {
+                return false;
+            };
+            if left == 1 && self.is_ordered {
+                let last = self.last_up_to(names[0], place);
+                return stands_above(&self.lasts, &self.tops, last, place);
+            }
+            if names[left - 1] == self.items[place].name {
+                left -= 1;
+            }
+            above = self.items[place].owner;
+        }
+        true
+    }
+
     /// What items a reference qualifies, in part or fully. Two of them are enough.
     fn found_partly(&self, names: &[Name]) -> Found
         ensures { result ≡ found_below (fits self.now names.now) (length self.now) variants.Nothing }
     {
-        let items = self.items.as_slice();
         let Some(last) = names.last() else {
             return Found::Nothing;
         };
@@ -262,7 +266,7 @@ impl Block {
         while let Some(number) = next {
             next = self.candidate(names, number);
             if next == Some(number) {
-                if fits(items, names, number) {
+                if self.fits(names, number) {
                     found = found.with_number(number);
                 }
                 if let Found::Several = found {

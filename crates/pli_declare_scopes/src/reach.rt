@@ -1,7 +1,8 @@
 //! How far items reach: the last number within an item, and the outermost item of its name that an item is within.
-ghost use Rattle.std.specs.Prelude.{◌≡◌, ◌<◌, ◌≤◌, ◌++◌, [], ◌∷◌, ℕ, true, false, get_or, length, None, IfSome};
+ghost use Rattle.std.specs.Prelude.{◌≡◌, ◌<◌, ◌≤◌, ◌++◌, [], ◌∷◌, ℕ, true, false, get_or, length, None, Some, IfSome};
 ghost use Rattle.std.specs.Vec.{vec_len, vec_capacity};
-ghost use Rattle.pli_declare_scopes.specs.Scopes.{item_at, is_named};
+ghost use Rattle.pli_base.specs.Name.{Name as Characters};
+ghost use Rattle.pli_declare_scopes.specs.Scopes.{Block as Items, item_at, is_named, is_part, chain_over};
 ghost use Rattle.pli_declare_scopes.specs.answers.Indexes.{last_below, OwnersBefore};
 ghost use Rattle.pli_declare_scopes.specs.answers.Leaps.{rank, IsLastUpTo};
 ghost use Rattle.pli_declare_scopes.specs.answers.Reaches.{AreClosed, AreReaching, outermost_of};
@@ -90,4 +91,23 @@ pub(crate) fn reach_on(
     push_within(lasts, None);
     push_within(tops, top);
     is_in_order(items, item, is_ordered, is_behind)
+}
+
+/// Whether an item of some name stands above a place, or there, where this is the last item of that name up to the place. So it
+/// does if the outermost item of that name, which that one is within, reaches to the place.
+pub(crate) fn stands_above(lasts: &[Option<usize>], tops: &[usize], last: Option<usize>, place: usize) -> bool
+    requires within { IfSome last (λ l. l < length tops.now) }
+    requires tops { (n : ℕ) → n < length tops.now → get_or tops.now n 0 ≤ n }
+    requires all { length lasts.now ≡ length tops.now }
+    ensures { (items : Items) (name : Characters) → OwnersBefore items → AreReaching items lasts.now tops.now true
+        → place < length items → (item_at items place).counts ≡ true → IsLastUpTo items name place last
+        → result ≡ is_part (name ∷ []) (chain_over items (Some place)) }
+{
+    let Some(last) = last else {
+        return false;
+    };
+    match lasts[tops[last]] {
+        Some(end) => place <= end,
+        None => true,
+    }
 }

@@ -36,7 +36,7 @@ returns-in-Several c =
       | else-fits w ↦ if_passed _ _ _ _ w.if-fits.false w.found-is
     ] in
     looking_several items c.self.invariant.0.owners names some c.loop-next.next n c.loop-next.found c.if-fits.found c.fits.result h c.in-Some-next.is
-    (rw c.as_slice-items.ensures.value at c.fits.ensures) told c.in-Several.is
+    (rw (sym c.self.view_is) at c.fits.ensures) told c.in-Several.is
     ∙ ap (λ block. found_below (fits block names) (length block) Nothing) c.self.view_is
 
 pub loop-next-smaller-then-eq : goal.loop-next-smaller-then-eq
@@ -63,7 +63,7 @@ loop-next-preserved-then-eq c =
     looking_on items kept.owners names some c.loop-next.next n c.loop-next.found c.loop-next.invariant c.in-Some-next.is next
     (linked items kept.owners names some c.loop-next.next n c.loop-next.found c.loop-next.invariant c.in-Some-next.is c.self.inside.earlier.items c.self.inside.latest kept next c.index.ensures)
     c.if-fits.found c.fits.result
-    (rw c.as_slice-items.ensures.value at c.fits.ensures)
+    (rw (sym c.self.view_is) at c.fits.ensures)
     told
 
 pub loop-next-smaller : goal.loop-next-smaller
