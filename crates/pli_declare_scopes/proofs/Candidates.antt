@@ -117,11 +117,11 @@ last_passes named (suc k) = by (named k) refl (last_passes named k)
     by true e h = e
     by false e h = h
 
-module _ (items : Block) (owners : OwnersBefore items) where
-  -- no names fit nothing
-  pub no_names : found_below (fits items []) (length items) Nothing ≡ Nothing
-  no_names = none_found (fits items []) (length items) Nothing (λ j lt. and_false (item_at items j).counts)
+-- no names fit nothing
+pub no_names : (items : Block) → found_below (fits items []) (length items) Nothing ≡ Nothing
+no_names items = none_found (fits items []) (length items) Nothing (λ j lt. and_false (item_at items j).counts)
 
+module _ (items : Block) (owners : OwnersBefore items) where
   pub no_names_fully : found_below (fits_fully items []) (length items) Nothing ≡ Nothing
   no_names_fully = none_found (fits_fully items []) (length items) Nothing
       (λ j lt. ap (λ chain. (item_at items j).counts && is_chain [] chain) (chain_is items j owners lt) ∙ and_false (item_at items j).counts)

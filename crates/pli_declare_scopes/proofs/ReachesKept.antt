@@ -473,9 +473,9 @@ module _ (items : Block) (owners : OwnersBefore items) (lasts now : List (Option
   lasts_short_more : (n : ℕ) → n < length items + 1 → IfSome (last_of (now ++ None ∷ []) n) (λ last. last < length items + 1)
   lasts_short_more n lt = elim (below_or_last n (length items) lt) [
     | inl front ↦ subst (λ o. IfSome o (λ last. last < length items + 1)) (sym (last_front n front)) (elim (closed.closed n) [
-        | inl same ↦ subst (λ o. IfSome o (λ last. last < length items + 1)) (sym same) (wider (last_of lasts n) (kept.lasts_short n front))
-        | inr p ↦ subst (λ o. IfSome o (λ last. last < length items + 1)) (sym p.2) (omega (arith, p.1))
-      ])
+      | inl same ↦ subst (λ o. IfSome o (λ last. last < length items + 1)) (sym same) (wider (last_of lasts n) (kept.lasts_short n front))
+      | inr p ↦ subst (λ o. IfSome o (λ last. last < length items + 1)) (sym p.2) (omega (arith, p.1))
+    ])
     | inr last ↦ subst (λ o. IfSome o (λ l. l < length items + 1)) (sym (ap (last_of (now ++ None ∷ [])) last ∙ last_last)) tt
   ]
     where

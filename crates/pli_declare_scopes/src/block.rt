@@ -5,7 +5,6 @@ ghost use Rattle.pli_base.specs.Name.{Name as Characters};
 ghost use Rattle.pli_base.specs.Words.{same_name};
 ghost use Rattle.pli_declare_scopes.specs.Scopes.{declares, item_at, chain_over, is_part, fits, fits_fully, found_below, found_in};
 ghost use Rattle.pli_declare_scopes.specs.declared.found.Found.TheVariants as variants;
-ghost use Rattle.pli_declare_scopes.specs.answers.Indexes.{OwnersBefore};
 ghost use Rattle.pli_declare_scopes.specs.answers.Leaps.{IsLastUpTo};
 ghost use Rattle.pli_declare_scopes.specs.answers.Reaches.{IsReach, IsCandidate};
 

@@ -95,7 +95,12 @@ pub(crate) fn reach_on(
 
 /// Whether an item of some name stands above a place, or there, where this is the last item of that name up to the place. So it
 /// does if the outermost item of that name, which that one is within, reaches to the place.
-pub(crate) fn stands_above(lasts: &[Option<usize>], tops: &[usize], last: Option<usize>, place: usize) -> bool
+pub(crate) fn stands_above(
+    lasts: &[Option<usize>],
+    tops: &[usize],
+    last: Option<usize>,
+    place: usize,
+) -> bool
     requires within { IfSome last (λ l. l < length tops.now) }
     requires tops { (n : ℕ) → n < length tops.now → get_or tops.now n 0 ≤ n }
     requires all { length lasts.now ≡ length tops.now }

@@ -1,8 +1,9 @@
 use Rattle.std.proofs.Common.{subst, ◌≡◌, ◌-◌, ◌<◌, [], length, get_or, Some, if◌then◌else◌, sym, ap, ◌∙◌, arith}
 use Rattle.std.proofs.lemmas.List.{nil_from_length}
+use Rattle.std.specs.Prelude.{reverse, take}
 use Rattle.indexmap.specs.IndexMap.{get}
 use Rattle.pli_base.specs.Words.{same_name}
-use Rattle.pli_declare_scopes.specs.Scopes.{fits, found_below, with_number}
+use Rattle.pli_declare_scopes.specs.Scopes.{item_at, chain_over, is_part, fits, found_below, with_number}
 use Rattle.pli_declare_scopes.specs.declared.found.Found.TheVariants.{Nothing}
 use Rattle.pli_declare_scopes.specs.answers.Leaps.{rank}
 use Rattle.pli_declare_scopes.specs.answers.Reaches.{IsCandidate}
@@ -12,9 +13,8 @@ use Rattle.pli_declare_scopes.proofs.block.Block.found_partly.Goals.{then-fits, 
 
 pub returns-in_default : goal.returns-in_default
 returns-in_default c =
-    let items = c.self.inside.items.items in
     let none : c.args.names.now ≡ [] = nil_from_length c.args.names.now (omega (arith, c.in_default.ensures.item.3)) in
-    sym (ap (λ ns. found_below (fits c.args.self.now ns) (length c.args.self.now) Nothing) none ∙ ap (λ block. found_below (fits block []) (length block) Nothing) (sym c.self.view_is) ∙ no_names items c.self.invariant.0.owners)
+    sym (ap (λ ns. found_below (fits c.args.self.now ns) (length c.args.self.now) Nothing) none ∙ no_names c.args.self.now)
 
 pub loop-next-init : goal.loop-next-init
 loop-next-init c =
@@ -36,7 +36,7 @@ returns-in-Several c =
       | else-fits w ↦ if_passed _ _ _ _ w.if-fits.false w.found-is
     ] in
     looking_several items c.self.invariant.0.owners names some c.loop-next.next n c.loop-next.found c.if-fits.found c.fits.result h c.in-Some-next.is
-    (rw (sym c.self.view_is) at c.fits.ensures) told c.in-Several.is
+    (subst (λ is. c.fits.result ≡ is_part (reverse (take (length names - 1) names)) (chain_over is (item_at is n).owner)) (sym c.self.view_is) c.fits.ensures) told c.in-Several.is
     ∙ ap (λ block. found_below (fits block names) (length block) Nothing) c.self.view_is
 
 pub loop-next-smaller-then-eq : goal.loop-next-smaller-then-eq
@@ -63,7 +63,7 @@ loop-next-preserved-then-eq c =
     looking_on items kept.owners names some c.loop-next.next n c.loop-next.found c.loop-next.invariant c.in-Some-next.is next
     (linked items kept.owners names some c.loop-next.next n c.loop-next.found c.loop-next.invariant c.in-Some-next.is c.self.inside.earlier.items c.self.inside.latest kept next c.index.ensures)
     c.if-fits.found c.fits.result
-    (rw (sym c.self.view_is) at c.fits.ensures)
+    (subst (λ is. c.fits.result ≡ is_part (reverse (take (length names - 1) names)) (chain_over is (item_at is n).owner)) (sym c.self.view_is) c.fits.ensures)
     told
 
 pub loop-next-smaller : goal.loop-next-smaller
