@@ -11,7 +11,7 @@ ghost use Rattle.pli_declare_scopes.specs.answers.Reaches.{IsReach, IsCandidate}
 use crate::found::Found;
 use crate::leap::{Leap, leap_on};
 use crate::path::{Step, note_end, path_above, path_of};
-use crate::reach::{reach_on, stands_above};
+use crate::reach::{nearest_above, reach_on};
 use crate::remembered::{keep, recalled};
 use crate::room::{make_room, push_within};
 use indexmap::{IndexMap, IndexSet};
@@ -228,7 +228,7 @@ impl Block {
     }
 
     /// Whether names fit the item of this number, where the last of them is its own name. No more levels are looked at than it
-    /// takes, and none for the first of them where items stand in order.
+    /// takes. Where items stand in order, a leap is tried for each name, and for the first of them no level is looked at.
     fn fits(&self, names: &[Name], number: usize) -> bool
         requires within { number < length self.now }
         requires counts { (item_at self.now number).counts ≡ true }
@@ -237,18 +237,24 @@ impl Block {
     {
         let mut left = names.len() - 1;
         let mut above = self.items[number].owner;
+        let mut tried = names.len();
         while left > 0 {
             let Some(place) = above else {
                 return false;
             };
-            if left == 1 && self.is_ordered {
-                let last = self.last_up_to(names[0], place);
-                return stands_above(&self.lasts, &self.tops, last, place);
+            if self.is_ordered && left < tried {
+                let last = self.last_up_to(names[left - 1], place);
+                above = nearest_above(&self.lasts, &self.tops, last, place);
+                if left == 1 {
+                    return above.is_some();
+                }
+                tried = left;
+            } else {
+                if names[left - 1] == self.items[place].name {
+                    left -= 1;
+                }
+                above = self.items[place].owner;
             }
-            if names[left - 1] == self.items[place].name {
-                left -= 1;
-            }
-            above = self.items[place].owner;
         }
         true
     }

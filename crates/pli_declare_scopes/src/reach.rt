@@ -5,7 +5,7 @@ ghost use Rattle.pli_base.specs.Name.{Name as Characters};
 ghost use Rattle.pli_declare_scopes.specs.Scopes.{Block as Items, item_at, is_named, is_part, chain_over};
 ghost use Rattle.pli_declare_scopes.specs.answers.Indexes.{last_below, OwnersBefore};
 ghost use Rattle.pli_declare_scopes.specs.answers.Leaps.{rank, IsLastUpTo};
-ghost use Rattle.pli_declare_scopes.specs.answers.Reaches.{AreClosed, AreReaching, outermost_of};
+ghost use Rattle.pli_declare_scopes.specs.answers.Reaches.{AreClosed, AreReaching, IsNearest, outermost_of};
 
 use crate::block::Declared;
 use crate::room::push_within;
@@ -114,5 +114,39 @@ pub(crate) fn stands_above(
     match lasts[tops[last]] {
         Some(end) => place <= end,
         None => true,
+    }
+}
+
+/// Whether an item of which this is the last number, if it has one, reaches to a place behind it.
+fn reaches(last: Option<usize>, place: usize) -> bool
+    ensures { result ≡ true → IfSome last (λ l. place ≤ l) }
+{
+    match last {
+        Some(last) => place <= last,
+        None => true,
+    }
+}
+
+/// Where a search from a place upwards for an item of some name begins, where this is the last item of that name up to the place: at
+/// that item, if the place is within it, and else at the place. None if no item of that name stands above.
+pub(crate) fn nearest_above(
+    lasts: &[Option<usize>],
+    tops: &[usize],
+    last: Option<usize>,
+    place: usize,
+) -> Option<usize>
+    requires within { IfSome last (λ l. l < length tops.now) }
+    requires tops { (n : ℕ) → n < length tops.now → get_or tops.now n 0 ≤ n }
+    requires all { length lasts.now ≡ length tops.now }
+    ensures { (items : Items) (name : Characters) → OwnersBefore items → AreReaching items lasts.now tops.now true
+        → place < length items → (item_at items place).counts ≡ true → IsLastUpTo items name place last
+        → IsNearest items name place result }
+{
+    if !stands_above(lasts, tops, last, place) {
+        return None;
+    }
+    match last {
+        Some(last) if reaches(lasts[last], place) => Some(last),
+        _ => Some(place),
     }
 }

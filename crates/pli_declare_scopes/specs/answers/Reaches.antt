@@ -2,8 +2,8 @@
 -- can't mean.
 use Rattle.std.specs.Prelude.{◌≡◌, ℕ, zero, suc, ◌-◌, ◌<◌, ◌≤◌, ◌⊎◌, Bool, true, List, length, get_or, take}
 use Rattle.std.specs.Prelude.{reverse}
-use Rattle.std.specs.Prelude.{Option, None, Some, IfSome, [], if◌then◌else◌}
-use Rattle.std.specs.Option.{is_none}
+use Rattle.std.specs.Prelude.{Option, None, Some, IfSome, [], ◌∷◌, if◌then◌else◌}
+use Rattle.std.specs.Option.{is_none, is_some}
 use Rattle.pli_base.specs.Name.{Name}
 use Rattle.pli_declare_scopes.specs.Scopes.{Block, item_at, is_named, chain_over, is_part, fits}
 use Rattle.pli_declare_scopes.specs.answers.Leaps.{rank}
@@ -75,6 +75,15 @@ IsReach items names number bound =
     (n : ℕ) → n < length items → n ≤ number → (item_at items n).counts ≡ true
     → is_part (reverse (take (length names - 1) names)) (chain_over items (item_at items n).owner) ≡ true
     → n < rank bound
+
+-- where a search from a place upwards for an item of a name may begin: the names above it have the same parts that
+-- begin with that name
+pub record IsNearest (items : Block) (name : Name) (place : ℕ) (result : Option ℕ) : Type 0 where
+  pub bounded : IfSome result (λ n. n ≤ place)
+  pub counts : IfSome result (λ n. (item_at items n).counts ≡ true)
+  pub one : is_some result ≡ is_part (name ∷ []) (chain_over items (Some place))
+  pub part : (rest : List Name) → is_part (name ∷ rest) (chain_over items result)
+      ≡ is_part (name ∷ rest) (chain_over items (Some place))
 
 -- the last item up to a number that a reference may fit
 pub record IsCandidate (items : Block) (names : List Name) (number : ℕ) (result : Option ℕ) : Type 0 where

@@ -1,4 +1,4 @@
-use Rattle.std.proofs.Common.{◌≡◌, ◌-◌, ◌<◌, true, length, take, IfSome}
+use Rattle.std.proofs.Common.{◌≡◌, ◌+◌, ◌-◌, ◌<◌, true, length, take, IfSome}
 use Rattle.std.specs.Prelude.{reverse}
 use Rattle.pli_declare_scopes.specs.Scopes.{item_at, chain_over, is_part}
 use Rattle.pli_declare_scopes.specs.answers.Leaps.{rank}
@@ -14,4 +14,4 @@ invariant-loop-left l = record {
 }
 
 abbrev pub decreases-loop-left : goal.decreases-loop-left
-decreases-loop-left l = rank l.above
+decreases-loop-left l = rank l.above + rank l.above + (l.tried - l.left)
