@@ -65,6 +65,13 @@ def deep_within_each(tokens):
     yield from each("B{0}.A=0;", tokens // 2, range(1, count + 1))
 
 
+def deep_within_three(tokens):
+    count = tokens // 16
+    yield from ["DCL "] + [f"{level} B{level}," for level in range(1, count + 1)]
+    yield from joined(levels("A", tokens // 4, count + 1)) + [";"]
+    yield from each("B1.B{0}.A=0;", tokens // 2, range(2, count + 1))
+
+
 def deep_qualified(tokens):
     yield from ["DCL 1 B,2 C,"] + joined(levels("A", tokens // 2)) + [";"]
     yield from many("B.A=0;", tokens // 2)
@@ -153,6 +160,7 @@ TEXTS = (
     ("the same, and references of two names", deep_pair),
     ("the same within two structures, qualified by the first", deep_within),
     ("the same within many structures, qualified by each", deep_within_each),
+    ("the same, qualified by the first and each", deep_within_three),
     ("the same, and references that qualify too much", deep_qualified),
     ("the same, and references of 32 names", deep_long),
     ("structures with a member of one name, and its name", one_member),
