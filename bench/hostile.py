@@ -72,6 +72,13 @@ def deep_within_three(tokens):
     yield from each("B1.B{0}.A=0;", tokens // 2, range(2, count + 1))
 
 
+def within_three_turned(tokens):
+    count = tokens // 22
+    yield from ["DCL "] + [f"{level} B{level}," for level in range(1, count + 1)]
+    yield from joined([f"{count + 1} A"] * (tokens // 6)) + [";"]
+    yield from each("B{0}.B1.A=0;", tokens // 22 * 8, range(2, count + 1))
+
+
 def deep_qualified(tokens):
     yield from ["DCL 1 B,2 C,"] + joined(levels("A", tokens // 2)) + [";"]
     yield from many("B.A=0;", tokens // 2)
@@ -115,6 +122,13 @@ def member_turned(tokens):
     yield from ["DCL 1 Q,2 F,3 A,4 B,5 X FIXED BIN,"]
     yield from joined(structures("2 G{0},3 B,4 A,5 X FIXED BIN", tokens // 2)) + [";"]
     yield from many("A.B.X=0;", tokens // 2)
+
+
+def member_turned_each(tokens):
+    count = tokens // 26
+    yield from ["DCL "] + [f"{level} P{level}," for level in range(1, count + 1)]
+    yield from joined(structures(f"{count + 1} B,{count + 2} A,{count + 3} X", tokens // 2)) + [";"]
+    yield from each("P{0}.A.B.X=0;", tokens // 26 * 10, range(1, count + 1))
 
 
 def member_of_none(tokens):
@@ -161,7 +175,8 @@ TEXTS = (
     ("the same within two structures, qualified by the first", deep_within),
     ("the same within many structures, qualified by each", deep_within_each),
     ("the same, qualified by the first and each", deep_within_three),
-    ("the same, and references that qualify too much", deep_qualified),
+    ("members of one name within many, qualified by these, turned", within_three_turned),
+    ("a chain, and references that qualify too much", deep_qualified),
     ("the same, and references of 32 names", deep_long),
     ("structures with a member of one name, and its name", one_member),
     ("the same, qualified by each structure in turn", member_of_each),
@@ -170,6 +185,7 @@ TEXTS = (
     ("structures and members of one name each, mostly apart", member_apart),
     ("the same, in BASED", locators_apart),
     ("structures of two names, mostly one within the other", member_turned),
+    ("the same within many, qualified by each of these", member_turned_each),
     ("INITIAL with many values, of many names", first_values),
     ("an attribute that stands many times, of many names", repeated),
     ("ENTRY with many descriptions, of many names", descriptions),

@@ -11,5 +11,7 @@ pub mod Judged
 pub mod PathsKept
 pub mod LeapsKept
 pub mod ReachesKept
+pub mod PairsReach
+pub mod TailsFound
 pub mod StandsAbove
 pub mod Recalled

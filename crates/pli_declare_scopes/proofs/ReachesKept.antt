@@ -38,7 +38,7 @@ pub some_is : (a b : ℕ) → Some a ≡ Some b → a ≡ b
 some_is a b e = cc
 
 -- of two items that one is within, the second is within the first
-within_both : (items : Block) → OwnersBefore items → (k j n o last : ℕ) → last < length items → Climbs items k n last → Climbs items j o last → n ≤ o
+pub within_both : (items : Block) → OwnersBefore items → (k j n o last : ℕ) → last < length items → Climbs items k n last → Climbs items j o last → n ≤ o
     → IsWithin items n o
 within_both items owners k zero n o last lt c d le = (k, subst (λ m. Climbs items k n m) (sym d) c)
 within_both items owners zero (suc j) n o last lt c d le =
@@ -201,7 +201,7 @@ module _ (items : Block) (i : Declared) where
       (c.0, own, climbs_front owners k above c.0 (subst (λ o. IfSome o (λ n. n < length items)) own owned) c.2)
 
 -- climbing on
-climbs_through : (items : Block) (k j above middle below : ℕ) → Climbs items k above middle → Climbs items j middle below → IsWithin items above below
+pub climbs_through : (items : Block) (k j above middle below : ℕ) → Climbs items k above middle → Climbs items j middle below → IsWithin items above below
 climbs_through items k zero above middle below c d = (k, subst (λ n. Climbs items k above n) d c)
 climbs_through items k (suc j) above middle below c d =
     let rest = climbs_through items k j above middle d.0 c d.2 in
@@ -514,6 +514,61 @@ module _ (items : Block) (owners : OwnersBefore items) (lasts now : List (Option
   one_more : length later ≡ length items + 1
   one_more = omega (arith, length-append items (i ∷ []))
 
+  -- no item of the new one's name is above the outermost
+  outermost_last : then_ordered ≡ true → (name : Name) (above : ℕ) → is_named later name (length items) ≡ true → IsWithin later above top
+      → is_named later name above ≡ true → top ≤ above
+  outermost_last e name above named w over = by before refl within w
+    where
+      tests : ((item_at later above).counts ≡ true) × (same_name (item_at later above).name name ≡ true)
+      tests = both_true (item_at later above).counts (same_name (item_at later above).name name) over
+
+      own : (item_at later above).name ≡ name
+      own = same_text (item_at later above).name name (sym tests.1)
+
+      itself : IsWithin later above (length items) → top ≤ above
+      itself v = elim (below_or_last above (length items) (let up_to = climbs_back later later_owners v.0 above (length items) (omega (arith, one_more)) v.1 in omega (arith, up_to))) [
+        | inl lt ↦ (new_within e above v lt (sym (ap (λ (j : Declared). j.counts) (item_front items i above lt)) ∙ tests.0)
+            (subst (λ x. is_named later x (length items) ≡ true) (sym own) named)).0
+        | inr here ↦ omega (arith, here, top_short)
+      ]
+
+      new : (i.counts ≡ true) × (same_name i.name name ≡ true)
+      new = both_true i.counts (same_name i.name name) (sym (ap (λ (j : Declared). j.counts && same_name j.name name) (item_last items i)) ∙ named)
+
+      by : (o : Option ℕ) → before ≡ o → IfSome o (λ b. b < length items) → IsWithin later above (outermost_of now tops o (length items))
+          → outermost_of now tops o (length items) ≤ above
+      by None f h v = subst (λ o. outermost_of now tops o (length items) ≤ above) f (itself v)
+      by (Some b) f h v = pick (is_none (last_of now (get_or tops b 0))) refl v
+        where
+          named_b : is_named items name b ≡ true
+          named_b = subst (λ x. is_named items x b ≡ true) (same_text i.name name (sym new.1))
+              (subst (λ o. IfSome o (λ n. is_named items i.name n ≡ true)) (sym (link new.0) ∙ f) (last_passes (is_named items i.name) (length items)))
+
+          pick : (t : Bool) → is_none (last_of now (get_or tops b 0)) ≡ t → IsWithin later above (if t then get_or tops b 0 else length items)
+              → (if t then get_or tops b 0 else length items) ≤ above
+          pick true g u =
+              let back : get_or tops b 0 < length items = omega (arith, kept.tops_back b h, h) in
+              let inside = climbs_front items i owners u.0 above (get_or tops b 0) back u.1 in
+              let up_to = climbs_back items owners u.0 above (get_or tops b 0) back inside in
+              kept.outermost (was e) name b above h named_b (u.0, inside) (sym (named_front items i name above (omega (arith, up_to, back))) ∙ over)
+          pick false g u =
+              subst (λ t. (if t then get_or tops b 0 else length items) ≤ above) g (subst (λ o. outermost_of now tops o (length items) ≤ above) f (itself u))
+
+  outermost_more : then_ordered ≡ true → (name : Name) (n above : ℕ) → n < length items + 1 → is_named later name n ≡ true
+      → IsWithin later above (get_or (tops ++ top ∷ []) n 0) → is_named later name above ≡ true → get_or (tops ++ top ∷ []) n 0 ≤ above
+  outermost_more e name n above lt h w over = elim (below_or_last n (length items) lt) [
+    | inl front ↦ (let back : get_or tops n 0 < length items = omega (arith, kept.tops_back n front, front) in
+        let v = subst (λ k. IsWithin later above k) (top_front n front) w in
+        let inside = climbs_front items i owners v.0 above (get_or tops n 0) back v.1 in
+        let up_to = climbs_back items owners v.0 above (get_or tops n 0) back inside in
+        subst (λ (k : ℕ). k ≤ above) (sym (top_front n front))
+        (kept.outermost (was e) name n above front (sym (named_front items i name n front) ∙ h) (v.0, inside)
+        (sym (named_front items i name above (omega (arith, up_to, back))) ∙ over)))
+    | inr last ↦ (let is : get_or (tops ++ top ∷ []) n 0 ≡ top = ap (λ k. get_or (tops ++ top ∷ []) k 0) last ∙ top_last in
+        subst (λ (k : ℕ). k ≤ above) (sym is)
+        (outermost_last e name above (subst (λ k. is_named later name k ≡ true) last h) (subst (λ k. IsWithin later above k) is w) over))
+  ]
+
   pub reaching_more : AreReaching later (now ++ None ∷ []) (tops ++ top ∷ []) then_ordered
   reaching_more = record {
     reach = reach_more;
@@ -526,6 +581,7 @@ module _ (items : Block) (owners : OwnersBefore items) (lasts now : List (Option
         opened_more e above (subst (λ k. IsWithin later above k) end w);
     inside = λ e above below le short h. inside_more e above below le (omega (arith, short, one_more)) h;
     tops_named = λ name n lt h. tops_named_more name n (omega (arith, lt, one_more)) h;
+    outermost = λ e name n above lt h w over. outermost_more e name n above (omega (arith, lt, one_more)) h w over;
     lasts_short = λ n lt. subst (λ (k : ℕ). IfSome (last_of (now ++ None ∷ []) n) (λ last. last < k)) (sym one_more) (lasts_short_more n (omega (arith, lt, one_more)));
     tops_back = λ n lt. elim (below_or_last n (length items) (omega (arith, lt, length-append items (i ∷ [])))) [
       | inl front ↦ subst (λ (k : ℕ). k ≤ n) (sym (top_front n front)) (kept.tops_back n front)
@@ -564,7 +620,7 @@ last_among x [] = inl refl
 last_among x (y ∷ ys) = inr (last_among x ys)
 
 -- a name stands also among names that are read backwards
-turned_among : (names : List Name) (k : ℕ) → k < length names → IsAmong (get_or names k []) (reverse names)
+pub turned_among : (names : List Name) (k : ℕ) → k < length names → IsAmong (get_or names k []) (reverse names)
 turned_among [] k lt = absurd (omega arith)
 turned_among (n ∷ ns) zero lt = subst (IsAmong n) (sym (reverse-append (n ∷ []) ns)) (last_among n (reverse ns))
 turned_among (n ∷ ns) (suc k) lt =

@@ -1,5 +1,5 @@
 //! The items that a block declares.
-ghost use Rattle.std.specs.Prelude.{◌≡◌, ◌<◌, ◌-◌, reverse, take, ◌++◌, ◌&&◌, [], ◌∷◌, true, false, length, if◌then◌else◌, None, Some, IfSome, IfOk, OnOk, OnErr};
+ghost use Rattle.std.specs.Prelude.{◌≡◌, ◌<◌, ◌+◌, ◌-◌, reverse, take, drop, ◌++◌, ◌&&◌, [], ◌∷◌, true, false, length, if◌then◌else◌, None, Some, IfSome, IfOk, OnOk, OnErr};
 ghost use Rattle.indexmap.specs.IndexMap.{get, IsUnchanged};
 ghost use Rattle.pli_base.specs.Name.{Name as Characters};
 ghost use Rattle.pli_base.specs.Words.{same_name};
@@ -7,11 +7,12 @@ ghost use Rattle.pli_declare_scopes.specs.Scopes.{declares, item_at, chain_over,
 ghost use Rattle.pli_declare_scopes.specs.declared.found.Found.TheVariants as variants;
 ghost use Rattle.pli_declare_scopes.specs.answers.Leaps.{IsLastUpTo};
 ghost use Rattle.pli_declare_scopes.specs.answers.Reaches.{IsReach, IsCandidate};
+ghost use Rattle.pli_declare_scopes.specs.answers.Remembered.{found_fitting};
 
 use crate::found::Found;
 use crate::leap::{Leap, leap_on};
 use crate::path::{Step, note_end, path_above, path_of};
-use crate::reach::{nearest_above, reach_on};
+use crate::reach::{nearest_above, reach_on, reaches};
 use crate::remembered::{keep, recalled};
 use crate::room::{make_room, push_within};
 use indexmap::{IndexMap, IndexSet};
@@ -53,6 +54,8 @@ pub struct Block {
     is_ordered: bool,
     /// What the names of references were found to fit, among all these items.
     remembered: IndexMap<Vec<Name>, Found>,
+    /// What items the names behind the first of a reference were found to qualify, in part or fully.
+    tails: IndexMap<Vec<Name>, Found>,
 }
 
 impl Model for Block {
@@ -62,13 +65,14 @@ impl Model for Block {
     ghost use Rattle.pli_declare_scopes.specs.answers.Paths.{ArePaths};
     ghost use Rattle.pli_declare_scopes.specs.answers.Leaps.{AreLeaps};
     ghost use Rattle.pli_declare_scopes.specs.answers.Reaches.{AreReaching};
-    ghost use Rattle.pli_declare_scopes.specs.answers.Remembered.{AreRemembered};
+    ghost use Rattle.pli_declare_scopes.specs.Scopes.{found_in};
+    ghost use Rattle.pli_declare_scopes.specs.answers.Remembered.{AreRemembered, found_fitting};
 
     ghost Value = { List Item };
 
     ghost view = { λ b. b.items.items };
 
-    ghost invariant = { λ b. IsIndexed b.items.items b.earlier.items b.latest × ArePaths b.items.items b.steps.keys b.paths.items b.ended.items × AreLeaps b.items.items b.leaps.items × AreReaching b.items.items b.lasts.items b.tops.items b.is_ordered × AreRemembered b.items.items b.remembered.entries };
+    ghost invariant = { λ b. IsIndexed b.items.items b.earlier.items b.latest × ArePaths b.items.items b.steps.keys b.paths.items b.ended.items × AreLeaps b.items.items b.leaps.items × AreReaching b.items.items b.lasts.items b.tops.items b.is_ordered × AreRemembered (found_in b.items.items) b.remembered.entries × AreRemembered (found_fitting b.items.items) b.tails.entries };
 }
 
 /// Notes an item that counts as the last of its name. Gives the one before it.
@@ -105,6 +109,7 @@ impl Block {
             tops: Vec::new(alloc),
             is_ordered: true,
             remembered: IndexMap::new(alloc),
+            tails: IndexMap::new(alloc),
         }
     }
 
@@ -152,6 +157,7 @@ impl Block {
         );
         push_within(&mut self.items, item);
         self.remembered.clear();
+        self.tails.clear();
         Ok(number)
     }
 
@@ -217,13 +223,49 @@ impl Block {
         Some(bound)
     }
 
+    /// How far back from a number the next item stands that may have two names of a reference above it, the second within
+    /// the first.
+    fn reached_between(&self, names: &[Name], at: usize, number: usize) -> usize
+        requires { at + 2 < length names.now }
+        ensures { IsReach self.now names.now number (Some result) }
+    {
+        if !self.is_ordered {
+            return number;
+        }
+        let Some(outer) = self.last_up_to(names[at], number) else {
+            return number;
+        };
+        let Some(inner) = self.last_up_to(names[at + 1], number) else {
+            return number;
+        };
+        let top = self.tops[outer];
+        if inner <= top && reaches(self.lasts[top], number) {
+            top
+        } else {
+            number
+        }
+    }
+
+    /// How far back from a number the next item stands that may have each two names of a reference above it, the second
+    /// within the first.
+    fn reached_apart(&self, names: &[Name], number: usize) -> usize
+        ensures { IsReach self.now names.now number (Some result) }
+    {
+        let mut bound = number;
+        for at in 0..names.len().saturating_sub(2) {
+            bound = bound.min(self.reached_between(names, at, number));
+        }
+        bound
+    }
+
     /// The last item up to a number that a reference may fit.
     fn candidate(&self, names: &[Name], number: usize) -> Option<usize>
         ensures { IsCandidate self.now names.now number result }
     {
         let _ = &self.items;
         let last = names.last()?;
-        let bound = self.reached(names, number)?;
+        let reached = self.reached(names, number)?;
+        let bound = reached.min(self.reached_apart(names, number));
         self.last_up_to(*last, bound.min(number))
     }
 
@@ -304,6 +346,67 @@ impl Block {
         }
     }
 
+    /// What items the names behind the first of a reference qualify, in part or fully. They are searched for once.
+    fn found_of_tail(&mut self, alloc: Global, tail: &[Name]) -> Result<Found, AllocError>
+        ensures kept { self.new ≡ self.old }
+        ensures found { IfOk result (λ found. found ≡ found_fitting self.old tail.now) }
+    {
+        if let Some(found) = recalled(&self.tails, tail) {
+            return Ok(found);
+        }
+        let found = self.found_partly(tail);
+        let names = Vec::from_slice(alloc, tail)?;
+        keep(&mut self.tails, names, found)?;
+        Ok(found)
+    }
+
+    /// The item that alone fits the names behind the first of a reference, if it fits all of them.
+    fn found_alone(&self, names: &[Name], number: usize) -> Found
+        requires some { 1 < length names.now }
+        requires within { number < length self.now }
+        requires fitting { fits self.now (drop 1 names.now) number ≡ true }
+        ensures { result ≡ (if fits self.now names.now number then variants.One number else variants.Nothing) }
+    {
+        let _ = &self.items;
+        if self.fits(names, number) {
+            Found::One(number)
+        } else {
+            Found::Nothing
+        }
+    }
+
+    /// What items a reference of three names or more qualifies, in part or fully. It qualifies none that the names behind
+    /// the first don't.
+    fn found_by_tail(&mut self, alloc: Global, names: &[Name]) -> Result<Found, AllocError>
+        ensures kept { self.new ≡ self.old }
+        ensures found { IfOk result (λ found. found ≡ found_fitting self.old names.now) }
+    {
+        let Some((_first, tail)) = names.split_first() else {
+            return Ok(self.found_partly(names));
+        };
+        if tail.len() < 2 {
+            return Ok(self.found_partly(names));
+        }
+        match self.found_of_tail(alloc, tail)? {
+            Found::Nothing => Ok(Found::Nothing),
+            Found::One(number) => Ok(self.found_alone(names, number)),
+            Found::Several => Ok(self.found_partly(names)),
+        }
+    }
+
+    /// What items fit the names of a reference, searched for by the names behind its first: one that they qualify fully is
+    /// preferred.
+    fn searched_by_tail(&mut self, alloc: Global, names: &[Name]) -> Result<Found, AllocError>
+        ensures kept { self.new ≡ self.old }
+        ensures found { IfOk result (λ found. found ≡ found_in self.old names.now) }
+    {
+        let fully = self.found_fully(names);
+        if let Found::Nothing = fully {
+            return self.found_by_tail(alloc, names);
+        }
+        Ok(fully)
+    }
+
     /// Searches for the names of a reference and remembers what they fit, until one more item is declared. Without memory for it
     /// the block can be used on.
     pub fn remember(&mut self, alloc: Global, names: &[Name]) -> Result<(), AllocError>
@@ -312,7 +415,7 @@ impl Block {
         if recalled(&self.remembered, names).is_some() {
             return Ok(());
         }
-        let found = self.searched(names);
+        let found = self.searched_by_tail(alloc, names)?;
         let names = Vec::from_slice(alloc, names)?;
         keep(&mut self.remembered, names, found)
     }

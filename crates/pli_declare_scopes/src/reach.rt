@@ -118,7 +118,7 @@ pub(crate) fn stands_above(
 }
 
 /// Whether an item of which this is the last number, if it has one, reaches to a place behind it.
-fn reaches(last: Option<usize>, place: usize) -> bool
+pub(crate) fn reaches(last: Option<usize>, place: usize) -> bool
     ensures { result ≡ true → IfSome last (λ l. place ≤ l) }
 {
     match last {

@@ -1,6 +1,7 @@
 //! What the names of references were found to fit.
-ghost use Rattle.std.specs.Prelude.{◌≡◌, IfSome};
-ghost use Rattle.pli_declare_scopes.specs.Scopes.{Block as Items, found_in};
+ghost use Rattle.std.specs.Prelude.{◌≡◌, IfSome, List};
+ghost use Rattle.pli_base.specs.Name.{Name as Characters};
+ghost use Rattle.pli_declare_scopes.specs.declared.found.Found.{Found as What};
 ghost use Rattle.pli_declare_scopes.specs.answers.Remembered.{AreRemembered};
 
 use crate::found::Found;
@@ -10,7 +11,7 @@ use std::alloc::{AllocError, AllocFailed};
 
 /// What names were found to fit, if they are remembered.
 pub(crate) fn recalled(remembered: &IndexMap<Vec<Name>, Found>, names: &[Name]) -> Option<Found>
-    ensures { (items : Items) → AreRemembered items remembered.now.entries → IfSome result (λ found. found ≡ found_in items names.now) }
+    ensures { (find : List Characters → What) → AreRemembered find remembered.now.entries → IfSome result (λ found. found ≡ find names.now) }
 {
     remembered.get(names).copied()
 }
@@ -21,8 +22,8 @@ pub(crate) fn keep(
     names: Vec<Name>,
     found: Found,
 ) -> Result<(), AllocError>
-    ensures { (items : Items) → AreRemembered items remembered.old.entries → found ≡ found_in items names.items
-        → AreRemembered items remembered.new.entries }
+    ensures { (find : List Characters → What) → AreRemembered find remembered.old.entries → found ≡ find names.items
+        → AreRemembered find remembered.new.entries }
 {
     remembered.insert(names, found)?;
     Ok(())

@@ -52,6 +52,8 @@ pub record AreReaching (items : Block) (lasts : List (Option ℕ)) (tops : List 
       → IfSome (last_of lasts above) (λ last. below ≤ last) → IsWithin items above below
   pub tops_named : (name : Name) (n : ℕ) → n < length items → is_named items name n ≡ true
       → is_named items name (get_or tops n 0) ≡ true
+  pub outermost : is_ordered ≡ true → (name : Name) (n above : ℕ) → n < length items → is_named items name n ≡ true
+      → IsWithin items above (get_or tops n 0) → is_named items name above ≡ true → get_or tops n 0 ≤ above
   pub lasts_short : (n : ℕ) → n < length items → IfSome (last_of lasts n) (λ last. last < length items)
   pub tops_back : (n : ℕ) → n < length items → get_or tops n 0 ≤ n
   pub lasts_all : length lasts ≡ length items

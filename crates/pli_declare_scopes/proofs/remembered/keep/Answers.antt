@@ -5,5 +5,5 @@ use Rattle.pli_declare_scopes.proofs.remembered.keep.Goals as goal
 
 pub returns : goal.returns
 returns c =
-    λ items all e. subst (AreRemembered items) (sym c.in_ok-insert.ensures.entries)
-    (one_more items c.args.remembered.now.entries c.args.names c.args.found all e)
+    λ find all e. subst (AreRemembered find) (sym c.in_ok-insert.ensures.entries)
+    (one_more find c.args.remembered.now.entries c.args.names c.args.found all e)

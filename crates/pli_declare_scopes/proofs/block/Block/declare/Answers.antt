@@ -3,11 +3,11 @@ use Rattle.indexmap.specs.IndexMap.{get}
 use Rattle.pli_base.specs.Words.{same_name}
 use Rattle.std.specs.Cmp.Lexicographic.{same_text}
 use Rattle.pli_declare_scopes.specs.declared.found.Found.TheVariants.{Nothing}
-use Rattle.pli_declare_scopes.specs.Scopes.{with_number, is_named}
+use Rattle.pli_declare_scopes.specs.Scopes.{with_number, is_named, found_in}
 use Rattle.pli_declare_scopes.specs.answers.Indexes.{IsIndexed, last_below}
 use Rattle.pli_declare_scopes.specs.answers.Leaps.{AreLeaps}
 use Rattle.pli_declare_scopes.specs.answers.Reaches.{AreReaching}
-use Rattle.pli_declare_scopes.specs.answers.Remembered.{AreRemembered}
+use Rattle.pli_declare_scopes.specs.answers.Remembered.{AreRemembered, found_fitting}
 use Rattle.pli_declare_scopes.proofs.IndexKept.{indexed_more}
 use Rattle.pli_declare_scopes.proofs.PathsKept.{path_more}
 use Rattle.pli_declare_scopes.proofs.ReachesKept.{noted_within}
@@ -48,9 +48,11 @@ invariant_of-self-2 c =
     let reaching : AreReaching (items ++ item ∷ []) c.reach_on-self-inside.new.lasts.items c.reach_on-self-inside.new.tops.items c.reach_on-self-inside.result =
     subst (λ is. AreReaching (is ++ item ∷ []) c.reach_on-self-inside.new.lasts.items c.reach_on-self-inside.new.tops.items c.reach_on-self-inside.result)
     (c.deref-2.ensures.value ∙ room.items) c.reach_on-self-inside.ensures in
-    let fresh : AreRemembered (items ++ item ∷ []) c.clear.new.self.entries =
-    subst (AreRemembered (items ++ item ∷ [])) (sym c.clear.ensures.empty) tt in
-    (rw all (rw links index), rw all (rw ways (rw ends made)), rw all leapt, rw all reaching, rw all fresh)
+    let fresh : AreRemembered (found_in (items ++ item ∷ [])) c.clear.new.self.entries =
+    subst (AreRemembered (found_in (items ++ item ∷ []))) (sym c.clear.ensures.empty) tt in
+    let none : AreRemembered (found_fitting (items ++ item ∷ [])) c.clear-2.new.self.entries =
+    subst (AreRemembered (found_fitting (items ++ item ∷ []))) (sym c.clear-2.ensures.empty) tt in
+    (rw all (rw links index), rw all (rw ways (rw ends made)), rw all leapt, rw all reaching, rw all fresh, rw all none)
 
 pub leap_on-requires-clause-within : goal.leap_on-requires-clause-within
 leap_on-requires-clause-within c =
