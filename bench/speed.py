@@ -134,4 +134,5 @@ def main():
         print(f"| {name} | {here:.3f} s | {there:.3f} s | {here / there:.2f} |")
 
 
-main()
+if __name__ == "__main__":
+    main()

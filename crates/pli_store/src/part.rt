@@ -14,7 +14,7 @@ pub struct Part {
 }
 
 /// Which scalar of a description is the first of the part that stands so many bytes behind its beginning; 2^64 - 1 stands
-/// for every greater number. A number alone takes the short way.
+/// for every greater number. A number and a string of characters that stand alone take the short way.
 #[inline]
 pub fn scalar_of(whole: &Description, offset: u32, part: &Description) -> Option<usize>
     ensures { result ≡ option_map (λ k. min k 18446744073709551615)
@@ -22,6 +22,20 @@ pub fn scalar_of(whole: &Description, offset: u32, part: &Description) -> Option
 {
     match (whole, part) {
         (Description::FixedBinary(has), Description::FixedBinary(wanted)) => {
+            if offset == 0 && *has == *wanted {
+                Some(0)
+            } else {
+                None
+            }
+        }
+        (Description::Varying(has), Description::Varying(wanted)) => {
+            if offset == 0 && *has == *wanted {
+                Some(0)
+            } else {
+                None
+            }
+        }
+        (Description::Character(has), Description::Character(wanted)) => {
             if offset == 0 && *has == *wanted {
                 Some(0)
             } else {

@@ -4,7 +4,8 @@ ghost use Rattle.pli_map.specs.views.DescriptionView.{description_view};
 ghost use Rattle.pli_store.specs.Storage.{generation_in, live_bytes, without};
 ghost use Rattle.pli_store.specs.World.{World, Yields, held, stored, copied, made_of, dummy_of, in_newest};
 ghost use Rattle.pli_store.specs.answers.Answered.{Answered};
-ghost use Rattle.pli_store.specs.answers.Found.{StandsAt, Leads};
+ghost use Rattle.pli_map.specs.Scalars.{is_scalar};
+ghost use Rattle.pli_store.specs.answers.Found.{StandsAt, Leads, LeadsTo};
 ghost use Rattle.pli_store.specs.answers.Kept.{rise};
 ghost use Rattle.pli_store.specs.views.GenerationView.{generation_view, made_view};
 ghost use Rattle.pli_value.specs.Value.{value_view, Number};
@@ -85,6 +86,42 @@ impl<'m> Storage<'m> {
         }
     }
 
+    /// Where the generation stands that begins with the number to which a place leads, if it stands where it was made: no search
+    /// is needed then.
+    #[inline]
+    fn lone(&self, place: Place<'_>) -> Option<usize>
+        ensures leads { IfSome result (λ at. LeadsTo (storage_view self.now) (place_view place.entry) (record { at = at; first = 0 })) }
+        ensures scalar { IfSome result (λ _. is_scalar (description_view place.entry.description.now) ≡ true) }
+    {
+        let generation = self.generations.get(place.hint)?;
+        if generation.number != place.generation || place.offset != 0 {
+            return None;
+        }
+        match (
+            place.description,
+            scalar_of(generation.description, 0, place.description),
+        ) {
+            (Description::FixedBinary(_), Some(first)) => {
+                if first == 0 { Some(place.hint) } else { None }
+            }
+            _ => None,
+        }
+    }
+
+    /// The generation and the scalar to which a place leads, if it leads to one. That of a number alone is found at once.
+    #[inline]
+    fn part_of_number(&self, place: Place<'_>) -> Option<Part>
+        ensures { IfSome result (LeadsTo (storage_view self.now) (place_view place.entry)) }
+    {
+        if let Some(at) = self.lone(place) {
+            return Some(Part { at, first: 0 });
+        }
+        match self.part(place) {
+            Ok(part) => Some(part),
+            Err(_fault) => None,
+        }
+    }
+
     /// The value at the place of a scalar.
     #[inline]
     fn value_at(&self, place: Place<'_>) -> Result<&Value, StoreFault>
@@ -118,6 +155,12 @@ impl<'m> Storage<'m> {
         ensures { (w : World) → IfSome result (λ x. held (place_view place.entry) (with_storage self.now w)
             ≡ Yields (Number x) (with_storage self.now w)) }
     {
+        if let Some(at) = self.lone(place) {
+            return match self.generations[at].values.first() {
+                Some(Value::Number(number)) => Some(*number),
+                _ => None,
+            };
+        }
         match self.value_at(place) {
             Ok(Value::Number(number)) => Some(*number),
             _ => None,
@@ -144,7 +187,7 @@ impl<'m> Storage<'m> {
     pub fn put_number(&mut self, place: Place<'_>, number: i64) -> bool
         ensures { NumberPut result self.old self.new (place_view place.entry) number }
     {
-        let Ok(part) = self.part(place) else {
+        let Some(part) = self.part_of_number(place) else {
             return false;
         };
         if !holds_number(place.description, number) {

@@ -12,11 +12,11 @@ invariant_of-self c =
     let whole = to_z-of_z w64 c.args.number fits in
     let old = storage_view c.args.self.now in
     let new = map generation_view c.put_one.new.generations.items in
-    let kept = kept_after c.put_one.result old new c.in-Ok.part (Number c.args.number ∷ []) c.args.self.now.made c.args.self.now.rising (rw whole at c.put_one.ensures.ok) c.put_one.ensures.err in
+    let kept = kept_after c.put_one.result old new c.in-Some.part (Number c.args.number ∷ []) c.args.self.now.made c.args.self.now.rising (rw whole at c.put_one.ensures.ok) c.put_one.ensures.err in
     record { counted = c.args.self.now.counted ∙ sym kept.counted; limited = c.args.self.now.limited; rising = kept.rising }
 
-pub returns-in-Ok-put_one : goal.returns-in-Ok-put_one
-returns-in-Ok-put_one c = λ w.
+pub returns-in-Ok : goal.returns-in-Ok
+returns-in-Ok c = λ w.
     let fits : SFits w64 c.args.number = search rules in
     let whole = to_z-of_z w64 c.args.number fits in
-    stored_done c.args.self.now.generations.items (place_view c.args.place) (with_storage c.args.self.now w) refl c.in-Ok.part c.in-Ok.ensures (map generation_view c.put_one.new.generations.items) c.args.self.now.made c.args.self.now.rising (Number c.args.number) (rw whole at (c.if-not-holds_number.ensures refl)) (rw whole at c.in-Ok-put_one.ensures.ok)
+    stored_done c.args.self.now.generations.items (place_view c.args.place) (with_storage c.args.self.now w) refl c.in-Some.part c.in-Some.ensures (map generation_view c.put_one.new.generations.items) c.args.self.now.made c.args.self.now.rising (Number c.args.number) (rw whole at (c.if-not-holds_number.ensures refl)) (rw whole at c.in-Ok.ensures.ok)

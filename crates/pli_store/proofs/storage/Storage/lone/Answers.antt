@@ -1,0 +1,24 @@
+use Rattle.std.proofs.Common.{◌≡◌, ℕ, length, min, Some, option_map, slice_get, refl, sym, ap, subst, ◌∙◌}
+use Rattle.std.proofs.lemmas.Bool.{ltb-true}
+use Rattle.std.proofs.lemmas.Option.{slice_get_read}
+use Rattle.pli_map.specs.Scalars.{first_scalar}
+use Rattle.pli_map.specs.views.DescriptionView.{description_view}
+use Rattle.pli_store.specs.answers.Found.{StandsAt}
+use Rattle.pli_store.specs.views.StorageView.{place_view, storage_view}
+use Rattle.pli_store.proofs.Leading.{leads_to}
+use Rattle.pli_store.proofs.Searches.{stands_at}
+use Rattle.pli_store.proofs.storage.Storage.lone.Goals as goal
+
+pub returns-then-first-eq0-clause-leads : goal.returns-then-first-eq0-clause-leads
+returns-then-first-eq0-clause-leads c =
+    let items = c.args.self.now.generations.items in
+    let place = c.args.place in
+    let g = c.in_ok-generation.generation.now in
+    let here : slice_get items place.hint ≡ Some g =
+    ap (λ xs. slice_get xs place.hint) (sym c.deref.ensures.value)
+    ∙ slice_get_read c.deref.result.now (length c.deref.result.now) place.hint g refl (ltb-true place.hint (length c.deref.result.now) (sym c.in_ok-generation.ensures.lookup.0)) c.in_ok-generation.ensures.lookup.1 in
+    let stands = subst (λ n. StandsAt (storage_view c.args.self.now) n place.hint) c.if-generation-place.false (stands_at items c.args.self.now.made c.args.self.now.rising place.hint g here) in
+    let first : Some 0 ≡ option_map (λ k. min k 18446744073709551615) (first_scalar (description_view g.description.now) 0 (description_view place.description.now)) =
+    subst (λ (k : ℕ). Some k ≡ option_map (λ k. min k 18446744073709551615) (first_scalar (description_view g.description.now) 0 (description_view place.description.now))) c.if-first-eq0.true c.in-FixedBinary-Some.ensures in
+    leads_to items (place_view place) place.hint stands refl g here 0
+    (subst (λ (o : ℕ). Some 0 ≡ option_map (λ k. min k 18446744073709551615) (first_scalar (description_view g.description.now) o (description_view place.description.now))) (sym c.if-place-ne0.false) first)
