@@ -4,4 +4,5 @@ pub mod Judging
 pub mod Declarations
 pub mod AttributeNames
 pub mod answers
+pub mod laws
 pub mod views
