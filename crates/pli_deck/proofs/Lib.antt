@@ -1,0 +1,12 @@
+pub mod DeckLaws
+pub mod DescriptionLaws
+pub mod DescriptionPuts
+pub mod DescriptionViews
+pub mod FieldLaws
+pub mod FormLaws
+pub mod InstructionLaws
+pub mod LowBytes
+pub mod ModuleLaws
+pub mod ModulePuts
+pub mod Puts
+pub mod SpellingLaws

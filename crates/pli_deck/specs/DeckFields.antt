@@ -1,0 +1,230 @@
+-- The bytes of a deck's items.
+use Rattle.std.specs.Prelude.{ℕ, ◌+◌, ◌/◌, nat_eq, nat_le, nat_lt, Bool, true, false, ℤ}
+use Rattle.std.specs.Prelude.{List, [], ◌∷◌, ◌++◌, length, take, drop, Option, Some, None, Result, Ok}
+use Rattle.std.specs.Prelude.{Err}
+use Rattle.std.specs.Prelude.{if◌then◌else◌}
+use Rattle.std.specs.Str.{bytes_eq}
+use Rattle.pli_base.specs.Name.{Name, name_of}
+use Rattle.pli_map.specs.Description.{Description}
+use Rattle.pli_value.specs.Packing.{packed, unpacked}
+use Rattle.pli_deck.specs.declared.fault.Fault.TheVariants.{Truncated, BadMagic, BadVersion}
+use Rattle.pli_deck.specs.declared.fault.Fault.{Fault}
+use Rattle.pli_deck.specs.declared.instruction.Instruction.{Instruction}
+use Rattle.pli_deck.specs.Fields.{◌>>=◌, Field, Form, Reader, byte_at, nothing, checked, held, signed, ◌⊗◌}
+use Rattle.pli_deck.specs.Fields.{shaped, list_of, form, made, unknown, tagged, byte, u1, u2, u4, from_to}
+use Rattle.pli_deck.specs.Fields.{count_of_one}
+use Rattle.pli_deck.specs.Fields.{list}
+use Rattle.pli_deck.specs.Decks.{Constant, Number, Characters, Bits, NullPointer, NullOffset, Initial}
+use Rattle.pli_deck.specs.Decks.{Template, Signature, Global, Static, Controlled, ExternalStatic}
+use Rattle.pli_deck.specs.Decks.{ExternalControlled, ExternalEntry, Block, Deck}
+use Rattle.pli_deck.specs.Descriptions.{description}
+use Rattle.pli_deck.specs.Instructions.{instruction}
+
+-- a name as it is written in upper case: how many characters, and the characters
+abbrev pub is_written : Option Name → List ℕ → Bool
+is_written None text = false
+is_written (Some n) text = bytes_eq n text
+
+abbrev pub is_name : List ℕ → Bool
+is_name text = is_written (name_of text) text
+
+unfoldable pub name : Field Name
+name = checked is_name (list_of (from_to 1 31 count_of_one) byte)
+
+-- 0 for no, 1 for yes
+abbrev pub flag : Field Bool
+flag = shaped (λ n. nat_eq n 1) (λ b. if b then 1 else 0) (from_to 0 1 u1)
+
+-- a number below 65,535, or none
+abbrev pub number_if : ℕ → Option ℕ
+number_if n = if nat_lt n 65535 then Some n else None
+
+abbrev pub none_last : Option ℕ → ℕ
+none_last None = 65535
+none_last (Some n) = n
+
+abbrev pub is_number_if : Option ℕ → Bool
+is_number_if None = true
+is_number_if (Some n) = nat_lt n 65535
+
+unfoldable pub optional : Field (Option ℕ)
+optional = record {
+  bytes_of = λ o. u2.bytes_of (none_last o);
+  fits = is_number_if;
+  read = λ bytes. u2.read bytes >>= λ n. Ok (number_if n.0, n.1);
+}
+
+-- bits, eight to a byte, the first bit highest, with zeros behind the last
+abbrev pub byte_count : (bits : ℕ) → ℕ
+byte_count bits = (bits + 7) / 8
+
+abbrev pub bits_in : (count : ℕ) → List ℕ → (rest : List ℕ) → Result (List Bool × List ℕ) Fault
+bits_in count bytes rest =
+    held (bytes_eq bytes (packed (unpacked count bytes))) (unpacked count bytes, rest)
+
+unfoldable pub bits_at : (count : ℕ) → Reader (List Bool)
+bits_at count bytes =
+    if nat_lt (length bytes) (byte_count count) then Err Truncated
+    else bits_in count (take (byte_count count) bytes) (drop (byte_count count) bytes)
+
+unfoldable pub bit_string : Field (List Bool)
+bit_string = record {
+  bytes_of = λ bits. u2.bytes_of (length bits) ++ packed bits;
+  fits = λ bits. nat_le (length bits) 32767;
+  read = λ bytes. (from_to 0 32767 u2).read bytes >>= λ n. bits_at n.0 n.1;
+}
+
+-- constants and initial values
+abbrev pub integer : Field ℤ
+integer = signed 2147483647
+
+unfoldable pub characters : Field (List ℕ)
+characters = list_of (from_to 0 32767 u2) byte
+
+abbrev pub constant_form : Constant → Form
+constant_form (Number x) = form 1 integer x
+constant_form (Characters text) = form 2 characters text
+constant_form (Bits bits) = form 3 bit_string bits
+constant_form NullPointer = form 4 nothing tt
+constant_form NullOffset = form 5 nothing tt
+
+abbrev pub constant_readers : List (Reader Constant)
+constant_readers =
+    unknown
+    ∷ made Number integer
+    ∷ made Characters characters
+    ∷ made Bits bit_string
+    ∷ made (λ _. NullPointer) nothing
+    ∷ made (λ _. NullOffset) nothing
+    ∷ []
+
+unfoldable pub constant : Field Constant
+constant = tagged constant_form constant_readers
+
+unfoldable pub initial : Field Initial
+initial = shaped (λ p. record { offset = p.0; value = p.1 }) (λ i. (i.offset, i.value)) (u4 ⊗ constant)
+
+-- a template has a count of four bytes
+unfoldable pub template : Field Template
+template = shaped (λ p. record { description = p.0; initial = p.1 }) (λ t. (t.description, t.initial))
+    (u2 ⊗ list_of u4 initial)
+
+-- at most 64 parameters
+abbrev pub parameter_count : Field ℕ
+parameter_count = from_to 0 64 count_of_one
+
+abbrev pub parameter_number : Field ℕ
+parameter_number = from_to 0 64 u1
+
+unfoldable pub signature : Field Signature
+signature = shaped (λ p. record { parameters = p.0; result = p.1 }) (λ s. (s.parameters, s.result))
+    (list_of parameter_count u2 ⊗ optional)
+
+abbrev pub global_form : Global → Form
+global_form (Static t) = form 0 u2 t
+global_form (Controlled t) = form 1 u2 t
+global_form (ExternalStatic n t) = form 2 (name ⊗ u2) (n, t)
+global_form (ExternalControlled n t) = form 3 (name ⊗ u2) (n, t)
+global_form (ExternalEntry n s) = form 4 (name ⊗ signature) (n, s)
+
+abbrev pub global_readers : List (Reader Global)
+global_readers =
+    made Static u2
+    ∷ made Controlled u2
+    ∷ made (λ p. ExternalStatic p.0 p.1) (name ⊗ u2)
+    ∷ made (λ p. ExternalControlled p.0 p.1) (name ⊗ u2)
+    ∷ made (λ p. ExternalEntry p.0 p.1) (name ⊗ signature)
+    ∷ []
+
+unfoldable pub global : Field Global
+global = tagged global_form global_readers
+
+-- kind, parent, parameters, AUTOMATIC variables, temporaries, first instruction, statement
+abbrev pub block_kind : Field ℕ
+block_kind = from_to 0 2 u1
+
+abbrev pub block_of : ℕ × (Option ℕ × (ℕ × (List ℕ × (ℕ × (ℕ × ℕ))))) → Block
+block_of p = record {
+  kind = p.0;
+  parent = p.1.0;
+  parameters = p.1.1.0;
+  variables = p.1.1.1.0;
+  temporaries = p.1.1.1.1.0;
+  entry = p.1.1.1.1.1.0;
+  statement = p.1.1.1.1.1.1;
+}
+
+abbrev pub block_parts : Block → ℕ × (Option ℕ × (ℕ × (List ℕ × (ℕ × (ℕ × ℕ)))))
+block_parts b =
+    (b.kind, (b.parent, (b.parameters, (b.variables, (b.temporaries, (b.entry, b.statement))))))
+
+unfoldable pub block : Field Block
+block = shaped block_of block_parts
+    (block_kind ⊗ optional ⊗ parameter_number ⊗ list u2 ⊗ u2 ⊗ u2 ⊗ u4)
+
+-- what stands in front: bytes that are the same everywhere
+abbrev pub behind : List ℕ → List ℕ → Option (List ℕ)
+behind [] bytes = Some bytes
+behind (x ∷ xs) [] = None
+behind (x ∷ xs) (b ∷ bytes) = if nat_eq x b then behind xs bytes else None
+
+abbrev pub past : {X : Type 0} → Fault → Reader X → Option (List ℕ) → Result (X × List ℕ) Fault
+past fault read None = Err fault
+past fault read (Some bytes) = read bytes
+
+-- the magic; bytes that begin otherwise, or are fewer, have a fault of their own
+abbrev pub after_magic : {X : Type 0} → List ℕ → Field X → Field X
+after_magic magic f = record {
+  bytes_of = λ x. magic ++ f.bytes_of x;
+  fits = f.fits;
+  read = λ bytes. past BadMagic f.read (behind magic bytes);
+}
+
+-- the version, which is 1
+abbrev pub if_first : {X : Type 0} → Reader X → ℕ × List ℕ → Result (X × List ℕ) Fault
+if_first read version = if nat_eq version.0 1 then read version.1 else Err BadVersion
+
+abbrev pub versioned : {X : Type 0} → Reader X → Reader X
+versioned read bytes = byte_at bytes >>= if_first read
+
+abbrev pub after_version : {X : Type 0} → Field X → Field X
+after_version f = record {
+  bytes_of = λ x. 1 ∷ f.bytes_of x;
+  fits = f.fits;
+  read = versioned f.read;
+}
+
+abbrev pub Tables : Type 0
+Tables =
+    List Description × (List Template × (List Constant × (List Global × (List Block × List Instruction))))
+
+abbrev pub deck_of : Name × (Bool × (Signature × Tables)) → Deck
+deck_of p = record {
+  name = p.0;
+  is_main = p.1.0;
+  signature = p.1.1.0;
+  descriptions = p.1.1.1.0;
+  templates = p.1.1.1.1.0;
+  values = p.1.1.1.1.1.0;
+  globals = p.1.1.1.1.1.1.0;
+  blocks = p.1.1.1.1.1.1.1.0;
+  instructions = p.1.1.1.1.1.1.1.1;
+}
+
+abbrev pub tables_of : Deck → Tables
+tables_of d = (d.descriptions, (d.templates, (d.values, (d.globals, (d.blocks, d.instructions)))))
+
+abbrev pub deck_parts : Deck → Name × (Bool × (Signature × Tables))
+deck_parts d = (d.name, (d.is_main, (d.signature, tables_of d)))
+
+unfoldable pub tables : Field Tables
+tables =
+    list description ⊗ list template ⊗ list constant ⊗ list global ⊗ list block ⊗ list instruction
+
+-- the procedure's name, whether it is the main one, its signature, and the tables
+unfoldable pub contents : Field Deck
+contents = shaped deck_of deck_parts (name ⊗ flag ⊗ signature ⊗ tables)
+
+-- PLID, the version, and the contents
+unfoldable pub deck : Field Deck
+deck = after_magic (80 ∷ 76 ∷ 73 ∷ 68 ∷ []) (after_version contents)

@@ -1,0 +1,56 @@
+-- Decks: the code of a unit with its tables, as its bytes have it (own).
+use Rattle.std.specs.Prelude.{ℕ, Bool, ℤ, List, Option}
+use Rattle.pli_base.specs.Name.{Name}
+use Rattle.pli_map.specs.Description.{Description}
+use Rattle.pli_deck.specs.declared.instruction.Instruction.{Instruction}
+
+-- constants and initial values
+pub data Constant : Type 0 where
+  Number : ℤ → Constant
+  Characters : List ℕ → Constant
+  Bits : List Bool → Constant
+  NullPointer : Constant
+  NullOffset : Constant
+
+-- an initial value, and on which byte of the variable it stands
+pub record Initial : Type 0 where
+  pub offset : ℕ
+  pub value : Constant
+
+pub record Template : Type 0 where
+  pub description : ℕ
+  pub initial : List Initial
+
+-- the descriptions of parameters and of the result
+pub record Signature : Type 0 where
+  pub parameters : List ℕ
+  pub result : Option ℕ
+
+-- what the whole unit knows by number
+pub data Global : Type 0 where
+  Static : (template : ℕ) → Global
+  Controlled : (template : ℕ) → Global
+  ExternalStatic : Name → (template : ℕ) → Global
+  ExternalControlled : Name → (template : ℕ) → Global
+  ExternalEntry : Name → Signature → Global
+
+-- a block; its kind is 0 for a procedure, 1 for a BEGIN block and 2 for an ON-unit
+pub record Block : Type 0 where
+  pub kind : ℕ
+  pub parent : Option ℕ
+  pub parameters : ℕ
+  pub variables : List ℕ
+  pub temporaries : ℕ
+  pub entry : ℕ
+  pub statement : ℕ
+
+pub record Deck : Type 0 where
+  pub name : Name
+  pub is_main : Bool
+  pub signature : Signature
+  pub descriptions : List Description
+  pub templates : List Template
+  pub values : List Constant
+  pub globals : List Global
+  pub blocks : List Block
+  pub instructions : List Instruction

@@ -1,0 +1,12 @@
+pub mod Fields
+pub mod Decks
+pub mod Descriptions
+pub mod Instructions
+pub mod DeckFields
+pub mod DeckView
+pub mod DeckFaults
+pub mod Spelling
+pub mod ModuleFields
+pub mod ModuleSpelling
+pub mod ModuleView
+pub mod examples

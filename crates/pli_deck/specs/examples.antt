@@ -1,0 +1,3 @@
+pub mod DeckExamples
+pub mod FaultExamples
+pub mod ModuleExamples

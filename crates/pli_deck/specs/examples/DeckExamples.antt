@@ -1,0 +1,107 @@
+-- Worked examples: decks, each with its bytes.
+use Rattle.std.specs.Prelude.{◌≡◌, ℕ, true, false, List, [], ◌∷◌, None, Ok, Err, take, ◌++◌}
+use Rattle.pli_map.specs.Description.{Bit}
+use Rattle.pli_deck.specs.declared.fault.Fault.TheVariants.{BadMagic, Truncated, Trailing}
+use Rattle.pli_deck.specs.declared.instruction.Instruction.TheVariants as op
+use Rattle.pli_deck.specs.Decks.{Template, Signature, ExternalStatic, ExternalEntry, Block, Deck}
+use Rattle.pli_deck.specs.Spelling.{deck_bytes, deck_read}
+
+-- no parameters and no result; one parameter of the first description
+abbrev pub without_parameters : Signature
+without_parameters = record { parameters = []; result = None }
+
+abbrev pub with_parameter : Signature
+with_parameter = record { parameters = 0 ∷ []; result = None }
+
+-- the block of an external procedure that declares no AUTOMATIC variable
+abbrev pub outermost : (parameters : ℕ) → Block
+outermost n = record {
+  kind = 0;
+  parent = None;
+  parameters = n;
+  variables = [];
+  temporaries = 0;
+  entry = 0;
+  statement = 1;
+}
+
+-- M: PROC OPTIONS(MAIN); END;
+abbrev pub smallest : Deck
+smallest = record {
+  name = 77 ∷ [];
+  is_main = true;
+  signature = without_parameters;
+  descriptions = [];
+  templates = [];
+  values = [];
+  globals = [];
+  blocks = outermost 0 ∷ [];
+  instructions = op.Return 0 ∷ [];
+}
+
+abbrev pub smallest_bytes : List ℕ
+smallest_bytes =
+    80 ∷ 76 ∷ 73 ∷ 68 ∷ 1 ∷ 1 ∷ 77 ∷ 1 ∷ 0 ∷ 255 ∷ 255 ∷ 0 ∷ 0 ∷ 0 ∷ 0 ∷ 0 ∷ 0 ∷ 0 ∷ 0 ∷ 0 ∷ 1 ∷ 0 ∷
+    255 ∷ 255 ∷ 0 ∷ 0 ∷ 0 ∷ 0 ∷ 0 ∷ 0 ∷ 0 ∷ 0 ∷ 0 ∷ 0 ∷ 1 ∷ 0 ∷ 1 ∷ 9 ∷ 0 ∷ []
+
+-- M: PROC OPTIONS(MAIN); DCL X BIT EXT, Q ENTRY(BIT); CALL Q(X); END;
+abbrev pub bit_template : Template
+bit_template = record { description = 0; initial = [] }
+
+abbrev pub calling : Deck
+calling = record {
+  name = 77 ∷ [];
+  is_main = true;
+  signature = without_parameters;
+  descriptions = Bit 1 ∷ [];
+  templates = bit_template ∷ [];
+  values = [];
+  globals = ExternalStatic (88 ∷ []) 0 ∷ ExternalEntry (81 ∷ []) with_parameter ∷ [];
+  blocks = outermost 0 ∷ [];
+  instructions = op.Step 3 ∷ op.Global 0 ∷ op.CallExternal 1 1 ∷ op.Return 0 ∷ [];
+}
+
+abbrev pub calling_bytes : List ℕ
+calling_bytes =
+    80 ∷ 76 ∷ 73 ∷ 68 ∷ 1 ∷ 1 ∷ 77 ∷ 1 ∷ 0 ∷ 255 ∷ 255 ∷ 0 ∷ 1 ∷ 4 ∷ 0 ∷ 1 ∷ 0 ∷ 1 ∷ 0 ∷ 0 ∷ 0 ∷ 0 ∷ 0 ∷
+    0 ∷ 0 ∷ 0 ∷ 0 ∷ 2 ∷ 2 ∷ 1 ∷ 88 ∷ 0 ∷ 0 ∷ 4 ∷ 1 ∷ 81 ∷ 1 ∷ 0 ∷ 0 ∷ 255 ∷ 255 ∷ 0 ∷ 1 ∷ 0 ∷ 255 ∷ 255 ∷
+    0 ∷ 0 ∷ 0 ∷ 0 ∷ 0 ∷ 0 ∷ 0 ∷ 0 ∷ 0 ∷ 0 ∷ 1 ∷ 0 ∷ 4 ∷ 1 ∷ 0 ∷ 0 ∷ 0 ∷ 3 ∷ 14 ∷ 0 ∷ 0 ∷ 7 ∷ 0 ∷ 1 ∷ 1 ∷
+    9 ∷ 0 ∷ []
+
+-- Q: PROC(P); DCL P BIT, X BIT EXT; X = P; END;
+abbrev pub called : Deck
+called = record {
+  name = 81 ∷ [];
+  is_main = false;
+  signature = with_parameter;
+  descriptions = Bit 1 ∷ [];
+  templates = bit_template ∷ [];
+  values = [];
+  globals = ExternalStatic (88 ∷ []) 0 ∷ [];
+  blocks = outermost 1 ∷ [];
+  instructions =
+      op.Step 3 ∷ op.Global 0 ∷ op.Local 0 0 ∷ op.Load ∷ op.Fit 0 ∷ op.Store ∷ op.Return 0 ∷ [];
+}
+
+abbrev pub called_bytes : List ℕ
+called_bytes =
+    80 ∷ 76 ∷ 73 ∷ 68 ∷ 1 ∷ 1 ∷ 81 ∷ 0 ∷ 1 ∷ 0 ∷ 0 ∷ 255 ∷ 255 ∷ 0 ∷ 1 ∷ 4 ∷ 0 ∷ 1 ∷ 0 ∷ 1 ∷ 0 ∷ 0 ∷ 0 ∷
+    0 ∷ 0 ∷ 0 ∷ 0 ∷ 0 ∷ 0 ∷ 1 ∷ 2 ∷ 1 ∷ 88 ∷ 0 ∷ 0 ∷ 0 ∷ 1 ∷ 0 ∷ 255 ∷ 255 ∷ 1 ∷ 0 ∷ 0 ∷ 0 ∷ 0 ∷ 0 ∷ 0 ∷
+    0 ∷ 0 ∷ 0 ∷ 1 ∷ 0 ∷ 7 ∷ 1 ∷ 0 ∷ 0 ∷ 0 ∷ 3 ∷ 14 ∷ 0 ∷ 0 ∷ 13 ∷ 0 ∷ 0 ∷ 0 ∷ 19 ∷ 23 ∷ 0 ∷ 0 ∷ 20 ∷ 9 ∷
+    0 ∷ []
+
+-- how they are written
+abbrev pub WrittenSo : Type 0
+WrittenSo =
+    (deck_bytes smallest ≡ smallest_bytes) × (deck_bytes calling ≡ calling_bytes)
+    × (deck_bytes called ≡ called_bytes)
+
+-- how they are read, and what is wrong where a byte is missing or one stands behind
+abbrev pub ReadSo : Type 0
+ReadSo =
+    (deck_read smallest_bytes ≡ Ok smallest) × (deck_read calling_bytes ≡ Ok calling)
+    × (deck_read called_bytes ≡ Ok called) × (deck_read [] ≡ Err BadMagic)
+    × (deck_read (take 3 smallest_bytes) ≡ Err BadMagic)
+    × (deck_read (take 4 smallest_bytes) ≡ Err Truncated)
+    × (deck_read (take 38 smallest_bytes) ≡ Err Truncated)
+    × (deck_read (smallest_bytes ++ 0 ∷ []) ≡ Err Trailing)

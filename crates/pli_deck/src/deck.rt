@@ -1,0 +1,79 @@
+//! Decks: the code of a unit with its tables.
+use crate::instruction::Instruction;
+use pli_base::Name;
+use pli_map::Description;
+use pli_value::bit::Bits;
+
+/// A constant or an initial value.
+#[derive(Drop)]
+pub enum Constant {
+    /// At most 2,147,483,647 from 0.
+    Number(i32),
+    /// At most 32,767 characters.
+    Characters(Vec<u8>),
+    Bits(Bits),
+    NullPointer,
+    NullOffset,
+}
+
+/// An initial value, and on which byte of the variable it stands.
+#[derive(Drop)]
+pub struct Initial {
+    pub offset: u32,
+    pub value: Constant,
+}
+
+/// What a variable is made from: the number of its description, and its initial values in the order of the text.
+#[derive(Drop)]
+pub struct Template {
+    pub description: u16,
+    pub initial: Vec<Initial>,
+}
+
+/// The descriptions of at most 64 parameters, and that of the result.
+#[derive(Drop)]
+pub struct Signature {
+    pub parameters: Vec<u16>,
+    pub result: Option<u16>,
+}
+
+/// What a whole unit knows by number: a variable with the number of its template, or an external procedure.
+#[derive(Drop)]
+pub enum Global {
+    Static(u16),
+    Controlled(u16),
+    ExternalStatic { name: Name, template: u16 },
+    ExternalControlled { name: Name, template: u16 },
+    ExternalEntry { name: Name, signature: Signature },
+}
+
+/// A block of a unit.
+#[derive(Drop)]
+pub struct Block {
+    /// 0 for a procedure, 1 for a BEGIN block, 2 for an ON-unit.
+    pub kind: u8,
+    pub parent: Option<u16>,
+    /// From 0 to 64.
+    pub parameters: u8,
+    /// The templates of its AUTOMATIC variables in the order of the text.
+    pub variables: Vec<u16>,
+    pub temporaries: u16,
+    /// Its first instruction.
+    pub entry: u16,
+    /// Its PROCEDURE, BEGIN or ON.
+    pub statement: u32,
+}
+
+/// The code of a unit with its tables.
+#[derive(Drop)]
+pub struct Deck {
+    pub name: Name,
+    pub is_main: bool,
+    pub signature: Signature,
+    pub descriptions: Vec<Description>,
+    pub templates: Vec<Template>,
+    pub values: Vec<Constant>,
+    pub globals: Vec<Global>,
+    pub blocks: Vec<Block>,
+    pub instructions: Vec<Instruction>,
+}

@@ -1,0 +1,26 @@
+//! Decks and modules as bytes: what spells them, the laws of that, and what writes them.
+#![tactic(auto)]
+
+mod coding;
+mod deck;
+mod describing;
+mod fault;
+mod instruction;
+mod laws;
+mod module;
+mod modules;
+mod putting;
+mod write;
+mod writing;
+
+pub use deck::{Block, Constant, Deck, Global, Initial, Signature, Template};
+pub use describing::LEVELS;
+pub use fault::Fault;
+pub use instruction::Instruction;
+pub use laws::{
+    decks_both_ways, descriptions_both_ways, instructions_both_ways, modules_both_ways,
+    worked_decks, worked_modules,
+};
+pub use module::{External, ExternalKind, Member, Module};
+pub use modules::write_module;
+pub use write::write_deck;

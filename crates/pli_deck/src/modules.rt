@@ -1,0 +1,96 @@
+//! Modules as bytes.
+ghost use Rattle.std.specs.Prelude.{◌≡◌, ◌++◌, None, true, length, map, IfOk, OnOk};
+ghost use Rattle.std.specs.List.{flat_map};
+ghost use Rattle.byteorder.specs.Endian.{big_bytes};
+ghost use Rattle.pli_deck.specs.ModuleFields as module_fields;
+ghost use Rattle.pli_deck.specs.ModuleSpelling.{module_bytes, module_fault, SpellsModule};
+ghost use Rattle.pli_deck.specs.ModuleView.{kind_number, external_view, member_view, module_view};
+
+use crate::module::{External, ExternalKind, Member, Module};
+use crate::putting::put_numbers;
+use crate::write::write_deck;
+use crate::writing::{
+    PutsOne, put_all, put_byte, put_bytes, put_count, put_large_count, put_list, put_name,
+    put_short,
+};
+use std::alloc::{AllocError, Global};
+
+/// The number of a kind.
+fn kind_number(kind: ExternalKind) -> u8
+    ensures { result ≡ kind_number kind }
+{
+    match kind {
+        ExternalKind::Static => 2,
+        ExternalKind::Controlled => 3,
+    }
+}
+
+/// Puts an external.
+struct Externals;
+
+impl PutsOne for Externals {
+    type Value = External;
+
+    ghost Said = { module_fields.External };
+
+    ghost say = { external_view };
+
+    ghost bytes_of = { (module_fields.external_behind None).bytes_of };
+
+    #[tactic(auto, unfolding(crate::specs::ModuleFields::external_behind))]
+    fn put(&self, out: &mut Vec<u8>, value: &External) -> Result<(), AllocError> {
+        put_name(out, &value.name)?;
+        put_byte(out, kind_number(value.kind))?;
+        put_short(out, value.unit)?;
+        put_short(out, value.global)
+    }
+}
+
+/// Puts a unit, whose deck is written apart first, since its length stands before it.
+#[derive(Drop)]
+struct Members {
+    alloc: Global,
+}
+
+impl PutsOne for Members {
+    type Value = Member;
+
+    ghost Said = { module_fields.Member };
+
+    ghost say = { member_view };
+
+    ghost bytes_of = { module_fields.member.bytes_of };
+
+    #[tactic(auto, unfolding(crate::specs::ModuleFields::member))]
+    fn put(&self, out: &mut Vec<u8>, value: &Member) -> Result<(), AllocError> {
+        let deck = write_deck(self.alloc, &value.deck)?;
+        put_name(out, &value.name)?;
+        put_large_count(out, deck.len())?;
+        put_bytes(out, &deck)?;
+        put_numbers(out, &value.links)
+    }
+}
+
+/// Puts a module: PLIM, the version, how many units there are, the main one, externals, and the units.
+#[tactic(auto, unfolding(crate::specs::ModuleFields::module_field), using(crate::proofs::ModulePuts::behind_bytes, crate::proofs::Puts::mapped_length))]
+fn put_module(alloc: Global, out: &mut Vec<u8>, program: &Module) -> Result<(), AllocError>
+    ensures { OnOk result (out.new.items ≡ out.old.items ++ module_bytes (module_view program.now)) }
+{
+    put_bytes(out, b"PLIM")?;
+    put_byte(out, 1)?;
+    put_count(out, program.units.len())?;
+    put_short(out, program.main)?;
+    put_list(out, &Externals, &program.externals)?;
+    put_all(out, &Members { alloc }, &program.units)
+}
+
+/// The bytes of a module, which are its one spelling where it has one. An error comes where memory runs out.
+pub fn write_module(alloc: Global, program: &Module) -> Result<Vec<u8>, AllocError>
+    ensures bytes { IfOk result (λ v. v.items ≡ module_bytes (module_view program.now)) }
+    ensures spelled { let m = module_view program.now in
+        module_fields.module_field.fits m ≡ true → module_fault m ≡ None → IfOk result (λ v. SpellsModule v.items m) }
+{
+    let mut out = Vec::new(alloc);
+    put_module(alloc, &mut out, program)?;
+    Ok(out)
+}
