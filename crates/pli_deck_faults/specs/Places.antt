@@ -1,0 +1,80 @@
+-- Where the scalars of a description stand, in a form in which one is found without going over those before
+-- it.
+use Rattle.std.specs.Prelude.{ℕ, ◌+◌, nat_eq, nat_le, List, [], ◌∷◌, map, Option, Some, None, option_map}
+use Rattle.std.specs.Prelude.{if◌then◌else◌}
+use Rattle.std.specs.Int.{next_multiple_of}
+use Rattle.pli_map.specs.Description as tree
+use Rattle.pli_map.specs.Description.{Description, Members}
+use Rattle.pli_map.specs.Sizes.{alignment_of, size_of, stride_of}
+use Rattle.pli_map.specs.views.DescriptionView.{description_view}
+use Rattle.pli_deck_faults.specs.declared.places.Places as program
+use Rattle.pli_deck_faults.specs.declared.places.Placed as placed_program
+use Rattle.pli_deck_faults.specs.declared.places.Places.TheOpen.{Places-F}
+use Rattle.pli_deck_faults.specs.declared.places.Places.TheFolds.{fold-Places}
+
+mutual
+  pub data Places : Type 0 where
+    Nothing : Places
+    One : Description → Places
+    Elements : (bytes stride : ℕ) → Places → Places
+    Among : (starts ends : List ℕ) → PlacesList → Places
+
+  pub data PlacesList : Type 0 where
+    NoPlaces : PlacesList
+    PlacesThen : Places → PlacesList → PlacesList
+
+-- where members start and end, the first behind this byte
+abbrev pub starts_from : (at : ℕ) → Members → List ℕ
+starts_from at tree.NoMembers = []
+starts_from at (tree.MemberThen d ds) =
+    next_multiple_of at (alignment_of d) ∷ starts_from (next_multiple_of at (alignment_of d) + size_of d) ds
+
+abbrev pub ends_from : (at : ℕ) → Members → List ℕ
+ends_from at tree.NoMembers = []
+ends_from at (tree.MemberThen d ds) =
+    (next_multiple_of at (alignment_of d) + size_of d)
+    ∷ ends_from (next_multiple_of at (alignment_of d) + size_of d) ds
+
+abbrev mutual
+  pub places_of : Description → Places
+  places_of (tree.Array bounds element) =
+      if nat_eq (size_of (tree.Array bounds element)) 0 then Nothing
+      else Elements (size_of (tree.Array bounds element)) (stride_of element) (places_of element)
+  places_of (tree.Structure members) =
+      Among (starts_from 0 members) (ends_from 0 members) (places_among members)
+  places_of scalar = One scalar
+
+  pub places_among : Members → PlacesList
+  places_among tree.NoMembers = NoPlaces
+  places_among (tree.MemberThen d ds) = PlacesThen (places_of d) (places_among ds)
+
+abbrev pub list_of_places : List Places → PlacesList
+list_of_places [] = NoPlaces
+list_of_places (p ∷ ps) = PlacesThen p (list_of_places ps)
+
+-- what places of the program say, one level with what each inside says in its place
+abbrev pub places_level : Places-F Places → Places
+places_level Places-F.Nothing = Nothing
+places_level (Places-F.One d) = One (description_view d)
+places_level (Places-F.Elements bytes stride element) = Elements bytes stride element.value
+places_level (Places-F.Among starts ends members) =
+    Among starts.items ends.items (list_of_places members.items)
+
+abbrev pub places_view : program.Places → Places
+places_view = fold-Places Places places_level
+
+-- the size of a description, with its places
+pub record Placed : Type 0 where
+  pub bytes : ℕ
+  pub places : Places
+
+-- none of a description of more than 1,000,000 bytes
+abbrev pub placed_of : Description → Option Placed
+placed_of d =
+    if nat_le (size_of d) 1000000 then Some (record { bytes = size_of d; places = places_of d }) else None
+
+abbrev pub placed_view : placed_program.Placed → Placed
+placed_view p = record { bytes = p.bytes; places = places_view p.places }
+
+abbrev pub all_placed : List (Option placed_program.Placed) → List (Option Placed)
+all_placed ps = map (option_map placed_view) ps
