@@ -1,0 +1,43 @@
+-- Reading descriptions level by level.
+use Rattle.std.proofs.Common.{◌≡◌, ℕ, zero, suc, ◌-◌, ◌<◌, List, [], get_or, Result, Ok, Err, ◌⊎◌, inl, inr, sym, ap, ◌∙◌, arith}
+use Rattle.std.proofs.lemmas.List.{get_or_past}
+use Rattle.pli_map.specs.Description.{Description}
+use Rattle.pli_deck.specs.declared.fault.Fault.{Fault}
+use Rattle.pli_deck.specs.declared.fault.Fault.TheVariants.{OutOfRange}
+use Rattle.pli_deck_read.specs.declared.error.ReadError.{ReadError}
+use Rattle.pli_deck_read.specs.declared.error.ReadError.TheVariants as errors
+use Rattle.pli_deck.specs.Fields.{◌>>=◌, Field, Reader, byte_at, unknown}
+use Rattle.pli_deck.specs.Descriptions.{description_readers, described, description_within}
+use Rattle.pli_deck_read.specs.Reading.{Fails}
+
+abbrev by_tag : List (Reader Description) → ℕ × List ℕ → Result (Description × List ℕ) Fault
+by_tag readers t = get_or readers t.0 unknown t.1
+
+-- no tag
+pub without_tag : (levels : ℕ) (bytes : List ℕ) (e : ReadError) → Fails e (byte_at bytes) → Fails e ((description_within levels).read bytes)
+unfolding description_within
+without_tag zero bytes errors.Memory h = tt
+without_tag (suc n) bytes errors.Memory h = tt
+without_tag zero bytes (errors.Fault f) h = ap (λ r. r >>= by_tag []) h
+without_tag (suc n) bytes (errors.Fault f) h = ap (λ r. r >>= by_tag (description_readers (description_within n))) h
+
+-- a level too many
+pub below_all : (levels : ℕ) (bytes : List ℕ) (tag : ℕ) (rest : List ℕ) → levels ≡ 0 → byte_at bytes ≡ Ok (tag, rest) → (description_within levels).read bytes ≡ Err OutOfRange
+unfolding description_within
+below_all zero bytes tag rest none h = ap (λ r. r >>= by_tag []) h
+below_all (suc n) bytes tag rest none h = absurd (omega (arith, none))
+
+-- what stands behind the tag is in one level less
+pub behind_tag : (levels : ℕ) (bytes : List ℕ) (tag : ℕ) (rest : List ℕ) → 0 < levels → byte_at bytes ≡ Ok (tag, rest)
+    → (description_within levels).read bytes ≡ described (description_within (levels - 1)) tag rest
+unfolding description_within described
+behind_tag zero bytes tag rest some h = absurd (omega (arith, some))
+behind_tag (suc n) bytes tag rest some h =
+    let one_less : suc n - 1 ≡ n = omega arith in
+    ap (λ r. r >>= by_tag (description_readers (description_within n))) h ∙ ap (λ m. described (description_within m) tag rest) (sym one_less)
+
+-- no form has the tag 0, or one over 9
+pub no_form : (inner : Field Description) (tag : ℕ) (bytes : List ℕ) → (tag ≡ 0) ⊎ (9 < tag) → described inner tag bytes ≡ Err OutOfRange
+unfolding described
+no_form inner tag bytes (inl none) = ap (λ n. get_or (description_readers inner) n unknown bytes) none
+no_form inner tag bytes (inr over) = ap (λ (r : Reader Description). r bytes) (get_or_past (description_readers inner) tag unknown (omega arith))

@@ -1,0 +1,25 @@
+use Rattle.std.proofs.Common.{◌≡◌, ◌+◌, ◌*◌, ◌-◌, map}
+use Rattle.pli_map.specs.views.DescriptionView.{description_view}
+use Rattle.pli_deck.specs.Fields.{many}
+use Rattle.pli_deck.specs.Descriptions.{description_within}
+use Rattle.pli_deck_read.proofs.Loops.{with_front}
+use Rattle.pli_deck_read.proofs.described.+description.Given as goal
+
+-- each call is of fewer levels, or of the same with a lesser number behind the product
+abbrev pub decreases-description_at : goal.decreases-description_at
+decreases-description_at l = 4 * l.levels
+
+abbrev pub decreases-array_at : goal.decreases-array_at
+decreases-array_at l = 4 * l.levels + 1
+
+abbrev pub decreases-members_at : goal.decreases-members_at
+decreases-members_at l = 4 * l.levels + 1
+
+abbrev pub decreases-structure_at : goal.decreases-structure_at
+decreases-structure_at l = 4 * l.levels + 2
+
+-- the members that were read, in front of those that are left, are all of them
+abbrev pub invariant-members_at-loop : goal.invariant-members_at-loop
+invariant-members_at-loop l =
+    let read = (description_within l.levels).read in
+    with_front (map description_view l.members.items) (many read (l.count - l.counter) l.rest) ≡ many read l.count l.bytes

@@ -1,0 +1,10 @@
+use Rattle.std.proofs.Common.{◌≡◌, ◌-◌, map}
+use Rattle.pli_deck.specs.Fields.{many}
+use Rattle.pli_deck_read.proofs.Loops.{with_front}
+use Rattle.pli_deck_read.proofs.reading.many_of.Given as goal
+
+-- the values that were read, in front of those that are left, are all of them
+abbrev pub invariant-loop : goal.invariant-loop
+invariant-loop g l =
+    let read = g.R.ReadsOne.field.read in
+    with_front (map g.R.ReadsOne.say l.values.items) (many read (l.count - l.counter) l.rest) ≡ many read l.count l.bytes

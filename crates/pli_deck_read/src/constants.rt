@@ -1,0 +1,168 @@
+//! Constants, initial values and templates at the front of bytes.
+ghost use Rattle.std.specs.Prelude.{◌≡◌, ◌≤◌, ◌<◌, ℕ, slice_index, map};
+ghost use Rattle.std.specs.Str.{bytes_eq};
+ghost use Rattle.pli_deck.specs.Fields.{made, list_of, list, u4};
+ghost use Rattle.pli_deck.specs.Decks as plain;
+ghost use Rattle.pli_deck.specs.DeckFields as deck_fields;
+ghost use Rattle.pli_deck.specs.DeckView.{constant_view, initial_view, template_view};
+ghost use Rattle.pli_deck_read.specs.Reading.{Gives};
+
+use crate::error::ReadError;
+use crate::reading::{
+    ReadsOne, byte_of, many_of, short_of, short_within, signed_within, text_of, word_of,
+};
+use pli_deck::{Constant, Fault, Initial, Template};
+use pli_value::bit::Bits;
+use std::alloc::Global;
+
+/// So many bits, with zeros behind the last one.
+fn bits_of(alloc: Global, count: usize, bytes: &[u8]) -> Result<(Bits, &[u8]), ReadError>
+    requires { count ≤ 32767 }
+    ensures { Gives (λ x. (x.0, x.1.now)) result (deck_fields.bits_at count bytes.now) }
+{
+    let needed = (count + 7) / 8;
+    if bytes.len() < needed {
+        return Err(ReadError::Fault(Fault::Truncated));
+    }
+    let (front, rest) = bytes.split_at(needed);
+    let bits = Bits::unpack(alloc, front, count)?;
+    if are_same(front, bits.bytes()) {
+        Ok((bits, rest))
+    } else {
+        Err(ReadError::Fault(Fault::OutOfRange))
+    }
+}
+
+/// Whether bytes are the same.
+pub fn are_same(left: &[u8], right: &[u8]) -> bool
+    ensures value { result ≡ bytes_eq left.now right.now }
+    ensures bytes { (place : ℕ) → slice_index right.now place < 256 }
+{
+    left == right
+}
+
+/// Bits, with their count.
+#[tactic(auto, unfolding(pli_deck::specs::DeckFields::bit_string))]
+fn bit_string_of(alloc: Global, bytes: &[u8]) -> Result<(Constant, &[u8]), ReadError>
+    ensures { Gives (λ x. (constant_view x.0, x.1.now)) result (made plain.Bits deck_fields.bit_string bytes.now) }
+{
+    let (count, rest) = short_within(bytes, 0, 32767)?;
+    let (bits, rest) = bits_of(alloc, usize::from(count), rest)?;
+    Ok((Constant::Bits(bits), rest))
+}
+
+/// Characters, with their count.
+#[tactic(auto, unfolding(pli_deck::specs::DeckFields::characters))]
+fn characters_of(alloc: Global, bytes: &[u8]) -> Result<(Constant, &[u8]), ReadError>
+    ensures { Gives (λ x. (constant_view x.0, x.1.now)) result (made plain.Characters deck_fields.characters bytes.now) }
+{
+    let (count, rest) = short_within(bytes, 0, 32767)?;
+    let (text, rest) = text_of(rest, usize::from(count))?;
+    Ok((Constant::Characters(Vec::from_slice(alloc, text)?), rest))
+}
+
+/// A constant.
+#[tactic(auto, unfolding(pli_deck::specs::DeckFields::constant))]
+pub fn constant_of(alloc: Global, bytes: &[u8]) -> Result<(Constant, &[u8]), ReadError>
+    ensures { Gives (λ x. (constant_view x.0, x.1.now)) result (deck_fields.constant.read bytes.now) }
+{
+    let (tag, rest) = byte_of(bytes)?;
+    match tag {
+        1 => {
+            let (number, rest) = signed_within(rest, 2147483647)?;
+            Ok((Constant::Number(number), rest))
+        }
+        2 => characters_of(alloc, rest),
+        3 => bit_string_of(alloc, rest),
+        4 => Ok((Constant::NullPointer, rest)),
+        5 => Ok((Constant::NullOffset, rest)),
+        _ => Err(ReadError::Fault(Fault::OutOfRange)),
+    }
+}
+
+/// Reads a constant.
+struct Constants;
+
+impl ReadsOne for Constants {
+    type Value = Constant;
+
+    ghost Said = { plain.Constant };
+
+    ghost say = { constant_view };
+
+    ghost field = { deck_fields.constant };
+
+    fn read<'a>(&self, alloc: Global, bytes: &'a [u8]) -> Result<(Constant, &'a [u8]), ReadError> {
+        constant_of(alloc, bytes)
+    }
+}
+
+/// A list of constants.
+pub fn constants_of(alloc: Global, bytes: &[u8]) -> Result<(Vec<Constant>, &[u8]), ReadError>
+    ensures { Gives (λ x. (map constant_view x.0.items, x.1.now)) result ((list deck_fields.constant).read bytes.now) }
+{
+    let (count, rest) = short_of(bytes)?;
+    many_of(alloc, &Constants, u32::from(count), rest)
+}
+
+/// Reads an initial value.
+struct Initials;
+
+impl ReadsOne for Initials {
+    type Value = Initial;
+
+    ghost Said = { plain.Initial };
+
+    ghost say = { initial_view };
+
+    ghost field = { deck_fields.initial };
+
+    #[tactic(auto, unfolding(pli_deck::specs::DeckFields::initial))]
+    fn read<'a>(&self, alloc: Global, bytes: &'a [u8]) -> Result<(Initial, &'a [u8]), ReadError> {
+        let (offset, rest) = word_of(bytes)?;
+        let (value, rest) = constant_of(alloc, rest)?;
+        Ok((Initial { offset, value }, rest))
+    }
+}
+
+/// A list of initial values, with a count of four bytes.
+fn initials_of(alloc: Global, bytes: &[u8]) -> Result<(Vec<Initial>, &[u8]), ReadError>
+    ensures { Gives (λ x. (map initial_view x.0.items, x.1.now)) result ((list_of u4 deck_fields.initial).read bytes.now) }
+{
+    let (count, rest) = word_of(bytes)?;
+    many_of(alloc, &Initials, count, rest)
+}
+
+/// Reads a template.
+struct Templates;
+
+impl ReadsOne for Templates {
+    type Value = Template;
+
+    ghost Said = { plain.Template };
+
+    ghost say = { template_view };
+
+    ghost field = { deck_fields.template };
+
+    #[tactic(auto, unfolding(pli_deck::specs::DeckFields::template))]
+    fn read<'a>(&self, alloc: Global, bytes: &'a [u8]) -> Result<(Template, &'a [u8]), ReadError> {
+        let (description, rest) = short_of(bytes)?;
+        let (initial, rest) = initials_of(alloc, rest)?;
+        Ok((
+            Template {
+                description,
+                initial,
+            },
+            rest,
+        ))
+    }
+}
+
+/// A list of templates.
+pub fn templates_of(alloc: Global, bytes: &[u8]) -> Result<(Vec<Template>, &[u8]), ReadError>
+    ensures { Gives (λ x. (map template_view x.0.items, x.1.now)) result ((list deck_fields.template).read bytes.now) }
+{
+    let (count, rest) = short_of(bytes)?;
+    many_of(alloc, &Templates, u32::from(count), rest)
+}

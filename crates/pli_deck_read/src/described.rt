@@ -1,0 +1,188 @@
+//! Descriptions at the front of bytes.
+ghost use Rattle.std.specs.Prelude.{◌≡◌, ◌≤◌, ◌%◌, map, IfOk};
+ghost use Rattle.pli_map.specs.Description as plain;
+ghost use Rattle.pli_map.specs.views.DescriptionView.{description_view};
+ghost use Rattle.pli_deck.specs.Fields.{Field, many, list};
+ghost use Rattle.pli_deck.specs.Descriptions as description_fields;
+ghost use Rattle.pli_deck.specs.Descriptions.{description, description_within, described};
+ghost use Rattle.pli_deck_read.specs.Reading.{Gives};
+
+use crate::error::ReadError;
+use crate::reading::{
+    ReadsOne, byte_of, byte_within, count_within, many_of, short_of, short_within, signed_within,
+    word_of,
+};
+use pli_deck::{Fault, LEVELS};
+use pli_map::{Bounds, Description};
+use std::alloc::Global;
+
+/// The greatest size of an area in bytes (own).
+const AREA_LIMIT: u32 = 1_000_000;
+
+/// A bound of an array's dimension.
+fn bound_of(bytes: &[u8]) -> Result<(i16, &[u8]), ReadError>
+    ensures { Gives (λ x. (x.0, x.1.now)) result (description_fields.bound.read bytes.now) }
+{
+    let (number, rest) = signed_within(bytes, 32767)?;
+    Ok((number as i16, rest))
+}
+
+/// Reads the bounds of a dimension.
+struct Dimensions;
+
+impl ReadsOne for Dimensions {
+    ghost use Rattle.pli_map.specs.declared.description.Bounds.{Bounds};
+
+    type Value = Bounds;
+
+    ghost Said = { Bounds };
+
+    ghost say = { λ b. b };
+
+    ghost field = { description_fields.bounds };
+
+    fn read<'a>(&self, _alloc: Global, bytes: &'a [u8]) -> Result<(Bounds, &'a [u8]), ReadError> {
+        let (low, rest) = bound_of(bytes)?;
+        let (high, rest) = bound_of(rest)?;
+        if low <= high {
+            Ok((Bounds { low, high }, rest))
+        } else {
+            Err(ReadError::Fault(Fault::OutOfRange))
+        }
+    }
+}
+
+/// The bounds of one to eight dimensions.
+fn dimensions_of(alloc: Global, bytes: &[u8]) -> Result<(Vec<Bounds>, &[u8]), ReadError>
+    ensures { Gives (λ x. (x.0.items, x.1.now)) result (description_fields.dimensions.read bytes.now) }
+{
+    let (count, rest) = count_within(bytes, 1, 8)?;
+    many_of(alloc, &Dimensions, u32::from(count), rest)
+}
+
+/// An area's size in bytes, a multiple of 8.
+fn area_size_of(bytes: &[u8]) -> Result<(u32, &[u8]), ReadError>
+    ensures read { Gives (λ x. (x.0, x.1.now)) result (description_fields.area_size.read bytes.now) }
+    ensures even { IfOk result (λ x. x.0 % 8 ≡ 0) }
+{
+    let (size, rest) = word_of(bytes)?;
+    if 1 <= size && size <= AREA_LIMIT && size % 8 == 0 {
+        Ok((size, rest))
+    } else {
+        Err(ReadError::Fault(Fault::OutOfRange))
+    }
+}
+
+/// The scalar of a tag that is neither an array's nor a structure's.
+#[tactic(auto, unfolding(pli_deck::specs::Descriptions::described), using(pli_deck::proofs::DescriptionViews::area_said, pli_deck::proofs::DescriptionViews::fixed_said, pli_deck::proofs::DescriptionViews::character_said, pli_deck::proofs::DescriptionViews::varying_said, pli_deck::proofs::DescriptionViews::bit_said, pli_deck::proofs::DescriptionViews::pointer_said, pli_deck::proofs::DescriptionViews::offset_said))]
+fn scalar_of(tag: u8, bytes: &[u8]) -> Result<(Description, &[u8]), ReadError>
+    requires { (1 ≤ tag) × (tag ≤ 7) }
+    ensures { (inner : Field plain.Description) →
+        Gives (λ x. (description_view x.0, x.1.now)) result (described inner tag bytes.now) }
+{
+    match tag {
+        1 => {
+            let (precision, rest) = byte_within(bytes, 1, 31)?;
+            Ok((Description::FixedBinary(precision), rest))
+        }
+        2 => {
+            let (length, rest) = short_within(bytes, 1, 32767)?;
+            Ok((Description::Character(length), rest))
+        }
+        3 => {
+            let (length, rest) = short_within(bytes, 1, 32767)?;
+            Ok((Description::Varying(length), rest))
+        }
+        4 => {
+            let (length, rest) = short_within(bytes, 1, 32767)?;
+            Ok((Description::Bit(length), rest))
+        }
+        5 => Ok((Description::Pointer, bytes)),
+        6 => Ok((Description::Offset, bytes)),
+        7 => {
+            let (size, rest) = area_size_of(bytes)?;
+            Ok((Description::Area(size), rest))
+        }
+        _ => Err(ReadError::Fault(Fault::OutOfRange)),
+    }
+}
+
+/// A description in at most so many levels.
+#[cycle(description)]
+fn description_at<'a>(
+    alloc: Global,
+    levels: u16,
+    bytes: &'a [u8],
+) -> Result<(Description, &'a [u8]), ReadError>
+    ensures { Gives (λ x. (description_view x.0, x.1.now)) result ((description_within levels).read bytes.now) }
+{
+    let (tag, rest) = byte_of(bytes)?;
+    if levels == 0 {
+        return Err(ReadError::Fault(Fault::OutOfRange));
+    }
+    match tag {
+        1..=7 => scalar_of(tag, rest),
+        8 => array_at(alloc, levels - 1, rest),
+        9 => structure_at(alloc, levels - 1, rest),
+        _ => Err(ReadError::Fault(Fault::OutOfRange)),
+    }
+}
+
+/// What stands behind an array's tag.
+#[cycle(description)]
+#[tactic(auto, unfolding(pli_deck::specs::Descriptions::described), using(pli_deck::proofs::DescriptionViews::array_said))]
+fn array_at<'a>(
+    alloc: Global,
+    levels: u16,
+    bytes: &'a [u8],
+) -> Result<(Description, &'a [u8]), ReadError>
+    ensures { Gives (λ x. (description_view x.0, x.1.now)) result (described (description_within levels) 8 bytes.now) }
+{
+    let (bounds, rest) = dimensions_of(alloc, bytes)?;
+    let (element, rest) = description_at(alloc, levels, rest)?;
+    let element = Box::new(alloc, element)?;
+    Ok((Description::Array { bounds, element }, rest))
+}
+
+/// What stands behind a structure's tag.
+#[cycle(description)]
+#[tactic(auto, unfolding(pli_deck::specs::Descriptions::described), using(pli_deck::proofs::DescriptionViews::structure_said))]
+fn structure_at<'a>(
+    alloc: Global,
+    levels: u16,
+    bytes: &'a [u8],
+) -> Result<(Description, &'a [u8]), ReadError>
+    ensures { Gives (λ x. (description_view x.0, x.1.now)) result (described (description_within levels) 9 bytes.now) }
+{
+    let (count, rest) = short_within(bytes, 1, 65535)?;
+    let (members, rest) = members_at(alloc, levels, count, rest)?;
+    Ok((Description::Structure(members), rest))
+}
+
+/// So many descriptions, one behind another.
+#[cycle(description)]
+fn members_at<'a>(
+    alloc: Global,
+    levels: u16,
+    count: u16,
+    bytes: &'a [u8],
+) -> Result<(Vec<Description>, &'a [u8]), ReadError>
+    ensures { Gives (λ x. (map description_view x.0.items, x.1.now)) result (many (description_within levels).read count bytes.now) }
+{
+    let mut members = Vec::new(alloc);
+    let mut rest = bytes;
+    for _ in 0..count {
+        let (member, behind) = description_at(alloc, levels, rest)?;
+        members.push(member)?;
+        rest = behind;
+    }
+    Ok((members, rest))
+}
+
+/// A list of descriptions.
+pub fn descriptions_of(alloc: Global, bytes: &[u8]) -> Result<(Vec<Description>, &[u8]), ReadError>
+    ensures { Gives (λ x. (map description_view x.0.items, x.1.now)) result ((list description).read bytes.now) }
+{
+    let (count, rest) = short_of(bytes)?;
+    members_at(alloc, LEVELS, count, rest)
+}

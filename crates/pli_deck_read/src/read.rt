@@ -1,0 +1,52 @@
+//! Decks from bytes.
+ghost use Rattle.std.specs.Prelude.{◌≡◌, ◌<◌, ℕ, Ok, IfOk, slice_index};
+ghost use Rattle.pli_deck.specs.Decks as plain;
+ghost use Rattle.pli_deck.specs.DeckView.{deck_view};
+ghost use Rattle.pli_deck.specs.Spelling as spelling;
+ghost use Rattle.pli_deck.specs.Spelling.{SpellsDeck, deck_read};
+ghost use Rattle.pli_deck_read.specs.Reading.{Gives};
+
+use crate::error::ReadError;
+use crate::whole::deck_at;
+use pli_deck::{Deck, Fault};
+use pli_deck_faults::deck_fault;
+use std::alloc::Global;
+
+/// A deck, if no bytes stand behind it and it has no fault.
+#[tactic(auto, using(crate::proofs::WholeReading::more_left, crate::proofs::WholeReading::none_left))]
+fn whole(alloc: Global, deck: Deck, rest: &[u8]) -> Result<Deck, ReadError>
+    ensures { Gives deck_view result (spelling.whole (deck_view deck) rest.now) }
+{
+    if !rest.is_empty() {
+        return Err(ReadError::Fault(Fault::Trailing));
+    }
+    match deck_fault(alloc, &deck)? {
+        None => Ok(deck),
+        Some(fault) => Err(ReadError::Fault(fault)),
+    }
+}
+
+/// The deck that bytes are, or the first fault.
+#[tactic(auto, unfolding(pli_deck::specs::Spelling::deck_read))]
+pub fn read(alloc: Global, bytes: &[u8]) -> Result<Deck, ReadError>
+    ensures exact { Gives deck_view result (deck_read bytes.now) }
+    ensures bytes { (place : ℕ) → slice_index bytes.now place < 256 }
+{
+    match deck_at(alloc, bytes) {
+        Ok((deck, rest)) => whole(alloc, deck, rest),
+        Err(error) => Err(error),
+    }
+}
+
+/// The deck that bytes spell. An error is the first fault, or that memory ran out. Takes memory in proportion to the
+/// bytes, and no call is deeper than the 512 levels of descriptions.
+pub fn read_deck(alloc: Global, bytes: &[u8]) -> Result<Deck, ReadError>
+    // What is read is spelled so.
+    ensures read { IfOk result (λ d. SpellsDeck bytes.now (deck_view d)) }
+    // What is spelled so is read, unless memory runs out.
+    ensures spelled { (d : plain.Deck) → SpellsDeck bytes.now d → Gives deck_view result (Ok d) }
+    // Which fault it is.
+    ensures exact { Gives deck_view result (deck_read bytes.now) }
+{
+    read(alloc, bytes)
+}

@@ -1,0 +1,226 @@
+//! The items of a deck's tables at the front of bytes.
+ghost use Rattle.std.specs.Prelude.{◌≡◌, ℕ, List, map};
+ghost use Rattle.pli_deck.specs.Fields.{Field, many, u2, list, made, ◌⊗◌};
+ghost use Rattle.pli_deck.specs.Decks as plain;
+ghost use Rattle.pli_deck.specs.DeckFields as deck_fields;
+ghost use Rattle.pli_deck.specs.DeckView.{signature_view, global_view, block_view};
+ghost use Rattle.pli_deck.specs.Instructions.{instruction};
+ghost use Rattle.pli_deck_read.specs.Reading.{Gives};
+
+use crate::error::ReadError;
+use crate::operations::instruction_of;
+use crate::reading::{
+    ReadsOne, byte_of, byte_within, count_within, many_of, name_text_of, optional_of, short_of,
+    upper_name, word_of,
+};
+use pli_deck::{Block, Fault, Global as DeckGlobal, Instruction, Signature};
+use std::alloc::Global;
+
+/// Reads a number of two bytes.
+struct Numbers;
+
+impl ReadsOne for Numbers {
+    type Value = u16;
+
+    ghost Said = { ℕ };
+
+    ghost say = { λ n. n };
+
+    ghost field = { u2 };
+
+    fn read<'a>(&self, _alloc: Global, bytes: &'a [u8]) -> Result<(u16, &'a [u8]), ReadError> {
+        short_of(bytes)
+    }
+}
+
+/// So many numbers of two bytes.
+fn numbers_of(alloc: Global, count: u32, bytes: &[u8]) -> Result<(Vec<u16>, &[u8]), ReadError>
+    ensures { Gives (λ x. (x.0.items, x.1.now)) result (many u2.read count bytes.now) }
+{
+    many_of(alloc, &Numbers, count, bytes)
+}
+
+/// The parameters and the result of a procedure.
+#[tactic(auto, unfolding(pli_deck::specs::DeckFields::signature))]
+pub fn signature_of(alloc: Global, bytes: &[u8]) -> Result<(Signature, &[u8]), ReadError>
+    ensures { Gives (λ x. (signature_view x.0, x.1.now)) result (deck_fields.signature.read bytes.now) }
+{
+    let (count, rest) = count_within(bytes, 0, 64)?;
+    let (parameters, rest) = numbers_of(alloc, u32::from(count), rest)?;
+    let (returned, rest) = optional_of(rest)?;
+    Ok((
+        Signature {
+            parameters,
+            result: returned,
+        },
+        rest,
+    ))
+}
+
+/// A list of numbers, with its count.
+fn number_list_of(alloc: Global, bytes: &[u8]) -> Result<(Vec<u16>, &[u8]), ReadError>
+    ensures { Gives (λ x. (x.0.items, x.1.now)) result ((list u2).read bytes.now) }
+{
+    let (count, rest) = short_of(bytes)?;
+    numbers_of(alloc, u32::from(count), rest)
+}
+
+/// A block.
+#[tactic(auto, unfolding(pli_deck::specs::DeckFields::block))]
+pub fn block_of(alloc: Global, bytes: &[u8]) -> Result<(Block, &[u8]), ReadError>
+    ensures { Gives (λ x. (block_view x.0, x.1.now)) result (deck_fields.block.read bytes.now) }
+{
+    let (kind, rest) = byte_within(bytes, 0, 2)?;
+    let (parent, rest) = optional_of(rest)?;
+    let (parameters, rest) = byte_within(rest, 0, 64)?;
+    let (variables, rest) = number_list_of(alloc, rest)?;
+    let (temporaries, rest) = short_of(rest)?;
+    let (entry, rest) = short_of(rest)?;
+    let (statement, rest) = word_of(rest)?;
+    Ok((
+        Block {
+            kind,
+            parent,
+            parameters,
+            variables,
+            temporaries,
+            entry,
+            statement,
+        },
+        rest,
+    ))
+}
+
+/// A global.
+#[tactic(auto, unfolding(pli_deck::specs::DeckFields::global, pli_deck::specs::DeckFields::name))]
+pub fn global_of(alloc: Global, bytes: &[u8]) -> Result<(DeckGlobal, &[u8]), ReadError>
+    ensures { Gives (λ x. (global_view x.0, x.1.now)) result (deck_fields.global.read bytes.now) }
+{
+    let (kind, rest) = byte_of(bytes)?;
+    match kind {
+        0 => {
+            let (template, rest) = short_of(rest)?;
+            Ok((DeckGlobal::Static(template), rest))
+        }
+        1 => {
+            let (template, rest) = short_of(rest)?;
+            Ok((DeckGlobal::Controlled(template), rest))
+        }
+        2 => {
+            let (text, rest) = name_text_of(rest)?;
+            let Some(name) = upper_name(text) else {
+                return Err(ReadError::Fault(Fault::OutOfRange));
+            };
+            let (template, rest) = short_of(rest)?;
+            Ok((DeckGlobal::ExternalStatic { name, template }, rest))
+        }
+        3 => {
+            let (text, rest) = name_text_of(rest)?;
+            let Some(name) = upper_name(text) else {
+                return Err(ReadError::Fault(Fault::OutOfRange));
+            };
+            let (template, rest) = short_of(rest)?;
+            Ok((DeckGlobal::ExternalControlled { name, template }, rest))
+        }
+        4 => entry_of(alloc, rest),
+        _ => Err(ReadError::Fault(Fault::OutOfRange)),
+    }
+}
+
+/// An external procedure.
+#[tactic(auto, unfolding(pli_deck::specs::DeckFields::name))]
+fn entry_of(alloc: Global, bytes: &[u8]) -> Result<(DeckGlobal, &[u8]), ReadError>
+    ensures { Gives (λ x. (global_view x.0, x.1.now)) result (made (λ p. plain.ExternalEntry p.0 p.1) (deck_fields.name ⊗ deck_fields.signature) bytes.now) }
+{
+    let (text, rest) = name_text_of(bytes)?;
+    let Some(name) = upper_name(text) else {
+        return Err(ReadError::Fault(Fault::OutOfRange));
+    };
+    let (signature, rest) = signature_of(alloc, rest)?;
+    Ok((DeckGlobal::ExternalEntry { name, signature }, rest))
+}
+
+/// Reads a global.
+struct Globals;
+
+impl ReadsOne for Globals {
+    type Value = DeckGlobal;
+
+    ghost Said = { plain.Global };
+
+    ghost say = { global_view };
+
+    ghost field = { deck_fields.global };
+
+    fn read<'a>(
+        &self,
+        alloc: Global,
+        bytes: &'a [u8],
+    ) -> Result<(DeckGlobal, &'a [u8]), ReadError> {
+        global_of(alloc, bytes)
+    }
+}
+
+/// A list of globals.
+pub fn globals_of(alloc: Global, bytes: &[u8]) -> Result<(Vec<DeckGlobal>, &[u8]), ReadError>
+    ensures { Gives (λ x. (map global_view x.0.items, x.1.now)) result ((list deck_fields.global).read bytes.now) }
+{
+    let (count, rest) = short_of(bytes)?;
+    many_of(alloc, &Globals, u32::from(count), rest)
+}
+
+/// Reads a block.
+struct Blocks;
+
+impl ReadsOne for Blocks {
+    type Value = Block;
+
+    ghost Said = { plain.Block };
+
+    ghost say = { block_view };
+
+    ghost field = { deck_fields.block };
+
+    fn read<'a>(&self, alloc: Global, bytes: &'a [u8]) -> Result<(Block, &'a [u8]), ReadError> {
+        block_of(alloc, bytes)
+    }
+}
+
+/// A list of blocks.
+pub fn blocks_of(alloc: Global, bytes: &[u8]) -> Result<(Vec<Block>, &[u8]), ReadError>
+    ensures { Gives (λ x. (map block_view x.0.items, x.1.now)) result ((list deck_fields.block).read bytes.now) }
+{
+    let (count, rest) = short_of(bytes)?;
+    many_of(alloc, &Blocks, u32::from(count), rest)
+}
+
+/// Reads an instruction.
+struct Instructions;
+
+impl ReadsOne for Instructions {
+    ghost use Rattle.pli_deck.specs.declared.instruction.Instruction.{Instruction};
+
+    type Value = Instruction;
+
+    ghost Said = { Instruction };
+
+    ghost say = { λ i. i };
+
+    ghost field = { instruction };
+
+    fn read<'a>(
+        &self,
+        _alloc: Global,
+        bytes: &'a [u8],
+    ) -> Result<(Instruction, &'a [u8]), ReadError> {
+        instruction_of(bytes)
+    }
+}
+
+/// A list of instructions.
+pub fn instructions_of(alloc: Global, bytes: &[u8]) -> Result<(Vec<Instruction>, &[u8]), ReadError>
+    ensures { Gives (λ x. (x.0.items, x.1.now)) result ((list instruction).read bytes.now) }
+{
+    let (count, rest) = short_of(bytes)?;
+    many_of(alloc, &Instructions, u32::from(count), rest)
+}

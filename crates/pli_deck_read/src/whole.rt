@@ -1,0 +1,118 @@
+//! Whole decks at the front of bytes.
+ghost use Rattle.std.specs.Prelude.{◌≡◌, option_map};
+ghost use Rattle.pli_deck.specs.Fields.{Reader};
+ghost use Rattle.pli_deck.specs.DeckFields as deck_fields;
+ghost use Rattle.pli_deck.specs.DeckView.{deck_view};
+ghost use Rattle.pli_deck_read.specs.TablesView.{tables_view};
+ghost use Rattle.pli_deck_read.specs.Reading.{Gives};
+
+use crate::constants::{are_same, constants_of, templates_of};
+use crate::described::descriptions_of;
+use crate::error::ReadError;
+use crate::reading::{byte_of, flag_of, name_text_of, upper_name};
+use crate::tables::{blocks_of, globals_of, instructions_of, signature_of};
+use pli_deck::{Block, Constant, Deck, Fault, Global as DeckGlobal, Instruction, Template};
+use pli_map::Description;
+use std::alloc::Global;
+
+/// The tables of a deck in the order of its bytes.
+#[derive(Drop)]
+pub struct Tables {
+    pub descriptions: Vec<Description>,
+    pub templates: Vec<Template>,
+    pub values: Vec<Constant>,
+    pub globals: Vec<DeckGlobal>,
+    pub blocks: Vec<Block>,
+    pub instructions: Vec<Instruction>,
+}
+
+/// The tables of a deck, each with its count.
+#[tactic(auto, unfolding(pli_deck::specs::DeckFields::tables))]
+fn tables_of(alloc: Global, bytes: &[u8]) -> Result<(Tables, &[u8]), ReadError>
+    ensures { Gives (λ x. (tables_view x.0, x.1.now)) result (deck_fields.tables.read bytes.now) }
+{
+    let (descriptions, rest) = descriptions_of(alloc, bytes)?;
+    let (templates, rest) = templates_of(alloc, rest)?;
+    let (values, rest) = constants_of(alloc, rest)?;
+    let (globals, rest) = globals_of(alloc, rest)?;
+    let (blocks, rest) = blocks_of(alloc, rest)?;
+    let (instructions, rest) = instructions_of(alloc, rest)?;
+    Ok((
+        Tables {
+            descriptions,
+            templates,
+            values,
+            globals,
+            blocks,
+            instructions,
+        },
+        rest,
+    ))
+}
+
+/// The bytes behind those that stand in front of all decks, if they do.
+#[tactic(auto, using(crate::proofs::Headings::too_few, crate::proofs::Headings::behind_front))]
+pub fn behind<'a>(bytes: &'a [u8], front: &[u8]) -> Option<&'a [u8]>
+    ensures { deck_fields.behind front.now bytes.now ≡ option_map (λ rest. rest.now) result }
+{
+    if bytes.len() < front.len() {
+        return None;
+    }
+    let (first, rest) = bytes.split_at(front.len());
+    if are_same(front, first) {
+        Some(rest)
+    } else {
+        None
+    }
+}
+
+/// The contents of a deck: its name, whether it is the main one, its signature, and the tables.
+#[tactic(auto, unfolding(pli_deck::specs::DeckFields::contents, pli_deck::specs::DeckFields::name))]
+fn contents_of(alloc: Global, bytes: &[u8]) -> Result<(Deck, &[u8]), ReadError>
+    ensures { Gives (λ x. (deck_view x.0, x.1.now)) result (deck_fields.contents.read bytes.now) }
+{
+    let (text, rest) = name_text_of(bytes)?;
+    let Some(name) = upper_name(text) else {
+        return Err(ReadError::Fault(Fault::OutOfRange));
+    };
+    let (is_main, rest) = flag_of(rest)?;
+    let (signature, rest) = signature_of(alloc, rest)?;
+    let (tables, rest) = tables_of(alloc, rest)?;
+    Ok((
+        Deck {
+            name,
+            is_main,
+            signature,
+            descriptions: tables.descriptions,
+            templates: tables.templates,
+            values: tables.values,
+            globals: tables.globals,
+            blocks: tables.blocks,
+            instructions: tables.instructions,
+        },
+        rest,
+    ))
+}
+
+/// The version, which is 1, and the contents of a deck.
+fn versioned_of(alloc: Global, bytes: &[u8]) -> Result<(Deck, &[u8]), ReadError>
+    ensures { Gives (λ x. (deck_view x.0, x.1.now)) result (deck_fields.versioned deck_fields.contents.read bytes.now) }
+{
+    let (version, rest) = byte_of(bytes)?;
+    if version == 1 {
+        contents_of(alloc, rest)
+    } else {
+        Err(ReadError::Fault(Fault::BadVersion))
+    }
+}
+
+/// A deck.
+#[tactic(auto, unfolding(pli_deck::specs::DeckFields::deck))]
+pub fn deck_at(alloc: Global, bytes: &[u8]) -> Result<(Deck, &[u8]), ReadError>
+    ensures { Gives (λ x. (deck_view x.0, x.1.now)) result (deck_fields.deck.read bytes.now) }
+{
+    match behind(bytes, b"PLID") {
+        Some(rest) => versioned_of(alloc, rest),
+        None => Err(ReadError::Fault(Fault::BadMagic)),
+    }
+}
