@@ -51,7 +51,8 @@ ModulesReadSo = (module_read one_unit_bytes ≡ Ok one_unit) × (module_read two
 -- bytes missing, one byte more, another version, an unknown instruction, a block that begins at none
 abbrev pub ModuleFaultsAre : Type 0
 ModuleFaultsAre =
-    (module_read (take 3 one_unit_bytes) ≡ Err BadMagic) × (module_read (take 4 one_unit_bytes) ≡ Err Truncated)
+    (module_read (take 3 one_unit_bytes) ≡ Err BadMagic)
+    × (module_read (take 4 one_unit_bytes) ≡ Err Truncated)
     × (module_read (take 57 one_unit_bytes) ≡ Err Truncated)
     × (module_read (one_unit_bytes ++ 0 ∷ []) ≡ Err Trailing)
     × (module_read (slice_set one_unit_bytes 4 3) ≡ Err BadVersion)
