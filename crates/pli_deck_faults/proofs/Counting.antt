@@ -1,5 +1,5 @@
 -- Tests of all that lists name.
-use Rattle.std.proofs.Common.{◌≡◌, Bool, true, false, ◌&&◌, List, [], ◌∷◌, ◌++◌, length, map, refl, sym, ap, ◌∙◌}
+use Rattle.std.proofs.Common.{◌≡◌, Bool, true, false, ◌&&◌, List, [], ◌∷◌, ◌++◌, length, map, refl, ap, ◌∙◌}
 use Rattle.std.specs.List.{flat_map, list_all}
 use Rattle.std.proofs.lemmas.List.{length-map}
 use Rattle.std.proofs.lemmas.List.Folds.{list_all-append}
@@ -25,17 +25,3 @@ both_pass test xs ys = list_all-append test xs ys
 
 pub three_pass : {X : Type 0} (test : X → Bool) (xs ys zs : List X) → list_all test (xs ++ (ys ++ zs)) ≡ (list_all test xs && (list_all test ys && list_all test zs))
 three_pass test xs ys zs = list_all-append test xs (ys ++ zs) ∙ ap (λ b. list_all test xs && b) (list_all-append test ys zs)
-
--- a test of all items, item by item
-pub next_passes : {X : Type 0} (test : X → Bool) (all rest : List X) (x : X) (passes total : Bool) → all ≡ x ∷ rest → passes ≡ test x → passes ≡ true
-    → list_all test all ≡ total → list_all test rest ≡ total
-next_passes test all rest x passes total is tested good so_far =
-    ap (λ b. b && list_all test rest) (sym good ∙ tested) ∙ ap (list_all test) (sym is) ∙ so_far
-
-pub one_fails : {X : Type 0} (test : X → Bool) (all rest : List X) (x : X) (passes total : Bool) → all ≡ x ∷ rest → passes ≡ test x → passes ≡ false
-    → list_all test all ≡ total → false ≡ total
-one_fails test all rest x passes total is tested bad so_far =
-    ap (λ b. b && list_all test rest) (sym bad ∙ tested) ∙ ap (list_all test) (sym is) ∙ so_far
-
-pub none_left : {X : Type 0} (test : X → Bool) (all : List X) (total : Bool) → all ≡ [] → list_all test all ≡ total → true ≡ total
-none_left test all total is so_far = ap (list_all test) (sym is) ∙ so_far

@@ -1,2 +1,4 @@
 pub mod Counted
+pub mod CutSizes
 pub mod Places
+pub mod Remains

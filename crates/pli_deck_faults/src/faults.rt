@@ -1,15 +1,19 @@
-//! The first fault of a deck as a whole.
+//! The first fault of a deck or a module as a whole.
 ghost use Rattle.std.specs.Prelude.{◌≡◌, IfOk};
 ghost use Rattle.pli_deck.specs.DeckFaults as faults;
 ghost use Rattle.pli_deck.specs.DeckView.{deck_view};
+ghost use Rattle.pli_deck.specs.ModuleSpelling as spelling;
+ghost use Rattle.pli_deck.specs.ModuleView.{module_view};
 
+use crate::extent::module_within;
 use crate::limits::within_limits;
+use crate::links::links_stand;
 use crate::standing::{all_stand, jumps_stand};
-use pli_deck::{Deck, Fault};
+use pli_deck::{Deck, Fault, Module};
 use std::alloc::{AllocError, Global};
 
-/// The first of the faults that are looked for once a deck is read: a jump to no instruction, a number of no entry, or
-/// a limit that is passed. An error comes where memory runs out.
+/// The first of the faults that are looked for once a deck is read: a jump to no instruction, a number of no entry, or a
+/// limit that is passed. An error comes where memory runs out.
 pub fn deck_fault(alloc: Global, deck: &Deck) -> Result<Option<Fault>, AllocError>
     ensures { IfOk result (λ fault. fault ≡ faults.fault_of (deck_view deck.now)) }
 {
@@ -20,6 +24,20 @@ pub fn deck_fault(alloc: Global, deck: &Deck) -> Result<Option<Fault>, AllocErro
         return Ok(Some(Fault::BadNumber));
     }
     if !within_limits(alloc, deck)? {
+        return Ok(Some(Fault::OverLimit));
+    }
+    Ok(None)
+}
+
+/// The first of the faults that are looked for once a module is read: what an external name stands for is not there, or
+/// a limit is passed. Its decks are looked at by themselves. An error comes where memory runs out.
+pub fn module_fault(alloc: Global, program: &Module) -> Result<Option<Fault>, AllocError>
+    ensures { IfOk result (λ fault. fault ≡ spelling.module_fault (module_view program.now)) }
+{
+    if !links_stand(program) {
+        return Ok(Some(Fault::BadNumber));
+    }
+    if !module_within(alloc, program)? {
         return Ok(Some(Fault::OverLimit));
     }
     Ok(None)
