@@ -4,5 +4,7 @@ pub mod DeckGiven
 pub mod DescriptionReading
 pub mod Headings
 pub mod Loops
+pub mod LoopsBehind
+pub mod ModuleGiven
 pub mod OperandReading
 pub mod WholeReading

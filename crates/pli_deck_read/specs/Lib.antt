@@ -1,2 +1,3 @@
+pub mod Earlier
 pub mod Reading
 pub mod TablesView

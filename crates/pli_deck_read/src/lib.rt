@@ -1,9 +1,11 @@
-//! Decks from bytes.
+//! Decks and modules from bytes.
 #![tactic(auto)]
 
 mod constants;
 mod described;
 mod error;
+mod module;
+mod modules;
 mod operations;
 mod read;
 mod reading;
@@ -11,4 +13,5 @@ mod tables;
 mod whole;
 
 pub use error::ReadError;
+pub use module::read_module;
 pub use read::read_deck;

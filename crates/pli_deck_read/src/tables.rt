@@ -34,7 +34,7 @@ impl ReadsOne for Numbers {
 }
 
 /// So many numbers of two bytes.
-fn numbers_of(alloc: Global, count: u32, bytes: &[u8]) -> Result<(Vec<u16>, &[u8]), ReadError>
+pub fn numbers_of(alloc: Global, count: u32, bytes: &[u8]) -> Result<(Vec<u16>, &[u8]), ReadError>
     ensures { Gives (λ x. (x.0.items, x.1.now)) result (many u2.read count bytes.now) }
 {
     many_of(alloc, &Numbers, count, bytes)

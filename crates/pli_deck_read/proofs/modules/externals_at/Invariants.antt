@@ -1,0 +1,12 @@
+use Rattle.std.proofs.Common.{◌≡◌, ◌-◌, map, None}
+use Rattle.pli_deck.specs.ModuleFields.{external_behind, many_behind}
+use Rattle.pli_deck.specs.ModuleView.{external_view}
+use Rattle.pli_deck_read.proofs.Loops.{with_front}
+use Rattle.pli_deck_read.specs.Earlier.{last_of}
+use Rattle.pli_deck_read.proofs.modules.externals_at.Given as goal
+
+-- the externals that were read, in front of those that are left, are all of them
+abbrev pub invariant-loop : goal.invariant-loop
+invariant-loop l =
+    let front = map external_view l.externals.items in
+    with_front front (many_behind external_behind (last_of front) (l.count - l.counter) l.rest) ≡ many_behind external_behind None l.count l.bytes

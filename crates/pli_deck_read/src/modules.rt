@@ -1,0 +1,213 @@
+//! Modules at the front of bytes.
+ghost use Rattle.std.specs.Prelude.{◌≡◌, None, length, map};
+ghost use Rattle.std.specs.List.{filter};
+ghost use Rattle.pli_deck.specs.Fields.{u1, from_to};
+ghost use Rattle.pli_deck.specs.DeckFields as deck_fields;
+ghost use Rattle.pli_deck.specs.DeckView.{deck_view, global_view};
+ghost use Rattle.pli_deck.specs.ModuleFields as module_fields;
+ghost use Rattle.pli_deck.specs.ModuleView.{kind_number, external_view, member_view, module_view};
+ghost use Rattle.pli_deck_read.specs.Earlier.{last_of};
+ghost use Rattle.pli_deck_read.specs.Reading.{Gives};
+
+use crate::error::ReadError;
+use crate::read::read;
+use crate::reading::{
+    ReadsOne, byte_of, byte_within, many_of, name_text_of, short_of, short_within, upper_name,
+    word_of,
+};
+use crate::tables::numbers_of;
+use crate::whole::behind;
+use pli_base::Name;
+use pli_deck::{Deck, External, ExternalKind, Fault, Global as DeckGlobal, Member, Module};
+use pli_deck_faults::is_external;
+use std::alloc::Global;
+use std::cmp::Ordering;
+
+/// What an external variable is: 2 for static, 3 for controlled.
+fn kind_of(bytes: &[u8]) -> Result<(ExternalKind, &[u8]), ReadError>
+    ensures { Gives (λ x. (kind_number x.0, x.1.now)) result ((from_to 2 3 u1).read bytes.now) }
+{
+    let (number, rest) = byte_within(bytes, 2, 3)?;
+    let kind = if number == 2 {
+        ExternalKind::Static
+    } else {
+        ExternalKind::Controlled
+    };
+    Ok((kind, rest))
+}
+
+/// Whether a name stands behind that of the last external so far, if there is one.
+#[tactic(auto, using(crate::proofs::LoopsBehind::none_before, crate::proofs::LoopsBehind::last_before))]
+fn comes_after(earlier: &[External], name: &Name) -> bool
+    ensures { result ≡ module_fields.comes_after (last_of (map external_view earlier.now)) name.now }
+{
+    let count = earlier.len();
+    if count == 0 {
+        return true;
+    }
+    matches!(earlier[count - 1].name.cmp(name), Ordering::Less)
+}
+
+/// An external, whose name stands behind that of the one before it.
+#[tactic(auto, unfolding(pli_deck::specs::ModuleFields::external_behind, pli_deck::specs::DeckFields::name))]
+fn external_of<'a>(earlier: &[External], bytes: &'a [u8]) -> Result<(External, &'a [u8]), ReadError>
+    ensures { Gives (λ x. (external_view x.0, x.1.now)) result ((module_fields.external_behind (last_of (map external_view earlier.now))).read bytes.now) }
+{
+    let (text, rest) = name_text_of(bytes)?;
+    let Some(name) = upper_name(text) else {
+        return Err(ReadError::Fault(Fault::OutOfRange));
+    };
+    if !comes_after(earlier, &name) {
+        return Err(ReadError::Fault(Fault::OutOfRange));
+    }
+    let (kind, rest) = kind_of(rest)?;
+    let (unit, rest) = short_of(rest)?;
+    let (global, rest) = short_of(rest)?;
+    Ok((
+        External {
+            name,
+            kind,
+            unit,
+            global,
+        },
+        rest,
+    ))
+}
+
+/// So many externals in the order of their names.
+fn externals_at(
+    alloc: Global,
+    count: u16,
+    bytes: &[u8],
+) -> Result<(Vec<External>, &[u8]), ReadError>
+    ensures { Gives (λ x. (map external_view x.0.items, x.1.now)) result (module_fields.many_behind module_fields.external_behind None count bytes.now) }
+{
+    let mut externals: Vec<External> = Vec::new(alloc);
+    let mut rest = bytes;
+    for _ in 0..count {
+        match external_of(&externals, rest) {
+            Ok((external, behind)) => {
+                externals.push(external)?;
+                rest = behind;
+            }
+            Err(error) => return Err(error),
+        }
+    }
+    Ok((externals, rest))
+}
+
+/// A list of externals.
+fn externals_of(alloc: Global, bytes: &[u8]) -> Result<(Vec<External>, &[u8]), ReadError>
+    ensures { Gives (λ x. (map external_view x.0.items, x.1.now)) result ((module_fields.chain module_fields.external_behind).read bytes.now) }
+{
+    let (count, rest) = short_of(bytes)?;
+    externals_at(alloc, count, rest)
+}
+
+/// A deck with the number of its bytes before it, read whole.
+#[tactic(auto, unfolding(pli_deck::specs::ModuleFields::deck_in))]
+fn sized_deck_of(alloc: Global, bytes: &[u8]) -> Result<(Deck, &[u8]), ReadError>
+    ensures { Gives (λ x. (deck_view x.0, x.1.now)) result (module_fields.sized_deck.read bytes.now) }
+{
+    let (count, rest) = word_of(bytes)?;
+    let count = count as usize;
+    if rest.len() < count {
+        return Err(ReadError::Fault(Fault::Truncated));
+    }
+    let (front, rest) = rest.split_at(count);
+    let deck = read(alloc, front)?;
+    Ok((deck, rest))
+}
+
+/// How many globals are known by external names.
+fn externals_in(globals: &[DeckGlobal]) -> usize
+    ensures { result ≡ length (filter module_fields.is_external (map global_view globals.now)) }
+{
+    let mut count = 0;
+    for global in globals {
+        if is_external(global) {
+            count += 1;
+        }
+    }
+    count
+}
+
+/// What the external globals of a deck stand for, just one number for each.
+fn links_of<'a>(
+    alloc: Global,
+    deck: &Deck,
+    bytes: &'a [u8],
+) -> Result<(Vec<u16>, &'a [u8]), ReadError>
+    ensures { Gives (λ x. (x.0.items, x.1.now)) result ((module_fields.links_of (deck_view deck.now)).read bytes.now) }
+{
+    let (count, rest) = short_of(bytes)?;
+    if usize::from(count) != externals_in(&deck.globals) {
+        return Err(ReadError::Fault(Fault::OutOfRange));
+    }
+    numbers_of(alloc, u32::from(count), rest)
+}
+
+/// Reads a unit.
+struct Members;
+
+impl ReadsOne for Members {
+    type Value = Member;
+
+    ghost Said = { module_fields.Member };
+
+    ghost say = { member_view };
+
+    ghost field = { module_fields.member };
+
+    #[tactic(auto, unfolding(pli_deck::specs::ModuleFields::member, pli_deck::specs::DeckFields::name))]
+    fn read<'a>(&self, alloc: Global, bytes: &'a [u8]) -> Result<(Member, &'a [u8]), ReadError> {
+        let (text, rest) = name_text_of(bytes)?;
+        let Some(name) = upper_name(text) else {
+            return Err(ReadError::Fault(Fault::OutOfRange));
+        };
+        let (deck, rest) = sized_deck_of(alloc, rest)?;
+        let (links, rest) = links_of(alloc, &deck, rest)?;
+        Ok((Member { name, deck, links }, rest))
+    }
+}
+
+/// What a module has behind its version.
+fn contents_of(alloc: Global, bytes: &[u8]) -> Result<(Module, &[u8]), ReadError>
+    ensures { Gives (λ x. (module_view x.0, x.1.now)) result (module_fields.module_contents.read bytes.now) }
+{
+    let (count, rest) = short_within(bytes, 1, 999)?;
+    let (main, rest) = short_of(rest)?;
+    let (externals, rest) = externals_of(alloc, rest)?;
+    let (units, rest) = many_of(alloc, &Members, u32::from(count), rest)?;
+    Ok((
+        Module {
+            main,
+            externals,
+            units,
+        },
+        rest,
+    ))
+}
+
+/// The version, which is 1, and what a module has behind it.
+fn versioned_of(alloc: Global, bytes: &[u8]) -> Result<(Module, &[u8]), ReadError>
+    ensures { Gives (λ x. (module_view x.0, x.1.now)) result (deck_fields.versioned module_fields.module_contents.read bytes.now) }
+{
+    let (version, rest) = byte_of(bytes)?;
+    if version == 1 {
+        contents_of(alloc, rest)
+    } else {
+        Err(ReadError::Fault(Fault::BadVersion))
+    }
+}
+
+/// A module.
+#[tactic(auto, unfolding(pli_deck::specs::ModuleFields::module_field))]
+pub fn module_at(alloc: Global, bytes: &[u8]) -> Result<(Module, &[u8]), ReadError>
+    ensures { Gives (λ x. (module_view x.0, x.1.now)) result (module_fields.module_field.read bytes.now) }
+{
+    match behind(bytes, b"PLIM") {
+        Some(rest) => versioned_of(alloc, rest),
+        None => Err(ReadError::Fault(Fault::BadMagic)),
+    }
+}
