@@ -12,8 +12,8 @@ use crate::standing::{all_stand, jumps_stand};
 use pli_deck::{Deck, Fault, Module};
 use std::alloc::{AllocError, Global};
 
-/// The first of the faults that are looked for once a deck is read: a jump to no instruction, a number of no entry, or a
-/// limit that is passed. An error comes where memory runs out.
+/// The first of the faults that are looked for once a deck is read: a jump to no instruction, a number of no entry, or
+/// a limit that is passed. An error comes where memory runs out.
 pub fn deck_fault(alloc: Global, deck: &Deck) -> Result<Option<Fault>, AllocError>
     ensures { IfOk result (λ fault. fault ≡ faults.fault_of (deck_view deck.now)) }
 {

@@ -55,7 +55,8 @@ fn variable_stands(externals: &[External], global: &Global, link: u16) -> bool
     }
 }
 
-/// Whether what an external global stands for is there: a unit for an entry, and an external of its kind for a variable.
+/// Whether what an external global stands for is there: a unit for an entry, and an external of its kind for a
+/// variable.
 fn link_stands(program: &Module, global: &Global, link: u16) -> bool
     ensures { result ≡ spelling.is_good_link (module_view program.now) (global_view global.now) link }
 {
