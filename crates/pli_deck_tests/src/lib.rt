@@ -1,0 +1,5 @@
+//! Tests of decks and modules as bytes.
+#![tactic(auto)]
+
+#[cfg(test)]
+mod spelled;
