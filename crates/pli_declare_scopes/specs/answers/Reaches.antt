@@ -52,8 +52,9 @@ pub record AreReaching (items : Block) (lasts : List (Option ℕ)) (tops : List 
       → IfSome (last_of lasts above) (λ last. below ≤ last) → IsWithin items above below
   pub tops_named : (name : Name) (n : ℕ) → n < length items → is_named items name n ≡ true
       → is_named items name (get_or tops n 0) ≡ true
-  pub outermost : is_ordered ≡ true → (name : Name) (n above : ℕ) → n < length items → is_named items name n ≡ true
-      → IsWithin items above (get_or tops n 0) → is_named items name above ≡ true → get_or tops n 0 ≤ above
+  pub outermost : is_ordered ≡ true → (name : Name) (n above : ℕ) → n < length items
+      → is_named items name n ≡ true → IsWithin items above (get_or tops n 0)
+      → is_named items name above ≡ true → get_or tops n 0 ≤ above
   pub lasts_short : (n : ℕ) → n < length items → IfSome (last_of lasts n) (λ last. last < length items)
   pub tops_back : (n : ℕ) → n < length items → get_or tops n 0 ≤ n
   pub lasts_all : length lasts ≡ length items
@@ -78,8 +79,8 @@ IsReach items names number bound =
     → is_part (reverse (take (length names - 1) names)) (chain_over items (item_at items n).owner) ≡ true
     → n < rank bound
 
--- where a search from a place upwards for an item of a name may begin: the names above it have the same parts that
--- begin with that name
+-- where a search from a place upwards for an item of a name may begin: the names above it have the same parts
+-- that begin with that name
 pub record IsNearest (items : Block) (name : Name) (place : ℕ) (result : Option ℕ) : Type 0 where
   pub bounded : IfSome result (λ n. n ≤ place)
   pub counts : IfSome result (λ n. (item_at items n).counts ≡ true)

@@ -5,11 +5,12 @@ use Rattle.pli_declare_outline.specs.Outlines.{Outline}
 use Rattle.pli_declare_attributes.specs.Extents.{all_bounds}
 use Rattle.pli_declare_attributes.specs.Faults.{with_bounds}
 use Rattle.pli_declare_tables.specs.Tables.{entries_in}
-use Rattle.pli_declare_variables.specs.Descriptions.{is_of_shape, scalar_at, inside, own_codes, description_of}
+use Rattle.pli_declare_variables.specs.Descriptions.{is_of_shape, scalar_at, inside, own_codes}
+use Rattle.pli_declare_variables.specs.Descriptions.{description_of}
 use Rattle.pli_declare_variables.specs.Places.{item_of, members_of}
 
--- the description of an item that has none of A3 to A7 is that of its members, or of its own type where it has
--- none, with its bounds
+-- the description of an item that has none of A3 to A7 is that of its members, or of its own type where it
+-- has none, with its bounds
 abbrev pub DescribedByMembers : Type 0
 DescribedByMembers = (o : Outline) (block : ℕ) (parameters : List Name) (n : ℕ)
     → n < length (entries_in o block)
