@@ -1,15 +1,15 @@
 //! A build from scratch of the members.
 ghost use Rattle.std.specs.Prelude.{◌≡◌, ◌++◌, IfOk, OnOk, map};
 ghost use Rattle.std.specs.List.{flat_map};
-ghost use Rattle.pli_meaning.specs.Scratch.{scratch, link_line, all_text, all_units, text_in, units_in, code_line, place_line};
+ghost use Rattle.pli_meaning.specs.Scratch.{scratch, link_line, all_text, all_units, text_in, units_in, code_line, name_line};
 ghost use Rattle.pli_bench.specs.answers.Building.{built_view};
-ghost use Rattle.pli_link.specs.answers.Answers.{compiled_view, fault_view, place_view};
+ghost use Rattle.pli_link.specs.views.UnitView.{compiled_view};
 
 use crate::answer::append_parts;
 use crate::compile::compile;
 use pli_base::Code;
 use pli_include::Expander;
-use pli_link::{Compiled, LinkError, LinkFault, LinkedProcedure, link};
+use pli_link::{Compiled, LinkError, LinkFault, LinkedName, link};
 use pli_members::{MemberKind, Members, NamedMember};
 use pli_unit_code::Module;
 use std::alloc::{AllocError, Global};
@@ -88,9 +88,9 @@ fn write_code(text: &mut Vec<u8>, code: Code) -> Result<(), AllocError>
     )
 }
 
-/// Appends `code text procedure unit`.
-fn write_place(text: &mut Vec<u8>, code: Code, place: LinkedProcedure) -> Result<(), AllocError>
-    ensures { OnOk result (text.new.items ≡ text.old.items ++ place_line code (place_view place)) }
+/// Appends `code text name unit`.
+fn write_name(text: &mut Vec<u8>, code: Code, linked: LinkedName) -> Result<(), AllocError>
+    ensures { OnOk result (text.new.items ≡ text.old.items ++ name_line code linked) }
 {
     append_parts(
         text,
@@ -99,9 +99,9 @@ fn write_place(text: &mut Vec<u8>, code: Code, place: LinkedProcedure) -> Result
             b" ",
             code.text().as_bytes(),
             b" ",
-            place.procedure.bytes(),
+            linked.name.bytes(),
             b" ",
-            place.unit.bytes(),
+            linked.unit.bytes(),
             b"\n",
         ],
     )
@@ -109,19 +109,21 @@ fn write_place(text: &mut Vec<u8>, code: Code, place: LinkedProcedure) -> Result
 
 /// Appends the line of a fault of linking.
 fn write_link_fault(text: &mut Vec<u8>, fault: LinkFault) -> Result<(), AllocError>
-    ensures { OnOk result (text.new.items ≡ text.old.items ++ link_line (fault_view fault)) }
+    ensures { OnOk result (text.new.items ≡ text.old.items ++ link_line fault) }
 {
     match fault {
         LinkFault::NoMainProcedure => write_code(text, Code::NoMainProcedure),
-        LinkFault::TwoMainProcedures(place) => write_place(text, Code::TwoMainProcedures, place),
-        LinkFault::DefinedTwice(place) => write_place(text, Code::DefinedTwice, place),
+        LinkFault::TwoMainProcedures(name) => write_name(text, Code::TwoMainProcedures, name),
+        LinkFault::Unresolved(name) => write_name(text, Code::Unresolved, name),
+        LinkFault::DefinedTwice(name) => write_name(text, Code::DefinedTwice, name),
+        LinkFault::Mismatch(name) => write_name(text, Code::Mismatch, name),
         LinkFault::ModuleTooLarge => write_code(text, Code::ModuleTooLarge),
     }
 }
 
 /// The lines of faults of linking.
 fn link_text(alloc: Global, faults: &[LinkFault]) -> Result<Vec<u8>, AllocError>
-    ensures { IfOk result (λ text. text.items ≡ flat_map link_line (map fault_view faults.now)) }
+    ensures { IfOk result (λ text. text.items ≡ flat_map link_line faults.now) }
 {
     let mut text = Vec::new(alloc);
     for fault in faults {

@@ -7,7 +7,7 @@ ghost use Rattle.pli_type.specs.NamedUnits.{checked_unit};
 ghost use Rattle.pli_meaning.specs.Scratch.{all_located, coded_from, compiled_of, compiled_texts, diagnostic_line, located, origin_of};
 ghost use Rattle.pli_bench.specs.answers.Compiling.{Compiles, Tells, of_checking, of_generating, of_parsing, of_resolving};
 ghost use Rattle.pli_bench.specs.declared.compile.CompileError.TheVariants as errors;
-ghost use Rattle.pli_link.specs.answers.Answers.{compiled_view};
+ghost use Rattle.pli_link.specs.views.UnitView.{compiled_view};
 
 use crate::answer::append_parts;
 use itoa::Buffer;
@@ -120,7 +120,7 @@ fn compile_resolved(
     let code = generate(alloc, &typed)?;
     Ok(Compiled {
         unit,
-        procedure: typed.name,
+        procedure: typed.procedure,
         is_main: typed.is_main,
         code,
     })

@@ -1,9 +1,9 @@
 //! Units that are linked, with what a link gives of them.
 use pli_base::Name;
-use pli_link::{Compiled, LinkError, LinkFault, LinkedProcedure, link};
+use pli_link::{Compiled, LinkError, LinkFault, LinkedName, link};
 use pli_map::{Bounds, Description};
 use pli_text_tests::{Shown, agree};
-use pli_unit_code::{Code, CodedTemplate, Instruction, Module};
+use pli_unit_code::{Code, CodedGlobal, CodedSignature, CodedTemplate, Instruction, Module};
 use std::alloc::{AllocError, Global};
 use std::test::Fail;
 
@@ -31,7 +31,7 @@ static CASES: [Case; 9] = [
         &[("A", "F", false), ("B", "G", false), ("C", "M", true)],
         "C 2",
     ),
-    // faults by code, then procedure, then unit
+    // faults by code, then name, then unit
     (
         &[
             ("A", "M", true),
@@ -63,9 +63,18 @@ pub fn named(name: &str) -> Result<Name, Fail> {
     Ok(Name::read(name.as_bytes()).ok_or("a name")?)
 }
 
+/// What a procedure without parameters and result takes and gives.
+fn no_signature(alloc: Global) -> CodedSignature {
+    CodedSignature {
+        parameters: Vec::new(alloc),
+        result: None,
+    }
+}
+
 /// Code of one step, without tables.
 fn code_of(alloc: Global, statement: u32) -> Result<Code, AllocError> {
     Ok(Code {
+        signature: no_signature(alloc),
         descriptions: Vec::new(alloc),
         templates: Vec::new(alloc),
         values: Vec::new(alloc),
@@ -86,34 +95,40 @@ fn compiled(alloc: Global, row: Row, place: usize) -> Result<Compiled, Fail> {
     })
 }
 
-/// Puts a fault with its procedure and unit.
-fn show_place(text: &mut Shown, label: &str, place: LinkedProcedure) {
+/// Puts a fault with its name and unit.
+fn show_name(text: &mut Shown, label: &str, linked: LinkedName) {
     text.put(label);
-    text.put_bytes(place.procedure.bytes());
+    text.put_bytes(linked.name.bytes());
     text.put(" ");
-    text.put_bytes(place.unit.bytes());
+    text.put_bytes(linked.unit.bytes());
     text.put(";");
 }
 
-/// Faults, each with its procedure and unit.
+/// Faults, each with its name and unit.
 fn told(alloc: Global, faults: &[LinkFault]) -> Result<String, AllocError> {
     let mut text = Shown::new(alloc);
     for fault in faults {
         match *fault {
             LinkFault::NoMainProcedure => text.put("N1;"),
-            LinkFault::TwoMainProcedures(place) => show_place(&mut text, "N2 ", place),
-            LinkFault::DefinedTwice(place) => show_place(&mut text, "N4 ", place),
+            LinkFault::TwoMainProcedures(name) => show_name(&mut text, "N2 ", name),
+            LinkFault::Unresolved(name) => show_name(&mut text, "N3 ", name),
+            LinkFault::DefinedTwice(name) => show_name(&mut text, "N4 ", name),
+            LinkFault::Mismatch(name) => show_name(&mut text, "N5 ", name),
             LinkFault::ModuleTooLarge => text.put("N6;"),
         }
     }
     text.into_text()
 }
 
-/// A module's unit, and the number of the one step that it has.
+/// The main unit of a module, and the number of the one step that it has.
 fn one_step(alloc: Global, module: &Module) -> Result<String, AllocError> {
     let mut text = Shown::new(alloc);
-    text.put_bytes(module.unit.bytes());
-    match module.code.instructions.as_slice() {
+    let Some(main) = module.units.get(usize::from(module.main)) else {
+        text.put("no main unit");
+        return text.into_text();
+    };
+    text.put_bytes(main.unit.bytes());
+    match main.code.instructions.as_slice() {
         [Instruction::Step { statement }] => text.put_number(" ", u64::from(*statement)),
         _ => text.put(" with another number of steps"),
     }
@@ -148,7 +163,8 @@ fn array_of(alloc: Global, rows: i16, columns: i16) -> Result<Description, Alloc
 /// Adds a variable of so many times so many bytes to those that are made before the program begins.
 fn add_global(alloc: Global, code: &mut Code, rows: i16, columns: i16) -> Result<(), Fail> {
     let number = u16::try_from(code.templates.len()).ok().ok_or("a number")?;
-    code.globals.push(number)?;
+    code.globals
+        .push(CodedGlobal::OwnVariable { template: number })?;
     code.templates.push(CodedTemplate {
         description: number,
         initial: Vec::new(alloc),
@@ -202,6 +218,115 @@ fn variables_of_the_program(rt: HostRuntime) -> Result<(), Fail> {
     let rows = [("A", "F", false), ("M", "M", true)];
     for &(sizes, wanted) in &SIZES {
         agree(wanted, &linked(rt.alloc(), &rows, sizes)?, wanted)?;
+    }
+    Ok(())
+}
+
+/// An external variable of so many characters, or the entry of a procedure without parameters.
+#[derive(Clone, Copy)]
+enum Shared {
+    Characters(u16),
+    Entry,
+}
+
+/// Adds what is shared under a name.
+fn add_shared(alloc: Global, code: &mut Code, name: &str, shared: Shared) -> Result<(), Fail> {
+    let name = named(name)?;
+    match shared {
+        Shared::Characters(length) => {
+            let number = u16::try_from(code.templates.len()).ok().ok_or("a number")?;
+            code.descriptions.push(Description::Character(length))?;
+            code.templates.push(CodedTemplate {
+                description: number,
+                initial: Vec::new(alloc),
+            })?;
+            code.globals.push(CodedGlobal::ExternalVariable {
+                name,
+                template: number,
+            })?;
+        }
+        Shared::Entry => {
+            let signature = no_signature(alloc);
+            code.globals
+                .push(CodedGlobal::EntryPoint { name, signature })?;
+        }
+    }
+    Ok(())
+}
+
+/// What each unit shares, by name.
+type SharedRow = (Row, &'static [(&'static str, Shared)]);
+
+/// Units that share variables and call each other, and what a link gives of them.
+static SHARED: [(&[SharedRow], &str); 4] = [
+    (
+        &[(
+            ("M", "M", true),
+            &[("Z", Shared::Characters(4)), ("Q", Shared::Entry)],
+        )],
+        "N3 Q M;",
+    ),
+    (
+        &[
+            (
+                ("M", "M", true),
+                &[("Z", Shared::Characters(4)), ("Q", Shared::Entry)],
+            ),
+            (("Q", "Q", false), &[("Z", Shared::Characters(5))]),
+        ],
+        "N5 Z Q;",
+    ),
+    (
+        &[
+            (
+                ("M", "M", true),
+                &[("Z", Shared::Characters(4)), ("Q", Shared::Entry)],
+            ),
+            (("Q", "Q", false), &[("Z", Shared::Characters(4))]),
+        ],
+        "M 0",
+    ),
+    // faults by name, then unit, each once
+    (
+        &[
+            (
+                ("A", "A", true),
+                &[("Z", Shared::Characters(1)), ("Y", Shared::Characters(1))],
+            ),
+            (
+                ("B", "B", false),
+                &[
+                    ("Z", Shared::Characters(2)),
+                    ("Y", Shared::Characters(2)),
+                    ("Z", Shared::Characters(3)),
+                ],
+            ),
+            (
+                ("C", "C", false),
+                &[("Y", Shared::Characters(2)), ("B", Shared::Characters(1))],
+            ),
+        ],
+        "N5 B C;N5 Y B;N5 Y C;N5 Z B;",
+    ),
+];
+
+/// What a link of units that share these gives.
+fn linked_sharing(alloc: Global, rows: &[SharedRow]) -> Result<String, Fail> {
+    let mut units = Vec::new(alloc);
+    for (place, row) in rows.iter().enumerate() {
+        let mut unit = compiled(alloc, row.0, place)?;
+        for &(name, shared) in row.1 {
+            add_shared(alloc, &mut unit.code, name, shared)?;
+        }
+        units.push(unit)?;
+    }
+    Ok(linked_units(alloc, units)?)
+}
+
+#[test]
+fn shared_names(rt: HostRuntime) -> Result<(), Fail> {
+    for &(rows, wanted) in &SHARED {
+        agree(wanted, &linked_sharing(rt.alloc(), rows)?, wanted)?;
     }
     Ok(())
 }

@@ -22,7 +22,7 @@ use Rattle.pli_type.specs.Typing.{Segment, OfVariable, OfFunction, OfNoVariable,
 use Rattle.pli_type.specs.Typing.{referred, joined, begun, is_call, all_subscripts, subscripts_in, all_arguments}
 use Rattle.pli_type.specs.Typing.{as_value, one_value, ended, with_more}
 use Rattle.pli_type.specs.declared.expression_type.ExpressionType.{ExpressionType}
-use Rattle.pli_type_tree.specs.TypedTree.{TypedExpression, TypedArguments}
+use Rattle.pli_type_tree.specs.TypedTree.{Callee, TypedExpression, TypedArguments}
 use Rattle.pli_fault_laws.proofs.Below.{Below, below_left, below_right}
 
 -- a fault, where there is one, stands before the bound; of what else is given, this is true
@@ -127,16 +127,16 @@ pub only_passed : (high greatest : ℕ) (p : NamedProcedure) (at : ℕ) (gs : Li
     → Only high (arguments_passed greatest p at gs)
 only_passed high greatest p at gs h = only_if high _ _ _ (only_wrong high at _ h) (told high _ _ h)
 
-only_result : (high at block : ℕ) (arguments : TypedArguments) (o : Option ExpressionType) → at < high
-    → Only high (result_of at block arguments o)
-only_result high at block arguments None h = told high _ _ h
-only_result high at block arguments (Some kind) h = fine high _
+only_result : (high at : ℕ) (callee : Callee) (arguments : TypedArguments) (o : Option ExpressionType) → at < high
+    → Only high (result_of at callee arguments o)
+only_result high at callee arguments None h = told high _ _ h
+only_result high at callee arguments (Some kind) h = fine high _
 
 procedure_stands : (high greatest : ℕ) (p : NamedProcedure) (at : ℕ) (gs : List Argument) → at < high
     → Gives high (Stands high) (typing.procedure_called greatest p at gs)
 procedure_stands high greatest p at gs h =
     then_gives high (Stands high) _ _ (only_passed high greatest p at gs h)
-    (λ passed. then_gives high (Stands high) _ _ (only_result high at p.block passed _ h) (λ v. gives high (Stands high) _ tt))
+    (λ passed. then_gives high (Stands high) _ _ (only_result high at p.callee passed _ h) (λ v. gives high (Stands high) _ tt))
 
 only_given : (high at : ℕ) (o : Option TypedValue) → at < high → Only high (or_bad_argument at o)
 only_given high at None h = told high _ _ h

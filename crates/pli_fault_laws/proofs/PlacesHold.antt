@@ -14,7 +14,7 @@ use Rattle.pli_gen_tree.specs.Limits.{is_too_long}
 use Rattle.pli_include.specs.Expanded.{look_in}
 use Rattle.pli_include.specs.Expansion.{token_limit}
 use Rattle.pli_include.proofs.StepsKeep.{texts_have_origins}
-use Rattle.pli_link.specs.Link.{Compiled}
+use Rattle.pli_link.specs.Units.{Compiled}
 use Rattle.pli_meaning.specs.Scratch.{Diagnostic, origin_of, located, typed_unless, program_from, program_of, all_located, too_long, coded_from, compiled_texts, compiled_from, compiled_of}
 use Rattle.pli_parse.proofs.StatementFaultPlaces.{unit_fault_stands}
 use Rattle.pli_parse_statement.specs.StatementReading.{unit_of}
@@ -63,7 +63,7 @@ long_stands ts true c fs e = subst (AllStand ts) (ap faults_in e) (first_stands 
 long_stands ts false c fs e = absurd (cc)
 
 coded_stand : (unit : Name) (ts : Tokens) (r : Result TypedUnit (List Fault)) (fs : List Fault) → ((gs : List Fault) → r ≡ Err gs → AllStand ts gs) → coded_from unit r ≡ Err fs → AllStand ts fs
-coded_stand unit ts (Ok u) fs h e = long_stands ts (is_too_long (code_of u)) (record { unit = unit; procedure = u.name; is_main = u.is_main; code = code_of u }) fs e
+coded_stand unit ts (Ok u) fs h e = long_stands ts (is_too_long (code_of u)) (record { unit = unit; procedure = u.procedure; is_main = u.is_main; code = code_of u }) fs e
 coded_stand unit ts (Err gs) fs h e = subst (AllStand ts) (ap faults_in e) (h gs refl)
 
 pub faults_have_places : FaultsHavePlaces

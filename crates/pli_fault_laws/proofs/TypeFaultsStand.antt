@@ -20,7 +20,7 @@ use Rattle.pli_type.specs.StatementTyping as statements
 use Rattle.pli_type.specs.StatementTyping.{WithProcedures}
 use Rattle.pli_type.specs.Temporaries.{Next}
 use Rattle.pli_type.specs.Typing.{first_token}
-use Rattle.pli_type_tree.specs.TypedTree.{TypedArguments, TypedRange, TypedStatements, TypedProcedure, TypedUnit}
+use Rattle.pli_type_tree.specs.TypedTree.{Callee, TypedArguments, TypedRange, TypedStatements, TypedProcedure, TypedUnit}
 use Rattle.pli_fault_laws.specs.StatementStarts.{Begins, BodyBegins, AllBegin, ElseBegins}
 use Rattle.pli_fault_laws.specs.TypeFaultPlaces.{AllStand, TypeFaultsStandAtTokens}
 use Rattle.pli_fault_laws.proofs.Below.{Below, rising_below, below_left, below_right}
@@ -64,16 +64,16 @@ only_goto : (high : ℕ) (n : Naming) (s : statements.Surroundings) (label : Ide
     → Only high (statements.goto_typed n s label)
 only_goto high n s label h = only_or high NotYetBuilt label.at _ h
 
-only_no_function : (high at block : ℕ) (d : Option Description) (arguments : TypedArguments) → at < high
-    → Only high (statements.no_function at block d arguments)
-only_no_function high at block None arguments h = fine high _
-only_no_function high at block (Some d) arguments h = told high _ _ h
+only_no_function : (high at : ℕ) (callee : Callee) (d : Option Description) (arguments : TypedArguments) → at < high
+    → Only high (statements.no_function at callee d arguments)
+only_no_function high at callee None arguments h = fine high _
+only_no_function high at callee (Some d) arguments h = told high _ _ h
 
 only_call_of : (high greatest at : ℕ) (name : NamedAs) (gs : List Argument) → at < high
     → Only high (statements.call_of greatest at name gs)
 only_call_of high greatest at (AProcedure p) gs h =
     only_then high _ _ (only_passed high greatest p at gs h)
-    (λ arguments. only_no_function high at p.block p.returned arguments h)
+    (λ arguments. only_no_function high at p.callee p.returned arguments h)
 only_call_of high greatest at (AVariable v) gs h = told high _ _ h
 only_call_of high greatest at (AFunction function) gs h = told high _ _ h
 only_call_of high greatest at (ALabel statement) gs h = told high _ _ h

@@ -7,14 +7,15 @@ use Rattle.pli_operation.specs.declared.operation.Operation.{Operation}
 use Rattle.pli_operation.specs.views.OperationView.{operation_view}
 use Rattle.pli_machine_step.specs.Program as op
 use Rattle.pli_type_tree.specs.TypedTree.{TypedArguments, NoArgument}
-use Rattle.pli_type_tree.specs.views.TypedView.{root_view, expression_view, reference_view, argument_before, operands_view, subscripts_view, arguments_view}
+use Rattle.pli_type_tree.specs.views.TypedView.{root_view, callee_view, expression_view, reference_view, argument_before, operands_view, subscripts_view, arguments_view}
 use Rattle.pli_type_tree.specs.laws.TypedTreeLaws.{calculated_made, called_made, part_made}
+use Rattle.pli_type_tree.specs.declared.expression.Callee.{Callee}
 use Rattle.pli_type_tree.specs.declared.expression.Root.{Root}
 use Rattle.pli_type_tree.specs.declared.expression.TypedExpression.{TypedExpression, Calculated, Called}
 use Rattle.pli_type_tree.specs.declared.expression.TypedReference.{Part}
 use Rattle.pli_type_tree.specs.declared.expression.TypedSubscript.{TypedSubscript}
 use Rattle.pli_type_tree.specs.declared.expression.TypedArgument.{TypedArgument, ByPlace, ByDummy}
-use Rattle.pli_gen_emit.specs.TreeTranslation.{argument_count, root_code, value_code, place_code, operands_code, subscripts_code, arguments_code}
+use Rattle.pli_gen_emit.specs.TreeTranslation.{argument_count, root_code, call_instruction, value_code, place_code, operands_code, subscripts_code, arguments_code}
 
 pub operation_code_made : (operation : Operation) (operands : Vec TypedExpression Global)
     → value_code (expression_view (Calculated operation operands)) ≡ operands_code (operands_view operands.items) ++ op.Operate (operation_view operation) ∷ []
@@ -28,11 +29,11 @@ pub arguments_counted : (xs : List TypedArgument) → argument_count (arguments_
 arguments_counted [] = refl
 arguments_counted (a ∷ xs) = one_more a (arguments_view xs) ∙ ap suc (arguments_counted xs)
 
-pub call_code_made : (block : ℕ) (arguments : Vec TypedArgument Global)
-    → value_code (expression_view (Called block arguments)) ≡ arguments_code (arguments_view arguments.items) ++ op.Call block (length arguments.items) ∷ []
-call_code_made block arguments =
-    ap value_code (called_made block arguments)
-    ∙ ap (λ n. arguments_code (arguments_view arguments.items) ++ op.Call block n ∷ []) (arguments_counted arguments.items)
+pub call_code_made : (callee : Callee) (arguments : Vec TypedArgument Global)
+    → value_code (expression_view (Called callee arguments)) ≡ arguments_code (arguments_view arguments.items) ++ call_instruction (callee_view callee) (length arguments.items) ∷ []
+call_code_made callee arguments =
+    ap value_code (called_made callee arguments)
+    ∙ ap (λ n. arguments_code (arguments_view arguments.items) ++ call_instruction (callee_view callee) n ∷ []) (arguments_counted arguments.items)
 
 pub part_code_made : (root : Root) (offset : ℕ) (description : Description) (subscripts : Vec TypedSubscript Global)
     → place_code (reference_view (Part root offset description subscripts))

@@ -5,10 +5,10 @@ use Rattle.std.specs.Prelude.{ℕ, suc, ◌+◌, nat_eq, Bool, true, false, Opti
 use Rattle.std.specs.Prelude.{map, length, if◌then◌else◌}
 use Rattle.std.specs.List.{filter, flat_map, range_with_len}
 use Rattle.pli_code.specs.declared.ending.RunError.TheVariants.{NoReturnedValue}
-use Rattle.pli_machine_step.specs.Program.{Instruction, Step, Line, Jump, JumpUnless, Local, Global, Field}
+use Rattle.pli_machine_step.specs.Program.{Instruction, Step, Line, Jump, JumpUnless, Local, Field}
 use Rattle.pli_machine_step.specs.Program.{Subscript, Constant, Load, Store, Copy, MakeDummy, Operate, Skip}
 use Rattle.pli_machine_step.specs.Program.{Raise}
-use Rattle.pli_machine_step.specs.Program.{BlockKind, Procedure, BeginBlock, Block, UnitCode}
+use Rattle.pli_machine_step.specs.Program.{BlockKind, Procedure, BeginBlock, Block, GlobalCode, UnitCode}
 use Rattle.pli_machine_step.specs.Program as op
 use Rattle.pli_operation.specs.Operations.{Operation, Add, Within}
 use Rattle.pli_type_tree.specs.Iterations.{kept_by, limit_number, step_number, is_iterated}
@@ -21,7 +21,8 @@ use Rattle.pli_type_tree.specs.TypedTree.{Form, Null, Assign, AssignAggregate, P
 use Rattle.pli_type_tree.specs.TypedTree.{Iterate, TypedRange, Once, ToBy, ByTo, Repeated, Iteration}
 use Rattle.pli_type_tree.specs.TypedTree.{Call, Goto, Return, ReturnValue, Stop, OtherWise, NoElse, Else}
 use Rattle.pli_type_tree.specs.TypedTree.{TypedStatements, NoStatement, StatementThen, TypedProcedure}
-use Rattle.pli_type_tree.specs.TypedTree.{TypedUnit}
+use Rattle.pli_type_tree.specs.TypedTree.{Callee, OfBlock, OfEntry, Global, OwnVariable, ExternalVariable}
+use Rattle.pli_type_tree.specs.TypedTree.{EntryPoint, TypedUnit}
 
 -- how many arguments there are
 abbrev pub argument_count : TypedArguments → ℕ
@@ -34,7 +35,12 @@ argument_count (ByDummy description value more) = suc (argument_count more)
 -- the place at which a reference begins
 abbrev pub root_code : Root → List Instruction
 root_code (InSlot outward slot) = Local outward slot ∷ []
-root_code (OfProgram number) = Global number ∷ []
+root_code (OfProgram number) = op.Global number ∷ []
+
+-- the instruction of a call
+abbrev pub call_instruction : Callee → (arguments : ℕ) → Instruction
+call_instruction (OfBlock block) arguments = op.Call block arguments
+call_instruction (OfEntry number) arguments = op.CallExternal number arguments
 
 abbrev mutual
   -- the value of an expression: a constant; a variable's place and what it holds; the operands and the
@@ -43,8 +49,8 @@ abbrev mutual
   value_code (Literal value) = Constant value ∷ []
   value_code (Held variable) = place_code variable ++ Load ∷ []
   value_code (Calculated operation operands) = operands_code operands ++ Operate operation ∷ []
-  value_code (Called block arguments) =
-      arguments_code arguments ++ op.Call block (argument_count arguments) ∷ []
+  value_code (Called callee arguments) =
+      arguments_code arguments ++ call_instruction callee (argument_count arguments) ∷ []
 
   -- a place: the variable's; for a part of one its field, and then its subscripts
   pub place_code : TypedReference → List Instruction
@@ -70,8 +76,9 @@ abbrev mutual
       value_code value ++ MakeDummy description ∷ arguments_code more
 
 -- the code of a call, with its arguments
-abbrev pub call_code : (block : ℕ) → TypedArguments → List Instruction
-call_code block arguments = arguments_code arguments ++ op.Call block (argument_count arguments) ∷ []
+abbrev pub call_code : Callee → TypedArguments → List Instruction
+call_code callee arguments =
+    arguments_code arguments ++ call_instruction callee (argument_count arguments) ∷ []
 
 -- SKIP
 abbrev pub skip_code : Bool → List Instruction
@@ -210,7 +217,7 @@ abbrev mutual
   form_code number (While condition statements) p =
       turns_code number (value_code condition) (list_code statements) p
   form_code number (Iterate iteration statements) p = iterate_code number iteration (list_code statements) p
-  form_code number (Call block arguments) p = call_code block arguments
+  form_code number (Call callee arguments) p = call_code callee arguments
   form_code number (Goto outward label) p = op.Goto outward label ∷ []
   form_code number (Return outward) p = op.Return outward ∷ []
   form_code number (ReturnValue outward value) p = value_code value ++ op.ReturnValue outward ∷ []
@@ -371,13 +378,22 @@ with_target places i = i
 abbrev pub instructions_of : List BlockTree → List Instruction
 instructions_of bs = map (with_target (places_of bs 0)) (blocks_code bs 0)
 
--- the code of a unit
-abbrev pub unit_code : TypedUnit → UnitCode
-unit_code u =
+-- the globals of a unit, where its entries are the units of these numbers in turn
+abbrev pub globals_code : List Global → (entries : List ℕ) → List GlobalCode
+globals_code [] entries = []
+globals_code (OwnVariable t ∷ gs) entries = op.OwnVariable (variable_of t) ∷ globals_code gs entries
+globals_code (ExternalVariable name t ∷ gs) entries =
+    op.ExternalVariable name (variable_of t) ∷ globals_code gs entries
+globals_code (EntryPoint name signature ∷ gs) [] = globals_code gs []
+globals_code (EntryPoint name signature ∷ gs) (unit ∷ units) = op.EntryPoint unit ∷ globals_code gs units
+
+-- the code of a unit, and of its entries the numbers of their units
+abbrev pub unit_code : TypedUnit → (entries : List ℕ) → UnitCode
+unit_code u entries =
     let bs = blocks_of u in
     record {
       name = u.name;
-      statics = map variable_of u.statics;
+      globals = globals_code u.globals entries;
       blocks = blocks_at bs 0;
       instructions = instructions_of bs;
     }

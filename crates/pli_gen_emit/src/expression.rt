@@ -1,16 +1,17 @@
 //! The code of references and expressions.
 ghost use Rattle.std.specs.Prelude.{◌≡◌, ◌∷◌, []};
-ghost use Rattle.pli_type_tree.specs.views.TypedView.{root_view, expression_view, reference_view, argument_before};
+ghost use Rattle.pli_type_tree.specs.views.TypedView.{root_view, callee_view, expression_view, reference_view};
+ghost use Rattle.pli_type_tree.specs.views.TypedView.{argument_before};
 ghost use Rattle.pli_type_tree.specs.views.TypedView.{operands_view, subscripts_view, arguments_view};
 ghost use Rattle.pli_type_tree.specs.TypedTree.{NoArgument};
-ghost use Rattle.pli_gen_emit.specs.TreeTranslation.{root_code, value_code, place_code};
+ghost use Rattle.pli_gen_emit.specs.TreeTranslation.{root_code, call_instruction, value_code, place_code};
 ghost use Rattle.pli_gen_emit.specs.TreeTranslation.{operands_code, subscripts_code, arguments_code};
 ghost use Rattle.pli_gen_emit.specs.answers.Emitting.{Emits};
-ghost use Rattle.pli_gen_emit.specs.views.NamingView.{naming_code};
+ghost use Rattle.pli_gen_emit.specs.views.NamingView.{naming_view, naming_code};
 
 use crate::emitter::Emitter;
 use crate::naming::NamingInstruction;
-use pli_type_tree::{Root, TypedArgument, TypedExpression, TypedReference, TypedSubscript};
+use pli_type_tree::{Callee, Root, TypedArgument, TypedExpression, TypedReference, TypedSubscript};
 
 /// The instruction for the place at which a reference begins.
 fn root_instruction<'a>(root: Root) -> NamingInstruction<'a>
@@ -19,6 +20,19 @@ fn root_instruction<'a>(root: Root) -> NamingInstruction<'a>
     match root {
         Root::InSlot { outward, slot } => NamingInstruction::Local { outward, slot },
         Root::OfProgram { number } => NamingInstruction::Global { number },
+    }
+}
+
+/// The instruction of a call with so many arguments.
+pub(crate) fn call_instruction<'a>(callee: Callee, arguments: usize) -> NamingInstruction<'a>
+    ensures { naming_view result ≡ call_instruction (callee_view callee) arguments }
+{
+    match callee {
+        Callee::OfBlock { block } => NamingInstruction::Call { block, arguments },
+        Callee::OfEntry { number } => NamingInstruction::CallExternal {
+            global: number,
+            arguments,
+        },
     }
 }
 
@@ -40,13 +54,10 @@ pub(crate) fn emit_value<'a>(expression: &'a TypedExpression, code: &mut Emitter
             emit_operands(operands.as_slice(), code);
             code.emit(NamingInstruction::Operate(operation))
         }
-        TypedExpression::Called { block, arguments } => {
+        TypedExpression::Called { callee, arguments } => {
             let arguments = arguments.as_slice();
             emit_arguments(arguments, code);
-            code.emit(NamingInstruction::Call {
-                block: *block,
-                arguments: arguments.len(),
-            })
+            code.emit(call_instruction(*callee, arguments.len()))
         }
     }
 }

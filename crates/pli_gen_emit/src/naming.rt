@@ -29,6 +29,10 @@ pub enum NamingInstruction<'a> {
         block: u32,
         arguments: usize,
     },
+    CallExternal {
+        global: u32,
+        arguments: usize,
+    },
     Begin {
         block: u32,
     },

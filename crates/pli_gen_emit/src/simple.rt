@@ -6,7 +6,7 @@ ghost use Rattle.pli_gen_emit.specs.answers.Emitting.{Emits};
 ghost use Rattle.pli_gen_emit.specs.answers.Pieces.{simple_code};
 
 use crate::emitter::Emitter;
-use crate::expression::{emit_arguments, emit_place, emit_value};
+use crate::expression::{call_instruction, emit_arguments, emit_place, emit_value};
 use crate::naming::NamingInstruction;
 use pli_type_tree::{Form, TypedExpression};
 
@@ -42,13 +42,10 @@ pub(crate) fn emit_simple<'a>(form: &'a Form, code: &mut Emitter<'a>)
             emit_items(items.as_slice(), code);
         }
         Form::Begin { head, .. } => code.emit(NamingInstruction::Begin { block: head.number }),
-        Form::Call { block, arguments } => {
+        Form::Call { callee, arguments } => {
             let arguments = arguments.as_slice();
             emit_arguments(arguments, code);
-            code.emit(NamingInstruction::Call {
-                block: *block,
-                arguments: arguments.len(),
-            });
+            code.emit(call_instruction(*callee, arguments.len()));
         }
         Form::Goto { outward, label } => code.emit(NamingInstruction::Goto {
             outward: *outward,

@@ -13,10 +13,11 @@ use Rattle.pli_type_tree.specs.TypedTree.{Subscripts, NoSubscript, SubscriptThen
 use Rattle.pli_type_tree.specs.TypedTree.{Form, Null, Assign, AssignAggregate, Put, If, Begin, Group, While, Iterate, Call, Goto, Return, ReturnValue, Stop}
 use Rattle.pli_type_tree.specs.Iterations.{kept_by, limit_number, step_number, is_iterated}
 use Rattle.pli_type_tree.specs.TypedTree.{Iteration, TypedRange, Once, ToBy, ByTo, Repeated}
+use Rattle.pli_type_tree.specs.TypedTree.{Callee, OfBlock, OfEntry, Global, OwnVariable, ExternalVariable, EntryPoint}
 use Rattle.pli_type_tree.specs.TypedTree.{OtherWise, NoElse, Else, TypedStatements, NoStatement, StatementThen, TypedProcedure, TypedUnit}
-use Rattle.pli_gen_emit.specs.TreeTranslation.{argument_count, root_code, value_code, place_code, operands_code, subscripts_code, arguments_code, call_code, skip_code, items_code, behind}
+use Rattle.pli_gen_emit.specs.TreeTranslation.{argument_count, root_code, call_instruction, value_code, place_code, operands_code, subscripts_code, arguments_code, call_code, skip_code, items_code, behind}
 use Rattle.pli_gen_emit.specs.TreeTranslation.{statement_code, form_code, list_code, places_in, places_in_form, places_in_else, places_among, statement_place, with_target, BlockTree, begin_block}
-use Rattle.pli_gen_emit.specs.TreeTranslation.{blocks_in, blocks_of_form, blocks_among, blocks_of_procedure, blocks_of, end_code, block_code, blocks_code, places_of, block_at, blocks_at, unit_code}
+use Rattle.pli_gen_emit.specs.TreeTranslation.{blocks_in, blocks_of_form, blocks_among, blocks_of_procedure, blocks_of, end_code, block_code, blocks_code, places_of, block_at, blocks_at, globals_code, unit_code}
 use Rattle.pli_gen_emit.specs.TreeTranslation.{keeps_code, conversion_code, sets_code, start_code, test_against, limit_test, while_test, guarded, tests_code, advances_code, back_code}
 use Rattle.pli_gen_emit.specs.TreeTranslation.{turn_place, list_place}
 use Rattle.pli_gen_tree.proofs.IterationCode.{tests_length, iterate_ends}
@@ -27,6 +28,7 @@ use Rattle.std.proofs.lemmas.List.{map-append}
 use Rattle.pli_meaning_tree.specs.TreeMeaning.{number_of}
 use Rattle.pli_meaning_simulation.specs.CodeStands as stand
 use Rattle.pli_meaning_simulation.specs.CodeStands.{Span, Empty, Then, Context, arguments_in, UnitStands}
+use Rattle.pli_gen_stands.specs.Linked.{AreEntries}
 
 -- what is there, or else this
 abbrev or_else : {X : Type 0} → X → Option X → X
@@ -97,11 +99,15 @@ module _ (u : UnitCode) (places : List (ℕ × ℕ)) where
   root_stands (OfProgram number) = one (op.Global number)
 
   -- a call behind its arguments
-  call_stands : (block : ℕ) (args : TypedArguments) → Made (arguments_code args) (stand.ArgumentsStand u args)
-      → Made (call_code block args) (Then (stand.ArgumentsStand u args) (stand.Is u (op.Call block (arguments_in args))))
-  call_stands block args a =
-      joined (arguments_code args) (op.Call block (argument_count args) ∷ []) (stand.ArgumentsStand u args) (stand.Is u (op.Call block (arguments_in args)))
-      a (λ p h. record { here = subst (λ n. slice_get u.instructions p ≡ Some (op.Call block n)) (counts args) h.0; ends = refl })
+  called : (callee : Callee) (args : TypedArguments) → Made (call_instruction callee (argument_count args) ∷ []) (stand.Is u (stand.call_of callee (arguments_in args)))
+  called (OfBlock block) args p h = record { here = subst (λ n. slice_get u.instructions p ≡ Some (op.Call block n)) (counts args) h.0; ends = refl }
+  called (OfEntry number) args p h = record { here = subst (λ n. slice_get u.instructions p ≡ Some (op.CallExternal number n)) (counts args) h.0; ends = refl }
+
+  call_stands : (callee : Callee) (args : TypedArguments) → Made (arguments_code args) (stand.ArgumentsStand u args)
+      → Made (call_code callee args) (Then (stand.ArgumentsStand u args) (stand.Is u (stand.call_of callee (arguments_in args))))
+  call_stands callee args a =
+      joined (arguments_code args) (call_instruction callee (argument_count args) ∷ []) (stand.ArgumentsStand u args) (stand.Is u (stand.call_of callee (arguments_in args)))
+      a (called callee args)
 
   mutual
     value_stands : (e : TypedExpression) → Made (value_code e) (stand.ValueStands u e)
@@ -109,7 +115,7 @@ module _ (u : UnitCode) (places : List (ℕ × ℕ)) where
     value_stands (Held r) p h = joined (place_code r) (op.Load ∷ []) (stand.PlaceStands u r) (stand.Is u op.Load) (λ p h. place_stands r p h) (one op.Load) p h
     value_stands (Calculated operation operands) p h =
         joined (operands_code operands) (op.Operate operation ∷ []) (stand.OperandsStand u operands) (stand.Is u (op.Operate operation)) (λ p h. operands_stand operands p h) (one (op.Operate operation)) p h
-    value_stands (Called block args) p h = call_stands block args (λ p h. arguments_stand args p h) p h
+    value_stands (Called callee args) p h = call_stands callee args (λ p h. arguments_stand args p h) p h
 
     operands_stand : (es : Operands) → Made (operands_code es) (stand.OperandsStand u es)
     operands_stand NoOperand p h = refl
@@ -472,7 +478,7 @@ module _ (u : UnitCode) (places : List (ℕ × ℕ)) where
             };
           },
         )
-    form_stands (Call called args) number block c fits room apart inner p known h = call_stands called args (arguments_stand args) p h
+    form_stands (Call callee args) number block c fits room apart inner p known h = call_stands callee args (arguments_stand args) p h
     form_stands (Goto outward label) number block c fits room apart inner p known h = one (op.Goto outward label) p h
     form_stands (Return outward) number block c fits room apart inner p known h = one (op.Return outward) p h
     form_stands (ReturnValue outward e) number block c fits room apart inner p known h =
@@ -594,7 +600,7 @@ mutual
   numbered_in_form (AssignAggregate target source) p = refl
   numbered_in_form (Put skip items) p = refl
   numbered_in_form (Begin head statements) p = refl
-  numbered_in_form (Call block args) p = refl
+  numbered_in_form (Call callee args) p = refl
   numbered_in_form (Goto outward label) p = refl
   numbered_in_form (Return outward) p = refl
   numbered_in_form (ReturnValue outward e) p = refl
@@ -616,11 +622,21 @@ numbered_blocks (b ∷ bs) p =
     let q = behind (block_code b p) p in
     both_numbered (places_among b.statements p) (places_of bs q) (numbers_among b.statements) (numbers_of bs) (numbered_among b.statements p) (numbered_blocks bs q)
 
-pub code_stands : (t : TypedUnit) → IsWellNumbered t → UnitStands t (unit_code t)
-code_stands t well =
+-- the globals of a unit, where its entries are the units of these numbers
+globals_stand : (program : List TypedUnit) (gs : List Global) (entries : List ℕ) → AreEntries program gs entries → stand.GlobalsStand program gs (globals_code gs entries)
+globals_stand program [] [] h = tt
+globals_stand program [] (n ∷ ns) h = absurd h
+globals_stand program (OwnVariable t ∷ gs) entries h = (refl, globals_stand program gs entries h)
+globals_stand program (ExternalVariable name t ∷ gs) entries h = (refl, globals_stand program gs entries h)
+globals_stand program (EntryPoint name s ∷ gs) [] h = absurd h
+globals_stand program (EntryPoint name s ∷ gs) (n ∷ ns) h =
+    (record { number = n; is = refl; unit = h.0.unit; named = h.0.named; there = h.0.there }, globals_stand program gs ns h.1)
+
+pub code_stands : (program : List TypedUnit) (t : TypedUnit) (entries : List ℕ) → IsWellNumbered t → AreEntries program t.globals entries → UnitStands program t (unit_code t entries)
+code_stands program t entries well linked =
     let bs = blocks_of t in
     let places = places_of bs 0 in
-    let u = unit_code t in
+    let u = unit_code t entries in
     let code = blocks_code bs 0 in
     let zero_and : (k : ℕ) → 0 + k ≡ k = λ k. omega arith in
     let all = stand_all u places code 0 (λ k. ap (slice_get u.instructions) (zero_and k)) in
@@ -628,6 +644,6 @@ code_stands t well =
     record {
       at = statement_place places;
       names = refl;
-      statics = refl;
+      globals = globals_stand program t.globals entries linked;
       procedures = procedures_stand u places t.procedures (all_placed u places bs (flat_map blocks_of_procedure t.procedures) find well.blocks well.loops well.temporaries);
     }

@@ -3,13 +3,14 @@
 
 ghost use Rattle.pli_gen_stands.specs.Laws.{CodeStands, ProgramsRunAsMeant};
 
-/// The code of each unit that is numbered well stands, form by form, as the simulation asks.
+/// The code of each unit that is numbered well stands, form by form, as the simulation asks, and so do its globals, where
+/// its entries have the numbers of the units that have their procedures.
 pub fn code_stands()
     ensures { CodeStands }
 {}
 
 /// For a well-typed program whose units are numbered well, and every number of steps: the program has a meaning, and the
-/// run of its code gives that, and nothing else.
+/// run of its module, with the code of each unit and the units of their entries, gives that, and nothing else.
 pub fn programs_run_as_meant()
     ensures { ProgramsRunAsMeant }
 {}

@@ -103,7 +103,7 @@ mutual
   form_fits number (AssignAggregate target source) p n h = form_fits_alone (AssignAggregate target source) p n h
   form_fits number (Put skip items) p n h = form_fits_alone (Put skip items) p n h
   form_fits number (Begin head statements) p n h = (tt, tt)
-  form_fits number (Call block arguments) p n h = form_fits_alone (Call block arguments) p n h
+  form_fits number (Call callee arguments) p n h = form_fits_alone (Call callee arguments) p n h
   form_fits number (Goto outward label) p n h = (tt, tt)
   form_fits number (Return outward) p n h = (tt, tt)
   form_fits number (ReturnValue outward value) p n h = form_fits_alone (ReturnValue outward value) p n h

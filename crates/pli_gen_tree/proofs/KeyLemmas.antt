@@ -4,7 +4,7 @@ use Rattle.std.specs.Bool.{Decides}
 use Rattle.std.specs.Prelude.{Result, Ok, Err}
 use Rattle.std.specs.Result.{IfOk, is_ok}
 use Rattle.std.proofs.lemmas.Bool.{false≢true}
-use Rattle.std.specs.List.{list_any}
+use Rattle.std.specs.List.{list_any, AllByRecursion}
 use Rattle.std.specs.Ordering.{on}
 use Rattle.std.proofs.lemmas.List.{at_drop_more, map-append}
 use Rattle.indexmap.specs.IndexSet.{insert_key}
@@ -15,7 +15,7 @@ use Rattle.pli_type_tree.specs.Templates.{Template}
 use Rattle.pli_value.specs.Value.{Value}
 use Rattle.pli_gen_tree.specs.Encoding.{Tables, numbered, same_template}
 use Rattle.pli_gen_tree.specs.laws.KeyLaws.{template_decides}
-use Rattle.pli_gen_tree.proofs.TableNumbers.{more, now}
+use Rattle.pli_gen_tree.proofs.TableNumbers.{Has, more, now}
 
 module _ {K X : Type 0} (v : K → X) (alike : X → X → Bool) where
   any_viewed : (k : K) (ks : List K) → list_any (alike (v k)) (map v ks) ≡ list_any (on v alike k) ks
@@ -44,6 +44,11 @@ module _ {X : Type 0} (alike : X → X → Bool) where
     pub repeated : (n : ℕ) (table : List X) (x : X) → (n ≡ 0 → ⊥) → numbered alike table (x ∷ []) ≡ numbered alike table (replicate n x)
     repeated zero table x some = absurd (some refl)
     repeated (suc n) table x some = sym (again n (more alike decides table x (list_any (alike x) table)) x (now alike decides table x (list_any (alike x) table) refl))
+
+    -- entries that a table has leave it as it is
+    pub all_there : (xs table : List X) → AllByRecursion (Has alike decides table) xs → numbered alike table xs ≡ table
+    all_there [] table h = refl
+    all_there (x ∷ xs) table h = ap (λ b. numbered alike (if b then table else table ++ x ∷ []) xs) h.0 ∙ all_there xs table h.1
 
 -- what stands for one element more
 module _ {X Y : Type 0} (alike : Y → Y → Bool) (all : List X → List Y) (one : X → List Y) (splits : (x : X) (xs : List X) → all (x ∷ xs) ≡ one x ++ all xs) where
@@ -75,13 +80,6 @@ tables ds ts vs = record { descriptions = ds; templates = ts; values = vs }
 
 pub same_tables : (ds ds2 : List Description) (ts ts2 : List Template) (vs vs2 : List Value) → ds ≡ ds2 → ts ≡ ts2 → vs ≡ vs2 → tables ds ts vs ≡ tables ds2 ts2 vs2
 same_tables ds ds2 ts ts2 vs vs2 d t v = ap (λ x. tables x ts vs) d ∙ ap (λ x. tables ds2 x vs) t ∙ ap (tables ds2 ts2) v
-
--- what is put into a table that was empty, in three turns
-pub in_turn : {X : Type 0} (alike : X → X → Bool) (none first second third xs ys zs : List X) → none ≡ [] → first ≡ numbered alike none xs → second ≡ numbered alike first ys
-    → third ≡ numbered alike second zs → third ≡ numbered alike [] (xs ++ ys ++ zs)
-in_turn alike none first second third xs ys zs empty a b c =
-    c ∙ ap (λ t. numbered alike t zs) (b ∙ ap (λ t. numbered alike t ys) (a ∙ ap (λ t. numbered alike t xs) empty) ∙ sym (numbered_after alike [] xs ys))
-    ∙ sym (numbered_after alike [] (xs ++ ys) zs)
 
 -- what is so where a call succeeded
 pub at_ok : (X : Type 0) {T E : Type 0} (r : Result T E) → IfOk r (λ _. X) → is_ok r ≡ true → X

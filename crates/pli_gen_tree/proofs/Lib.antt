@@ -1,4 +1,5 @@
 pub mod CodeFits
+pub mod GlobalLemmas
 pub mod IterationCode
 pub mod KeyLemmas
 pub mod LimitLemmas

@@ -16,8 +16,10 @@ use Rattle.pli_map.specs.declared.description.Description.TheFolds as folds
 use Rattle.pli_map.specs.views.DescriptionView as view
 use Rattle.pli_map.specs.views.DescriptionView.{description_view, members_view}
 use Rattle.pli_type_tree.specs.Templates.{InitialScalar, Template}
+use Rattle.pli_type_tree.specs.TypedTree as typed
+use Rattle.pli_type_tree.specs.TypedTree.{TypedUnit}
 use Rattle.pli_gen_emit.specs.TreeTranslation.{BlockTree, behind, block_code}
-use Rattle.pli_gen_tree.specs.Encoding.{Tables, number_in, template_number, template_code, instruction_code, coded_blocks, coded_unit}
+use Rattle.pli_gen_tree.specs.Encoding.{Tables, number_in, template_number, template_code, global_code, instruction_code, coded_blocks, coded_unit}
 use Rattle.pli_gen_tree.specs.Limits.{is_over, member_count, has_many_members, one_has_many, has_many_slots, bytes_of, initial_bytes_of, initial_bytes, is_too_long}
 use Rattle.pli_gen_tree.specs.answers.Pieces.{takes_many_slots, template_bytes, HaveDescriptions}
 use Rattle.pli_gen_tree.proofs.TableNumbers.{Has, number_stands}
@@ -105,12 +107,12 @@ three_apart : (x y z w : Bool) → (x || (y || z || w)) ≡ (x || y || z || w)
 three_apart x y z w = or_apart x (y || z) w ∙ ap (λ c. c || w) (or_apart x y z)
 
 -- the limits of a unit, in three parts
-module _ (t : Tables) (statics : List Template) (bs : List BlockTree) (code : List op.Instruction) (stand : HaveDescriptions t) where
+module _ (t : Tables) (u : TypedUnit) (bs : List BlockTree) (code : List op.Instruction) (stand : HaveDescriptions t) where
   abbrev pub long_tables : Bool
   long_tables = is_over t.descriptions || is_over t.templates || is_over t.values
 
   abbrev pub long_lists : Bool
-  long_lists = is_over statics || is_over bs || is_over code
+  long_lists = is_over u.globals || is_over bs || is_over code
 
   abbrev pub large_parts : Bool
   large_parts = list_any takes_many_slots bs || list_any has_many_members t.descriptions || nat_lt 16777216 (sum_by template_bytes t.templates)
@@ -120,33 +122,33 @@ module _ (t : Tables) (statics : List Template) (bs : List BlockTree) (code : Li
       is_over t.descriptions || nat_lt 65535 templates || is_over t.values || nat_lt 65535 globals || nat_lt 65535 blocks || nat_lt 65535 instructions
       || slots || list_any has_many_members t.descriptions || nat_lt 16777216 bytes
 
-  pub limits_apart : (long_tables || long_lists || large_parts) ≡ is_too_long (coded_unit t statics bs code)
+  pub limits_apart : (long_tables || long_lists || large_parts) ≡ is_too_long (coded_unit t u bs code)
   limits_apart =
       let n = length t.templates in
-      let g = length statics in
+      let g = length u.globals in
       let b = length bs in
       let i = length code in
       let s = list_any takes_many_slots bs in
       let coded = coded_blocks t bs 0 in
       let e = sum_by template_bytes t.templates in
       three_apart (long_tables || long_lists) s (list_any has_many_members t.descriptions) (nat_lt 16777216 e)
-      ∙ ap (λ c. c || s || list_any has_many_members t.descriptions || nat_lt 16777216 e) (three_apart long_tables (is_over statics) (is_over bs) (is_over code))
+      ∙ ap (λ c. c || s || list_any has_many_members t.descriptions || nat_lt 16777216 e) (three_apart long_tables (is_over u.globals) (is_over bs) (is_over code))
       ∙ sym (
-      ap (λ m. whole m (length (map (template_number t) statics)) (length coded) (length (map (instruction_code t) code)) (list_any has_many_slots coded) (initial_bytes (coded_unit t statics bs code)))
+      ap (λ m. whole m (length (map (global_code t) u.globals)) (length coded) (length (map (instruction_code t) code)) (list_any has_many_slots coded) (initial_bytes (coded_unit t u bs code)))
       (length-map t.templates (template_code t))
-      ∙ ap (λ m. whole n m (length coded) (length (map (instruction_code t) code)) (list_any has_many_slots coded) (initial_bytes (coded_unit t statics bs code)))
-      (length-map statics (template_number t))
-      ∙ ap (λ m. whole n g m (length (map (instruction_code t) code)) (list_any has_many_slots coded) (initial_bytes (coded_unit t statics bs code))) (blocks_counted t bs 0)
-      ∙ ap (λ m. whole n g b m (list_any has_many_slots coded) (initial_bytes (coded_unit t statics bs code))) (length-map code (instruction_code t))
-      ∙ ap (λ c. whole n g b i c (initial_bytes (coded_unit t statics bs code))) (slots_counted t bs 0)
+      ∙ ap (λ m. whole n m (length coded) (length (map (instruction_code t) code)) (list_any has_many_slots coded) (initial_bytes (coded_unit t u bs code)))
+      (length-map u.globals (global_code t))
+      ∙ ap (λ m. whole n g m (length (map (instruction_code t) code)) (list_any has_many_slots coded) (initial_bytes (coded_unit t u bs code))) (blocks_counted t bs 0)
+      ∙ ap (λ m. whole n g b m (list_any has_many_slots coded) (initial_bytes (coded_unit t u bs code))) (length-map code (instruction_code t))
+      ∙ ap (λ c. whole n g b i c (initial_bytes (coded_unit t u bs code))) (slots_counted t bs 0)
       ∙ ap (whole n g b i s) (all_bytes t t.templates 0 stand)
       )
 
-pub lists_viewed : (statics : List Template) (blocks : List BlockSource) (code : List NamingInstruction)
-    → (is_over statics || is_over blocks || is_over code) ≡ (is_over statics || is_over (block_trees blocks) || is_over (naming_code code))
-lists_viewed statics blocks code =
-    ap (λ n. is_over statics || nat_lt 65535 n || is_over code) (sym (length-map blocks block_tree))
-    ∙ ap (λ n. is_over statics || is_over (block_trees blocks) || nat_lt 65535 n) (sym (length-map code naming_view))
+pub lists_viewed : (globals : List typed.Global) (blocks : List BlockSource) (code : List NamingInstruction)
+    → (is_over globals || is_over blocks || is_over code) ≡ (is_over globals || is_over (block_trees blocks) || is_over (naming_code code))
+lists_viewed globals blocks code =
+    ap (λ n. is_over globals || nat_lt 65535 n || is_over code) (sym (length-map blocks block_tree))
+    ∙ ap (λ n. is_over globals || is_over (block_trees blocks) || nat_lt 65535 n) (sym (length-map code naming_view))
 
 -- what is not too long
 none_of : (x y : Bool) → (x || y) ≡ false → (x ≡ false) × (y ≡ false)
@@ -162,9 +164,9 @@ pub record Short (t : Tables) (code : List op.Instruction) : Type 0 where
   pub values : length t.values ≤ 65535
   pub instructions : length code ≤ 65535
 
-pub short_parts : (t : Tables) (statics : List Template) (bs : List BlockTree) (code : List op.Instruction) → is_too_long (coded_unit t statics bs code) ≡ false → Short t code
-short_parts t statics bs code h =
-    let c = coded_unit t statics bs code in
+pub short_parts : (t : Tables) (u : TypedUnit) (bs : List BlockTree) (code : List op.Instruction) → is_too_long (coded_unit t u bs code) ≡ false → Short t code
+short_parts t u bs code h =
+    let c = coded_unit t u bs code in
     let no_bytes = none_of _ _ h in
     let no_members = none_of _ _ no_bytes.0 in
     let no_slots = none_of _ _ no_members.0 in

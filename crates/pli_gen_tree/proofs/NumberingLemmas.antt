@@ -5,14 +5,17 @@ use Rattle.pli_machine_step.specs.Program.{Instruction}
 use Rattle.pli_map.specs.Description.{Description}
 use Rattle.pli_map.specs.Same.{same}
 use Rattle.pli_type_tree.specs.Templates.{Template}
+use Rattle.pli_type_tree.specs.TypedTree.{TypedUnit}
 use Rattle.pli_value.specs.Value.{Value}
+use Rattle.pli_gen_emit.specs.TreeTranslation.{BlockTree}
 use Rattle.pli_gen_tree.specs.Encoding as plain
 use Rattle.pli_gen_tree.specs.Encoding.{numbered, same_template, same_value, tables_for, descriptions_named, templates_named, values_named}
+use Rattle.pli_gen_tree.specs.Encoding.{signature_descriptions, global_descriptions, global_templates, block_templates}
 use Rattle.pli_gen_tree.specs.answers.Numbering.{Numbers}
 use Rattle.pli_gen_tree.specs.answers.Pieces.{no_tables}
 use Rattle.pli_gen_tree.specs.declared.table.Tables.{Tables}
 use Rattle.pli_gen_tree.specs.views.TableView.{tables_view}
-use Rattle.pli_gen_tree.proofs.KeyLemmas.{numbered_more, numbered_after, same_tables, in_turn, described_apart}
+use Rattle.pli_gen_tree.proofs.KeyLemmas.{numbered_more, numbered_after, same_tables}
 
 -- some behind others
 pub numbers_both : (old mid new : Tables) (ds ds2 : List Description) (ts ts2 : List Template) (vs vs2 : List Value)
@@ -49,24 +52,34 @@ module _ {X : Type 0} (ds : List X → List Description) (ts : List X → List T
     values = λ h. numbered_more same_value vs v v_splits xs i x _ _ _ lt (e.values h ∙ ap (λ y. numbered same_value (tables_view now).values (v y)) read) (was.values (e.memory h));
   }
 
--- the tables of a unit: its variables, those of its blocks, and its instructions
-pub numbered_unit : (old one two three : Tables) (statics inside : List Template) (code : List Instruction) → tables_view old ≡ no_tables
-    → Numbers old one (map (λ t. t.description) statics) statics [] → Numbers one two (map (λ t. t.description) inside) inside []
-    → Numbers two three (flat_map descriptions_named code) (flat_map templates_named code) (flat_map values_named code)
-    → three.lacks_memory ≡ false → tables_view three ≡ tables_for (statics ++ inside) code
-numbered_unit old one two three statics inside code empty a b d h =
-    let k = d.memory h in
-    let l = b.memory k in
-    let from_statics = map (λ t. t.description) statics in
-    let from_inside = map (λ t. t.description) inside in
-    let from_code = flat_map descriptions_named code in
-    let ds : (tables_view three).descriptions ≡ numbered same [] (map (λ t. t.description) (statics ++ inside) ++ from_code) =
-    in_turn same (tables_view old).descriptions (tables_view one).descriptions (tables_view two).descriptions (tables_view three).descriptions from_statics from_inside from_code
-    (ap (λ (t : plain.Tables). t.descriptions) empty) (a.descriptions l) (b.descriptions k) (d.descriptions h)
-    ∙ ap (λ xs. numbered same [] (xs ++ from_code)) (sym (described_apart statics inside)) in
-    let ts : (tables_view three).templates ≡ numbered same_template [] (statics ++ inside ++ flat_map templates_named code) =
-    in_turn same_template (tables_view old).templates (tables_view one).templates (tables_view two).templates (tables_view three).templates statics inside (flat_map templates_named code)
-    (ap (λ (t : plain.Tables). t.templates) empty) (a.templates l) (b.templates k) (d.templates h) in
-    let vs : (tables_view three).values ≡ numbered same_value [] (flat_map values_named code) =
-    d.values h ∙ ap (λ xs. numbered same_value xs (flat_map values_named code)) (b.values k ∙ a.values l ∙ ap (λ (t : plain.Tables). t.values) empty) in
-    same_tables _ _ _ _ _ _ ds ts vs
+-- entries that come to the same
+pub numbers_like : (old new : Tables) (ds ds2 : List Description) (ts ts2 : List Template) → Numbers old new ds ts []
+    → ((table : List Description) → numbered same table ds ≡ numbered same table ds2)
+    → ((table : List Template) → numbered same_template table ts ≡ numbered same_template table ts2) → Numbers old new ds2 ts2 []
+numbers_like old new ds ds2 ts ts2 n d t = record {
+  memory = n.memory;
+  descriptions = λ h. n.descriptions h ∙ d (tables_view old).descriptions;
+  templates = λ h. n.templates h ∙ t (tables_view old).templates;
+  values = n.values;
+}
+
+-- the tables of a unit: its signature, its globals, the variables of its blocks, and its instructions
+pub numbered_unit : (old one two three four : Tables) (u : TypedUnit) (bs : List BlockTree) (code : List Instruction) → tables_view old ≡ no_tables
+    → Numbers old one (signature_descriptions u.signature) [] [] → Numbers one two (flat_map global_descriptions u.globals) (flat_map global_templates u.globals) []
+    → Numbers two three (map (λ t. t.description) (block_templates bs)) (block_templates bs) []
+    → Numbers three four (flat_map descriptions_named code) (flat_map templates_named code) (flat_map values_named code)
+    → four.lacks_memory ≡ false → tables_view four ≡ tables_for u bs code
+numbered_unit old one two three four u bs code empty a b d e h =
+    let from_signature = signature_descriptions u.signature in
+    let from_globals = flat_map global_descriptions u.globals in
+    let from_blocks = map (λ t. t.description) (block_templates bs) in
+    let outside = flat_map global_templates u.globals in
+    let inside = block_templates bs in
+    let two_parts = numbers_both old one two from_signature from_globals [] outside [] [] a b in
+    let three_parts = numbers_both old two three (from_signature ++ from_globals) from_blocks outside inside [] [] two_parts d in
+    let all = numbers_both old three four (from_signature ++ from_globals ++ from_blocks) (flat_map descriptions_named code) (outside ++ inside) (flat_map templates_named code)
+    [] (flat_map values_named code) three_parts e in
+    same_tables _ _ _ _ _ _
+    (all.descriptions h ∙ ap (λ (t : plain.Tables). numbered same t.descriptions (from_signature ++ from_globals ++ from_blocks ++ flat_map descriptions_named code)) empty)
+    (all.templates h ∙ ap (λ (t : plain.Tables). numbered same_template t.templates (outside ++ inside ++ flat_map templates_named code)) empty)
+    (all.values h ∙ ap (λ (t : plain.Tables). numbered same_value t.values (flat_map values_named code)) empty)

@@ -3,10 +3,11 @@ use Rattle.std.proofs.Common.{◌≡◌, ℕ, suc, ◌≤◌, nat_eq, if◌then�
 use Rattle.std.specs.List.{AllByRecursion}
 use Rattle.std.proofs.lemmas.List.{length-append}
 use Rattle.pli_machine_step.specs.Program as op
+use Rattle.pli_type_tree.specs.TypedTree.{Callee, OfBlock, OfEntry}
 use Rattle.pli_type_tree.specs.TypedTree.{Root, InSlot, OfProgram, TypedExpression, Literal, Held, Calculated, Called, TypedReference, Whole, Part}
 use Rattle.pli_type_tree.specs.TypedTree.{Operands, NoOperand, OperandThen, Subscripts, NoSubscript, SubscriptThen, TypedArguments, NoArgument, ByPlace, ByDummy}
 use Rattle.pli_type_tree.specs.TypedTree.{Form, Null, Assign, AssignAggregate, Put, If, Begin, Group, While, Iterate, Call, Goto, Return, ReturnValue, Stop}
-use Rattle.pli_gen_emit.specs.TreeTranslation.{argument_count, root_code, value_code, place_code, operands_code, subscripts_code, arguments_code, skip_code, items_code, behind}
+use Rattle.pli_gen_emit.specs.TreeTranslation.{argument_count, root_code, call_instruction, value_code, place_code, operands_code, subscripts_code, arguments_code, skip_code, items_code, behind}
 use Rattle.pli_gen_emit.specs.answers.Pieces.{simple_code}
 use Rattle.pli_gen_tree.specs.answers.Pieces.{step_place, Fits}
 
@@ -16,6 +17,7 @@ Simple n (op.Step s) = ⊥
 Simple n (op.Jump target) = ⊥
 Simple n (op.JumpUnless target) = ⊥
 Simple n (op.Call block arguments) = arguments ≤ n
+Simple n (op.CallExternal global arguments) = arguments ≤ n
 Simple n i = Unit {0}
 
 abbrev pub AllSimple : (limit : ℕ) → List op.Instruction → Type 0
@@ -62,6 +64,10 @@ arguments_counts (ByDummy description value more) =
     let e = length-append (value_code value) (op.MakeDummy description ∷ arguments_code more) in
     omega (arith, k, e)
 
+call_simple : (callee : Callee) (arguments n : ℕ) → arguments ≤ n → Simple n (call_instruction callee arguments)
+call_simple (OfBlock block) arguments n h = h
+call_simple (OfEntry number) arguments n h = h
+
 mutual
   pub value_simple : (e : TypedExpression) (n : ℕ) → length (value_code e) ≤ n → AllSimple n (value_code e)
   value_simple (Literal value) n h = (tt, tt)
@@ -70,11 +76,12 @@ mutual
   value_simple (Calculated operation operands) n h =
       let last = op.Operate operation ∷ [] in
       all_both (Simple n) (operands_code operands) last (operands_simple operands n (front_within (operands_code operands) last n h)) (tt, tt)
-  value_simple (Called block arguments) n h =
-      let last = op.Call block (argument_count arguments) ∷ [] in
+  value_simple (Called callee arguments) n h =
+      let last = call_instruction callee (argument_count arguments) ∷ [] in
       let short = front_within (arguments_code arguments) last n h in
       let few = arguments_counts arguments in
-      all_both (Simple n) (arguments_code arguments) last (arguments_simple arguments n short) (omega (arith, few, short), tt)
+      all_both (Simple n) (arguments_code arguments) last (arguments_simple arguments n short)
+      (call_simple callee (argument_count arguments) n (omega (arith, few, short)), tt)
 
   pub place_simple : (r : TypedReference) (n : ℕ) → length (place_code r) ≤ n → AllSimple n (place_code r)
   place_simple (Whole root) n h = root_simple root n
@@ -134,7 +141,7 @@ form_simple (AssignAggregate target source) n h =
     (place_simple source n (back_within (place_code target) (place_code source) n short))) (tt, tt)
 form_simple (Put skip items) n h =
     all_both (Simple n) (skip_code skip) (items_code items) (skip_simple skip n) (items_simple items n (back_within (skip_code skip) (items_code items) n h))
-form_simple (Call block arguments) n h = value_simple (Called block arguments) n h
+form_simple (Call callee arguments) n h = value_simple (Called callee arguments) n h
 form_simple (ReturnValue outward value) n h =
     let last = op.ReturnValue outward ∷ [] in
     all_both (Simple n) (value_code value) last (value_simple value n (front_within (value_code value) last n h)) (tt, tt)
@@ -153,6 +160,7 @@ one_fits : (i : op.Instruction) (n : ℕ) → Simple n i → Fits n i
 one_fits (op.Jump target) n h = absurd h
 one_fits (op.JumpUnless target) n h = absurd h
 one_fits (op.Call block arguments) n h = h
+one_fits (op.CallExternal global arguments) n h = h
 one_fits i n h = tt
 
 pub simple_fits : (is : List op.Instruction) (n : ℕ) → AllSimple n is → AllByRecursion (Fits n) is

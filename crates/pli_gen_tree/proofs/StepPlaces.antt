@@ -95,7 +95,7 @@ mutual
   form_begins number (AssignAggregate target source) p m d e = none_in_form (AssignAggregate target source) p m d
   form_begins number (Put skip items) p m d e = none_in_form (Put skip items) p m d
   form_begins number (Begin head statements) p m d e = refl
-  form_begins number (Call block arguments) p m d e = none_in_form (Call block arguments) p m d
+  form_begins number (Call callee arguments) p m d e = none_in_form (Call callee arguments) p m d
   form_begins number (Goto outward label) p m d e = refl
   form_begins number (Return outward) p m d e = refl
   form_begins number (ReturnValue outward value) p m d e = none_in_form (ReturnValue outward value) p m d

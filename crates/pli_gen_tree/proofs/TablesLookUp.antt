@@ -12,19 +12,22 @@ use Rattle.pli_store.specs.World.{Variable}
 use Rattle.pli_machine_step.specs.Program as op
 use Rattle.pli_machine_step.specs.Program.{Block, UnitCode}
 use Rattle.pli_type_tree.specs.Templates.{Template, variable_of}
-use Rattle.pli_type_tree.specs.TypedTree.{TypedUnit}
+use Rattle.pli_type_tree.specs.TypedTree.{Global, OwnVariable, ExternalVariable, EntryPoint, TypedUnit}
 use Rattle.pli_unit_code.specs.CodeTables.{Code, looked_up, template_at, variables_at, block_looked_up, program_of, there, naming, with_description, described}
-use Rattle.pli_gen_emit.specs.TreeTranslation.{BlockTree, blocks_of, blocks_at, block_at, block_code, behind, instructions_of, unit_code}
+use Rattle.pli_unit_code.specs.CodeTables.{global_before, globals_linked}
+use Rattle.pli_gen_emit.specs.TreeTranslation.{BlockTree, blocks_of, blocks_at, block_at, block_code, behind, instructions_of, globals_code, unit_code}
 use Rattle.pli_gen_tree.specs.Encoding.{Tables, tables_for, descriptions_named, templates_named, values_named, dummy, fitted_by, same_value, same_template}
-use Rattle.pli_gen_tree.specs.Encoding.{description_number, template_number, relation_code, operation_code, instruction_code, template_code, coded_blocks, coded_unit, variables_of, code_of}
+use Rattle.pli_gen_tree.specs.Encoding.{signature_descriptions, global_descriptions, global_templates, block_templates}
+use Rattle.pli_gen_tree.specs.Encoding.{description_number, template_number, relation_code, operation_code, instruction_code, template_code, global_code, coded_blocks, coded_unit, code_of}
 use Rattle.pli_gen_tree.specs.laws.ListLaws.{all_front, all_back}
 use Rattle.pli_map.specs.laws.SameLaws.{same_decides}
 use Rattle.pli_gen_tree.specs.laws.KeyLaws.{value_decides, template_decides}
 use Rattle.pli_gen_tree.proofs.TableNumbers.{Has, number_stands, has_all}
+use Rattle.pli_gen_tree.proofs.UnitLemmas.{globals_described}
 
-module _ (tables : Tables) (statics : List Template) (bs : List BlockTree) (code : List op.Instruction) where
+module _ (tables : Tables) (u : TypedUnit) (bs : List BlockTree) (code : List op.Instruction) where
   abbrev c : Code
-  c = coded_unit tables statics bs code
+  c = coded_unit tables u bs code
 
   abbrev HasDescription : Description → Type 0
   HasDescription d = Has same same_decides tables.descriptions d
@@ -55,6 +58,18 @@ module _ (tables : Tables) (statics : List Template) (bs : List BlockTree) (code
 
   variables_there : (ts : List Template) → AllByRecursion InTables ts → variables_at c (map (template_number tables) ts) ≡ map variable_of ts
   variables_there ts h = ap (map variable_of) (templates_there ts h)
+
+  globals_there : (gs : List Global) (entries : List ℕ) → AllByRecursion InTables (flat_map global_templates gs)
+      → globals_linked c (map (global_code tables) gs) entries ≡ globals_code gs entries
+  globals_there [] entries h = refl
+  globals_there (OwnVariable t ∷ gs) entries h =
+      ap (λ o. global_before c (option_map op.OwnVariable (option_map variable_of o)) (globals_linked c (map (global_code tables) gs) entries)) (template_there t h.0.0 h.0.1)
+      ∙ ap (λ gs. op.OwnVariable (variable_of t) ∷ gs) (globals_there gs entries h.1)
+  globals_there (ExternalVariable name t ∷ gs) entries h =
+      ap (λ o. global_before c (option_map (op.ExternalVariable name) (option_map variable_of o)) (globals_linked c (map (global_code tables) gs) entries)) (template_there t h.0.0 h.0.1)
+      ∙ ap (λ gs. op.ExternalVariable name (variable_of t) ∷ gs) (globals_there gs entries h.1)
+  globals_there (EntryPoint name s ∷ gs) [] h = globals_there gs [] h
+  globals_there (EntryPoint name s ∷ gs) (unit ∷ units) h = ap (λ gs. op.EntryPoint unit ∷ gs) (globals_there gs units h)
 
   relation_back : (r : Relation) → relation_view (relation_code r) ≡ r
   relation_back calculate.Equal = refl
@@ -107,6 +122,7 @@ module _ (tables : Tables) (statics : List Template) (bs : List BlockTree) (code
   instruction_there (op.JumpUnless target) ds ts vs = refl
   instruction_there (op.Goto outward target) ds ts vs = refl
   instruction_there (op.Call block arguments) ds ts vs = refl
+  instruction_there (op.CallExternal global arguments) ds ts vs = refl
   instruction_there (op.Begin block) ds ts vs = refl
   instruction_there (op.Return outward) ds ts vs = refl
   instruction_there (op.ReturnValue outward) ds ts vs = refl
@@ -145,27 +161,35 @@ module _ (tables : Tables) (statics : List Template) (bs : List BlockTree) (code
       ap (λ vs. block_with b p vs ∷ map (block_looked_up c) (coded_blocks tables bs q)) (variables_there vs (all_front InTables vs more h))
       ∙ ap (λ blocks. block_at b p ∷ blocks) (blocks_there bs q (all_back InTables vs more h))
 
-pub looked_up_is_unit_code : (u : TypedUnit) → program_of (code_of u) u.name ≡ unit_code u
-looked_up_is_unit_code u =
+pub looked_up_is_unit_code : (u : TypedUnit) (entries : List ℕ) → program_of (code_of u) u.name entries ≡ unit_code u entries
+looked_up_is_unit_code u entries =
     let bs = blocks_of u in
     let code = instructions_of bs in
-    let variables = variables_of u.statics bs in
-    let t = tables_for variables code in
-    let described_all = has_all same same_decides (map (λ t. t.description) variables ++ flat_map descriptions_named code) [] in
-    let templates_all = has_all same_template template_decides (variables ++ flat_map templates_named code) [] in
+    let t = tables_for u bs code in
+    let inside = block_templates bs in
+    let outside = flat_map global_templates u.globals in
+    let from_signature = signature_descriptions u.signature in
+    let from_globals = flat_map global_descriptions u.globals in
+    let from_blocks = map (λ t. t.description) inside in
+    let from_code = flat_map descriptions_named code in
+    let has = HasDescription t u bs code in
+    let has_template = HasTemplate t u bs code in
+    let described_all = has_all same same_decides (from_signature ++ from_globals ++ from_blocks ++ from_code) [] in
+    let templates_all = has_all same_template template_decides (outside ++ inside ++ flat_map templates_named code) [] in
     let values_all = has_all same_value value_decides (flat_map values_named code) [] in
-    let variables_in = both t u.statics bs code variables
-    (all_front (HasTemplate t u.statics bs code) variables (flat_map templates_named code) templates_all)
-    (all_front (HasDescription t u.statics bs code) (map (λ t. t.description) variables) (flat_map descriptions_named code) described_all) in
-    let inside = flat_map (λ b. b.head.variables) bs in
-    let statics = variables_there t u.statics bs code u.statics (all_front (InTables t u.statics bs code) u.statics inside variables_in) in
-    let blocks = blocks_there t u.statics bs code bs 0 (all_back (InTables t u.statics bs code) u.statics inside variables_in) in
-    let instructions = instructions_there t u.statics bs code code
-    (all_back (HasDescription t u.statics bs code) (map (λ t. t.description) variables) (flat_map descriptions_named code) described_all)
-    (all_back (HasTemplate t u.statics bs code) variables (flat_map templates_named code) templates_all)
+    let described_front = all_front has (from_signature ++ from_globals ++ from_blocks) from_code described_all in
+    let templates_front = all_front has_template (outside ++ inside) (flat_map templates_named code) templates_all in
+    let globals_in = both t u bs code outside (all_front has_template outside inside templates_front)
+    (globals_described t.descriptions u.globals (all_back has from_signature from_globals (all_front has (from_signature ++ from_globals) from_blocks described_front))) in
+    let blocks_in = both t u bs code inside (all_back has_template outside inside templates_front) (all_back has (from_signature ++ from_globals) from_blocks described_front) in
+    let globals = globals_there t u bs code u.globals entries globals_in in
+    let blocks = blocks_there t u bs code bs 0 blocks_in in
+    let instructions = instructions_there t u bs code code
+    (all_back has (from_signature ++ from_globals ++ from_blocks) from_code described_all)
+    (all_back has_template (outside ++ inside) (flat_map templates_named code) templates_all)
     values_all in
-    let with : List Variable → List Block → List op.Instruction → UnitCode = λ s b i. record { name = u.name; statics = s; blocks = b; instructions = i } in
-    let c = code_of u in
-    ap (λ s. with s (program_of c u.name).blocks (program_of c u.name).instructions) statics
-    ∙ ap (λ b. with (map variable_of u.statics) b (program_of c u.name).instructions) blocks
-    ∙ ap (with (map variable_of u.statics) (blocks_at bs 0)) instructions
+    let with : List op.GlobalCode → List Block → List op.Instruction → UnitCode = λ g b i. record { name = u.name; globals = g; blocks = b; instructions = i } in
+    let p = program_of (code_of u) u.name entries in
+    ap (λ g. with g p.blocks p.instructions) globals
+    ∙ ap (λ b. with (globals_code u.globals entries) b p.instructions) blocks
+    ∙ ap (with (globals_code u.globals entries) (blocks_at bs 0)) instructions

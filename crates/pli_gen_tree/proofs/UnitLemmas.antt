@@ -1,5 +1,5 @@
 -- The code of a unit from its parts.
-use Rattle.std.proofs.Common.{◌≡◌, ℕ, ◌||◌, nat_lt, Bool, true, false, if◌then◌else◌, List, [], ◌∷◌, ◌++◌, map, length, refl, sym, ap, subst, ◌∙◌}
+use Rattle.std.proofs.Common.{◌≡◌, ℕ, ◌||◌, nat_lt, Bool, true, false, if◌then◌else◌, None, List, [], ◌∷◌, ◌++◌, map, length, refl, sym, ap, subst, ◌∙◌}
 use Rattle.std.specs.List.{flat_map, list_any, AllByRecursion}
 use Rattle.std.proofs.lemmas.List.{length-map}
 use Rattle.pli_map.specs.Description.{Description}
@@ -8,12 +8,13 @@ use Rattle.pli_map.specs.laws.SameLaws.{same_decides}
 use Rattle.pli_value.specs.Value.{Value}
 use Rattle.pli_machine_step.specs.Program as op
 use Rattle.pli_type_tree.specs.Templates.{Template}
-use Rattle.pli_type_tree.specs.TypedTree.{TypedUnit}
-use Rattle.pli_unit_code.specs.CodeTables.{CodedTemplate, CodedBlock, Code}
+use Rattle.pli_type_tree.specs.TypedTree.{Global, OwnVariable, ExternalVariable, EntryPoint, TypedUnit}
+use Rattle.pli_unit_code.specs.CodeTables.{CodedTemplate, CodedBlock, CodedSignature, CodedGlobal, Code}
 use Rattle.pli_unit_code.specs.declared.instruction.Instruction.{Instruction}
 use Rattle.pli_gen_emit.specs.TreeTranslation.{BlockTree, behind, block_code, blocks_code, blocks_of, places_of, statement_place, with_target, instructions_of}
 use Rattle.pli_gen_tree.specs.Encoding.{Tables, tables_for, numbered, same_template, same_value, descriptions_named, templates_named, values_named}
-use Rattle.pli_gen_tree.specs.Encoding.{template_number, template_code, instruction_code, coded_block, coded_blocks, coded_unit, variables_of, code_of}
+use Rattle.pli_gen_tree.specs.Encoding.{signature_descriptions, global_descriptions, global_templates, block_templates}
+use Rattle.pli_gen_tree.specs.Encoding.{template_code, signature_code, global_code, instruction_code, coded_block, coded_blocks, coded_unit, code_of}
 use Rattle.pli_gen_tree.specs.Limits.{is_over, has_many_slots, has_many_members, initial_bytes, is_too_long}
 use Rattle.pli_gen_tree.specs.laws.ListLaws.{all_front, all_back}
 use Rattle.pli_gen_emit.specs.answers.Pieces.{entries_of}
@@ -42,22 +43,39 @@ module _ (ds : List Description) where
   variables_stand [] h = tt
   variables_stand (t ∷ ts) h = (h.0, variables_stand ts h.1)
 
+  -- those of globals
+  pub globals_described : (gs : List Global) → AllByRecursion (Has same same_decides ds) (flat_map global_descriptions gs)
+      → AllByRecursion (Has same same_decides ds) (map (λ t. t.description) (flat_map global_templates gs))
+  globals_described [] h = tt
+  globals_described (OwnVariable t ∷ gs) h = (h.0, globals_described gs h.1)
+  globals_described (ExternalVariable name t ∷ gs) h = (h.0, globals_described gs h.1)
+  globals_described (EntryPoint name s ∷ gs) h =
+      globals_described gs (all_back (Has same same_decides ds) (signature_descriptions s) (flat_map global_descriptions gs) h)
+
   dummies_stand : (is : List op.Instruction) → AllByRecursion (Has same same_decides ds) (flat_map descriptions_named is) → AllByRecursion HasIts (flat_map templates_named is)
   dummies_stand [] h = tt
   dummies_stand (op.MakeDummy d ∷ is) h = (h.0, dummies_stand is h.1)
   dummies_stand (i ∷ is) h = dummies_stand is (all_back (Has same same_decides ds) (descriptions_named i) (flat_map descriptions_named is) h)
 
 -- each template's description is in its table
-pub tables_stand : (variables : List Template) (code : List op.Instruction) → HaveDescriptions (tables_for variables code)
-tables_stand variables code =
-    let from_variables = map (λ t. t.description) variables in
+pub tables_stand : (u : TypedUnit) (bs : List BlockTree) (code : List op.Instruction) → HaveDescriptions (tables_for u bs code)
+tables_stand u bs code =
+    let variables = block_templates bs in
+    let outside = flat_map global_templates u.globals in
+    let from_signature = signature_descriptions u.signature in
+    let from_globals = flat_map global_descriptions u.globals in
+    let from_blocks = map (λ t. t.description) variables in
     let from_code = flat_map descriptions_named code in
-    let ds = (tables_for variables code).descriptions in
+    let ds = (tables_for u bs code).descriptions in
     let has = Has same same_decides ds in
-    let all = has_all same same_decides (from_variables ++ from_code) [] in
-    put_all (HasIts ds) same_template (variables ++ flat_map templates_named code) [] tt
-    (all_both (HasIts ds) variables (flat_map templates_named code)
-    (variables_stand ds variables (all_front has from_variables from_code all)) (dummies_stand ds code (all_back has from_variables from_code all)))
+    let all = has_all same same_decides (from_signature ++ from_globals ++ from_blocks ++ from_code) [] in
+    let front = all_front has (from_signature ++ from_globals ++ from_blocks) from_code all in
+    let globals = all_back has from_signature from_globals (all_front has (from_signature ++ from_globals) from_blocks front) in
+    let blocks = all_back has (from_signature ++ from_globals) from_blocks front in
+    put_all (HasIts ds) same_template (outside ++ variables ++ flat_map templates_named code) [] tt
+    (all_both (HasIts ds) (outside ++ variables) (flat_map templates_named code)
+    (all_both (HasIts ds) outside variables (variables_stand ds outside (globals_described ds u.globals globals)) (variables_stand ds variables blocks))
+    (dummies_stand ds code (all_back has (from_signature ++ from_globals ++ from_blocks) from_code all)))
 
 -- what a GOTO names is the same wherever it leads
 module _ (places : List (ℕ × ℕ)) where
@@ -88,8 +106,8 @@ module _ (places : List (ℕ × ℕ)) where
     all_targets [] = refl
     all_targets (i ∷ is) = ap (λ x. x ∷ map (retargeted place) is) (one_target i) ∙ ap (λ xs. with_target places i ∷ xs) (all_targets is)
 
-abbrev pub coded : List Description → List CodedTemplate → List Value → List ℕ → List CodedBlock → List Instruction → Code
-coded ds ts vs gs bs is = record { descriptions = ds; templates = ts; values = vs; globals = gs; blocks = bs; instructions = is }
+abbrev pub coded : CodedSignature → List Description → List CodedTemplate → List Value → List CodedGlobal → List CodedBlock → List Instruction → Code
+coded s ds ts vs gs bs is = record { signature = s; descriptions = ds; templates = ts; values = vs; globals = gs; blocks = bs; instructions = is }
 
 module _ (t : Tables) where
   blocks_placed : (bs : List BlockTree) (p : ℕ) → blocks_with_entries t bs (entries_of bs p) ≡ coded_blocks t bs p
@@ -97,31 +115,35 @@ module _ (t : Tables) where
   blocks_placed (b ∷ bs) p = ap (λ cs. coded_block t b p ∷ cs) (blocks_placed bs (behind (block_code b p) p))
 
   -- a unit's code, part by part
-  pub unit_coded : (statics : List Template) (bs : List BlockTree) (code : List op.Instruction) (place : ℕ → ℕ) (entries : List ℕ)
-      (ds : List Description) (ts : List CodedTemplate) (vs : List Value) (gs : List ℕ) (cs : List CodedBlock) (is : List Instruction)
+  pub unit_coded : (u : TypedUnit) (bs : List BlockTree) (code : List op.Instruction) (place : ℕ → ℕ) (entries : List ℕ)
+      (s : CodedSignature) (ds : List Description) (ts : List CodedTemplate) (vs : List Value) (gs : List CodedGlobal) (cs : List CodedBlock) (is : List Instruction)
       → entries ≡ entries_of bs 0 → code ≡ blocks_code bs 0 → ((n : ℕ) → place n ≡ step_place code 0 n 0)
-      → ds ≡ t.descriptions → ts ≡ map (template_code t) t.templates → vs ≡ t.values → gs ≡ map (template_number t) statics → cs ≡ blocks_with_entries t bs entries
+      → s ≡ signature_code t u.signature
+      → ds ≡ t.descriptions → ts ≡ map (template_code t) t.templates → vs ≡ t.values → gs ≡ map (global_code t) u.globals → cs ≡ blocks_with_entries t bs entries
       → is ≡ map (instruction_code t) (map (retargeted place) code)
-      → coded ds ts vs gs cs is ≡ coded_unit t statics bs (instructions_of bs)
-  unit_coded statics bs code place entries ds ts vs gs cs is begin made leads d te v g c i =
+      → coded s ds ts vs gs cs is ≡ coded_unit t u bs (instructions_of bs)
+  unit_coded u bs code place entries s ds ts vs gs cs is begin made leads sign d te v g c i =
       let blocks : cs ≡ coded_blocks t bs 0 = c ∙ ap (blocks_with_entries t bs) begin ∙ blocks_placed bs 0 in
       let targets : (n : ℕ) → place n ≡ statement_place (places_of bs 0) n =
       λ n. leads n ∙ ap (λ is. step_place is 0 n 0) made ∙ steps_are_places bs n in
       let instructions : is ≡ map (instruction_code t) (instructions_of bs) =
       i ∙ ap (λ is. map (instruction_code t) (map (retargeted place) is)) made ∙ ap (map (instruction_code t)) (all_targets (places_of bs 0) place targets (blocks_code bs 0)) in
-      ap (λ x. coded x ts vs gs cs is) d ∙ ap (λ x. coded t.descriptions x vs gs cs is) te
-      ∙ ap (λ x. coded t.descriptions (map (template_code t) t.templates) x gs cs is) v
-      ∙ ap (λ x. coded t.descriptions (map (template_code t) t.templates) t.values x cs is) g
-      ∙ ap (λ x. coded t.descriptions (map (template_code t) t.templates) t.values (map (template_number t) statics) x is) blocks
-      ∙ ap (coded t.descriptions (map (template_code t) t.templates) t.values (map (template_number t) statics) (coded_blocks t bs 0)) instructions
+      let signature = signature_code t u.signature in
+      let templates = map (template_code t) t.templates in
+      let globals = map (global_code t) u.globals in
+      ap (λ x. coded x ds ts vs gs cs is) sign ∙ ap (λ x. coded signature x ts vs gs cs is) d ∙ ap (λ x. coded signature t.descriptions x vs gs cs is) te
+      ∙ ap (λ x. coded signature t.descriptions templates x gs cs is) v
+      ∙ ap (λ x. coded signature t.descriptions templates t.values x cs is) g
+      ∙ ap (λ x. coded signature t.descriptions templates t.values globals x is) blocks
+      ∙ ap (coded signature t.descriptions templates t.values globals (coded_blocks t bs 0)) instructions
 
-tables_again : (variables : List Template) (bs : List BlockTree) → tables_for variables (blocks_code bs 0) ≡ tables_for variables (instructions_of bs)
-tables_again variables bs =
+tables_again : (u : TypedUnit) (bs : List BlockTree) → tables_for u bs (blocks_code bs 0) ≡ tables_for u bs (instructions_of bs)
+tables_again u bs =
     let code = blocks_code bs 0 in
     let places = places_of bs 0 in
     let with : List Description → List Template → List Value → Tables = λ ds ts vs. record {
-      descriptions = numbered same [] (map (λ t. t.description) variables ++ ds);
-      templates = numbered same_template [] (variables ++ ts);
+      descriptions = numbered same [] (signature_descriptions u.signature ++ flat_map global_descriptions u.globals ++ map (λ t. t.description) (block_templates bs) ++ ds);
+      templates = numbered same_template [] (flat_map global_templates u.globals ++ block_templates bs ++ ts);
       values = numbered same_value [] vs;
     } in
     sym (
@@ -131,37 +153,41 @@ tables_again variables bs =
     )
 
 -- only how many instructions there are matters to a unit's limits
-limits_again : (t : Tables) (statics : List Template) (bs : List BlockTree) (code other : List op.Instruction) → length code ≡ length other
-    → is_too_long (coded_unit t statics bs code) ≡ is_too_long (coded_unit t statics bs other)
-limits_again t statics bs code other e =
-    let c = coded_unit t statics bs code in
+limits_again : (t : Tables) (u : TypedUnit) (bs : List BlockTree) (code other : List op.Instruction) → length code ≡ length other
+    → is_too_long (coded_unit t u bs code) ≡ is_too_long (coded_unit t u bs other)
+limits_again t u bs code other e =
+    let c = coded_unit t u bs code in
     let count : length (map (instruction_code t) code) ≡ length (map (instruction_code t) other) = length-map code (instruction_code t) ∙ e ∙ sym (length-map other (instruction_code t)) in
     ap (λ n. is_over c.descriptions || is_over c.templates || is_over c.values || is_over c.globals || is_over c.blocks || nat_lt 65535 n
     || list_any has_many_slots c.blocks || list_any has_many_members c.descriptions || nat_lt 16777216 (initial_bytes c)) count
 
 -- the parts of a unit, as they are made
 module _ (u : TypedUnit) (bs : List BlockTree) (code : List op.Instruction) (t : Tables)
-    (blocks : bs ≡ blocks_of u) (made : code ≡ blocks_code bs 0) (numbers : t ≡ tables_for (variables_of u.statics bs) code) where
+    (blocks : bs ≡ blocks_of u) (made : code ≡ blocks_code bs 0) (numbers : t ≡ tables_for u bs code) where
   pub have_descriptions : HaveDescriptions t
-  have_descriptions = subst HaveDescriptions (sym numbers) (tables_stand (variables_of u.statics bs) code)
+  have_descriptions = subst HaveDescriptions (sym numbers) (tables_stand u bs code)
 
-  whole : t ≡ tables_for (variables_of u.statics bs) (instructions_of bs)
-  whole = numbers ∙ ap (tables_for (variables_of u.statics bs)) made ∙ tables_again (variables_of u.statics bs) bs
+  whole : t ≡ tables_for u bs (instructions_of bs)
+  whole = numbers ∙ ap (tables_for u bs) made ∙ tables_again u bs
 
   abbrev unit_with : List BlockTree → Code
-  unit_with bs = coded_unit (tables_for (variables_of u.statics bs) (instructions_of bs)) u.statics bs (instructions_of bs)
+  unit_with bs = coded_unit (tables_for u bs (instructions_of bs)) u bs (instructions_of bs)
 
-  pub unit_is : coded_unit t u.statics bs (instructions_of bs) ≡ code_of u
-  unit_is = ap (λ t. coded_unit t u.statics bs (instructions_of bs)) whole ∙ ap unit_with blocks
+  pub unit_is : coded_unit t u bs (instructions_of bs) ≡ code_of u
+  unit_is = ap (λ t. coded_unit t u bs (instructions_of bs)) whole ∙ ap unit_with blocks
 
-  pub limits_are : is_too_long (coded_unit t u.statics bs code) ≡ is_too_long (code_of u)
+  pub limits_are : is_too_long (coded_unit t u bs code) ≡ is_too_long (code_of u)
   limits_are =
-      limits_again t u.statics bs code (instructions_of bs) (ap length made ∙ sym (length-map (blocks_code bs 0) (with_target (places_of bs 0))))
+      limits_again t u bs code (instructions_of bs) (ap length made ∙ sym (length-map (blocks_code bs 0) (with_target (places_of bs 0))))
       ∙ ap is_too_long unit_is
 
+abbrev signed : List ℕ → CodedSignature
+signed ps = record { parameters = ps; result = None }
+
 -- code whose parts are empty
-pub nothing_coded : (ds : List Description) (ts : List CodedTemplate) (vs : List Value) (gs : List ℕ) (cs : List CodedBlock) (is : List Instruction)
-    → ds ≡ [] → ts ≡ [] → vs ≡ [] → gs ≡ [] → cs ≡ [] → is ≡ [] → coded ds ts vs gs cs is ≡ no_code
-nothing_coded ds ts vs gs cs is d t v g c i =
-    ap (λ x. coded x ts vs gs cs is) d ∙ ap (λ x. coded [] x vs gs cs is) t ∙ ap (λ x. coded [] [] x gs cs is) v
-    ∙ ap (λ x. coded [] [] [] x cs is) g ∙ ap (λ x. coded [] [] [] [] x is) c ∙ ap (coded [] [] [] [] []) i
+pub nothing_coded : (ps : List ℕ) (ds : List Description) (ts : List CodedTemplate) (vs : List Value) (gs : List CodedGlobal) (cs : List CodedBlock) (is : List Instruction)
+    → ps ≡ [] → ds ≡ [] → ts ≡ [] → vs ≡ [] → gs ≡ [] → cs ≡ [] → is ≡ [] → coded (signed ps) ds ts vs gs cs is ≡ no_code
+nothing_coded ps ds ts vs gs cs is p d t v g c i =
+    let s = signed [] in
+    ap (λ x. coded (signed x) ds ts vs gs cs is) p ∙ ap (λ x. coded s x ts vs gs cs is) d ∙ ap (λ x. coded s [] x vs gs cs is) t ∙ ap (λ x. coded s [] [] x gs cs is) v
+    ∙ ap (λ x. coded s [] [] [] x cs is) g ∙ ap (λ x. coded s [] [] [] [] x is) c ∙ ap (coded s [] [] [] [] []) i

@@ -1,8 +1,8 @@
 -- The code of a unit with its tables: descriptions, templates and values are numbered by first use, and equal
--- ones once (own). First come the variables that are made before the program begins, then those of the
--- blocks, then the instructions, block after block.
-use Rattle.std.specs.Prelude.{ℕ, suc, nat_eq, Bool, false, ◌&&◌, ◌==◌, List, [], ◌∷◌, ◌++◌, map, length}
-use Rattle.std.specs.Prelude.{if◌then◌else◌}
+-- ones once (own). First comes what the external procedure takes and gives, then the globals, then the
+-- variables of the blocks, then the instructions, block after block.
+use Rattle.std.specs.Prelude.{ℕ, suc, nat_eq, Bool, false, ◌&&◌, ◌==◌, option_map, List, [], ◌∷◌, ◌++◌, map}
+use Rattle.std.specs.Prelude.{length, if◌then◌else◌}
 use Rattle.std.specs.Bool.{beq}
 use Rattle.std.specs.Cmp.Lexicographic.{pointwise}
 use Rattle.std.specs.List.{flat_map, list_any}
@@ -16,8 +16,11 @@ use Rattle.pli_operation.specs.declared.operation.Relation as declared_relation
 use Rattle.pli_value.specs.Value.{Value, Number, Characters, Bits}
 use Rattle.pli_machine_step.specs.Program as op
 use Rattle.pli_type_tree.specs.Templates.{InitialScalar, Template}
+use Rattle.pli_type_tree.specs.TypedTree.{Signature, Global, OwnVariable, ExternalVariable, EntryPoint}
 use Rattle.pli_type_tree.specs.TypedTree.{TypedUnit}
-use Rattle.pli_unit_code.specs.CodeTables.{CodedTemplate, CodedBlock, Code}
+use Rattle.pli_unit_code.specs.CodeTables as plain
+use Rattle.pli_unit_code.specs.CodeTables.{CodedTemplate, CodedBlock, CodedSignature, CodedGlobal, Code}
+use Rattle.pli_unit_code.specs.CodeTables.{there}
 use Rattle.pli_unit_code.specs.declared.instruction.Instruction.{Instruction}
 use Rattle.pli_unit_code.specs.declared.instruction.Instruction.TheVariants as coded
 use Rattle.pli_gen_emit.specs.TreeTranslation.{BlockTree, blocks_of, block_code, behind, instructions_of}
@@ -68,18 +71,41 @@ abbrev pub values_named : op.Instruction → List Value
 values_named (op.Constant v) = v ∷ []
 values_named i = []
 
+-- what a signature names: its parameters, then its result
+abbrev pub signature_descriptions : Signature → List Description
+signature_descriptions s = s.parameters ++ there s.result
+
+-- what globals name
+abbrev pub global_descriptions : Global → List Description
+global_descriptions (OwnVariable t) = t.description ∷ []
+global_descriptions (ExternalVariable name t) = t.description ∷ []
+global_descriptions (EntryPoint name signature) = signature_descriptions signature
+
+abbrev pub global_templates : Global → List Template
+global_templates (OwnVariable t) = t ∷ []
+global_templates (ExternalVariable name t) = t ∷ []
+global_templates (EntryPoint name signature) = []
+
+-- the templates of the variables of blocks
+abbrev pub block_templates : List BlockTree → List Template
+block_templates bs = flat_map (λ b. b.head.variables) bs
+
 -- the entries of tables
 pub record Tables : Type 0 where
   pub descriptions : List Description
   pub templates : List Template
   pub values : List Value
 
--- those of variables and instructions
-abbrev pub tables_for : List Template → List op.Instruction → Tables
-tables_for variables code = record {
+-- those of a unit of these blocks and instructions
+abbrev pub tables_for : TypedUnit → List BlockTree → List op.Instruction → Tables
+tables_for u bs code = record {
   descriptions =
-      numbered same [] (map (λ t. t.description) variables ++ flat_map descriptions_named code);
-  templates = numbered same_template [] (variables ++ flat_map templates_named code);
+      numbered same []
+      (signature_descriptions u.signature ++ flat_map global_descriptions u.globals
+      ++ map (λ t. t.description) (block_templates bs) ++ flat_map descriptions_named code);
+  templates =
+      numbered same_template []
+      (flat_map global_templates u.globals ++ block_templates bs ++ flat_map templates_named code);
   values = numbered same_value [] (flat_map values_named code);
 }
 
@@ -133,6 +159,7 @@ module _ (tables : Tables) where
   instruction_code (op.JumpUnless target) = coded.JumpUnless target
   instruction_code (op.Goto outward target) = coded.Goto outward target
   instruction_code (op.Call block arguments) = coded.Call block arguments
+  instruction_code (op.CallExternal global arguments) = coded.CallExternal global arguments
   instruction_code (op.Begin block) = coded.Begin block
   instruction_code (op.Return outward) = coded.Return outward
   instruction_code (op.ReturnValue outward) = coded.ReturnValue outward
@@ -157,6 +184,17 @@ module _ (tables : Tables) where
   abbrev pub template_code : Template → CodedTemplate
   template_code t = record { description = description_number t.description; initial = t.initial }
 
+  abbrev pub signature_code : Signature → CodedSignature
+  signature_code s = record {
+    parameters = map description_number s.parameters;
+    result = option_map description_number s.result;
+  }
+
+  abbrev pub global_code : Global → CodedGlobal
+  global_code (OwnVariable t) = plain.OwnVariable (template_number t)
+  global_code (ExternalVariable name t) = plain.ExternalVariable name (template_number t)
+  global_code (EntryPoint name signature) = plain.EntryPoint name (signature_code signature)
+
   -- a block with its first instruction, and blocks whose code stands one behind the other
   abbrev pub coded_block : BlockTree → (entry : ℕ) → CodedBlock
   coded_block b p = record {
@@ -173,23 +211,20 @@ module _ (tables : Tables) where
   coded_blocks [] p = []
   coded_blocks (b ∷ bs) p = coded_block b p ∷ coded_blocks bs (behind (block_code b p) p)
 
-  abbrev pub coded_unit : (statics : List Template) → List BlockTree → List op.Instruction → Code
-  coded_unit statics bs code = record {
+  abbrev pub coded_unit : TypedUnit → List BlockTree → List op.Instruction → Code
+  coded_unit u bs code = record {
+    signature = signature_code u.signature;
     descriptions = tables.descriptions;
     templates = map template_code tables.templates;
     values = tables.values;
-    globals = map template_number statics;
+    globals = map global_code u.globals;
     blocks = coded_blocks bs 0;
     instructions = map instruction_code code;
   }
-
--- the templates of a unit's variables
-abbrev pub variables_of : (statics : List Template) → List BlockTree → List Template
-variables_of statics bs = statics ++ flat_map (λ b. b.head.variables) bs
 
 -- the code of a unit
 abbrev pub code_of : TypedUnit → Code
 code_of u =
     let bs = blocks_of u in
     let code = instructions_of bs in
-    coded_unit (tables_for (variables_of u.statics bs) code) u.statics bs code
+    coded_unit (tables_for u bs code) u bs code

@@ -76,6 +76,10 @@ fn encode_instruction<'a>(
             block,
             arguments: arguments as u16,
         },
+        NamingInstruction::CallExternal { global, arguments } => Instruction::CallExternal {
+            global,
+            arguments: arguments as u16,
+        },
         NamingInstruction::Begin { block } => Instruction::Begin { block },
         NamingInstruction::Return { outward } => Instruction::Return { outward },
         NamingInstruction::ReturnValue { outward } => Instruction::ReturnValue { outward },

@@ -3,9 +3,10 @@ ghost use Rattle.pli_gen_tree.specs.examples.TranslationExamples.{AssignedAndPri
 ghost use Rattle.pli_gen_tree.specs.examples.TranslationExamples.{ArgumentsHanded, AggregateCopied, Counted};
 ghost use Rattle.pli_gen_tree.specs.examples.TranslationExamples.{JumpsAndBlocks, WholeUnit, NumberedWell};
 ghost use Rattle.pli_gen_tree.specs.examples.TranslationExamples.{TablesNumbered, InstructionsNumbered, LimitsKept};
+ghost use Rattle.pli_gen_tree.specs.examples.TranslationExamples.{GlobalsNumbered, EntriesCalled, EntriesLinked};
 
 /// Worked examples: an assignment and PUT; a reference with subscripts; a call; an aggregate; a group with a control
-/// variable; jumps between blocks; tables.
+/// variable; jumps between blocks; tables; globals and calls of entries.
 pub fn worked_examples()
     ensures assigned_and_printed { AssignedAndPrinted }
     ensures part_of_structure { PartOfStructure }
@@ -18,4 +19,7 @@ pub fn worked_examples()
     ensures tables_numbered { TablesNumbered }
     ensures instructions_numbered { InstructionsNumbered }
     ensures limits_kept { LimitsKept }
+    ensures globals_numbered { GlobalsNumbered }
+    ensures entries_called { EntriesCalled }
+    ensures entries_linked { EntriesLinked }
 {}

@@ -4,7 +4,7 @@ ghost use Rattle.pli_type_tree.specs.views.TypedView.{unit_view};
 ghost use Rattle.pli_gen_emit.specs.answers.Units.{IsEmitted};
 ghost use Rattle.pli_gen_emit.specs.views.BlockView.{block_trees};
 ghost use Rattle.pli_gen_emit.specs.views.NamingView.{naming_code};
-ghost use Rattle.pli_gen_tree.specs.Encoding.{code_of, tables_for, variables_of};
+ghost use Rattle.pli_gen_tree.specs.Encoding.{code_of, tables_for};
 ghost use Rattle.pli_gen_tree.specs.answers.Answers.{Generates};
 ghost use Rattle.pli_gen_tree.specs.declared.generating.GenerateError.TheVariants.{OutOfMemory};
 ghost use Rattle.pli_gen_tree.specs.views.TableView.{tables_view};
@@ -16,7 +16,7 @@ use crate::unit::encode_unit;
 use indexmap::IndexSet;
 use pli_gen_emit::{Emitted, emit_procedures};
 use pli_type_tree::TypedUnit;
-use pli_unit_code::Code;
+use pli_unit_code::{Code, CodedSignature};
 use pli_value::Value;
 use std::alloc::{AllocError, Global};
 use thiserror::Error;
@@ -52,17 +52,20 @@ fn code_numbered<'a>(
 ) -> Result<Code, GenerateError>
     requires emitted { IsEmitted (unit_view unit.now).procedures emitted.now }
     requires tables { tables.now.lacks_memory ≡ false → tables_view tables.now
-        ≡ tables_for (variables_of (unit_view unit.now).statics (block_trees emitted.now.blocks.items)) (naming_code emitted.now.code.items) }
+        ≡ tables_for (unit_view unit.now) (block_trees emitted.now.blocks.items) (naming_code emitted.now.code.items) }
     ensures { Generates result (code_of (unit_view unit.now)) }
 {
     if tables.lacks_memory {
         return Err(GenerateError::OutOfMemory);
     }
-    let statics = unit.statics.as_slice();
-    if is_too_long(statics, emitted, tables) {
+    if is_too_long(unit, emitted, tables) {
         return Err(GenerateError::TooLong);
     }
     let mut code = Code {
+        signature: CodedSignature {
+            parameters: Vec::new(alloc),
+            result: None,
+        },
         descriptions: Vec::new(alloc),
         templates: Vec::new(alloc),
         values: Vec::new(alloc),
@@ -70,7 +73,7 @@ fn code_numbered<'a>(
         blocks: Vec::new(alloc),
         instructions: Vec::new(alloc),
     };
-    if encode_unit(alloc, tables, one, statics, emitted, &mut code).is_err() {
+    if encode_unit(alloc, tables, one, unit, emitted, &mut code).is_err() {
         drop(code);
         return Err(GenerateError::OutOfMemory);
     }
@@ -93,7 +96,7 @@ fn code_emitted<'a>(
         values: IndexSet::new(alloc),
         lacks_memory: false,
     };
-    number_unit(&mut tables, one, unit.statics.as_slice(), emitted);
+    number_unit(&mut tables, one, unit, emitted);
     let code = code_numbered(alloc, one, unit, emitted, &tables);
     drop(tables);
     code

@@ -6,6 +6,7 @@ mod encode;
 mod entries;
 mod examples;
 mod generating;
+mod globals;
 mod key;
 mod laws;
 mod limits;

@@ -2,7 +2,9 @@
 ghost use Rattle.std.specs.Prelude.{◌≡◌, ◌+◌, ◌≤◌, ◌||◌, nat_lt, min, map, length};
 ghost use Rattle.std.specs.List.{list_any, sum_by, AllByRecursion};
 ghost use Rattle.pli_map.specs.views.DescriptionView.{description_view, members_view};
+ghost use Rattle.pli_type_tree.specs.views.GlobalView.{global_group_view, globals_view};
 ghost use Rattle.pli_type_tree.specs.views.TemplateView.{groups_view};
+ghost use Rattle.pli_type_tree.specs.views.TypedView.{unit_view};
 ghost use Rattle.pli_gen_tree.specs.Encoding.{coded_unit};
 ghost use Rattle.pli_gen_tree.specs.Limits.{is_over, has_many_members, one_has_many, is_too_long};
 ghost use Rattle.pli_gen_tree.specs.answers.Pieces.{takes_many_slots, template_bytes, HaveDescriptions};
@@ -15,7 +17,7 @@ use crate::key::TemplateKey;
 use crate::table::Tables;
 use pli_gen_emit::{BlockSource, Emitted};
 use pli_map::{Description, far_size};
-use pli_type_tree::VariableGroup;
+use pli_type_tree::{GlobalGroup, TypedUnit, VariableGroup};
 
 /// The greatest number of entries of a table of a unit, of slots of a block and of members of a structure (own).
 const ENTRY_LIMIT: usize = 65_535;
@@ -121,13 +123,38 @@ fn has_long_table(tables: &Tables<'_>) -> bool
         || tables.values.len() > ENTRY_LIMIT
 }
 
-/// Whether a unit has too many variables that are made before the program begins, too many blocks or too many
-/// instructions.
-fn has_long_list(statics: &[VariableGroup], emitted: &Emitted<'_>) -> bool
-    ensures { result
-        ≡ is_over (groups_view statics.now) || is_over emitted.now.blocks.items || is_over emitted.now.code.items }
+/// How many globals a group has.
+fn global_count(group: &GlobalGroup) -> u64
+    ensures { result ≡ length (global_group_view group.now) }
 {
-    has_many_variables(0, statics)
+    match group {
+        GlobalGroup::OwnVariables(variables) => u64::from(variables.count),
+        GlobalGroup::ExternalVariables { names, .. } => names.len() as u64,
+        GlobalGroup::EntryPoints { names, .. } => names.len() as u64,
+    }
+}
+
+/// Whether there are too many globals.
+fn has_many_globals(groups: &[GlobalGroup]) -> bool
+    ensures { result ≡ is_over (globals_view groups.now) }
+{
+    let mut left = ENTRY_LIMIT as u64;
+    for group in groups {
+        let count = global_count(group);
+        if count > left {
+            return true;
+        }
+        left -= count;
+    }
+    false
+}
+
+/// Whether a unit has too many globals, too many blocks or too many instructions.
+fn has_long_list(groups: &[GlobalGroup], emitted: &Emitted<'_>) -> bool
+    ensures { result
+        ≡ is_over (globals_view groups.now) || is_over emitted.now.blocks.items || is_over emitted.now.code.items }
+{
+    has_many_globals(groups)
         || emitted.blocks.len() > ENTRY_LIMIT
         || emitted.code.len() > ENTRY_LIMIT
 }
@@ -143,16 +170,12 @@ fn has_large_part(blocks: &[BlockSource<'_>], tables: &Tables<'_>) -> bool
 }
 
 /// Whether a unit's code is too long (G1).
-pub(crate) fn is_too_long(
-    statics: &[VariableGroup],
-    emitted: &Emitted<'_>,
-    tables: &Tables<'_>,
-) -> bool
+pub(crate) fn is_too_long(unit: &TypedUnit, emitted: &Emitted<'_>, tables: &Tables<'_>) -> bool
     requires { HaveDescriptions (tables_view tables.now) }
     ensures { let blocks = block_trees emitted.now.blocks.items in
-        result ≡ is_too_long (coded_unit (tables_view tables.now) (groups_view statics.now) blocks (naming_code emitted.now.code.items)) }
+        result ≡ is_too_long (coded_unit (tables_view tables.now) (unit_view unit.now) blocks (naming_code emitted.now.code.items)) }
 {
     has_long_table(tables)
-        || has_long_list(statics, emitted)
+        || has_long_list(unit.globals.as_slice(), emitted)
         || has_large_part(emitted.blocks.as_slice(), tables)
 }

@@ -1,6 +1,6 @@
 //! The code of a unit within its limits.
 ghost use Rattle.std.specs.Prelude.{◌≡◌, ◌≤◌, ◌<◌, ◌++◌, ℕ, false, map, length, slice_index, IfOk, OnOk};
-ghost use Rattle.pli_type_tree.specs.views.TemplateView.{groups_view};
+ghost use Rattle.pli_type_tree.specs.views.TypedView.{unit_view};
 ghost use Rattle.pli_unit_code.specs.views.CodeView.{block_view, code_view};
 ghost use Rattle.pli_gen_emit.specs.TreeTranslation.{blocks_code, instructions_of};
 ghost use Rattle.pli_gen_emit.specs.answers.Pieces.{entries_of};
@@ -13,12 +13,13 @@ ghost use Rattle.pli_gen_tree.specs.views.TableView.{tables_view};
 
 use crate::encode::encode_code;
 use crate::entries::{copy_descriptions, copy_values, encode_templates, encode_variables};
+use crate::globals::{encode_descriptions, encode_globals, result_number};
 use crate::numbers::Numbers;
 use crate::one::One;
 use crate::places::step_places;
 use crate::table::Tables;
 use pli_gen_emit::{BlockSource, Emitted};
-use pli_type_tree::VariableGroup;
+use pli_type_tree::TypedUnit;
 use pli_unit_code::{Block, Code};
 use std::alloc::{AllocError, Global};
 
@@ -65,24 +66,24 @@ fn encode_blocks<'a>(
     Ok(())
 }
 
-/// Fills the code of a unit that is not too long, which has nothing before: its tables, its blocks with their entries,
-/// and its instructions.
+/// Fills the code of a unit that is not too long, which has nothing before: what its external procedure takes and
+/// gives, its tables, its globals, its blocks with their entries, and its instructions.
 pub(crate) fn encode_unit<'a>(
     alloc: Global,
     tables: &Tables<'a>,
     one: One<'a>,
-    statics: &'a [VariableGroup],
+    unit: &'a TypedUnit,
     emitted: &Emitted<'a>,
     code: &mut Code,
 ) -> Result<(), AllocError>
     requires entries { emitted.now.entries.items ≡ entries_of (block_trees emitted.now.blocks.items) 0 }
     requires code { naming_code emitted.now.code.items ≡ blocks_code (block_trees emitted.now.blocks.items) 0 }
     requires short { let blocks = block_trees emitted.now.blocks.items in
-        is_too_long (coded_unit (tables_view tables.now) (groups_view statics.now) blocks (naming_code emitted.now.code.items)) ≡ false }
+        is_too_long (coded_unit (tables_view tables.now) (unit_view unit.now) blocks (naming_code emitted.now.code.items)) ≡ false }
     requires empty { code_view code.old ≡ no_code }
     ensures { let blocks = block_trees emitted.now.blocks.items in
         OnOk result
-        (code_view code.new ≡ coded_unit (tables_view tables.now) (groups_view statics.now) blocks (instructions_of blocks)) }
+        (code_view code.new ≡ coded_unit (tables_view tables.now) (unit_view unit.now) blocks (instructions_of blocks)) }
 {
     let places = step_places(alloc, emitted.code.as_slice())?;
     let numbers = Numbers {
@@ -90,10 +91,13 @@ pub(crate) fn encode_unit<'a>(
         places: &places,
         one,
     };
+    let taken = unit.signature.parameters.as_slice();
+    encode_descriptions(numbers, taken, &mut code.signature.parameters)?;
+    code.signature.result = result_number(numbers, &unit.signature.result);
     copy_descriptions(alloc, tables, &mut code.descriptions)?;
     encode_templates(alloc, numbers, &mut code.templates)?;
     copy_values(alloc, tables, &mut code.values)?;
-    encode_variables(numbers, statics, &mut code.globals)?;
+    encode_globals(alloc, numbers, unit.globals.as_slice(), &mut code.globals)?;
     let blocks = emitted.blocks.as_slice();
     let entries = emitted.entries.as_slice();
     encode_blocks(alloc, numbers, blocks, entries, &mut code.blocks)?;

@@ -1,4 +1,10 @@
-pub mod GlobalLemmas
-pub mod Lemmas
-pub mod PlacesSorted
-pub mod Positions
+pub mod AllOwn
+pub mod ClassLemmas
+pub mod Counted
+pub mod Faultless
+pub mod LinkedUnits
+pub mod MeantFirst
+pub mod MismatchLemmas
+pub mod NameTables
+pub mod NamesSorted
+pub mod SortedOnce

@@ -1,4 +1,10 @@
+pub mod Alike
 pub mod Link
+pub mod Mismatches
+pub mod ModuleSize
+pub mod Names
+pub mod Units
 pub mod answers
 pub mod examples
 pub mod laws
+pub mod views

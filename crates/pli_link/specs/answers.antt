@@ -1,1 +1,5 @@
-pub mod Answers
+pub mod Classes
+pub mod Counting
+pub mod Digests
+pub mod Linking
+pub mod Tables

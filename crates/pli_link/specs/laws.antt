@@ -1,1 +1,2 @@
+pub mod AlikeLaws
 pub mod Sorting

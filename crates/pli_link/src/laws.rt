@@ -1,17 +1,27 @@
 //! Laws of linking.
-ghost use Rattle.pli_link.specs.laws.Sorting.{PlacesAreSorted};
-ghost use Rattle.pli_link.specs.examples.Examples.{TwoUnits, OneOfThree, NoneOfTwo, TooLarge, NotTooLarge};
+ghost use Rattle.pli_link.specs.laws.Sorting.{NamesAreSorted};
+ghost use Rattle.pli_link.specs.examples.Examples.{TwoUnits, OneOfThree, NoneOfTwo, NoneCalled, OtherShared};
+ghost use Rattle.pli_link.specs.examples.Examples.{SameShared, OtherTaken, EntryAndVariables, ToldOnce};
+ghost use Rattle.pli_link.specs.examples.Examples.{TooLarge, NotTooLarge, SharedOnce};
 
-/// A law: the order of places is a stable sort of them by the names of their procedures.
-pub fn places_are_sorted()
-    ensures { PlacesAreSorted }
+/// A law: the order of names with their units is a stable sort of them by name.
+pub fn names_are_sorted()
+    ensures { NamesAreSorted }
 {}
 
-/// Worked examples: two main procedures, one of three units, none of two, and variables that are too large.
+/// Worked examples: two main procedures, one of three units, none of two; an entry without a procedure, and with
+/// another one; external variables that are alike or not; and modules that are too large or not.
 pub fn worked_examples()
     ensures two_units { TwoUnits }
     ensures one_of_three { OneOfThree }
     ensures none_of_two { NoneOfTwo }
+    ensures none_called { NoneCalled }
+    ensures other_shared { OtherShared }
+    ensures same_shared { SameShared }
+    ensures other_taken { OtherTaken }
+    ensures entry_and_variables { EntryAndVariables }
+    ensures told_once { ToldOnce }
     ensures too_large { TooLarge }
     ensures not_too_large { NotTooLarge }
+    ensures shared_once { SharedOnce }
 {}

@@ -1,31 +1,24 @@
 //! Modules from the code of units.
-ghost use Rattle.std.specs.Prelude.{◌≡◌, ◌++◌, [], map, option_map, position, OnOk, IfOk};
+ghost use Rattle.std.specs.Prelude.{◌≡◌, ◌++◌, map, OnOk, IfOk};
 ghost use Rattle.pli_link.specs.Link as link;
-ghost use Rattle.pli_unit_code.specs.views.CodeView.{module_view};
-ghost use Rattle.pli_link.specs.answers.Answers.{Links, compiled_view, place_view, fault_view, is_past, first_module};
+ghost use Rattle.pli_link.specs.Names as meaning;
+ghost use Rattle.pli_link.specs.answers.Linking.{Links, fault_of, main_faults_of};
+ghost use Rattle.pli_link.specs.answers.Tables.{AreNames, HaveClasses, units_in};
+ghost use Rattle.pli_link.specs.views.UnitView.{compiled_view};
 ghost use Rattle.pli_link.specs.declared.linking.LinkError.TheVariants.{OutOfMemory};
 
-use crate::globals::are_globals_too_large;
+use crate::alike::FoundTemplate;
+use crate::global_fault::GlobalFault;
+use crate::linked::{linked_units, main_at};
+use crate::mismatches::faulty_names;
+use crate::names::{Names, externals, procedures};
+use crate::order::{main_names, repeated_names, sort};
+use crate::sizes::is_too_large;
+use crate::units::{Compiled, LinkedName};
+use indexmap::{IndexMap, IndexSet};
 use pli_base::Name;
-use pli_unit_code::{Code, Module};
+use pli_unit_code::Module;
 use std::alloc::{AllocError, AllocFailed, Global};
-
-/// A unit that has been compiled: the member's name, and its external procedure with its code.
-#[derive(Drop)]
-pub struct Compiled {
-    pub unit: Name,
-    pub procedure: Name,
-    /// Whether it is a main procedure.
-    pub is_main: bool,
-    pub code: Code,
-}
-
-/// An external procedure and its unit.
-#[derive(Clone, Copy)]
-pub struct LinkedProcedure {
-    pub procedure: Name,
-    pub unit: Name,
-}
 
 /// A fault of linking.
 #[derive(Clone, Copy)]
@@ -33,17 +26,24 @@ pub enum LinkFault {
     /// N1, where there is no main procedure.
     NoMainProcedure,
     /// N2, for each main procedure after the first.
-    TwoMainProcedures(LinkedProcedure),
+    TwoMainProcedures(LinkedName),
+    /// N3, for each unit and name of an entry of which no unit has a procedure.
+    Unresolved(LinkedName),
     /// N4, for each procedure that has the name of an earlier one.
-    DefinedTwice(LinkedProcedure),
-    /// N6, where the main unit's variables that are made before the program begins take too many bytes.
+    DefinedTwice(LinkedName),
+    /// N5, for each unit and name of an entry that takes or gives something else than the first procedure of the name,
+    /// or of an external variable that has a procedure's name, or another description or other initial values than
+    /// the first variable of its name.
+    Mismatch(LinkedName),
+    /// N6, where the module has more than 1,000,000 instructions, 65,535 external variables or 16,777,216 bytes of
+    /// variables that are made before the program begins.
     ModuleTooLarge,
 }
 
 /// Why units are not linked.
 #[derive(Drop)]
 pub enum LinkError {
-    /// All faults, by code, procedure and unit.
+    /// All faults, by code, name and unit.
     Faults(Vec<LinkFault>),
     /// Memory ran out.
     OutOfMemory,
@@ -65,147 +65,126 @@ impl<T: Drop> From<AllocFailed<T>> for LinkError {
     }
 }
 
-/// The module of units, which come in the order of their names, at most 999; or all faults.
+/// The module of units, which come in the order of their names; or all faults.
 pub fn link(alloc: Global, units: Vec<Compiled>) -> Result<Module, LinkError>
     ensures { Links result (link.link_of (map compiled_view units.items)) }
 {
-    let faults = faults_of(alloc, &units)?;
+    let procedures = procedures(alloc, &units)?;
+    let faults = faults_of(alloc, &units, &procedures)?;
     if !faults.is_empty() {
         return Err(LinkError::Faults(faults));
     }
-    main_module(units).ok_or(LinkError::Faults(faults))
+    let Some(main) = main_at(&units) else {
+        return Err(LinkError::Faults(faults));
+    };
+    Ok(Module {
+        units: linked_units(alloc, &procedures, units)?,
+        main: main as u16,
+    })
 }
 
-/// The procedure of a unit.
-fn place_of(unit: &Compiled) -> LinkedProcedure
-    ensures { place_view result ≡ link.place_of_unit (compiled_view unit.now) }
+/// Which fault a name of a unit has.
+#[derive(Clone, Copy)]
+pub(crate) enum NameFault {
+    TwoMainProcedures,
+    Unresolved,
+    DefinedTwice,
+    Mismatch,
+}
+
+/// The fault of a name.
+fn fault_of(fault: NameFault, name: LinkedName) -> LinkFault
+    ensures { result ≡ fault_of fault name }
 {
-    LinkedProcedure {
-        procedure: unit.procedure,
-        unit: unit.unit,
+    match fault {
+        NameFault::TwoMainProcedures => LinkFault::TwoMainProcedures(name),
+        NameFault::Unresolved => LinkFault::Unresolved(name),
+        NameFault::DefinedTwice => LinkFault::DefinedTwice(name),
+        NameFault::Mismatch => LinkFault::Mismatch(name),
     }
 }
 
-/// Where the first place stands whose procedure has a greater name.
-fn place_after(places: &[LinkedProcedure], procedure: &Name) -> Option<usize>
-    ensures { result ≡ position (is_past procedure.now) places.now }
+/// Appends a fault for each name.
+fn add_faults(
+    faults: &mut Vec<LinkFault>,
+    fault: NameFault,
+    names: &[LinkedName],
+) -> Result<(), AllocError>
+    ensures { OnOk result (faults.new.items ≡ faults.old.items ++ map (fault_of fault) names.now) }
 {
-    places.iter().position(|other| other.procedure > *procedure)
-}
-
-/// Puts a place before the first one whose procedure has a greater name.
-fn insert(places: &mut Vec<LinkedProcedure>, place: LinkedProcedure) -> Result<(), AllocError>
-    ensures { OnOk result (map place_view places.new.items ≡ link.inserted (place_view place) (map place_view places.old.items)) }
-{
-    let at = place_after(places.as_slice(), &place.procedure).unwrap_or(places.len());
-    places.insert(at, place)?;
-    Ok(())
-}
-
-/// Places by the names of their procedures; those of one procedure stay as they stand.
-fn in_order(alloc: Global, places: &[LinkedProcedure]) -> Result<Vec<LinkedProcedure>, AllocError>
-    ensures { IfOk result (λ sorted. map place_view sorted.items ≡ link.in_order (map place_view places.now)) }
-{
-    let mut sorted = Vec::new(alloc);
-    for place in places {
-        insert(&mut sorted, *place)?;
-    }
-    Ok(sorted)
-}
-
-/// The main procedures, in the order of their units.
-fn main_places(alloc: Global, units: &[Compiled]) -> Result<Vec<LinkedProcedure>, AllocError>
-    ensures { IfOk result (λ places. map place_view places.items ≡ map link.place_of_unit (link.mains (map compiled_view units.now))) }
-{
-    let mut places = Vec::new(alloc);
-    for unit in units {
-        if unit.is_main {
-            places.push(place_of(unit))?;
-        }
-    }
-    Ok(places)
-}
-
-/// The procedures that have the name of an earlier one, in the order of their units.
-fn repeated_places(alloc: Global, units: &[Compiled]) -> Result<Vec<LinkedProcedure>, AllocError>
-    ensures { IfOk result (λ places. map place_view places.items ≡ link.defined_again [] (map compiled_view units.now)) }
-{
-    let mut before = Vec::new(alloc);
-    let mut places = Vec::new(alloc);
-    for unit in units {
-        if before.contains(&unit.procedure) {
-            places.push(place_of(unit))?;
-        }
-        before.push(unit.procedure)?;
-    }
-    Ok(places)
-}
-
-/// Appends N2 for each place.
-fn add_mains(faults: &mut Vec<LinkFault>, places: &[LinkedProcedure]) -> Result<(), AllocError>
-    ensures { OnOk result (map fault_view faults.new.items ≡ map fault_view faults.old.items ++ map link.TwoMainProcedures (map place_view places.now)) }
-{
-    for place in places {
-        faults.push(LinkFault::TwoMainProcedures(*place))?;
+    for name in names {
+        faults.push(fault_of(fault, *name))?;
     }
     Ok(())
 }
 
-/// Appends N4 for each place.
-fn add_repeated(faults: &mut Vec<LinkFault>, places: &[LinkedProcedure]) -> Result<(), AllocError>
-    ensures { OnOk result (map fault_view faults.new.items ≡ map fault_view faults.old.items ++ map link.DefinedTwice (map place_view places.now)) }
+/// Appends a fault for each name, in their order.
+fn add_in_order(
+    faults: &mut Vec<LinkFault>,
+    fault: NameFault,
+    names: Vec<LinkedName>,
+) -> Result<(), AllocError>
+    ensures { OnOk result (faults.new.items ≡ faults.old.items ++ map (fault_of fault) (link.in_order names.items)) }
 {
-    for place in places {
-        faults.push(LinkFault::DefinedTwice(*place))?;
-    }
-    Ok(())
+    let mut names = names;
+    sort(&mut names)?;
+    add_faults(faults, fault, &names)
 }
 
-/// Where the first main procedure stands.
-fn main_at(units: &[Compiled]) -> Option<usize>
-    ensures { result ≡ position (λ u. u.is_main) units.now }
-{
-    units.iter().position(|unit| unit.is_main)
-}
-
-/// Appends N6 where the variables of the first main procedure's unit are too large.
-fn add_too_large(faults: &mut Vec<LinkFault>, units: &[Compiled]) -> Result<(), AllocError>
-    ensures { OnOk result (map fault_view faults.new.items ≡ map fault_view faults.old.items ++ link.too_large_among (link.mains (map compiled_view units.now))) }
-{
-    if let Some(at) = main_at(units) {
-        if are_globals_too_large(&units[at].code) {
-            faults.push(LinkFault::ModuleTooLarge)?;
-        }
-    }
-    Ok(())
-}
-
-/// The faults of units, by code, procedure and unit.
-fn faults_of(alloc: Global, units: &[Compiled]) -> Result<Vec<LinkFault>, AllocError>
-    ensures { IfOk result (λ found. map fault_view found.items ≡ link.link_faults (map compiled_view units.now)) }
+/// N1 and N2.
+fn main_faults(alloc: Global, units: &[Compiled]) -> Result<Vec<LinkFault>, AllocError>
+    ensures { IfOk result (λ found. found.items ≡ main_faults_of (map compiled_view units.now)) }
 {
     let mut faults = Vec::new(alloc);
-    match main_places(alloc, units)?.split_first() {
+    match main_names(alloc, units)?.split_first() {
         None => faults.push(LinkFault::NoMainProcedure)?,
-        Some((_, later)) => add_mains(&mut faults, &in_order(alloc, later)?)?,
+        Some((_, later)) => {
+            let later = Vec::from_slice(alloc, later)?;
+            add_in_order(&mut faults, NameFault::TwoMainProcedures, later)?;
+        }
     }
-    add_repeated(
-        &mut faults,
-        &in_order(alloc, &repeated_places(alloc, units)?)?,
-    )?;
-    add_too_large(&mut faults, units)?;
     Ok(faults)
 }
 
-/// The module of the first main procedure.
-fn main_module(units: Vec<Compiled>) -> Option<Module>
-    ensures { option_map module_view result ≡ first_module (link.mains (map compiled_view units.items)) }
+/// The faults of units whose names these are, by code, name and unit.
+fn faults_among<'a>(
+    alloc: Global,
+    known: &mut IndexSet<FoundTemplate<'a>>,
+    names: &Names<'a, '_>,
+) -> Result<Vec<LinkFault>, AllocError>
+    requires names { AreNames names.now }
+    requires classes { HaveClasses known.old.keys names.now }
+    ensures { IfOk result (λ found. found.items ≡ link.link_faults (units_in names.now)) }
 {
-    let mut units = units;
-    let at = main_at(&units)?;
-    let main = units.swap_remove(at);
-    Some(Module {
-        unit: main.unit,
-        code: main.code,
-    })
+    let units = names.units;
+    let mut faults = main_faults(alloc, units)?;
+    let unresolved = faulty_names(alloc, known, names, GlobalFault::Unresolved, units)?;
+    add_in_order(&mut faults, NameFault::Unresolved, unresolved)?;
+    let repeated = repeated_names(alloc, units)?;
+    add_in_order(&mut faults, NameFault::DefinedTwice, repeated)?;
+    let mismatches = faulty_names(alloc, known, names, GlobalFault::Mismatch, units)?;
+    add_in_order(&mut faults, NameFault::Mismatch, mismatches)?;
+    if is_too_large(names) {
+        faults.push(LinkFault::ModuleTooLarge)?;
+    }
+    Ok(faults)
+}
+
+/// The faults of units, by code, name and unit.
+fn faults_of(
+    alloc: Global,
+    units: &[Compiled],
+    procedures: &IndexMap<Name, usize>,
+) -> Result<Vec<LinkFault>, AllocError>
+    requires { procedures.now.entries ≡ meaning.procedures (map compiled_view units.now) }
+    ensures { IfOk result (λ found. found.items ≡ link.link_faults (map compiled_view units.now)) }
+{
+    let mut known = IndexSet::new(alloc);
+    let externals = externals(alloc, &mut known, units)?;
+    let names = Names {
+        units,
+        procedures,
+        externals: &externals,
+    };
+    faults_among(alloc, &mut known, &names)
 }

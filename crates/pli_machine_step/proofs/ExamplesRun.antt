@@ -124,3 +124,19 @@ skip_ends_line = refl
 pub static_is_shared : example.StaticIsShared
 unfolding nothing entered made_of stepped left_by parts_held parts_stored held stored static_place calculated printed digits
 static_is_shared = refl
+
+pub units_share : example.UnitsShare
+unfolding nothing entered made_of stepped left_by parts_held parts_stored held stored static_place calculated printed digits
+units_share = refl
+
+pub units_stop : example.UnitsStop
+unfolding nothing entered made_of stepped
+units_stop = refl
+
+pub unit_fails : example.UnitFails
+unfolding nothing entered made_of stepped error_at
+unit_fails = refl
+
+pub no_unit_faults : example.NoUnitFaults
+unfolding nothing entered made_of stepped
+no_unit_faults = refl

@@ -28,9 +28,9 @@ resume_ahead P w (Steps before behind) (suc left) adds = resume_ahead P before b
 
 next_ahead : (p : Program) (s t : State) → Ahead s t → Ahead (next_of p s) (next_of p t)
 next_ahead p (At here frames w left) t h =
-    let m = act_in p.greatest (slice_get p.units here.unit) here frames w in
+    let m = act_in p (slice_get p.units here.unit) here frames w in
     subst (λ t. Ahead (resume m left) (next_of p t)) (sym h)
-    (resume_ahead (IsFramed frames w) w m left (leads_add (ahead here) frames w m (frame_leads p.greatest (slice_get p.units here.unit) here frames w)))
+    (resume_ahead (IsFramed frames w) w m left (leads_add (ahead here) frames w m (frame_leads p (slice_get p.units here.unit) here frames w)))
 next_ahead p (Over e w) t h =
     ⊎_elim (λ same. inl (ap (next_of p) same))
     (λ spent. inr (spent.0, prefix_then w.output (output_of t) (output_of (next_of p t)) spent.1 (next_adds p t))) h

@@ -9,7 +9,8 @@ ghost use Rattle.pli_machine_step.specs.examples.MachineExamples.{ArgumentIsShar
 ghost use Rattle.pli_machine_step.specs.examples.MachineExamples.{BeginsEnd, LoopEnds, ElementPrints};
 ghost use Rattle.pli_machine_step.specs.examples.MachineExamples.{ElementFails, PartPrints, PartFails};
 ghost use Rattle.pli_machine_step.specs.examples.MachineExamples.{ComparisonPrints, BitsPrint, SkipEndsLine};
-ghost use Rattle.pli_machine_step.specs.examples.MachineExamples.{StaticIsShared};
+ghost use Rattle.pli_machine_step.specs.examples.MachineExamples.{StaticIsShared, UnitsShare, UnitsStop};
+ghost use Rattle.pli_machine_step.specs.examples.MachineExamples.{UnitFails, NoUnitFaults};
 
 /// A law: a program's run gives one outcome.
 pub fn one_outcome()
@@ -33,7 +34,8 @@ pub fn every_run_ends()
 
 /// Worked examples: steps, a GOTO out of a call, jumps without a step, the limit of activations, the kinds of
 /// blocks, the code's end, an argument by place, a function's value, a loop, an element and a part of a string that are
-/// there and that are not, a comparison, bits printed, a line ended, a variable that is made once.
+/// there and that are not, a comparison, bits printed, a line ended, a variable that is made once, a call of another
+/// unit's procedure and a variable that both units have.
 pub fn worked_examples()
     ensures smallest_stops { SmallestStops }
     ensures smallest_ends { SmallestEnds }
@@ -65,4 +67,8 @@ pub fn worked_examples()
     ensures bits_print { BitsPrint }
     ensures skip_ends_line { SkipEndsLine }
     ensures static_is_shared { StaticIsShared }
+    ensures units_share { UnitsShare }
+    ensures units_stop { UnitsStop }
+    ensures unit_fails { UnitFails }
+    ensures no_unit_faults { NoUnitFaults }
 {}

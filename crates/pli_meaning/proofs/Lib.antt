@@ -1,6 +1,9 @@
+pub mod GlobalsFit
 pub mod MembersDoAsMeant
 pub mod MembersHaveOneProgram
-pub mod ModulesHold
-pub mod ProceduresGrow
-pub mod ProceduresSimulate
+pub mod ProgramsGrow
+pub mod ProgramsSimulate
 pub mod ScratchExamplesHold
+pub mod UnitTables
+pub mod UnitsOfTrees
+pub mod VariablesMade

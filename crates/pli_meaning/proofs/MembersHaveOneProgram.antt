@@ -1,275 +1,262 @@
--- Members that have a module have one main unit, whose program is well typed.
-use Rattle.std.specs.Prelude.{◌≡◌, ℕ, Bool, true, false, Result, Ok, Err, List, [], ◌∷◌, ◌++◌, map, refl, if◌then◌else◌}
-use Rattle.std.specs.Cmp.Lexicographic.{slice_cmp}
-use Rattle.std.specs.List.{filter, flat_map}
-use Rattle.std.specs.Ordering.{nat_cmp, is_gt}
-use Rattle.std.proofs.Common.{sym, ◌∙◌, ap, subst}
+-- Members that have a module have one program, which is well typed, and the module is that of the program.
+use Rattle.std.specs.Prelude.{◌≡◌, ℕ, ◌+◌, ◌<◌, zero, suc, nat_lt, Bool, true, false, not, ◌||◌, cond, Option, Some, None, Result, Ok, List, [], ◌∷◌, ◌++◌, map, length, position, slice_get, refl, IsFalse, if◌then◌else◌}
+use Rattle.std.specs.Cmp.Lexicographic.{nat_list_eq_equiv}
+use Rattle.std.specs.List.{position_or_len}
+use Rattle.std.proofs.Common.{sym, ◌∙◌, ap, subst, arith, true≢false}
+use Rattle.std.proofs.lemmas.Bool.Decides.{Decides-eqb}
+use Rattle.std.proofs.lemmas.List.{length-map}
+use Rattle.std.proofs.lemmas.Slice.Eq.{slice_eq-Decides}
 use Rattle.pli_base.specs.Name.{Name}
-use Rattle.pli_base.specs.declared.token.Fault.{Fault}
-use Rattle.pli_base.specs.declared.token.Origin.{Origin}
-use Rattle.pli_include.specs.Expanded.{outcome_of}
-use Rattle.pli_include.specs.Expansion.{Outcome}
+use Rattle.pli_base.specs.Words.{same_name, is_among}
+use Rattle.pli_base.specs.laws.NameLaws.{pointwise-refl}
 use Rattle.pli_members.specs.Members.{Member}
-use Rattle.pli_members.specs.declared.kind.MemberKind.{MemberKind}
-use Rattle.pli_members.specs.declared.kind.MemberKind.TheVariants.{Source, Include}
-use Rattle.pli_link.specs.Link.{Compiled, Place, LinkFault, TwoMainProcedures, ModuleTooLarge, inserted, in_order_after, in_order, place_of_unit, mains, later, none_among, are_too_large, globals_of, too_large_among, link_faults, module_or, link_of}
+use Rattle.pli_link.specs.Link.{defined_again, mains, later, none_among, link_faults, module_of, module_or}
+use Rattle.pli_link.specs.Names.{with_name}
+use Rattle.pli_link.specs.Units.{Compiled, procedure_of}
+use Rattle.pli_link.specs.declared.linking.LinkFault.{LinkFault}
+use Rattle.pli_link.proofs.Faultless.{front_empty, back_empty, faultless, small}
 use Rattle.pli_unit_code.specs.Modules.{Module}
-use Rattle.pli_gen_tree.specs.Encoding.{code_of}
-use Rattle.pli_gen_tree.specs.Limits.{is_too_long}
-use Rattle.pli_gen_tree.specs.WellNumbered.{IsWellNumbered}
-use Rattle.pli_meaning_typed.specs.TypedPrograms.{WellTyped}
-use Rattle.pli_resolve.specs.ResolvedUnits.{ResolvedUnit, resolved_unit_of}
-use Rattle.pli_type.specs.NamedUnits.{named_unit, checked_unit}
-use Rattle.pli_type.specs.laws.Laws.{IsToldOfTypes}
-use Rattle.pli_type.proofs.FaultCodes.{faults_are_of_types}
-use Rattle.pli_type_laws.specs.TypedUnits.{IsTypedMain}
-use Rattle.pli_type_laws.proofs.CheckedUnits.{checked_is_typed}
+use Rattle.pli_gen_stands.specs.Laws.{AreWellNumbered}
+use Rattle.pli_gen_stands.specs.Linked.{IsModuleOf}
+use Rattle.pli_meaning_typed.specs.TypedPrograms.{NoneIsNamed, AreNamedApart, HasMain, WellTyped}
 use Rattle.pli_type_tree.specs.TypedTree.{TypedUnit}
-use Rattle.pli_meaning.specs.Programs.{alone}
-use Rattle.pli_meaning.proofs.ModulesHold.{module_typed}
-use Rattle.pli_parse_statement.specs.StatementReading.{unit_of}
-use Rattle.pli_base.specs.Statements.{ExternalProcedure}
-use Rattle.pli_base.specs.Words.{Tokens}
-use Rattle.pli_declare.specs.Resolution.{resolution_faults}
-use Rattle.pli_meaning.specs.Scratch.{Diagnostic, typed_unless, program_from, program_of, units_of, located, all_located, parsed_from, parsed_of, too_long, coded_from, compiled_from, compiled_of, diagnostics_in, diagnostic_line, Made, built, linked, scratch, all_text, all_units, text_in, units_in, sources, source_in, has_main, main_units}
+use Rattle.pli_meaning.specs.Programs.{program_of_units, main_numbers}
+use Rattle.pli_meaning.specs.Scratch.{Made, built, linked, scratch, all_text, all_units, parsed_of, sources, trees_of}
+use Rattle.pli_meaning.proofs.GlobalsFit.{all_fit, linked_where_fit, module_where_fit}
+use Rattle.pli_meaning.proofs.UnitsOfTrees.{coded_tree, IsOfMember, AreOfMembers, all_coded, all_typed, all_numbered}
+use Rattle.pli_meaning.proofs.VariablesMade.{few_bytes, few_variables}
 
--- a list with an element is not empty
-filled : {A : Type 0} (xs ys : List A) (y : A) → xs ++ y ∷ ys ≡ [] → ⊥
-filled [] ys y e = cc
-filled (x ∷ xs) ys y e = cc
+-- units of one name are one
 
--- the parts of an empty list are empty
-front_empty : {A : Type 0} (xs ys : List A) → xs ++ ys ≡ [] → xs ≡ []
-front_empty [] ys e = refl
-front_empty (x ∷ xs) ys e = cc
+abbrev tree_as : {F : Type 0} → TypedUnit → Result TypedUnit F
+tree_as u = Ok u
 
-back_empty : {A : Type 0} (xs ys : List A) → xs ++ ys ≡ [] → ys ≡ []
-back_empty [] ys e = e
-back_empty (x ∷ xs) ys e = cc
+tree_is : {F : Type 0} (u v : TypedUnit) → tree_as {F = F} u ≡ tree_as v → u ≡ v
+tree_is u v e = cc
 
--- where there are diagnostics there is a text
-text_filled : (name : Name) (d : Diagnostic) (ds : List Diagnostic) → flat_map (diagnostic_line name) (d ∷ ds) ≡ [] → ⊥
-text_filled name d ds e = filled _ [] 10 (front_empty (diagnostic_line name d) _ e)
+same_procedure : (entries : List (Name × Member)) (u v : TypedUnit) → IsOfMember entries u → IsOfMember entries v → u.name ≡ v.name → u.procedure ≡ v.procedure
+same_procedure entries u v a b e =
+    let tree : a.tree ≡ b.tree = tree_is a.tree b.tree (sym a.spelled ∙ ap (parsed_of entries) e ∙ b.spelled) in
+    ap (λ t. t.procedure) a.is ∙ ap (λ (t : TypedUnit). t.procedure) tree ∙ sym (ap (λ t. t.procedure) b.is)
 
--- a tree is typed and numbered well
-abbrev IsGood : TypedUnit → Type 0
-IsGood u = IsTypedMain 31 u × IsWellNumbered u
+name_is : (n m : Name) → same_name n m ≡ true → n ≡ m
+name_is n m e = (slice_eq-Decides Decides-eqb n m _ refl).0 e
 
--- what the passes give: such a tree, or a fault at least
-abbrev IsRead : Result TypedUnit (List Fault) → Type 0
-IsRead (Ok u) = IsGood u
-IsRead (Err []) = ⊥
-IsRead (Err (fault ∷ faults)) = Unit {0}
+-- no unit has a procedure of this name
+abbrev NoneHas : Name → List TypedUnit → Type 0
+NoneHas name [] = Unit {0}
+NoneHas name (u ∷ us) = IsFalse (same_name name u.procedure) × NoneHas name us
 
-told_read : (r : Result TypedUnit (List Fault)) → IsToldOfTypes r → ((u : TypedUnit) → r ≡ Ok u → IsGood u) → IsRead r
-told_read (Ok u) told good = good u refl
-told_read (Err []) told good = told.0
-told_read (Err (fault ∷ faults)) told good = tt
+not_again : (b : Bool) (c : Compiled) → (if b then procedure_of c ∷ [] else []) ≡ [] → b ≡ false
+not_again true c e = let bad : ⊥ = cc in absurd bad
+not_again false c e = refl
 
-checked_told : (r : ResolvedUnit) → IsToldOfTypes (checked_unit r)
-unfolding checked_unit
-checked_told r = faults_are_of_types (named_unit 31 r)
-
-typed_read : (texts : Tokens) (unit : ExternalProcedure) → unit_of texts ≡ Ok unit → (faults : List Fault) → IsRead (typed_unless faults unit)
-typed_read texts unit read [] = told_read (checked_unit (resolved_unit_of unit)) (checked_told (resolved_unit_of unit)) (checked_is_typed texts unit read)
-typed_read texts unit read (fault ∷ faults) = tt
-
-program_read : (texts : Tokens) → IsRead (program_of texts)
-program_read texts = by (unit_of texts) refl
+still_among : (n m : Name) (before : List Name) → is_among n before ≡ true → is_among n (with_name before m) ≡ true
+still_among n m before is = by (is_among m before)
   where
-    by : (r : Result ExternalProcedure Fault) → unit_of texts ≡ r → IsRead (program_from r)
-    by (Ok unit) read = typed_read texts unit read (resolution_faults unit)
-    by (Err fault) read = tt
+    behind : (ns : List Name) → is_among n ns ≡ true → is_among n (ns ++ m ∷ []) ≡ true
+    behind [] h = absurd (true≢false (sym h))
+    behind (k ∷ ns) h = head (same_name n k) h (behind ns)
+      where
+        head : (b : Bool) → b || is_among n ns ≡ true → (is_among n ns ≡ true → is_among n (ns ++ m ∷ []) ≡ true) → b || is_among n (ns ++ m ∷ []) ≡ true
+        head true h rest = refl
+        head false h rest = rest h
 
-abbrev unit_code : Name → TypedUnit → Compiled
-unit_code name u = record { unit = name; procedure = u.name; is_main = u.is_main; code = code_of u }
+    by : (b : Bool) → is_among n (if b then before else before ++ m ∷ []) ≡ true
+    by true = is
+    by false = behind before is
 
--- a unit without diagnostics: its tree is typed and numbered well, and this is its code, which is not too long
-record IsClean (name : Name) (r : Result TypedUnit (List Diagnostic)) (c : Result Compiled (List Diagnostic)) : Type 0 where
-  tree : TypedUnit
-  spelled : r ≡ Ok tree
-  good : IsGood tree
-  fits : is_too_long (code_of tree) ≡ false
-  code : c ≡ Ok (unit_code name tree)
+same_among : (n m : Name) → same_name n m ≡ true → (names : List Name) → is_among n names ≡ is_among m names
+same_among n m e [] = refl
+same_among n m e (k ∷ ks) = ap (λ b. b || is_among n ks) (nat_list_eq_equiv.congr n m k e) ∙ ap (λ b. same_name m k || b) (same_among n m e ks)
 
-chosen_clean : (name : Name) (origins : List Origin) (u : TypedUnit) (b : Bool) → is_too_long (code_of u) ≡ b → IsGood u
-    → diagnostics_in name (all_located name origins (if b then Err (too_long ∷ []) else Ok (unit_code name u))) ≡ []
-    → IsClean name (Ok u) (all_located name origins (if b then Err (too_long ∷ []) else Ok (unit_code name u)))
-chosen_clean name origins u true is good e = absurd (text_filled name (located name origins too_long) [] e)
-chosen_clean name origins u false is good e = record { tree = u; spelled = refl; good = good; fits = is; code = refl }
+none_has : (us : List TypedUnit) (before : List Name) (name : Name) → is_among name before ≡ true → defined_again before (map coded_tree us) ≡ [] → NoneHas name us
+none_has [] before name is e = tt
+none_has (u ∷ us) before name is e =
+    let new : is_among u.procedure before ≡ false = not_again (is_among u.procedure before) (coded_tree u) (front_empty _ _ e) in
+    (other (same_name name u.procedure) refl new, none_has us (with_name before u.procedure) name (still_among name u.procedure before is) (back_empty (if is_among u.procedure before then procedure_of (coded_tree u) ∷ [] else []) _ e))
+  where
+    other : (b : Bool) → same_name name u.procedure ≡ b → is_among u.procedure before ≡ false → same_name name u.procedure ≡ false
+    other true same new = absurd (true≢false (sym is ∙ same_among name u.procedure same before ∙ new))
+    other false same new = same
 
-read_clean : (name : Name) (origins : List Origin) (r : Result TypedUnit (List Fault)) → IsRead r
-    → diagnostics_in name (all_located name origins (coded_from name r)) ≡ [] → IsClean name (all_located name origins r) (all_located name origins (coded_from name r))
-read_clean name origins (Ok u) h e = chosen_clean name origins u (is_too_long (code_of u)) refl h e
-read_clean name origins (Err []) h e = absurd h
-read_clean name origins (Err (fault ∷ faults)) h e = absurd (text_filled name (located name origins fault) (map (located name origins) faults) e)
+now_among : (n : Name) (before : List Name) → is_among n (with_name before n) ≡ true
+now_among n before = by (is_among n before) refl
+  where
+    itself : same_name n n ≡ true
+    itself = pointwise-refl n
 
-compiled_clean : (name : Name) (o : Outcome) → diagnostics_in name (compiled_from name o) ≡ [] → IsClean name (parsed_from name o) (compiled_from name o)
-compiled_clean name (Err stop) e = absurd (text_filled name (record { origin = stop.fault.origin; code = stop.fault.code }) [] e)
-compiled_clean name (Ok p) e = read_clean name p.origins (program_of p.texts) (program_read p.texts) e
+    last : (ns : List Name) → is_among n (ns ++ n ∷ []) ≡ true
+    last [] = ap (λ b. b || false) itself
+    last (k ∷ ns) = head (same_name n k) (last ns)
+      where
+        head : (b : Bool) → is_among n (ns ++ n ∷ []) ≡ true → b || is_among n (ns ++ n ∷ []) ≡ true
+        head true h = refl
+        head false h = h
 
--- a unit without diagnostics
-unit_clean : (entries : List (Name × Member)) (name : Name) → diagnostics_in name (compiled_of entries name) ≡ []
-    → IsClean name (parsed_of entries name) (compiled_of entries name)
-unfolding compiled_of parsed_of
-unit_clean entries name e = compiled_clean name (outcome_of entries name) e
+    by : (b : Bool) → is_among n before ≡ b → is_among n (if b then before else before ++ n ∷ []) ≡ true
+    by true is = is
+    by false is = last before
 
 module _ (entries : List (Name × Member)) where
-  -- a unit's code is that of its tree, which is typed and numbered well
-  record IsOfTree (c : Compiled) : Type 0 where
-    tree : TypedUnit
-    spelled : parsed_of entries c.unit ≡ Ok tree
-    good : IsGood tree
-    fits : is_too_long (code_of tree) ≡ false
-    code : c ≡ unit_code c.unit tree
-
-  -- so is each of these
-  abbrev AreOfTrees : List Compiled → Type 0
-  AreOfTrees [] = Unit {0}
-  AreOfTrees (c ∷ cs) = IsOfTree c × AreOfTrees cs
-
-  -- a source member is a main unit
-  abbrev is_main_unit : Name → Bool
-  is_main_unit unit = has_main (parsed_of entries unit)
-
-  trees_in : (name : Name) (kind : MemberKind) (units : List Compiled) → text_in entries name kind ≡ [] → AreOfTrees units → AreOfTrees (units_in entries name kind ++ units)
-  trees_in name Source units h all =
-      let clean = unit_clean entries name h in
-      subst (λ r. AreOfTrees (units_of r ++ units)) (sym clean.code) (record { tree = clean.tree; spelled = clean.spelled; good = clean.good; fits = clean.fits; code = refl }, all)
-  trees_in name Include units h all = all
-
-  -- where there is no diagnostic, each unit is of a tree
-  all_of_trees : (some : List (Name × Member)) → all_text entries some ≡ [] → AreOfTrees (all_units entries some)
-  all_of_trees [] h = tt
-  all_of_trees (x ∷ xs) h = trees_in x.0 x.1.kind (all_units entries xs) (front_empty _ _ h) (all_of_trees xs (back_empty (text_in entries x.0 x.1.kind) _ h))
-
-  mains_of_trees : (cs : List Compiled) → AreOfTrees cs → AreOfTrees (mains cs)
-  mains_of_trees [] all = tt
-  mains_of_trees (c ∷ cs) all = by c.is_main (mains_of_trees cs all.1)
+  none_named : (u : TypedUnit) → IsOfMember entries u → (us : List TypedUnit) → AreOfMembers entries us → NoneHas u.procedure us → NoneIsNamed u.name us
+  none_named u here [] all none = tt
+  none_named u here (v ∷ us) all none = (by (same_name u.name v.name) refl, none_named u here us all.1 none.1)
     where
-      by : (b : Bool) → AreOfTrees (mains cs) → AreOfTrees (if b then c ∷ mains cs else mains cs)
-      by true rest = (all.0, rest)
-      by false rest = rest
+      by : (b : Bool) → same_name u.name v.name ≡ b → same_name u.name v.name ≡ false
+      by true e =
+          let one : u.procedure ≡ v.procedure = same_procedure entries u v here all.0 (name_is u.name v.name e) in
+          absurd (true≢false (sym (pointwise-refl u.procedure) ∙ ap (same_name u.procedure) one ∙ none.0))
+      by false e = e
 
-  mains_in : (name : Name) (kind : MemberKind) (names : List Name) (units : List Compiled) → text_in entries name kind ≡ []
-      → map (λ c. c.unit) (mains units) ≡ filter is_main_unit names
-      → map (λ c. c.unit) (mains (units_in entries name kind ++ units)) ≡ filter is_main_unit (source_in name kind ++ names)
-  mains_in name Source names units h e =
-      let clean = unit_clean entries name h in
-      ap (λ r. map (λ c. c.unit) (mains (units_of r ++ units))) clean.code
-      ∙ by clean.tree.is_main (unit_code name clean.tree) (mains units) (filter is_main_unit names) e refl
-      ∙ ap (λ r. if has_main r then name ∷ filter is_main_unit names else filter is_main_unit names) (sym clean.spelled)
-    where
-      by : (b : Bool) (c : Compiled) (cs : List Compiled) (ns : List Name) → map (λ c. c.unit) cs ≡ ns → c.unit ≡ name
-          → map (λ c. c.unit) (if b then c ∷ cs else cs) ≡ (if b then name ∷ ns else ns)
-      by true c cs ns e is = ap (λ n. n ∷ map (λ c. c.unit) cs) is ∙ ap (λ ms. name ∷ ms) e
-      by false c cs ns e is = e
-  mains_in name Include names units h e = e
+  named_apart : (us : List TypedUnit) (before : List Name) → AreOfMembers entries us → defined_again before (map coded_tree us) ≡ [] → AreNamedApart us
+  named_apart [] before all e = tt
+  named_apart (u ∷ us) before all e =
+      let rest = back_empty (if is_among u.procedure before then procedure_of (coded_tree u) ∷ [] else []) _ e in (
+        none_named u all.0 us all.1 (none_has us (with_name before u.procedure) u.procedure (now_among u.procedure before) rest),
+        named_apart us (with_name before u.procedure) all.1 rest,
+      )
 
-  -- where there is no diagnostic, the main procedures are those of the main units
-  mains_are : (some : List (Name × Member)) → all_text entries some ≡ [] → map (λ c. c.unit) (mains (all_units entries some)) ≡ filter is_main_unit (sources some)
-  mains_are [] h = refl
-  mains_are (x ∷ xs) h =
-      mains_in x.0 x.1.kind (sources xs) (all_units entries xs) (front_empty _ _ h) (mains_are xs (back_empty (text_in entries x.0 x.1.kind) _ h))
+-- the one main unit
 
--- places in order are as many as they were
-order_filled : (ps : List Place) (p : Place) (sorted : List Place) → in_order_after (p ∷ sorted) ps ≡ [] → ⊥
-order_filled [] p sorted e = cc
-order_filled (q ∷ ps) p sorted e = by (is_gt (slice_cmp nat_cmp p.procedure q.procedure)) (λ r rs. order_filled ps r rs) e
+no_mains : (us : List TypedUnit) (number : ℕ) → mains (map coded_tree us) ≡ [] → main_numbers number us ≡ []
+no_mains [] number e = refl
+no_mains (u ∷ us) number e = by u.is_main e (no_mains us (number + 1))
   where
-    by : (b : Bool) → ((r : Place) (rs : List Place) → in_order_after (r ∷ rs) ps ≡ [] → ⊥) → in_order_after (if b then q ∷ p ∷ sorted else p ∷ inserted q sorted) ps ≡ [] → ⊥
-    by true rest e = rest q (p ∷ sorted) e
-    by false rest e = rest p (inserted q sorted) e
+    by : (b : Bool) → (if b then coded_tree u ∷ mains (map coded_tree us) else mains (map coded_tree us)) ≡ [] → (mains (map coded_tree us) ≡ [] → main_numbers (number + 1) us ≡ [])
+        → (if b then number ∷ main_numbers (number + 1) us else main_numbers (number + 1) us) ≡ []
+    by true h rest = let bad : ⊥ = cc in absurd bad
+    by false h rest = rest h
 
-map_empty : {A B : Type 0} (f : A → B) (xs : List A) → map f xs ≡ [] → xs ≡ []
-map_empty f [] e = refl
-map_empty f (x ∷ xs) e = let bad : ⊥ = cc in absurd bad
+-- where the first main unit stands, from a number on
+record StandsFirst (us : List TypedUnit) (number : ℕ) : Type 0 where
+  place : ℕ
+  unit : TypedUnit
+  main : unit.is_main ≡ true
+  first : position_or_len (λ c. c.is_main) (map coded_tree us) ≡ place
+  within : place < length us
+  there : slice_get us place ≡ Some unit
+  only : main_numbers number us ≡ (number + place) ∷ []
 
--- where no second main procedure is told, there is none
-none_later : (cs : List Compiled) → map TwoMainProcedures (in_order (map place_of_unit cs)) ≡ [] → cs ≡ []
-none_later [] e = refl
-none_later (c ∷ cs) e = absurd (order_filled (map place_of_unit cs) (place_of_unit c) [] (map_empty TwoMainProcedures _ e))
+stands_first : (us : List TypedUnit) (number : ℕ) (c : Compiled) → mains (map coded_tree us) ≡ c ∷ [] → StandsFirst us number
+stands_first [] number c e = let bad : ⊥ = cc in absurd bad
+stands_first (u ∷ us) number c e = by u.is_main refl e (stands_first us (number + 1) c)
+  where
+    tail_is : (x : Compiled) (xs : List Compiled) → x ∷ xs ≡ c ∷ [] → xs ≡ []
+    tail_is x xs e = cc
 
--- a module of units is that of their one main procedure
-record IsOfMain (cs : List Compiled) (m : Module) : Type 0 where
-  compiled : Compiled
-  only : cs ≡ compiled ∷ []
-  small : are_too_large (globals_of compiled) ≡ false
-  module_is : m ≡ record { unit = compiled.unit; code = compiled.code }
+    by : (b : Bool) → u.is_main ≡ b → (if b then coded_tree u ∷ mains (map coded_tree us) else mains (map coded_tree us)) ≡ c ∷ []
+        → (mains (map coded_tree us) ≡ c ∷ [] → StandsFirst us (number + 1)) → StandsFirst (u ∷ us) number
+    by true is h rest = record {
+      place = 0;
+      unit = u;
+      main = is;
+      first = ap (λ b. cond (not b) (1 + position_or_len (λ c. c.is_main) (map coded_tree us)) 0) is;
+      within = omega arith;
+      there = refl;
+      only =
+          ap (λ b. if b then number ∷ main_numbers (number + 1) us else main_numbers (number + 1) us) is
+          ∙ ap (λ ns. number ∷ ns) (no_mains us (number + 1) (tail_is _ _ h))
+          ∙ ap (λ n. n ∷ []) (omega arith);
+    }
+    by false is h rest =
+        let r = rest h in
+        record {
+          place = suc r.place;
+          unit = r.unit;
+          main = r.main;
+          first = ap (λ b. cond (not b) (1 + position_or_len (λ c. c.is_main) (map coded_tree us)) 0) is ∙ ap (λ n. 1 + n) r.first ∙ omega arith;
+          within = omega (arith, r.within);
+          there = r.there;
+          only =
+              ap (λ b. if b then number ∷ main_numbers (number + 1) us else main_numbers (number + 1) us) is
+              ∙ r.only ∙ ap (λ n. n ∷ []) (omega arith);
+        }
+
+-- a module that was linked: no fault was told, and this is its main unit
+record IsLinkedOf (cs : List Compiled) (m : Module) : Type 0 where
+  clean : link_faults cs ≡ []
+  main : ℕ
+  first : position (λ c. c.is_main) cs ≡ Some main
+  module_is : m ≡ module_of cs main
 
 made_is : (a b : Module) → Made a ≡ Made b → a ≡ b
 made_is a b e = cc
 
-none_too_large : (c : Compiled) (cs : List Compiled) → too_large_among (c ∷ cs) ≡ [] → are_too_large (globals_of c) ≡ false
-none_too_large c cs e = by (are_too_large (globals_of c)) e
-  where
-    by : (b : Bool) → (if b then ModuleTooLarge ∷ [] else []) ≡ [] → b ≡ false
-    by true e = let bad : ⊥ = cc in absurd bad
-    by false e = refl
+linked_of : (faults : List LinkFault) (main : Option ℕ) (cs : List Compiled) (m : Module) → link_faults cs ≡ faults → position (λ c. c.is_main) cs ≡ main
+    → linked (module_or faults main cs) ≡ Made m → IsLinkedOf cs m
+linked_of [] None cs m clean first e = let bad : ⊥ = cc in absurd bad
+linked_of [] (Some main) cs m clean first e = record { clean = clean; main = main; first = first; module_is = sym (made_is _ m e) }
+linked_of (fault ∷ faults) main cs m clean first e = let bad : ⊥ = cc in absurd bad
 
--- what is known where no fault of linking is told
-record IsFaultless (cs : List Compiled) : Type 0 where
-  one : later cs ≡ []
-  small : too_large_among cs ≡ []
-
-main_of : (faults : List LinkFault) (cs : List Compiled) (m : Module) → (faults ≡ [] → IsFaultless cs) → linked (module_or faults cs) ≡ Made m → IsOfMain cs m
-main_of [] [] m known e = let bad : ⊥ = cc in absurd bad
-main_of [] (c ∷ cs) m known e =
-    record {
-      compiled = c;
-      only = ap (λ ds. c ∷ ds) (known refl).one;
-      small = none_too_large c cs (known refl).small;
-      module_is = sym (made_is _ m e);
-    }
-main_of (fault ∷ faults) cs m known e = let bad : ⊥ = cc in absurd bad
-
-linked_faultless : (units : List Compiled) → link_faults units ≡ [] → IsFaultless (mains units)
-linked_faultless units none =
-    let of_names = front_empty _ (too_large_among (mains units)) none in
-    let of_mains = front_empty (none_among (mains units) ++ map TwoMainProcedures (in_order (map place_of_unit (later (mains units))))) _ of_names in
-    record {
-      one = none_later (later (mains units)) (back_empty (none_among (mains units)) _ of_mains);
-      small = back_empty _ (too_large_among (mains units)) none;
-    }
-
-linked_main : (units : List Compiled) (m : Module) → linked (link_of units) ≡ Made m → IsOfMain (mains units) m
-linked_main units m e = main_of (link_faults units) (mains units) m (linked_faultless units) e
-
-record IsBuilt (text : List ℕ) (units : List Compiled) (m : Module) : Type 0 where
-  clear : text ≡ []
-  main : IsOfMain (mains units) m
-
-built_main : (text : List ℕ) (units : List Compiled) (m : Module) → built text units ≡ Made m → IsBuilt text units m
-built_main [] units m e = record { clear = refl; main = linked_main units m e }
-built_main (b ∷ text) units m e = let bad : ⊥ = cc in absurd bad
-
--- members with a module: their one main unit, its tree, whose program is well typed, and the module of its code
+-- members with a module: their trees, the main one among these, the program of them, and the module of it
 pub record HasProgram (entries : List (Name × Member)) (m : Module) : Type 0 where
-  pub unit : Name
-  pub tree : TypedUnit
-  pub only : main_units entries ≡ unit ∷ []
-  pub spelled : parsed_of entries unit ≡ Ok tree
-  pub typed : WellTyped (alone unit tree)
-  pub numbered : IsWellNumbered tree
-  pub module_is : m ≡ record { unit = unit; code = code_of tree }
+  pub units : List TypedUnit
+  pub main : ℕ
+  pub spelled : trees_of entries (sources entries) ≡ Some units
+  pub only : main_numbers 0 units ≡ main ∷ []
+  pub typed : WellTyped (program_of_units units main)
+  pub numbered : AreWellNumbered units
+  pub module_is : IsModuleOf (program_of_units units main) m
 
-program_of_tree : (entries : List (Name × Member)) (m : Module) (c : Compiled) → main_units entries ≡ c.unit ∷ [] → IsOfTree entries c → are_too_large (globals_of c) ≡ false
-    → m ≡ record { unit = c.unit; code = c.code } → HasProgram entries m
-program_of_tree entries m c only tree small e =
+record IsOne (cs : List Compiled) : Type 0 where
+  compiled : Compiled
+  only : cs ≡ compiled ∷ []
+
+one_main : (cs : List Compiled) → none_among cs ≡ [] → later cs ≡ [] → IsOne cs
+one_main [] some one = let bad : ⊥ = cc in absurd bad
+one_main (c ∷ cs) some one = record { compiled = c; only = ap (λ ds. c ∷ ds) one }
+
+place_is : (place n main : ℕ) → place < n → cond (nat_lt place n) (Some place) None ≡ Some main → place ≡ main
+place_is place n main within e = by (nat_lt place n) refl e
+  where
+    by : (b : Bool) → nat_lt place n ≡ b → cond b (Some place) None ≡ Some main → place ≡ main
+    by true is h = cc
+    by false is h = let bad : ⊥ = cc in absurd bad
+
+of_member_at : (entries : List (Name × Member)) (us : List TypedUnit) (i : ℕ) (u : TypedUnit) → AreOfMembers entries us → slice_get us i ≡ Some u → IsOfMember entries u
+of_member_at entries [] i u all e = let bad : ⊥ = cc in absurd bad
+of_member_at entries (v ∷ us) zero u all e = let same : v ≡ u = cc in subst (IsOfMember entries) same all.0
+of_member_at entries (v ∷ us) (suc i) u all e = of_member_at entries us i u all.1 e
+
+program_of_trees : (entries : List (Name × Member)) (us : List TypedUnit) (m : Module) → trees_of entries (sources entries) ≡ Some us → AreOfMembers entries us
+    → IsLinkedOf (map coded_tree us) m → HasProgram entries m
+program_of_trees entries us m spelled all made =
+    let cs = map coded_tree us in
+    let clean = faultless cs made.clean in
+    let few = small cs clean.small in
+    let one = one_main (mains cs) clean.main clean.one in
+    let stands = stands_first us 0 one.compiled one.only in
+    let main : stands.place ≡ made.main =
+    place_is stands.place (length cs) made.main (omega (arith, stands.within, length-map us coded_tree))
+    (sym (ap (λ k. cond (nat_lt k (length cs)) (Some k) None) stands.first) ∙ made.first) in
+    let fit = all_fit us clean.resolved clean.alike in
+    let there : slice_get us made.main ≡ Some stands.unit = ap (slice_get us) (sym main) ∙ stands.there in
     record {
-      unit = c.unit;
-      tree = tree.tree;
-      only = only;
-      spelled = tree.spelled;
-      typed = module_typed c.unit tree.tree tree.good.0 tree.fits (ap (λ x. are_too_large (globals_of x)) (sym tree.code) ∙ small);
-      numbered = tree.good.1;
-      module_is = e ∙ ap (λ x. record { unit = c.unit; code = x.code }) tree.code;
+      units = us;
+      main = made.main;
+      spelled = spelled;
+      only = stands.only ∙ ap (λ n. n ∷ []) (omega (arith, main));
+      typed =
+          record {
+            units = all_typed entries us all;
+            names = named_apart entries us [] all clean.once;
+            linked = linked_where_fit us fit;
+            bytes = few_bytes us few;
+            count = few_variables entries us all few;
+            main = subst HasMain (sym there) ((of_member_at entries us stands.place stands.unit all stands.there).main stands.main);
+          };
+      numbered = all_numbered entries us all;
+      module_is = subst (IsModuleOf (program_of_units us made.main)) (sym made.module_is) (module_where_fit us fit made.main);
     }
+
+program_built : (entries : List (Name × Member)) (text : List ℕ) (m : Module) → all_text entries entries ≡ text → built text (all_units entries entries) ≡ Made m → HasProgram entries m
+program_built entries [] m clear e =
+    let coded = all_coded entries entries clear in
+    let made = linked_of (link_faults (all_units entries entries)) (position (λ c. c.is_main) (all_units entries entries)) (all_units entries entries) m refl refl e in
+    program_of_trees entries coded.trees m coded.spelled coded.good (subst (λ cs. IsLinkedOf cs m) coded.coded made)
+program_built entries (b ∷ text) m clear e = let bad : ⊥ = cc in absurd bad
 
 pub program_made : (entries : List (Name × Member)) (m : Module) → scratch entries ≡ Made m → HasProgram entries m
 unfolding scratch
-program_made entries m e =
-    let whole = built_main (all_text entries entries) (all_units entries entries) m e in
-    let c = whole.main.compiled in
-    let trees : AreOfTrees entries (c ∷ []) = subst (AreOfTrees entries) whole.main.only (mains_of_trees entries _ (all_of_trees entries entries whole.clear)) in
-    program_of_tree entries m c (sym (mains_are entries entries whole.clear) ∙ ap (map (λ c. c.unit)) whole.main.only) trees.0 whole.main.small whole.main.module_is
+program_made entries m e = program_built entries (all_text entries entries) m refl e

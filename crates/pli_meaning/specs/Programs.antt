@@ -1,5 +1,5 @@
--- The program that one unit is.
-use Rattle.std.specs.Prelude.{[], ◌∷◌}
+-- The program that units are.
+use Rattle.std.specs.Prelude.{ℕ, ◌+◌, List, [], ◌∷◌, if◌then◌else◌}
 use Rattle.pli_base.specs.Name.{Name}
 use Rattle.pli_type_tree.specs.TypedTree.{TypedUnit}
 use Rattle.pli_unit_code.specs.Modules.{greatest_precision}
@@ -9,11 +9,19 @@ use Rattle.pli_meaning_tree.specs.TreeMeaning.{TypedProgram}
 abbrev pub of_member : (unit : Name) → TypedUnit → TypedUnit
 of_member unit u = record {
   name = unit;
+  procedure = u.procedure;
   is_main = u.is_main;
-  statics = u.statics;
+  signature = u.signature;
+  globals = u.globals;
   procedures = u.procedures;
 }
 
--- the program of one unit
-abbrev pub alone : (unit : Name) → TypedUnit → TypedProgram
-alone unit u = record { units = of_member unit u ∷ []; main = 0; greatest = greatest_precision }
+-- the program of units, with the one of this number as its main unit
+abbrev pub program_of_units : List TypedUnit → (main : ℕ) → TypedProgram
+program_of_units us main = record { units = us; main = main; greatest = greatest_precision }
+
+-- the numbers, from this one on, of the units whose procedures are main procedures
+abbrev pub main_numbers : (number : ℕ) → List TypedUnit → List ℕ
+main_numbers number [] = []
+main_numbers number (u ∷ us) =
+    if u.is_main then number ∷ main_numbers (number + 1) us else main_numbers (number + 1) us

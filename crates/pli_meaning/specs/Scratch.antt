@@ -1,7 +1,7 @@
 -- A build from scratch: the diagnostics or the module that members give, and what their program means.
-use Rattle.std.specs.Prelude.{◌≡◌, ℕ, Bool, false, Option, Some, None, Result, Ok, Err, List, [], ◌∷◌, ◌++◌}
-use Rattle.std.specs.Prelude.{map, decimal, slice_get, if◌then◌else◌}
-use Rattle.std.specs.List.{filter, flat_map}
+use Rattle.std.specs.Prelude.{◌≡◌, ℕ, Option, Some, None, Result, Ok, Err, List, [], ◌∷◌, ◌++◌, map, decimal}
+use Rattle.std.specs.Prelude.{slice_get, if◌then◌else◌}
+use Rattle.std.specs.List.{flat_map}
 use Rattle.pli_base.specs.Name.{Name}
 use Rattle.pli_base.specs.Codes.{code_label, code_text}
 use Rattle.pli_base.specs.Words.{Tokens}
@@ -17,8 +17,11 @@ use Rattle.pli_members.specs.declared.kind.MemberKind.TheVariants.{Source, Inclu
 use Rattle.pli_parse_statement.specs.StatementReading.{unit_of}
 use Rattle.pli_base.specs.Statements.{ExternalProcedure}
 use Rattle.pli_declare.specs.Resolution.{resolution_faults}
-use Rattle.pli_link.specs.Link.{Compiled, Place, LinkFault, NoMainProcedure, TwoMainProcedures, DefinedTwice}
-use Rattle.pli_link.specs.Link.{ModuleTooLarge, link_of}
+use Rattle.pli_link.specs.Link.{link_of}
+use Rattle.pli_link.specs.Units.{Compiled}
+use Rattle.pli_link.specs.declared.linking.LinkFault.{LinkFault}
+use Rattle.pli_link.specs.declared.linking.LinkFault.TheVariants as faults
+use Rattle.pli_link.specs.declared.units.LinkedName.{LinkedName}
 use Rattle.pli_resolve.specs.ResolvedUnits.{resolved_unit_of}
 use Rattle.pli_type.specs.NamedUnits.{checked_unit}
 use Rattle.pli_type_tree.specs.TypedTree.{TypedUnit}
@@ -27,7 +30,7 @@ use Rattle.pli_unit_code.specs.Modules.{Module}
 use Rattle.pli_gen_tree.specs.Encoding.{code_of}
 use Rattle.pli_gen_tree.specs.Limits.{is_too_long}
 use Rattle.pli_meaning_tree.specs.TreeMeaning.{whole_run}
-use Rattle.pli_meaning.specs.Programs.{alone}
+use Rattle.pli_meaning.specs.Programs.{of_member, program_of_units, main_numbers}
 
 -- a diagnostic, at a line of a member
 pub record Diagnostic : Type 0 where
@@ -87,7 +90,7 @@ too_long = record { code = code.CodeTooLong; at = 0 }
 abbrev pub coded : Name → TypedUnit → Result Compiled (List Fault)
 coded unit u =
     if is_too_long (code_of u) then Err (too_long ∷ [])
-    else Ok (record { unit = unit; procedure = u.name; is_main = u.is_main; code = code_of u })
+    else Ok (record { unit = unit; procedure = u.procedure; is_main = u.is_main; code = code_of u })
 
 abbrev pub coded_from : Name → Result TypedUnit (List Fault) → Result Compiled (List Fault)
 coded_from unit (Ok u) = coded unit u
@@ -133,18 +136,20 @@ abbrev pub diagnostics_in : Name → Result Compiled (List Diagnostic) → List 
 diagnostics_in unit (Ok c) = []
 diagnostics_in unit (Err diagnostics) = flat_map (diagnostic_line unit) diagnostics
 
--- the line of a fault of linking: `code text`, and the procedure and the unit where it has them
+-- the line of a fault of linking: `code text`, and the name and the unit where it has them
 abbrev pub code_line : Code → List ℕ
 code_line c = code_label c ++ 32 ∷ code_text c ++ 10 ∷ []
 
-abbrev pub place_line : Code → Place → List ℕ
-place_line c p = code_label c ++ 32 ∷ code_text c ++ 32 ∷ p.procedure ++ 32 ∷ p.unit ++ 10 ∷ []
+abbrev pub name_line : Code → LinkedName → List ℕ
+name_line c n = code_label c ++ 32 ∷ code_text c ++ 32 ∷ n.name ++ 32 ∷ n.unit ++ 10 ∷ []
 
 abbrev pub link_line : LinkFault → List ℕ
-link_line NoMainProcedure = code_line code.NoMainProcedure
-link_line (TwoMainProcedures p) = place_line code.TwoMainProcedures p
-link_line (DefinedTwice p) = place_line code.DefinedTwice p
-link_line ModuleTooLarge = code_line code.ModuleTooLarge
+link_line faults.NoMainProcedure = code_line code.NoMainProcedure
+link_line (faults.TwoMainProcedures n) = name_line code.TwoMainProcedures n
+link_line (faults.Unresolved n) = name_line code.Unresolved n
+link_line (faults.DefinedTwice n) = name_line code.DefinedTwice n
+link_line (faults.Mismatch n) = name_line code.Mismatch n
+link_line faults.ModuleTooLarge = code_line code.ModuleTooLarge
 
 -- what a build gives: the text of its diagnostics, or a module
 pub data Built : Type 0 where
@@ -185,20 +190,22 @@ all_units entries (e ∷ es) = units_in entries e.0 e.1.kind ++ all_units entrie
 unfoldable pub scratch : List (Name × Member) → Built
 scratch entries = built (all_text entries entries) (all_units entries entries)
 
--- a main unit has a tree, and its procedure is a main procedure
-abbrev pub has_main : Result TypedUnit (List Diagnostic) → Bool
-has_main (Ok u) = u.is_main
-has_main (Err diagnostics) = false
+-- the trees of units, each with the name of its member, if all have one
+abbrev pub with_tree : (unit : Name) → Result TypedUnit (List Diagnostic) → Option (List TypedUnit)
+    → Option (List TypedUnit)
+with_tree unit (Ok u) (Some us) = Some (of_member unit u ∷ us)
+with_tree unit (Ok u) None = None
+with_tree unit (Err diagnostics) us = None
 
--- the main units among the source members
-abbrev pub main_units : List (Name × Member) → List Name
-main_units entries = filter (λ unit. has_main (parsed_of entries unit)) (sources entries)
+abbrev pub trees_of : List (Name × Member) → List Name → Option (List TypedUnit)
+trees_of entries [] = Some []
+trees_of entries (unit ∷ units) = with_tree unit (parsed_of entries unit) (trees_of entries units)
 
--- what the members' program does with so many steps: just one source member is a main unit, and its whole run
--- has this meaning
+-- what the members' program does with so many steps: each source member has a tree, just one of which is a
+-- main unit, and the whole run of their program has this meaning
 pub record Means (entries : List (Name × Member)) (steps : ℕ) (outcome : Outcome) : Type 0 where
-  pub unit : Name
-  pub tree : TypedUnit
-  pub only : main_units entries ≡ unit ∷ []
-  pub spelled : parsed_of entries unit ≡ Ok tree
-  pub run : whole_run (alone unit tree) steps ≡ Some outcome
+  pub units : List TypedUnit
+  pub main : ℕ
+  pub spelled : trees_of entries (sources entries) ≡ Some units
+  pub only : main_numbers 0 units ≡ main ∷ []
+  pub run : whole_run (program_of_units units main) steps ≡ Some outcome

@@ -5,16 +5,16 @@ ghost use Rattle.pli_meaning.specs.examples.ScratchExamples.{FirstIsMade, RunsWi
 
 /// For members that have a module and every number of steps, the module's run gives the output, the ending and the next
 /// column that the source means. The source has a meaning, which no run ends in a fault of the machine and no bound of
-/// the definition cuts short; so it is of each unit that is typed and numbered well.
+/// the definition cuts short; so it is of each linked program whose units are typed and numbered well.
 pub fn simulates()
     ensures members { MembersSimulate }
-    ensures procedures { Simulation }
+    ensures programs { Simulation }
 {}
 
 /// With a step more the output goes on from what it was, and a run that did not end for want of steps is the same.
 pub fn grows()
     ensures members { MembersGrow }
-    ensures procedures { Growth }
+    ensures programs { Growth }
 {}
 
 /// Members mean one thing at each number of steps.

@@ -7,12 +7,12 @@ use Rattle.pli_store.specs.World.{World, Answer, held, slot_place, static_place,
 use Rattle.pli_value.specs.Value.{Value, Number, Characters, Bits}
 use Rattle.pli_machine_step.specs.Program as op
 use Rattle.pli_machine_step.specs.Program.{UnitCode, Program}
-use Rattle.pli_machine_step.specs.Machine.{Operand, OfValue, AtPlace, Locals, Frame, At, values_off, places_off, operated, called, resume}
-use Rattle.pli_type_tree.specs.TypedTree.{Root, InSlot, OfProgram, TypedExpression, Literal, Held, Calculated, Called, TypedReference, Whole, Part, Operands, NoOperand, OperandThen, Subscripts, NoSubscript, SubscriptThen, TypedArguments, NoArgument, ByPlace, ByDummy}
+use Rattle.pli_machine_step.specs.Machine.{Operand, OfValue, AtPlace, Locals, Frame, At, values_off, places_off, operated, act, resume}
+use Rattle.pli_type_tree.specs.TypedTree.{Root, InSlot, OfProgram, Callee, TypedExpression, Literal, Held, Calculated, Called, TypedReference, Whole, Part, Operands, NoOperand, OperandThen, Subscripts, NoSubscript, SubscriptThen, TypedArguments, NoArgument, ByPlace, ByDummy}
 use Rattle.pli_meaning_tree.specs.Effects.{Doing, answered}
 use Rattle.pli_meaning_tree.specs.TreeMeaning as meaning
 use Rattle.pli_meaning_tree.specs.TreeMeaning.{Calls, a_value, in_order, root_place, element_of, value_of, place_of, element_at, called_with}
-use Rattle.pli_meaning_simulation.specs.CodeStands.{Then, Context, arguments_in, Is, RootStands, ValueStands, OperandsStand, PlaceStands, SubscriptsStand, ArgumentsStand}
+use Rattle.pli_meaning_simulation.specs.CodeStands.{Then, Context, arguments_in, call_of, Is, RootStands, ValueStands, OperandsStand, PlaceStands, SubscriptsStand, ArgumentsStand}
 use Rattle.pli_meaning_simulation.proofs.ReachesLemmas.{Fine, Comes, stays, frame, pushes, returns, Reaches, gives, then_reaches, bound, goes, answers}
 use Rattle.pli_meaning_simulation.proofs.Arity.{Arity, Full, Misfit, arity}
 
@@ -38,12 +38,12 @@ as_long [] behind = omega arith
 as_long (x ∷ xs) behind = let e = as_long xs (x ∷ behind) in omega arith
 
 module _ (p : Program) (number : ℕ) (u : UnitCode) (at : ℕ → ℕ) where
-  -- a call does what it means, from behind the test of its instruction
+  -- a call does what it means, from its instruction on
   abbrev pub CallsRun : Calls → Type 0
   CallsRun call =
-      (block : ℕ) (before : List Place) (c : Context) (b : ℕ) (ops : List Operand) (l : Locals) (fs : List Frame) → Fine c l → (w : World) (left : ℕ)
-      → Reaches p number u at c (resume (called u block (length before) (slice_get u.blocks block) (frame p number u b (places_above before ops) l) fs w) left) l
-      (returns p number u b ops fs) fs (call block (in_order before []) w left)
+      (callee : Callee) (before : List Place) (c : Context) (b : ℕ) (ops : List Operand) (l : Locals) (fs : List Frame) → Fine c l → (w : World) (left : ℕ)
+      → Reaches p number u at c (resume (act p u (Some (call_of callee (length before))) (frame p number u b (places_above before ops) l) fs w) left) l
+      (returns p number u b ops fs) fs (call callee (in_order before []) w left)
 
   module _ (there : slice_get p.units number ≡ Some u) (call : Calls) (calls_run : CallsRun call) (c : Context) where
     -- what a thing pushes when it stands from a to b
@@ -96,9 +96,9 @@ module _ (p : Program) (number : ℕ) (u : UnitCode) (at : ℕ → ℕ) where
           bound p number u at (place_of p.greatest call r w left) _ (place_run r is.fst ops l fine fs w left)
           (λ m k q w left. answers p number u at there (λ v. OfValue v ∷ ops) (held q w) is.snd k.fine w left refl)
       value_run (Calculated operation operands) is ops l fine fs w left = operated_run operands operation is [] ops l fine fs w left
-      value_run (Called block arguments) {a} {b} is ops l fine fs w left =
-          bound p number u at {to = returns p number u b ops fs} (called_with p.greatest call block arguments [] w left) _
-          (called_run arguments block (arguments_in arguments) is [] (omega arith) ops l fine fs w left)
+      value_run (Called callee arguments) {a} {b} is ops l fine fs w left =
+          bound p number u at {to = returns p number u b ops fs} (called_with p.greatest call callee arguments [] w left) _
+          (called_run arguments callee (arguments_in arguments) is [] (omega arith) ops l fine fs w left)
           (λ m k v w left. value_given v ops m k.fine fs w left)
 
       pub operated_run : (operands : Operands) (operation : Operation) {a b : ℕ} → Then (OperandsStand u operands) (Is u (op.Operate operation)) a b
@@ -129,19 +129,19 @@ module _ (p : Program) (number : ℕ) (u : UnitCode) (at : ℕ → ℕ) where
           (λ m k v w left. bound p number u at (element_of s.low s.high s.multiplier q v w left) _ (subscript_run s.low s.high s.multiplier is.snd.fst q v ops m k.fine fs w left)
           (λ m k q w left. element_run more is.snd.snd q ops m k.fine fs w left))
 
-      pub called_run : (arguments : TypedArguments) (block count : ℕ) {a b : ℕ} → Then (ArgumentsStand u arguments) (Is u (op.Call block count)) a b
+      pub called_run : (arguments : TypedArguments) (callee : Callee) (count : ℕ) {a b : ℕ} → Then (ArgumentsStand u arguments) (Is u (call_of callee count)) a b
           → (before : List Place) → arguments_in arguments + length before ≡ count → (ops : List Operand) (l : Locals) → Fine c l → (fs : List Frame) (w : World) (left : ℕ)
           → Reaches p number u at c (At (frame p number u a (places_above before ops) l) fs w left) l (returns p number u b ops fs) fs
-          (called_with p.greatest call block arguments before w left)
-      called_run NoArgument block count {a} {b} is before all ops l fine fs w left =
+          (called_with p.greatest call callee arguments before w left)
+      called_run NoArgument callee count {a} {b} is before all ops l fine fs w left =
           let n : count ≡ length before = omega arith in
-          let here : Is u (op.Call block (length before)) a b = subst (λ k. Is u (op.Call block k) a b) n (subst (λ q. Is u (op.Call block count) q b) (sym is.fst) is.snd) in
-          then_reaches p number u at (goes p number u at there here refl) (calls_run block before c b ops l fs fine w left)
-      called_run (ByPlace r more) block count is before all ops l fine fs w left =
+          let here : Is u (call_of callee (length before)) a b = subst (λ k. Is u (call_of callee k) a b) n (subst (λ q. Is u (call_of callee count) q b) (sym is.fst) is.snd) in
+          then_reaches p number u at (goes p number u at there here refl) (calls_run callee before c b ops l fs fine w left)
+      called_run (ByPlace r more) callee count is before all ops l fine fs w left =
           bound p number u at (place_of p.greatest call r w left) _ (place_run r is.fst.fst (places_above before ops) l fine fs w left)
-          (λ m k q w left. called_run more block count (record { middle = is.middle; fst = is.fst.snd; snd = is.snd }) (q ∷ before) (omega arith) ops m k.fine fs w left)
-      called_run (ByDummy d e more) block count is before all ops l fine fs w left =
+          (λ m k q w left. called_run more callee count (record { middle = is.middle; fst = is.fst.snd; snd = is.snd }) (q ∷ before) (omega arith) ops m k.fine fs w left)
+      called_run (ByDummy d e more) callee count is before all ops l fine fs w left =
           bound p number u at (value_of p.greatest call e w left) _ (value_run e is.fst.fst (places_above before ops) l fine fs w left)
           (λ m k v w left. bound p number u at (answered (dummy_of d v w) left) _
           (answers p number u at there (λ x. AtPlace x ∷ places_above before ops) (dummy_of d v w) is.fst.snd.fst k.fine w left refl)
-          (λ m k q w left. called_run more block count (record { middle = is.middle; fst = is.fst.snd.snd; snd = is.snd }) (q ∷ before) (omega arith) ops m k.fine fs w left))
+          (λ m k q w left. called_run more callee count (record { middle = is.middle; fst = is.fst.snd.snd; snd = is.snd }) (q ∷ before) (omega arith) ops m k.fine fs w left))

@@ -8,7 +8,7 @@ use Rattle.pli_machine_step.specs.Program as op
 use Rattle.pli_machine_step.specs.Program.{BlockKind, BeginBlock, Block, UnitCode, Program, head_of}
 use Rattle.pli_machine_step.specs.Machine as machine
 use Rattle.pli_machine_step.specs.Machine.{Operand, OfValue, AtPlace, Locals, Frame, State, At, Over, Goes, calm, fresh, begun, enters, resume}
-use Rattle.pli_type_tree.specs.TypedTree.{TypedExpression, Called, TypedReference, TypedArguments, BlockHead, TypedStatements}
+use Rattle.pli_type_tree.specs.TypedTree.{Callee, TypedExpression, Called, TypedReference, TypedArguments, BlockHead, TypedStatements}
 use Rattle.pli_meaning_tree.specs.Effects.{Effect, Gives, Jumps, Fails, Spent, Lost, Short, Flow, Next, Returned, Doing, and_then, nothing_done, answered, as_statement, back_at, truth, chosen, turns, leaving, block_end}
 use Rattle.pli_meaning_tree.specs.TreeMeaning.{Calls, no_value, printed_item, value_of, place_of, called_with, condition, assigns, assigns_aggregate, puts, skips, does_call, returns_value, labels_in, as_list, head_in, static_link, activation_of, in_block}
 use Rattle.pli_meaning_simulation.specs.CodeStands.{Span, Empty, Then, Context, deeper, Nests, arguments_in, block_of, Is, Guarded, Choice, Loop, BeginStands, ValueStands, PlaceStands, ConditionStands, ItemsStand, SkipStands}
@@ -131,10 +131,10 @@ module _ (p : Program) (number : ℕ) (u : UnitCode) (at : ℕ → ℕ) where
       put_run true es is l fine fs w left = then_reaches p number u at (goes p number u at there is.fst refl) (puts_run es is.snd l fine fs (line_ended w) left)
       put_run false es {b = b} is l fine fs w left = puts_run es (subst (λ x. ItemsStand u es x b) (sym is.fst) is.snd) l fine fs w left
 
-      pub call_run : (block : ℕ) (arguments : TypedArguments) {c : Context} {a b : ℕ} → ValueStands u (Called block arguments) a b → Runs c (does_call p.greatest call block arguments) a b
-      call_run block arguments {c} {a} {b} is l fine fs w left =
-          bound p number u at {to = returns p number u b [] fs} (called_with p.greatest call block arguments [] w left) no_value
-          (called_run p number u at there call calls_run c arguments block (arguments_in arguments) is [] (omega arith) [] l fine fs w left)
+      pub call_run : (callee : Callee) (arguments : TypedArguments) {c : Context} {a b : ℕ} → ValueStands u (Called callee arguments) a b → Runs c (does_call p.greatest call callee arguments) a b
+      call_run callee arguments {c} {a} {b} is l fine fs w left =
+          bound p number u at {to = returns p number u b [] fs} (called_with p.greatest call callee arguments [] w left) no_value
+          (called_run p number u at there call calls_run c arguments callee (arguments_in arguments) is [] (omega arith) [] l fine fs w left)
           (λ m k v w left. no_value_run v m k.fine fs w left)
 
       pub return_run : (outward : ℕ) (e : TypedExpression) {c : Context} {a b : ℕ} → Then (ValueStands u e) (Is u (op.ReturnValue outward)) a b → Runs c (returns_value p.greatest call outward e) a b

@@ -5,34 +5,19 @@ use Rattle.pli_code.specs.declared.ending.Ending.{Ending}
 use Rattle.pli_code.specs.declared.ending.Ending.TheVariants.{Ended, OutOfSteps, Error, MachineFault}
 use Rattle.pli_store.specs.World.{World, Answer, Yields, Raises, Wrong, further, nothing, entered, stepped, left_by, height, statics_made}
 use Rattle.pli_value.specs.Value.{Value}
-use Rattle.pli_machine_step.specs.Program.{UnitCode, Program, head_of}
+use Rattle.pli_machine_step.specs.Program as op
+use Rattle.pli_machine_step.specs.Program.{is_external, UnitCode, Program, head_of}
 use Rattle.pli_machine_step.specs.Machine.{Locals, State, Over, Goes, Steps, given, enters, faulty, resume}
-use Rattle.pli_machine_step.specs.Runs.{Outcome, outcome_of, is_external, main_block, main_unit, all_statics_made, start, ProgramRunsTo}
-use Rattle.pli_type_tree.specs.Templates.{variable_of}
-use Rattle.pli_type_tree.specs.TypedTree.{TypedProcedure, TypedUnit}
+use Rattle.pli_machine_step.specs.Runs.{Outcome, outcome_of, main_block, main_unit, all_statics_made, start, ProgramRunsTo}
+use Rattle.pli_type_tree.specs.Globals.{global_variable}
+use Rattle.pli_type_tree.specs.TypedTree.{Global, OwnVariable, ExternalVariable, EntryPoint, TypedProcedure, TypedUnit}
 use Rattle.pli_meaning_tree.specs.Effects.{Effect, Gives, Jumps, Fails, Spent, Lost, Short, Flow, Next, Returned, and_then, answered, leaving, procedure_end}
 use Rattle.pli_meaning_tree.specs.TreeMeaning.{Calls, head_in, does_list, procedure_run, procedure_in, calls, all_made, main_run, unit_run, run_effect, ended_as, ran}
-use Rattle.pli_meaning_simulation.specs.CodeStands.{Context, EndStands, ProcedureStands, UnitStands, UnitsStand}
+use Rattle.pli_meaning_simulation.specs.CodeStands.{Context, EndStands, ProcedureStands, GlobalsStand, UnitStands, UnitsStand}
 use Rattle.pli_meaning_simulation.specs.laws.Laws.{Simulation, NoFault}
 use Rattle.pli_meaning_simulation.proofs.ReachesLemmas.{Comes, stays, from, flows, Reaches, goes}
 use Rattle.pli_meaning_simulation.proofs.ExpressionsReach.{CallsRun}
-use Rattle.pli_meaning_simulation.proofs.CallsReach.{Found, procedure_there, code, first, body_run, calls_run}
-
--- where a unit of a program stands among its code
-abbrev IsThere : Option TypedUnit → List UnitCode → ℕ → Type 0
-IsThere None us k = Unit
-IsThere (Some t) us k = (u : UnitCode) × (slice_get us k ≡ Some u) × UnitStands t u
-
-there_behind : (o : Option TypedUnit) (u : UnitCode) (us : List UnitCode) (k : ℕ) → IsThere o us k → IsThere o (u ∷ us) (suc k)
-there_behind None u us k h = tt
-there_behind (Some t) u us k h = (h.0, h.1, h.2)
-
-unit_there : (ts : List TypedUnit) (us : List UnitCode) (k : ℕ) → UnitsStand ts us → IsThere (slice_get ts k) us k
-unit_there [] us zero stand = tt
-unit_there [] us (suc k) stand = tt
-unit_there (t ∷ ts) [] k stand = absurd stand
-unit_there (t ∷ ts) (u ∷ us) zero stand = (u, refl, stand.0)
-unit_there (t ∷ ts) (u ∷ us) (suc k) stand = there_behind (slice_get ts k) u us k (unit_there ts us k stand.1)
+use Rattle.pli_meaning_simulation.proofs.CallsReach.{Found, procedure_there, code, first, body_run, IsThere, unit_there, calls_run}
 
 -- the variables that are made once are the same
 further_same : (o : Answer Unit) (f g : Unit → World → Answer Unit) → ((x : Unit) (w : World) → f x w ≡ g x w) → further o f ≡ further o g
@@ -40,14 +25,25 @@ further_same (Yields x w) f g h = h x w
 further_same (Raises e w) f g h = refl
 further_same Wrong f g h = refl
 
-statics_same : (ts : List TypedUnit) (us : List UnitCode) (w : World) → UnitsStand ts us → all_statics_made us w ≡ all_made ts w
-statics_same [] [] w stand = refl
-statics_same [] (u ∷ us) w stand = absurd stand
-statics_same (t ∷ ts) [] w stand = absurd stand
-statics_same (t ∷ ts) (u ∷ us) w stand =
-    ap (λ name. further (statics_made name 0 u.statics w) (λ _ w. all_statics_made us w)) stand.0.names
-    ∙ ap (λ vs. further (statics_made t.name 0 vs w) (λ _ w. all_statics_made us w)) stand.0.statics
-    ∙ further_same (statics_made t.name 0 (map variable_of t.statics) w) (λ _ w. all_statics_made us w) (λ _ w. all_made ts w) (λ x w. statics_same ts us w stand.1)
+variables_same : (program : List TypedUnit) (xs : List Global) (gs : List op.GlobalCode) → GlobalsStand program xs gs → map op.global_variable gs ≡ map global_variable xs
+variables_same program [] [] stand = refl
+variables_same program [] (g ∷ gs) stand = absurd stand
+variables_same program (x ∷ xs) [] stand = absurd stand
+variables_same program (OwnVariable t ∷ xs) (g ∷ gs) stand =
+    ap (λ g. op.global_variable g ∷ map op.global_variable gs) stand.0 ∙ ap (λ vs. global_variable (OwnVariable t) ∷ vs) (variables_same program xs gs stand.1)
+variables_same program (ExternalVariable name t ∷ xs) (g ∷ gs) stand =
+    ap (λ g. op.global_variable g ∷ map op.global_variable gs) stand.0 ∙ ap (λ vs. global_variable (ExternalVariable name t) ∷ vs) (variables_same program xs gs stand.1)
+variables_same program (EntryPoint name signature ∷ xs) (g ∷ gs) stand =
+    ap (λ g. op.global_variable g ∷ map op.global_variable gs) stand.0.is ∙ ap (λ vs. global_variable (EntryPoint name signature) ∷ vs) (variables_same program xs gs stand.1)
+
+statics_same : (program ts : List TypedUnit) (us : List UnitCode) (w : World) → UnitsStand program ts us → all_statics_made us w ≡ all_made ts w
+statics_same program [] [] w stand = refl
+statics_same program [] (u ∷ us) w stand = absurd stand
+statics_same program (t ∷ ts) [] w stand = absurd stand
+statics_same program (t ∷ ts) (u ∷ us) w stand =
+    ap (λ name. further (statics_made name 0 (map op.global_variable u.globals) w) (λ _ w. all_statics_made us w)) stand.0.names
+    ∙ ap (λ vs. further (statics_made t.name 0 vs w) (λ _ w. all_statics_made us w)) (variables_same program t.globals u.globals stand.0.globals)
+    ∙ further_same (statics_made t.name 0 (map global_variable t.globals) w) (λ _ w. all_statics_made us w) (λ _ w. all_made ts w) (λ x w. statics_same program ts us w stand.1)
 
 some_is : (a b : Outcome) → Some a ≡ Some b → a ≡ b
 some_is a b e = cc
@@ -125,18 +121,19 @@ module _ (p : Program) where
       main_ends w left false = tt
 
   -- block 0 of the main unit
-  block_ends : (number : ℕ) (u : UnitCode) → slice_get p.units number ≡ Some u → (t : TypedUnit) (stand : UnitStands t u) (level : ℕ) (w : World) (left : ℕ)
-      → Ends (resume (main_block number u (slice_get u.blocks 0) w) left) (main_run p.greatest t level (procedure_in t.procedures 0) w left)
-  block_ends number u there t stand level w left = by (procedure_in t.procedures 0) (procedure_there p number u stand.at t.procedures 0 stand.procedures)
+  block_ends : (program : List TypedUnit) → UnitsStand program program p.units → (number : ℕ) (u : UnitCode) → slice_get p.units number ≡ Some u
+      → (t : TypedUnit) (stand : UnitStands program t u) (level : ℕ) (w : World) (left : ℕ)
+      → Ends (resume (main_block number u (slice_get u.blocks 0) w) left) (main_run p.greatest (calls p.greatest program level t) level t.name (procedure_in t.procedures 0) w left)
+  block_ends program all number u there t stand level w left = by (procedure_in t.procedures 0) (procedure_there p number u stand.at t.procedures 0 stand.procedures)
     where
       call : Calls
-      call = calls p.greatest t level
+      call = calls p.greatest program level t
 
       run : CallsRun p number u stand.at call
-      run = calls_run p number u stand.at there t stand.names stand.procedures level
+      run = calls_run p program all level number u there t stand
 
       by : (o : Option TypedProcedure) → Found p number u stand.at 0 o
-          → Ends (resume (main_block number u (slice_get u.blocks 0) w) left) (main_run p.greatest t level o w left)
+          → Ends (resume (main_block number u (slice_get u.blocks 0) w) left) (main_run p.greatest call level t.name o w left)
       by None found = tt
       by (Some f) found =
           let b = code p number u stand.at there call run level f found.1 in
@@ -150,17 +147,19 @@ module _ (p : Program) where
           (main_ends number u stand.at there call run level f found.1 w left (is_external f.parent && nat_eq f.parameters 0))))
 
   -- the main unit
-  unit_ends : (o : Option TypedUnit) (number : ℕ) → IsThere o p.units number → (level : ℕ) (w : World) (left : ℕ)
-      → Ends (resume (main_unit number (slice_get p.units number) w) left) (unit_run p.greatest level o w left)
-  unit_ends None number is level w left = tt
-  unit_ends (Some t) number is level w left =
-      subst (λ x. Ends (resume (main_unit number x w) left) (unit_run p.greatest level (Some t) w left)) (sym is.1) (block_ends number is.0 is.1 t is.2 level w left)
+  unit_ends : (program : List TypedUnit) → UnitsStand program program p.units → (o : Option TypedUnit) (number : ℕ) → IsThere program o p.units number → (level : ℕ) (w : World) (left : ℕ)
+      → Ends (resume (main_unit number (slice_get p.units number) w) left) (unit_run p.greatest (calls p.greatest program level) level o w left)
+  unit_ends program all None number is level w left = tt
+  unit_ends program all (Some t) number is level w left =
+      subst (λ x. Ends (resume (main_unit number x w) left) (unit_run p.greatest (calls p.greatest program level) level (Some t) w left)) (sym is.1)
+      (block_ends program all number is.0 is.1 t is.2 level w left)
 
   -- behind the variables that are made once
-  program_ends : (o : Answer Unit) (units : List TypedUnit) → UnitsStand units p.units → (steps : ℕ)
+  program_ends : (o : Answer Unit) (units : List TypedUnit) → UnitsStand units units p.units → (steps : ℕ)
       → Ends (resume (given nothing o (λ _ w. main_unit p.main (slice_get p.units p.main) w)) steps)
-      (and_then (answered o steps) (λ _ w left. unit_run p.greatest (suc steps) (slice_get units p.main) w left))
-  program_ends (Yields x w) units stand steps = unit_ends (slice_get units p.main) p.main (unit_there units p.units p.main stand) (suc steps) w steps
+      (and_then (answered o steps) (λ _ w left. unit_run p.greatest (calls p.greatest units (suc steps)) (suc steps) (slice_get units p.main) w left))
+  program_ends (Yields x w) units stand steps =
+      unit_ends units stand (slice_get units p.main) p.main (unit_there units units p.units p.main stand) (suc steps) w steps
   program_ends (Raises e w) units stand steps = stays p _
   program_ends Wrong units stand steps = tt
 
@@ -183,10 +182,10 @@ runs_from p n Short outcome e r = absurd (cc)
 pub simulation : Simulation
 simulation t p stand n o e =
     runs_from p n (run_effect t n) o e
-    (subst (λ g. Ends p (start p n) (and_then (answered (all_made t.units nothing) n) (λ _ w left. unit_run g (suc n) (slice_get t.units t.main) w left))) stand.greatest
-    (subst (λ m. Ends p (start p n) (and_then (answered (all_made t.units nothing) n) (λ _ w left. unit_run p.greatest (suc n) (slice_get t.units m) w left))) stand.main
+    (subst (λ g. Ends p (start p n) (and_then (answered (all_made t.units nothing) n) (λ _ w left. unit_run g (calls g t.units (suc n)) (suc n) (slice_get t.units t.main) w left))) stand.greatest
+    (subst (λ m. Ends p (start p n) (and_then (answered (all_made t.units nothing) n) (λ _ w left. unit_run p.greatest (calls p.greatest t.units (suc n)) (suc n) (slice_get t.units m) w left))) stand.main
     (subst (λ a. Ends p (resume (given nothing a (λ _ w. main_unit p.main (slice_get p.units p.main) w)) n)
-    (and_then (answered (all_made t.units nothing) n) (λ _ w left. unit_run p.greatest (suc n) (slice_get t.units p.main) w left))) (sym (statics_same t.units p.units nothing stand.units))
+    (and_then (answered (all_made t.units nothing) n) (λ _ w left. unit_run p.greatest (calls p.greatest t.units (suc n)) (suc n) (slice_get t.units p.main) w left))) (sym (statics_same t.units t.units p.units nothing stand.units))
     (program_ends p (all_made t.units nothing) t.units stand.units n))))
 
 -- no meaning is a fault of the machine

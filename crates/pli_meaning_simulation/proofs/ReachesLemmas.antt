@@ -8,7 +8,7 @@ use Rattle.pli_value.specs.Value.{Value}
 use Rattle.pli_machine_step.specs.Program as op
 use Rattle.pli_machine_step.specs.Program.{Instruction, UnitCode, Program}
 use Rattle.pli_machine_step.specs.Machine.{Operand, OfValue, Locals, Frame, State, At, Over, Goes, given, calm, lands, returned, returned_with, act, act_in, resume, iterate}
-use Rattle.pli_meaning_tree.specs.Effects.{Effect, Gives, Jumps, Fails, Spent, Lost, Short, Flow, Next, Returned, Doing, and_then, after_flow, followed, answered, as_statement}
+use Rattle.pli_meaning_tree.specs.Effects.{Effect, Gives, Jumps, Fails, Spent, Lost, Short, Flow, Next, Returned, Doing, and_then, after_flow, followed, closed, answered, as_statement}
 use Rattle.pli_meaning_simulation.specs.CodeStands.{Context, Is}
 
 -- a frame's temporaries are those of the block, and it has made no more backward jumps than may be
@@ -191,6 +191,15 @@ module _ (p : Program) (number : ℕ) (u : UnitCode) where
     bound_in inner Lost go r f = record { by = tt }
     bound_in inner Short go r f = record { by = tt }
 
+    -- what no jump leads out of
+    pub closed_run : {A : Type 0} {c : Context} {s : State} {l : Locals} {to : Target A} {fs : List Frame} (o : Effect A) → Reaches c s l to fs o → Reaches c s l to fs (closed o)
+    closed_run (Gives x w left) r = r
+    closed_run (Jumps h k w left) r = record { by = tt }
+    closed_run (Fails e w) r = r
+    closed_run (Spent w) r = r
+    closed_run Lost r = r
+    closed_run Short r = r
+
     -- the next statement
     pub goes_on : {c : Context} {s : State} {l : Locals} {a b : ℕ} {fs : List Frame} (o : Effect Flow) (go : Doing Flow)
         → Reaches c s l (flows a fs) fs o
@@ -215,14 +224,14 @@ module _ (p : Program) (number : ℕ) (u : UnitCode) where
     module _ (there : slice_get p.units number ≡ Some u) where
       -- one instruction
       pub goes : {i : Instruction} {a b : ℕ} {ops : List Operand} {l : Locals} {fs : List Frame} {w : World} {left : ℕ} {t : State}
-          → Is u i a b → resume (act p.greatest u (Some i) (frame b ops l) fs w) left ≡ t → Comes p (At (frame a ops l) fs w left) t
+          → Is u i a b → resume (act p u (Some i) (frame b ops l) fs w) left ≡ t → Comes p (At (frame a ops l) fs w left) t
       goes {i} {a} {b} {ops} {l} {fs} {w} {left} {t} is h =
           record {
             by = λ k. (
               suc k,
-              ap (λ v. iterate p k (resume (act_in p.greatest v (frame a ops l) fs w) left)) there
-                  ∙ ap (λ j. iterate p k (resume (act p.greatest u j (frame (suc a) ops l) fs w) left)) is.here
-                  ∙ ap (λ m. iterate p k (resume (act p.greatest u (Some i) (frame m ops l) fs w) left)) is.ends ∙ ap (iterate p k) h,
+              ap (λ v. iterate p k (resume (act_in p v (frame a ops l) fs w) left)) there
+                  ∙ ap (λ j. iterate p k (resume (act p u j (frame (suc a) ops l) fs w) left)) is.here
+                  ∙ ap (λ m. iterate p k (resume (act p u (Some i) (frame m ops l) fs w) left)) is.ends ∙ ap (iterate p k) h,
             );
           }
 
@@ -239,7 +248,7 @@ module _ (p : Program) (number : ℕ) (u : UnitCode) where
       -- an instruction that asks for an operation
       pub answers : {A : Type 0} {c : Context} {i : Instruction} {a b : ℕ} {old : List Operand} {l : Locals} {fs : List Frame} (f : A → List Operand) (o : Answer A) → Is u i a b → Fine c l
           → (w : World) (left : ℕ)
-          → act p.greatest u (Some i) (frame b old l) fs w ≡ given w o (λ x v. Goes (frame b (f x) l) fs v)
+          → act p u (Some i) (frame b old l) fs w ≡ given w o (λ x v. Goes (frame b (f x) l) fs v)
           → Reaches c (At (frame a old l) fs w left) l (λ m x w left. At (frame b (f x) m) fs w left) fs (answered o left)
       answers f (Yields x v) is fine w left h = gives x v left fine (goes is (ap (λ m. resume m left) h))
       answers f (Raises e v) is fine w left h = record { by = goes is (ap (λ m. resume m left) h) }

@@ -2,6 +2,7 @@
 -- The inner places are parts of it.
 use Rattle.std.specs.Prelude.{◌≡◌, ℕ, suc, ◌+◌, ◌-◌, ◌≤◌, Bool, true, false, Option, Some, None}
 use Rattle.std.specs.Prelude.{List, [], ◌∷◌, map, slice_get}
+use Rattle.pli_base.specs.Name.{Name}
 use Rattle.pli_code.specs.declared.ending.RunError.TheVariants.{NoReturnedValue}
 use Rattle.pli_machine_step.specs.Program as op
 use Rattle.pli_machine_step.specs.Program.{Instruction, BlockKind, Procedure, BeginBlock, Block, UnitCode}
@@ -17,8 +18,9 @@ use Rattle.pli_type_tree.specs.TypedTree.{Form, Null, Assign, AssignAggregate, P
 use Rattle.pli_type_tree.specs.TypedTree.{Iterate, TypedRange, Once, ToBy, ByTo, Repeated, Iteration}
 use Rattle.pli_type_tree.specs.TypedTree.{Call, Goto, Return, ReturnValue, Stop, OtherWise, NoElse, Else}
 use Rattle.pli_type_tree.specs.TypedTree.{TypedStatements, NoStatement, StatementThen, TypedProcedure}
-use Rattle.pli_type_tree.specs.TypedTree.{TypedUnit}
-use Rattle.pli_meaning_tree.specs.TreeMeaning.{TypedProgram, number_of}
+use Rattle.pli_type_tree.specs.TypedTree.{Callee, OfBlock, OfEntry, Global, OwnVariable, ExternalVariable}
+use Rattle.pli_type_tree.specs.TypedTree.{EntryPoint, TypedUnit}
+use Rattle.pli_meaning_tree.specs.TreeMeaning.{TypedProgram, number_of, unit_named}
 
 -- what stands from a place up to a place
 abbrev pub Span : Type 1
@@ -65,6 +67,11 @@ arguments_in NoArgument = 0
 arguments_in (ByPlace r more) = suc (arguments_in more)
 arguments_in (ByDummy d e more) = suc (arguments_in more)
 
+-- the instruction of a call
+abbrev pub call_of : Callee → (arguments : ℕ) → Instruction
+call_of (OfBlock block) arguments = op.Call block arguments
+call_of (OfEntry number) arguments = op.CallExternal number arguments
+
 -- the block of a head
 abbrev pub block_of : BlockKind → (parent : Option ℕ) → (parameters : ℕ) → BlockHead → (entry : ℕ) → Block
 block_of kind parent parameters head entry =
@@ -100,8 +107,8 @@ module _ (u : UnitCode) where
     ValueStands (Literal v) = Is (op.Constant v)
     ValueStands (Held r) = Then (PlaceStands r) (Is op.Load)
     ValueStands (Calculated operation operands) = Then (OperandsStand operands) (Is (op.Operate operation))
-    ValueStands (Called block arguments) =
-        Then (ArgumentsStand arguments) (Is (op.Call block (arguments_in arguments)))
+    ValueStands (Called callee arguments) =
+        Then (ArgumentsStand arguments) (Is (call_of callee (arguments_in arguments)))
 
     pub OperandsStand : Operands → Span
     OperandsStand NoOperand = Empty
@@ -272,8 +279,8 @@ module _ (u : UnitCode) where
           (Then (Is (op.Step number)) (ListStands block statements (deeper c))) Empty p q
       FormStands block number (Iterate iteration statements) c =
           IterateStands number iteration (λ c. Then (Is (op.Step number)) (ListStands block statements c)) c
-      FormStands block number (Call called arguments) c =
-          Then (ArgumentsStand arguments) (Is (op.Call called (arguments_in arguments)))
+      FormStands block number (Call callee arguments) c =
+          Then (ArgumentsStand arguments) (Is (call_of callee (arguments_in arguments)))
       FormStands block number (Goto outward label) c = Is (op.Goto outward (at label))
       FormStands block number (Return outward) c = Is (op.Return outward)
       FormStands block number (ReturnValue outward e) c = Then (ValueStands e) (Is (op.ReturnValue outward))
@@ -303,21 +310,41 @@ module _ (u : UnitCode) where
     ProceduresStand [] = Unit
     ProceduresStand (f ∷ fs) = ProcedureStands f × ProceduresStand fs
 
+-- an entry of this name has the number of its unit in the program
+pub record EntryStands (program : List TypedUnit) (name : Name) (g : op.GlobalCode) : Type 0 where
+  pub number : ℕ
+  pub is : g ≡ op.EntryPoint number
+  pub unit : TypedUnit
+  pub named : unit_named program name ≡ Some unit
+  pub there : slice_get program number ≡ Some unit
+
+-- a global, in a program of these units
+abbrev pub GlobalStands : (program : List TypedUnit) → Global → op.GlobalCode → Type 0
+GlobalStands program (OwnVariable t) g = g ≡ op.OwnVariable (variable_of t)
+GlobalStands program (ExternalVariable name t) g = g ≡ op.ExternalVariable name (variable_of t)
+GlobalStands program (EntryPoint name signature) g = EntryStands program name g
+
+abbrev pub GlobalsStand : (program : List TypedUnit) → List Global → List op.GlobalCode → Type 0
+GlobalsStand program [] [] = Unit
+GlobalsStand program (x ∷ xs) (g ∷ gs) = GlobalStands program x g × GlobalsStand program xs gs
+GlobalsStand program [] (g ∷ gs) = ⊥
+GlobalsStand program (x ∷ xs) [] = ⊥
+
 -- the code of a unit
-pub record UnitStands (t : TypedUnit) (u : UnitCode) : Type 0 where
+pub record UnitStands (program : List TypedUnit) (t : TypedUnit) (u : UnitCode) : Type 0 where
   pub at : (label : ℕ) → ℕ
   pub names : u.name ≡ t.name
-  pub statics : u.statics ≡ map variable_of t.statics
+  pub globals : GlobalsStand program t.globals u.globals
   pub procedures : ProceduresStand u at t.procedures
 
-abbrev pub UnitsStand : List TypedUnit → List UnitCode → Type 0
-UnitsStand [] [] = Unit
-UnitsStand (t ∷ ts) (u ∷ us) = UnitStands t u × UnitsStand ts us
-UnitsStand [] (u ∷ us) = ⊥
-UnitsStand (t ∷ ts) [] = ⊥
+abbrev pub UnitsStand : (program : List TypedUnit) → List TypedUnit → List UnitCode → Type 0
+UnitsStand program [] [] = Unit
+UnitsStand program (t ∷ ts) (u ∷ us) = UnitStands program t u × UnitsStand program ts us
+UnitsStand program [] (u ∷ us) = ⊥
+UnitsStand program (t ∷ ts) [] = ⊥
 
 -- the code of a program
 pub record ProgramStands (t : TypedProgram) (p : Program) : Type 0 where
-  pub units : UnitsStand t.units p.units
+  pub units : UnitsStand t.units t.units p.units
   pub main : p.main ≡ t.main
   pub greatest : p.greatest ≡ t.greatest

@@ -92,3 +92,11 @@ variable_is_looked_at_anew = refl
 pub repeat_goes_on : example.RepeatGoesOn
 unfolding calculated nothing made_of parts_held parts_stored held stored copied entered left_by cleared at_statement stepped height_of slot_place static_place dummy_of printed line_ended error_at digits
 repeat_goes_on = refl
+
+pub units_share : example.UnitsShare
+unfolding calculated nothing made_of parts_held parts_stored held stored copied entered left_by cleared at_statement stepped height_of slot_place static_place dummy_of printed line_ended error_at digits
+units_share = refl
+
+pub unit_fails : example.UnitFails
+unfolding calculated nothing made_of parts_held parts_stored held stored copied entered left_by cleared at_statement stepped height_of slot_place static_place dummy_of printed line_ended error_at digits
+unit_fails = refl

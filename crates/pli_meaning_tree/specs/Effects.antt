@@ -123,6 +123,15 @@ leaving (Spent w) go = Spent w
 leaving Lost go = Lost
 leaving Short go = Short
 
+-- no jump leads out of an external procedure
+abbrev pub closed : {A : Type 0} → Effect A → Effect A
+closed (Gives x w left) = Gives x w left
+closed (Jumps h k w left) = Lost
+closed (Fails e w) = Fails e w
+closed (Spent w) = Spent w
+closed Lost = Lost
+closed Short = Short
+
 -- a BEGIN block ends behind its last statement, or by the RETURN of its procedure
 abbrev pub block_end : Flow → Doing Flow
 block_end Next w left = Gives Next (left_by w) left

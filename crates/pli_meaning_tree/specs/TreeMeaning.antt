@@ -4,13 +4,16 @@ use Rattle.std.specs.Prelude.{List, [], ◌∷◌, ◌++◌, length, map, slice_
 use Rattle.pli_base.specs.Name.{Name}
 use Rattle.pli_code.specs.declared.ending.Ending.{Ending}
 use Rattle.pli_code.specs.declared.ending.Ending.TheVariants.{Ended, OutOfSteps, Error, MachineFault}
-use Rattle.pli_machine_step.specs.Runs.{Outcome, outcome_of, is_external}
+use Rattle.pli_machine_step.specs.Program.{is_external}
+use Rattle.pli_machine_step.specs.Runs.{Outcome, outcome_of}
 use Rattle.pli_operation.specs.Operations.{Operation, Add, Within, calculated}
 use Rattle.pli_store.specs.Activations.{nearest_of}
 use Rattle.pli_store.specs.Storage.{Place, field_of}
 use Rattle.pli_store.specs.World.{World, Answer, Yields, known, further, nothing, height, held, stored}
 use Rattle.pli_store.specs.World.{copied, subscripted, calculation, Head, entered, height_of, slot_place}
 use Rattle.pli_store.specs.World.{static_place, dummy_of, printed, line_ended, statics_made}
+use Rattle.pli_base.specs.Words.{same_name}
+use Rattle.pli_type_tree.specs.Globals.{global_variable}
 use Rattle.pli_type_tree.specs.Iterations.{kept_by, limit_number, step_number, is_iterated}
 use Rattle.pli_type_tree.specs.Templates.{variable_of}
 use Rattle.pli_type_tree.specs.TypedTree.{Root, InSlot, OfProgram, TypedExpression, Literal, Held, Calculated}
@@ -21,13 +24,13 @@ use Rattle.pli_type_tree.specs.TypedTree.{Form, Null, Assign, AssignAggregate, P
 use Rattle.pli_type_tree.specs.TypedTree.{Iterate, TypedRange, Once, ToBy, ByTo, Repeated, Iteration}
 use Rattle.pli_type_tree.specs.TypedTree.{Call, Goto, Return, ReturnValue, Stop, OtherWise, NoElse, Else}
 use Rattle.pli_type_tree.specs.TypedTree.{TypedStatements, NoStatement, StatementThen, TypedProcedure}
-use Rattle.pli_type_tree.specs.TypedTree.{TypedUnit}
+use Rattle.pli_type_tree.specs.TypedTree.{Callee, OfBlock, OfEntry, Global, EntryPoint, TypedUnit}
 use Rattle.pli_value.specs.Conversions.{bit_constant}
 use Rattle.pli_value.specs.Value.{Value, Number, Characters, Bits}
 use Rattle.pli_meaning_tree.specs.Effects.{Effect, Gives, Jumps, Fails, Spent, Lost, Short, Flow, Next}
 use Rattle.pli_meaning_tree.specs.Effects.{Returned, Doing, and_then, nothing_done, followed, answered}
 use Rattle.pli_meaning_tree.specs.Effects.{as_step, as_statement, back_at, truth, chosen, turns, caught}
-use Rattle.pli_meaning_tree.specs.Effects.{unless_full, leaving, block_end, procedure_end}
+use Rattle.pli_meaning_tree.specs.Effects.{unless_full, leaving, closed, block_end, procedure_end}
 
 -- a program: its units, and which of them is the main one; no number has more binary digits than the greatest
 -- precision
@@ -36,9 +39,9 @@ pub record TypedProgram : Type 0 where
   pub main : ℕ
   pub greatest : ℕ
 
--- what calls do: a procedure, by its block, runs with its arguments, and gives a value if it is a function
+-- what calls do: a procedure runs with its arguments, and gives a value if it is a function
 abbrev pub Calls : Type 0
-Calls = (block : ℕ) → List Place → Doing (Option Value)
+Calls = Callee → List Place → Doing (Option Value)
 
 -- the value of a function; a procedure has none
 abbrev pub a_value : Option Value → Doing Value
@@ -79,7 +82,7 @@ module _ (greatest : ℕ) (call : Calls) where
     value_of (Literal v) w left = Gives v w left
     value_of (Held r) w left = and_then (place_of r w left) (λ p w left. answered (held p w) left)
     value_of (Calculated operation operands) w left = operated operation operands [] w left
-    value_of (Called block arguments) w left = and_then (called_with block arguments [] w left) a_value
+    value_of (Called callee arguments) w left = and_then (called_with callee arguments [] w left) a_value
 
     -- an operation on its operands, which are evaluated from left to right; those before, the last first
     pub operated : Operation → Operands → (before : List Value) → Doing Value
@@ -105,14 +108,14 @@ module _ (greatest : ℕ) (call : Calls) where
 
     -- a procedure called with arguments, one after the other: a place is handed over as it is, and a value
     -- becomes a dummy argument before the next is looked at; the places before, the last first
-    pub called_with : (block : ℕ) → TypedArguments → (before : List Place) → Doing (Option Value)
-    called_with block NoArgument before w left = call block (in_order before []) w left
-    called_with block (ByPlace r more) before w left =
-        and_then (place_of r w left) (λ p w left. called_with block more (p ∷ before) w left)
-    called_with block (ByDummy description e more) before w left =
+    pub called_with : (callee : Callee) → TypedArguments → (before : List Place) → Doing (Option Value)
+    called_with callee NoArgument before w left = call callee (in_order before []) w left
+    called_with callee (ByPlace r more) before w left =
+        and_then (place_of r w left) (λ p w left. called_with callee more (p ∷ before) w left)
+    called_with callee (ByDummy description e more) before w left =
         and_then (value_of e w left)
         (λ v w left. and_then (answered (dummy_of description v w) left)
-        (λ p w left. called_with block more (p ∷ before) w left))
+        (λ p w left. called_with callee more (p ∷ before) w left))
 
   -- a condition of IF or WHILE
   abbrev pub condition : TypedExpression → Doing Bool
@@ -144,8 +147,8 @@ module _ (greatest : ℕ) (call : Calls) where
   skips false go w left = go w left
 
   -- a call, of what is no function
-  abbrev pub does_call : (block : ℕ) → TypedArguments → Doing Flow
-  does_call block arguments w left = and_then (called_with block arguments [] w left) no_value
+  abbrev pub does_call : (callee : Callee) → TypedArguments → Doing Flow
+  does_call callee arguments w left = and_then (called_with callee arguments [] w left) no_value
 
   -- an iteration's values are evaluated in turn, and kept as they are; those before
   abbrev pub keeps : List TypedExpression → (before : List Value) → (List Value → Doing Flow) → Doing Flow
@@ -357,37 +360,69 @@ abbrev pub procedure_in : List TypedProcedure → (block : ℕ) → Option Typed
 procedure_in [] block = None
 procedure_in (f ∷ fs) block = if nat_eq f.head.number block then Some f else procedure_in fs block
 
--- the calls within a unit, at a level: what is called inside may do is the level below
-abbrev pub calls : (greatest : ℕ) → TypedUnit → (level : ℕ) → Calls
-calls greatest u zero block places w left = Short
-calls greatest u (suc level) block places w left =
-    activates greatest (calls greatest u level) level u.name (procedure_in u.procedures block) places w left
+-- the unit whose external procedure has a name: of several, the first
+abbrev pub unit_named : List TypedUnit → (procedure : Name) → Option TypedUnit
+unit_named [] name = None
+unit_named (u ∷ us) name = if same_name u.procedure name then Some u else unit_named us name
+
+-- the unit of an entry
+abbrev pub entry_unit : List TypedUnit → Option Global → Option TypedUnit
+entry_unit us (Some (EntryPoint name signature)) = unit_named us name
+entry_unit us g = None
+
+-- a call of the external procedure of a unit: it is block 0 there and stands in no block
+abbrev pub activates_outer : (greatest : ℕ) → Calls → (level : ℕ) → (unit : Name) → Option TypedProcedure
+    → List Place → Doing (Option Value)
+activates_outer greatest call level unit None places w left = Lost
+activates_outer greatest call level unit (Some f) places w left =
+    if is_external f.parent then closed (activates_in greatest call level unit f (Some 0) places w left)
+    else Lost
+
+abbrev pub activates_unit : (greatest : ℕ) → (call : TypedUnit → Calls) → (level : ℕ) → Option TypedUnit
+    → List Place → Doing (Option Value)
+activates_unit greatest call level None places w left = Lost
+activates_unit greatest call level (Some u) places w left =
+    activates_outer greatest (call u) level u.name (procedure_in u.procedures 0) places w left
+
+-- the calls that stand in a unit of a program, at a level: what is called inside may do is the level below
+abbrev pub calls : (greatest : ℕ) → List TypedUnit → (level : ℕ) → TypedUnit → Calls
+calls greatest us zero u callee places w left = Short
+calls greatest us (suc level) u (OfBlock block) places w left =
+    activates greatest (calls greatest us level u) level u.name (procedure_in u.procedures block) places w
+    left
+calls greatest us (suc level) u (OfEntry number) places w left =
+    activates_unit greatest (calls greatest us level) level
+    (entry_unit us (slice_get u.globals number)) places w left
 
 -- programs
 
 -- the variables of all units that are made before the program begins
 abbrev pub all_made : List TypedUnit → World → Answer Unit
 all_made [] w = Yields tt w
-all_made (u ∷ us) w = further (statics_made u.name 0 (map variable_of u.statics) w) (λ _ w. all_made us w)
+all_made (u ∷ us) w =
+    further (statics_made u.name 0 (map global_variable u.globals) w) (λ _ w. all_made us w)
 
 -- the main procedure has no parameters and stands in no block
-abbrev pub main_run : (greatest : ℕ) → TypedUnit → (level : ℕ) → Option TypedProcedure → Doing (Option Value)
-main_run greatest u level None w left = Lost
-main_run greatest u level (Some f) w left =
+abbrev pub main_run : (greatest : ℕ) → Calls → (level : ℕ) → (unit : Name) → Option TypedProcedure
+    → Doing (Option Value)
+main_run greatest call level unit None w left = Lost
+main_run greatest call level unit (Some f) w left =
     if is_external f.parent && nat_eq f.parameters 0
-    then procedure_run greatest (calls greatest u level) level u.name f 0 [] w left else Lost
+    then procedure_run greatest call level unit f 0 [] w left else Lost
 
-abbrev pub unit_run : (greatest level : ℕ) → Option TypedUnit → Doing (Option Value)
-unit_run greatest level None w left = Lost
-unit_run greatest level (Some u) w left =
-    main_run greatest u level (procedure_in u.procedures 0) w left
+abbrev pub unit_run : (greatest : ℕ) → (call : TypedUnit → Calls) → (level : ℕ) → Option TypedUnit
+    → Doing (Option Value)
+unit_run greatest call level None w left = Lost
+unit_run greatest call level (Some u) w left =
+    main_run greatest (call u) level u.name (procedure_in u.procedures 0) w left
 
 -- what a program does with so many steps, at one level more than steps: the variables that are made once,
 -- and then block 0 of the main unit
 abbrev pub run_effect : TypedProgram → (steps : ℕ) → Effect (Option Value)
 run_effect p n =
     and_then (answered (all_made p.units nothing) n)
-    (λ _ w left. unit_run p.greatest (suc n) (slice_get p.units p.main) w left)
+    (λ _ w left.
+    unit_run p.greatest (calls p.greatest p.units (suc n)) (suc n) (slice_get p.units p.main) w left)
 
 -- an end that a program may come to: not the machine's fault
 abbrev pub ended_as : Ending → World → Option Outcome

@@ -1,9 +1,16 @@
 //! Worked examples of the meaning.
-ghost use Rattle.pli_meaning_tree.specs.examples.TreeExamples.{LoopEnds, LoopStops, IfChooses, SubscriptIsTested, AggregateIsCopied, BitsArePrinted, ItemBeforeIsWritten, FunctionCallsItself, FunctionStops, ByReferenceChanges, NoValueIsReturned, GotoLeavesBlock, GotoLeavesCall, GotoGroupBeginsAnew, ReturnLeavesBlock, TurnsAreSteps, NoTurnAndOne, StartMustFit, StepMayBeNegative, StepOverflows, VariableIsLookedAtAnew, RepeatGoesOn};
+ghost use Rattle.pli_meaning_tree.specs.examples.TreeExamples.{LoopEnds, LoopStops, IfChooses, SubscriptIsTested};
+ghost use Rattle.pli_meaning_tree.specs.examples.TreeExamples.{AggregateIsCopied, BitsArePrinted, ItemBeforeIsWritten};
+ghost use Rattle.pli_meaning_tree.specs.examples.TreeExamples.{FunctionCallsItself, FunctionStops, ByReferenceChanges};
+ghost use Rattle.pli_meaning_tree.specs.examples.TreeExamples.{NoValueIsReturned, GotoLeavesBlock, GotoLeavesCall};
+ghost use Rattle.pli_meaning_tree.specs.examples.TreeExamples.{GotoGroupBeginsAnew, ReturnLeavesBlock, TurnsAreSteps};
+ghost use Rattle.pli_meaning_tree.specs.examples.TreeExamples.{NoTurnAndOne, StartMustFit, StepMayBeNegative};
+ghost use Rattle.pli_meaning_tree.specs.examples.TreeExamples.{StepOverflows, VariableIsLookedAtAnew, RepeatGoesOn};
+ghost use Rattle.pli_meaning_tree.specs.examples.TreeExamples.{UnitsShare, UnitFails};
 
 /// What programs give with so many steps: loops of all forms, IF, an element out of bounds, an aggregate copied, bits
-/// printed, functions that call themselves, an argument changed by the procedure, GOTO out of blocks and calls, RETURN
-/// and STOP.
+/// printed, functions that call themselves, an argument changed by the procedure, GOTO out of blocks and calls, RETURN,
+/// STOP, a call of another unit's procedure and a variable that both units have.
 pub fn worked_examples()
     ensures loop_ends { LoopEnds }
     ensures loop_stops { LoopStops }
@@ -27,4 +34,6 @@ pub fn worked_examples()
     ensures step_overflows { StepOverflows }
     ensures variable_is_looked_at_anew { VariableIsLookedAtAnew }
     ensures repeat_goes_on { RepeatGoesOn }
+    ensures units_share { UnitsShare }
+    ensures unit_fails { UnitFails }
 {}

@@ -10,6 +10,8 @@ use Rattle.pli_map.specs.Description.{Description}
 use Rattle.pli_store.specs.Activations.{Activation, activation_at, outward_from, nearest_of, is_of}
 use Rattle.pli_store.specs.Storage.{Place}
 use Rattle.pli_store.specs.World.{World, Yields, known as there_is, further, height, height_of, slot_in, slot_place, static_place, newest_unit, static_in}
+use Rattle.pli_type_tree.specs.Globals.{description_of}
+use Rattle.pli_type_tree.specs.TypedTree.{Global, TypedUnit}
 use Rattle.pli_type_tree.specs.WellTyped.{BlockAround, AreAround, blocks_from, with_labels}
 use Rattle.pli_meaning_typed.specs.SoundWorlds.{IsGood, AreGood, Shape, AreShaped, IsSound}
 
@@ -20,15 +22,15 @@ Known = (activation label : ℕ) → Bool
 abbrev pub AreKnown : Known → (activation : ℕ) → List ℕ → Type 0
 AreKnown known h labels = (label : ℕ) → IsTrue (list_any (nat_eq label) labels) → IsTrue (known h label)
 
--- from the activation of a height on, along static links, stand the blocks of a context
-abbrev pub Stand : Known → List Shape → (height : ℕ) → List BlockAround → Type 0
-Stand known [] h [] = Unit {0}
-Stand known [] h (b ∷ bs) = ⊥
-Stand known (s ∷ older) h [] = Unit {0}
-Stand known (s ∷ older) h (b ∷ bs) =
-    ((h ≤ length older) × Stand known older h (b ∷ bs))
+-- from the activation of a height on, along static links, stand the blocks of a context, which are of a unit
+abbrev pub Stand : (unit : Name) → Known → List Shape → (height : ℕ) → List BlockAround → Type 0
+Stand unit known [] h [] = Unit {0}
+Stand unit known [] h (b ∷ bs) = ⊥
+Stand unit known (s ∷ older) h [] = Unit {0}
+Stand unit known (s ∷ older) h (b ∷ bs) =
+    ((h ≤ length older) × Stand unit known older h (b ∷ bs))
     ⊎ ((h ≡ suc (length older)) × (s.block ≡ b.number) × (s.slots ≡ b.slots) × AreKnown known h b.labels
-    × Stand known older s.link bs)
+    × Stand unit known older s.link bs × (s.unit ≡ unit))
 
 none_some : {A : Type 0} {x : A} → None ≡ Some x → ⊥
 none_some e = absurd (cc)
@@ -47,12 +49,12 @@ pub same_self : (n : Name) → same_name n n ≡ true
 same_self [] = refl
 same_self (c ∷ cs) = ap (λ b. b && same_name cs cs) (eq-eqb c c refl) ∙ same_self cs
 
-pub shaped_length : (unit : Name) (w : World) (ss : List Shape) (stack : List Activation) → AreShaped unit w ss stack
+pub shaped_length : (w : World) (ss : List Shape) (stack : List Activation) → AreShaped w ss stack
     → length stack ≡ length ss
-shaped_length unit w [] [] h = refl
-shaped_length unit w [] (a ∷ older) h = absurd h
-shaped_length unit w (s ∷ ss) [] h = absurd h
-shaped_length unit w (s ∷ ss) (a ∷ older) h = ap (λ n. suc n) (shaped_length unit w ss older h.4)
+shaped_length w [] [] h = refl
+shaped_length w [] (a ∷ older) h = absurd h
+shaped_length w (s ∷ ss) [] h = absurd h
+shaped_length w (s ∷ ss) (a ∷ older) h = ap (λ n. suc n) (shaped_length w ss older h.4)
 
 -- the activation of a block outward
 pub record Found (known : Known) (w : World) (stack : List Activation) (from outward : ℕ) (b : BlockAround) : Type 0 where
@@ -101,19 +103,19 @@ found_along known w a older from outward b e f = record {
 
 module _ (unit : Name) (known : Known) (w : World) where
   pub find : (ss : List Shape) (stack : List Activation) (h : ℕ) (blocks : List BlockAround) (outward : ℕ) (b : BlockAround)
-      → AreShaped unit w ss stack → Stand known ss h blocks → slice_get blocks outward ≡ Some b → Found known w stack h outward b
+      → AreShaped w ss stack → Stand unit known ss h blocks → slice_get blocks outward ≡ Some b → Found known w stack h outward b
   find [] stack h [] outward b shaped stand e = absurd (none_some e)
   find [] stack h (c ∷ cs) outward b shaped stand e = absurd stand
   find (s ∷ ss) [] h blocks outward b shaped stand e = absurd shaped
   find (s ∷ ss) (a ∷ older) h [] outward b shaped stand e = absurd (none_some e)
   find (s ∷ ss) (a ∷ older) h (c ∷ cs) zero b shaped (inl stand) e =
-      found_older known w a older h zero b (omega (arith, stand.0, shaped_length unit w ss older shaped.4))
+      found_older known w a older h zero b (omega (arith, stand.0, shaped_length w ss older shaped.4))
       (find ss older h (c ∷ cs) zero b shaped.4 stand.1 e)
   find (s ∷ ss) (a ∷ older) h (c ∷ cs) (suc n) b shaped (inl stand) e =
-      found_older known w a older h (suc n) b (omega (arith, stand.0, shaped_length unit w ss older shaped.4))
+      found_older known w a older h (suc n) b (omega (arith, stand.0, shaped_length w ss older shaped.4))
       (find ss older h (c ∷ cs) (suc n) b shaped.4 stand.1 e)
   find (s ∷ ss) (a ∷ older) h (c ∷ cs) zero b shaped (inr stand) e =
-      let top : h ≡ suc (length older) = stand.0 ∙ ap (λ n. suc n) (sym (shaped_length unit w ss older shaped.4)) in
+      let top : h ≡ suc (length older) = stand.0 ∙ ap (λ n. suc n) (sym (shaped_length w ss older shaped.4)) in
       let same : c ≡ b = some_same e in record {
         height = h;
         activation = a;
@@ -124,21 +126,21 @@ module _ (unit : Name) (known : Known) (w : World) where
         below = omega (arith, top);
       }
   find (s ∷ ss) (a ∷ older) h (c ∷ cs) (suc n) b shaped (inr stand) e =
-      let top : h ≡ suc (length older) = stand.0 ∙ ap (λ n. suc n) (sym (shaped_length unit w ss older shaped.4)) in
+      let top : h ≡ suc (length older) = stand.0 ∙ ap (λ n. suc n) (sym (shaped_length w ss older shaped.4)) in
       found_along known w a older h n b top
       (subst (λ l. Found known w older l n b) (sym shaped.2) (find ss older s.link cs n b shaped.4 stand.4 e))
 
 -- with an activation more
-raised : (known : Known) (s : Shape) (ss : List Shape) (h : ℕ) (blocks : List BlockAround) → h ≤ length ss → Stand known ss h blocks
-    → Stand known (s ∷ ss) h blocks
-raised known s ss h [] le stand = tt
-raised known s ss h (b ∷ bs) le stand = inl (le, stand)
+raised : (unit : Name) (known : Known) (s : Shape) (ss : List Shape) (h : ℕ) (blocks : List BlockAround) → h ≤ length ss → Stand unit known ss h blocks
+    → Stand unit known (s ∷ ss) h blocks
+raised unit known s ss h [] le stand = tt
+raised unit known s ss h (b ∷ bs) le stand = inl (le, stand)
 
 -- the nearest activation of a block
 pub record Near (unit : Name) (known : Known) (ss : List Shape) (stack : List Activation) (from parent : ℕ) (blocks : List BlockAround) : Type 0 where
   pub link : ℕ
   pub walked : nearest_of unit parent stack from ≡ Some link
-  pub stand : Stand known ss link blocks
+  pub stand : Stand unit known ss link blocks
   pub below : link ≤ length ss
 
 near_older : (unit : Name) (known : Known) (s : Shape) (ss : List Shape) (a : Activation) (older : List Activation)
@@ -149,7 +151,7 @@ near_older unit known s ss a older from parent blocks lt n = record {
   walked =
       ap (λ c. if c then (if is_of unit parent a then Some from else nearest_of unit parent older a.link) else nearest_of unit parent older from)
       (unequal from (suc (length older)) lt) ∙ n.walked;
-  stand = raised known s ss n.link blocks n.below n.stand;
+  stand = raised unit known s ss n.link blocks n.below n.stand;
   below = omega (arith, n.below);
 }
 
@@ -159,23 +161,23 @@ module _ (unit : Name) (known : Known) (w : World) where
       ap (λ c. c && nat_eq a.block parent) (ap (λ n. same_name n unit) e ∙ same_self unit) ∙ f
 
   pub near : (ss : List Shape) (stack : List Activation) (h parent : ℕ) (blocks found : List BlockAround)
-      → AreShaped unit w ss stack → Stand known ss h blocks → blocks_from parent blocks ≡ Some found
+      → AreShaped w ss stack → Stand unit known ss h blocks → blocks_from parent blocks ≡ Some found
       → Near unit known ss stack h parent found
   near [] stack h parent [] found shaped stand e = absurd (none_some e)
   near [] stack h parent (c ∷ cs) found shaped stand e = absurd stand
   near (s ∷ ss) [] h parent blocks found shaped stand e = absurd shaped
   near (s ∷ ss) (a ∷ older) h parent [] found shaped stand e = absurd (none_some e)
   near (s ∷ ss) (a ∷ older) h parent (c ∷ cs) found shaped (inl stand) e =
-      near_older unit known s ss a older h parent found (omega (arith, stand.0, shaped_length unit w ss older shaped.4))
+      near_older unit known s ss a older h parent found (omega (arith, stand.0, shaped_length w ss older shaped.4))
       (near ss older h parent (c ∷ cs) found shaped.4 stand.1 e)
   near (s ∷ ss) (a ∷ older) h parent (c ∷ cs) found shaped (inr stand) e =
       by (nat_eq c.number parent) refl e (λ g. near ss older s.link parent cs found shaped.4 stand.4 g)
     where
       top : h ≡ suc (length older)
-      top = stand.0 ∙ ap (λ n. suc n) (sym (shaped_length unit w ss older shaped.4))
+      top = stand.0 ∙ ap (λ n. suc n) (sym (shaped_length w ss older shaped.4))
 
       this : (b : Bool) → nat_eq c.number parent ≡ b → is_of unit parent a ≡ b
-      this b e = is_this a parent b shaped.0 (ap (λ n. nat_eq n parent) (shaped.1 ∙ stand.1) ∙ e)
+      this b e = is_this a parent b (shaped.0 ∙ stand.5) (ap (λ n. nat_eq n parent) (shaped.1 ∙ stand.1) ∙ e)
 
       walked : (b : Bool) (o : Option ℕ) → nat_eq c.number parent ≡ b → (if b then Some h else nearest_of unit parent older a.link) ≡ o
           → nearest_of unit parent (a ∷ older) h ≡ o
@@ -190,30 +192,30 @@ module _ (unit : Name) (known : Known) (w : World) where
       by true e f rest = record {
         link = h;
         walked = walked true (Some h) e refl;
-        stand = subst (λ bs. Stand known (s ∷ ss) h bs) (some_same f) (inr stand);
+        stand = subst (λ bs. Stand unit known (s ∷ ss) h bs) (some_same f) (inr stand);
         below = omega (arith, stand.0);
       }
       by false e f rest =
           let n = rest f in record {
             link = n.link;
             walked = walked false (Some n.link) e (ap (λ l. nearest_of unit parent older l) shaped.2 ∙ n.walked);
-            stand = raised known s ss n.link found n.below n.stand;
+            stand = raised unit known s ss n.link found n.below n.stand;
             below = omega (arith, n.below);
           }
 
 -- the blocks around a procedure
-pub stand_around : (known : Known) (ss : List Shape) (h : ℕ) (blocks around : List BlockAround) → AreAround blocks around
-    → Stand known ss h blocks → Stand known ss h around
-stand_around known [] h [] [] same stand = tt
-stand_around known [] h [] (c ∷ cs) same stand = absurd same
-stand_around known [] h (b ∷ bs) around same stand = absurd stand
-stand_around known (s ∷ ss) h [] [] same stand = tt
-stand_around known (s ∷ ss) h [] (c ∷ cs) same stand = absurd same
-stand_around known (s ∷ ss) h (b ∷ bs) [] same stand = absurd same
-stand_around known (s ∷ ss) h (b ∷ bs) (c ∷ cs) same (inl stand) =
-    inl (stand.0, stand_around known ss h (b ∷ bs) (c ∷ cs) same stand.1)
-stand_around known (s ∷ ss) h (b ∷ bs) (c ∷ cs) same (inr stand) =
-    inr (stand.0, stand.1 ∙ same.0, stand.2 ∙ same.1, λ l k. stand.3 l (same.2 l k), stand_around known ss s.link bs cs same.3 stand.4)
+pub stand_around : (unit : Name) (known : Known) (ss : List Shape) (h : ℕ) (blocks around : List BlockAround) → AreAround blocks around
+    → Stand unit known ss h blocks → Stand unit known ss h around
+stand_around unit known [] h [] [] same stand = tt
+stand_around unit known [] h [] (c ∷ cs) same stand = absurd same
+stand_around unit known [] h (b ∷ bs) around same stand = absurd stand
+stand_around unit known (s ∷ ss) h [] [] same stand = tt
+stand_around unit known (s ∷ ss) h [] (c ∷ cs) same stand = absurd same
+stand_around unit known (s ∷ ss) h (b ∷ bs) [] same stand = absurd same
+stand_around unit known (s ∷ ss) h (b ∷ bs) (c ∷ cs) same (inl stand) =
+    inl (stand.0, stand_around unit known ss h (b ∷ bs) (c ∷ cs) same stand.1)
+stand_around unit known (s ∷ ss) h (b ∷ bs) (c ∷ cs) same (inr stand) =
+    inr (stand.0, stand.1 ∙ same.0, stand.2 ∙ same.1, λ l k. stand.3 l (same.2 l k), stand_around unit known ss s.link bs cs same.3 stand.4, stand.5)
 
 -- labels more
 abbrev pub Wider : Known → Known → Type 0
@@ -230,24 +232,24 @@ in_either label (l ∷ ls) more h = by (nat_eq label l) h (in_either label ls mo
     by true h rest = inl refl
     by false h rest = rest h
 
-pub stand_wider : (known more : Known) (ss : List Shape) (h : ℕ) (blocks : List BlockAround) → Wider known more
-    → Stand known ss h blocks → Stand more ss h blocks
-stand_wider known more [] h [] wide stand = tt
-stand_wider known more [] h (b ∷ bs) wide stand = absurd stand
-stand_wider known more (s ∷ ss) h [] wide stand = tt
-stand_wider known more (s ∷ ss) h (b ∷ bs) wide (inl stand) = inl (stand.0, stand_wider known more ss h (b ∷ bs) wide stand.1)
-stand_wider known more (s ∷ ss) h (b ∷ bs) wide (inr stand) =
-    inr (stand.0, stand.1, stand.2, λ l k. wide h l (stand.3 l k), stand_wider known more ss s.link bs wide stand.4)
+pub stand_wider : (unit : Name) (known more : Known) (ss : List Shape) (h : ℕ) (blocks : List BlockAround) → Wider known more
+    → Stand unit known ss h blocks → Stand unit more ss h blocks
+stand_wider unit known more [] h [] wide stand = tt
+stand_wider unit known more [] h (b ∷ bs) wide stand = absurd stand
+stand_wider unit known more (s ∷ ss) h [] wide stand = tt
+stand_wider unit known more (s ∷ ss) h (b ∷ bs) wide (inl stand) = inl (stand.0, stand_wider unit known more ss h (b ∷ bs) wide stand.1)
+stand_wider unit known more (s ∷ ss) h (b ∷ bs) wide (inr stand) =
+    inr (stand.0, stand.1, stand.2, λ l k. wide h l (stand.3 l k), stand_wider unit known more ss s.link bs wide stand.4, stand.5)
 
-pub stand_labels : (known more : Known) (labels : List ℕ) (ss : List Shape) (h : ℕ) (blocks : List BlockAround) → Wider known more
-    → AreKnown more h labels → Stand known ss h blocks → Stand more ss h (with_labels labels blocks)
-stand_labels known more labels [] h [] wide new stand = tt
-stand_labels known more labels [] h (b ∷ bs) wide new stand = absurd stand
-stand_labels known more labels (s ∷ ss) h [] wide new stand = tt
-stand_labels known more labels (s ∷ ss) h (b ∷ bs) wide new (inl stand) =
-    inl (stand.0, stand_labels known more labels ss h (b ∷ bs) wide new stand.1)
-stand_labels known more labels (s ∷ ss) h (b ∷ bs) wide new (inr stand) =
-    inr (stand.0, stand.1, stand.2, λ l k. by l (in_either l labels b.labels k), stand_wider known more ss s.link bs wide stand.4)
+pub stand_labels : (unit : Name) (known more : Known) (labels : List ℕ) (ss : List Shape) (h : ℕ) (blocks : List BlockAround) → Wider known more
+    → AreKnown more h labels → Stand unit known ss h blocks → Stand unit more ss h (with_labels labels blocks)
+stand_labels unit known more labels [] h [] wide new stand = tt
+stand_labels unit known more labels [] h (b ∷ bs) wide new stand = absurd stand
+stand_labels unit known more labels (s ∷ ss) h [] wide new stand = tt
+stand_labels unit known more labels (s ∷ ss) h (b ∷ bs) wide new (inl stand) =
+    inl (stand.0, stand_labels unit known more labels ss h (b ∷ bs) wide new stand.1)
+stand_labels unit known more labels (s ∷ ss) h (b ∷ bs) wide new (inr stand) =
+    inr (stand.0, stand.1, stand.2, λ l k. by l (in_either l labels b.labels k), stand_wider unit known more ss s.link bs wide stand.4, stand.5)
   where
     by : (l : ℕ) → (list_any (nat_eq l) labels ≡ true) ⊎ (list_any (nat_eq l) b.labels ≡ true) → IsTrue (more h l)
     by l (inl k) = new l k
@@ -261,21 +263,21 @@ good_at w (c ∷ ds) [] n d good e = absurd good
 good_at w (c ∷ ds) (p ∷ ps) zero d good e = (p, refl, subst (λ c. IsGood w c p) (some_same e) good.0)
 good_at w (c ∷ ds) (p ∷ ps) (suc n) d good e = good_at w ds ps n d good.1 e
 
-module _ (unit : Name) (statics : List Description) (known : Known) (ss : List Shape) (blocks : List BlockAround) where
-  walked_to : (w : World) (outward : ℕ) (b : BlockAround) → IsSound unit statics ss w → Stand known ss (length ss) blocks
+module _ (unit : Name) (units : List TypedUnit) (known : Known) (ss : List Shape) (blocks : List BlockAround) where
+  walked_to : (w : World) (outward : ℕ) (b : BlockAround) → IsSound units ss w → Stand unit known ss (length ss) blocks
       → slice_get blocks outward ≡ Some b → Found known w w.activations (height w) outward b
   walked_to w outward b sound stand e =
-      subst (λ h. Found known w w.activations h outward b) (sym (shaped_length unit w ss w.activations sound.stack))
+      subst (λ h. Found known w w.activations h outward b) (sym (shaped_length w ss w.activations sound.stack))
       (find unit known w ss w.activations (length ss) blocks outward b sound.stack stand e)
 
-  pub height_there : (w : World) (outward : ℕ) (b : BlockAround) → IsSound unit statics ss w → Stand known ss (length ss) blocks
+  pub height_there : (w : World) (outward : ℕ) (b : BlockAround) → IsSound units ss w → Stand unit known ss (length ss) blocks
       → slice_get blocks outward ≡ Some b → (h : ℕ) × (height_of outward w ≡ Yields h w) × AreKnown known h b.labels
   unfolding height_of
   height_there w outward b sound stand e =
       let f = walked_to w outward b sound stand e in (f.height, ap (λ o. there_is o w) f.walked, f.labels)
 
-  pub slot_there : (w : World) (outward slot : ℕ) (b : BlockAround) (d : Description) → IsSound unit statics ss w
-      → Stand known ss (length ss) blocks → slice_get blocks outward ≡ Some b → slice_get b.slots slot ≡ Some d
+  pub slot_there : (w : World) (outward slot : ℕ) (b : BlockAround) (d : Description) → IsSound units ss w
+      → Stand unit known ss (length ss) blocks → slice_get blocks outward ≡ Some b → slice_get b.slots slot ≡ Some d
       → (p : Place) × (slot_place outward slot w ≡ Yields p w) × IsGood w d p
   unfolding slot_place height_of
   slot_there w outward slot b d sound stand e g =
@@ -287,19 +289,27 @@ module _ (unit : Name) (statics : List Description) (known : Known) (ss : List S
         p.2,
       )
 
-first_unit : (unit : Name) (w : World) (s : Shape) (ss : List Shape) (stack : List Activation) → AreShaped unit w (s ∷ ss) stack
-    → newest_unit stack ≡ Some unit
-first_unit unit w s ss [] h = absurd h
-first_unit unit w s ss (a ∷ older) h = ap (λ n. Some n) h.0
+first_unit : (w : World) (s : Shape) (ss : List Shape) (stack : List Activation) → AreShaped w (s ∷ ss) stack
+    → newest_unit stack ≡ Some s.unit
+first_unit w s ss [] h = absurd h
+first_unit w s ss (a ∷ older) h = ap (λ n. Some n) h.0
 
-pub static_there : (unit : Name) (statics : List Description) (s : Shape) (ss : List Shape) (w : World) (number : ℕ) (d : Description)
-    → IsSound unit statics (s ∷ ss) w → slice_get statics number ≡ Some d
+-- a unit of a program, of a name and with these globals
+pub record IsUnit (units : List TypedUnit) (name : Name) (globals : List Global) : Type 0 where
+  pub number : ℕ
+  pub unit : TypedUnit
+  pub there : slice_get units number ≡ Some unit
+  pub named : unit.name ≡ name
+  pub has : unit.globals ≡ globals
+
+pub static_there : (units : List TypedUnit) (unit : Name) (globals : List Global) (s : Shape) (ss : List Shape) (w : World) (number : ℕ) (d : Description)
+    → IsUnit units unit globals → s.unit ≡ unit → IsSound units (s ∷ ss) w → description_of (slice_get globals number) ≡ Some d
     → (p : Place) × (static_place number w ≡ Yields p w) × IsGood w d p
 unfolding static_place
-static_there unit statics s ss w number d sound e =
-    let p = sound.made number d e in (
+static_there units unit globals s ss w number d own top sound e =
+    let p = sound.made own.number own.unit own.there number d (ap (λ gs. description_of (slice_get gs number)) own.has ∙ e) in (
       p.0,
-      ap (λ o. further (there_is o w) (λ unit w. there_is (static_in w.statics unit number) w)) (first_unit unit w s ss w.activations sound.stack)
-          ∙ ap (λ o. there_is o w) p.1,
+      ap (λ o. further (there_is o w) (λ unit w. there_is (static_in w.statics unit number) w)) (first_unit w s ss w.activations sound.stack)
+          ∙ ap (λ n. there_is (static_in w.statics n number) w) (top ∙ sym own.named) ∙ ap (λ o. there_is o w) p.1,
       p.2,
     )

@@ -1,14 +1,16 @@
 -- The worked examples are well-typed.
-use Rattle.std.specs.Prelude.{◌≡◌, ℕ, nat_eq, Bool, true, false, pos, Some, None, [], ◌∷◌, if◌then◌else◌, refl}
-use Rattle.std.proofs.Common.{arith, ap, subst, inl}
+use Rattle.std.specs.Prelude.{◌≡◌, ℕ, zero, suc, nat_eq, Bool, true, false, pos, Option, Some, None, List, [], ◌∷◌, slice_get, codes, if◌then◌else◌, refl}
+use Rattle.std.proofs.Common.{arith, sym, ap, ◌∙◌, subst, inl}
 use Rattle.std.proofs.lemmas.Bool.{eqb-true}
 use Rattle.pli_operation.specs.Operations.{Fit}
-use Rattle.pli_type_tree.specs.TypedTree.{TypedProcedure, TypedUnit, Held}
+use Rattle.pli_base.specs.Name.{Name}
+use Rattle.pli_type_tree.specs.Templates.{Template}
+use Rattle.pli_type_tree.specs.TypedTree.{TypedProcedure, TypedUnit, Held, Signature, Global, ExternalVariable, EntryPoint}
 use Rattle.pli_type_tree.specs.ValueTypes.{OfCharacters, OfBits, Numbers}
-use Rattle.pli_type_tree.specs.WellTyped.{Signature, TypingContext, IsTyped, IsString, IsValueFor, Convert, AreTypedStatements}
-use Rattle.pli_meaning_tree.specs.TreeMeaning.{procedure_in}
+use Rattle.pli_type_tree.specs.WellTyped.{KnownProcedure, TypingContext, IsTyped, IsString, IsValueFor, Convert, AreTypedStatements}
+use Rattle.pli_meaning_tree.specs.TreeMeaning.{procedure_in, unit_named}
 use Rattle.pli_meaning_typed.specs.TypedPrograms.{context_in, IsTypedProcedure, IsTypedUnit}
-use Rattle.pli_meaning_typed.specs.examples.TypedExamples.{number, counter, one_more, few, counting, returning, caller, successor, of_caller, of_successor, signatures, ExampleIsWellTyped, GroupsAreWellTyped}
+use Rattle.pli_meaning_typed.specs.examples.TypedExamples.{number, counter, one_more, few, counting, returning, caller, successor, of_caller, of_successor, signatures, ExampleIsWellTyped, GroupsAreWellTyped, plain, shared, numeric, asker, answerer, asking_unit, answering_unit, UnitsAreWellTyped}
 
 abbrev in_caller : TypingContext
 in_caller = context_in [] signatures of_caller caller
@@ -72,11 +74,11 @@ caller_typed = (
     (
       Numbers 31,
       (
-        of_successor,
-        refl,
-        (of_successor.around, refl, (refl, refl, λ l h. h, tt)),
+        number ∷ [],
+        number,
+        (of_successor, refl, (of_successor.around, refl, (refl, refl, λ l h. h, tt)), refl, refl),
         (number, [], refl, refl, refl),
-        (number, refl, refl),
+        refl,
       ),
       (Numbers 31, refl, omega arith),
     ),
@@ -106,7 +108,7 @@ none_some e = absurd (cc)
 some_same : {A : Type 0} {y z : A} → Some y ≡ Some z → y ≡ z
 some_same e = cc
 
-each : (n : ℕ) (s : Signature) → signatures n ≡ Some s
+each : (n : ℕ) (s : KnownProcedure) → signatures n ≡ Some s
     → (g : TypedProcedure) × (procedure_in (caller ∷ successor ∷ []) n ≡ Some g) × IsTypedProcedure 31 [] signatures s g
 each n s e = by (nat_eq n 0) (nat_eq n 1) refl refl e
   where
@@ -119,10 +121,10 @@ each n s e = by (nat_eq n 0) (nat_eq n 1) refl refl e
     by false false h k e = absurd (none_some e)
 
 abbrev unit : TypedUnit
-unit = record { name = 80 ∷ []; is_main = true; statics = []; procedures = caller ∷ successor ∷ [] }
+unit = record { name = 80 ∷ []; procedure = 80 ∷ []; is_main = true; signature = record { parameters = []; result = None }; globals = []; procedures = caller ∷ successor ∷ [] }
 
 unit_is : IsTypedUnit 31 unit
-unit_is = record { procedures = signatures; made = tt; typed = each }
+unit_is = record { procedures = signatures; outer = refl; made = tt; typed = each }
 
 pub example_is : ExampleIsWellTyped
 unfolding unit_is
@@ -131,7 +133,8 @@ example_is = record {
   names = (tt, tt);
   bytes = omega arith;
   count = omega arith;
-  main = (unit_is, of_caller, refl, refl, refl, refl, refl);
+  linked = record { entries = λ i name s e. absurd (none_some e); variables = λ i j name t o e f. absurd (none_some e) };
+  main = refl;
 }
 
 -- any number is converted to the control variable
@@ -173,3 +176,93 @@ groups_are = (
   ),
   ((number, refl, (Numbers 1, (pos 1, refl, omega arith), counts 1), one_more_in_caller, few_in_caller), tt),
 )
+
+-- a program of two units
+abbrev known_asker : KnownProcedure
+known_asker = record { parent = None; around = []; parameters = []; value = None }
+
+abbrev known_answerer : KnownProcedure
+known_answerer = record { parent = None; around = []; parameters = number ∷ []; value = Some number }
+
+abbrev alone : KnownProcedure → ℕ → Option KnownProcedure
+alone p n = if nat_eq n 0 then Some p else None
+
+lone : (p : KnownProcedure) (f : TypedProcedure) (globals : List Global) → nat_eq f.head.number 0 ≡ true → f.head.number ≡ 0 → IsTypedProcedure 31 globals (alone p) p f
+    → (n : ℕ) (q : KnownProcedure) → alone p n ≡ Some q → (g : TypedProcedure) × (procedure_in (f ∷ []) n ≡ Some g) × IsTypedProcedure 31 globals (alone p) q g
+lone p f globals first zero_too is n q e = by (nat_eq n 0) refl e
+  where
+    by : (b : Bool) → nat_eq n 0 ≡ b → (if b then Some p else None) ≡ Some q
+        → (g : TypedProcedure) × (procedure_in (f ∷ []) n ≡ Some g) × IsTypedProcedure 31 globals (alone p) q g
+    by true h e =
+        (f, ap (procedure_in (f ∷ [])) (eqb-true n 0 h) ∙ ap (λ b. if b then Some f else None) first, subst (λ q. IsTypedProcedure 31 globals (alone p) q f) (some_same e) is)
+    by false h e = absurd (none_some e)
+
+asking_typed : IsTypedUnit 31 asking_unit
+asking_typed = record {
+  procedures = alone known_asker;
+  outer = refl;
+  made = ((refl, tt), tt);
+  typed = λ n q e. lone known_asker asker asking_unit.globals refl refl (record {
+    parent = refl;
+    parameters = refl;
+    end = tt;
+    made = tt;
+    statements = (
+      (
+        number,
+        refl,
+        (
+          Numbers 31,
+          (number ∷ [], number, refl, (number, [], refl, refl, refl), refl),
+          (Numbers 31, refl, omega arith),
+        ),
+      ),
+      tt,
+    );
+  }) n q e;
+}
+
+answering_typed : IsTypedUnit 31 answering_unit
+answering_typed = record {
+  procedures = alone known_answerer;
+  outer = refl;
+  made = ((refl, tt), tt);
+  typed = λ n q e. lone known_answerer answerer answering_unit.globals refl refl (record {
+    parent = refl;
+    parameters = refl;
+    end = tt;
+    made = tt;
+    statements = ((refl, (number, refl, (Numbers 31, (number, refl, refl), (Numbers 31, refl, omega arith)))), tt);
+  }) n q e;
+}
+
+-- the globals of both
+abbrev globals : List Global
+globals = shared ∷ EntryPoint (codes "N") numeric ∷ shared ∷ []
+
+entry_is : (i : ℕ) (name : Name) (s : Signature) → slice_get globals i ≡ Some (EntryPoint name s) → (codes "N" ≡ name) × (numeric ≡ s)
+entry_is zero name s e = absurd (cc)
+entry_is (suc zero) name s e = (cc, cc)
+entry_is (suc (suc zero)) name s e = absurd (cc)
+entry_is (suc (suc (suc i))) name s e = absurd (none_some e)
+
+variable_is : (i : ℕ) (name : Name) (t : Template) → slice_get globals i ≡ Some (ExternalVariable name t) → plain ≡ t
+variable_is zero name t e = cc
+variable_is (suc zero) name t e = absurd (cc)
+variable_is (suc (suc zero)) name t e = cc
+variable_is (suc (suc (suc i))) name t e = absurd (none_some e)
+
+pub units_are : UnitsAreWellTyped
+units_are = record {
+  units = (asking_typed, (answering_typed, tt));
+  names = ((refl, tt), (tt, tt));
+  linked =
+      record {
+        entries = λ i name s e. let n = entry_is i name s e in
+            (answering_unit, ap (unit_named (asking_unit ∷ answering_unit ∷ [])) (sym n.0), n.1);
+        variables = λ i j name t other e f. sym (variable_is i name t e) ∙ variable_is j name other f;
+      };
+  bytes = omega arith;
+  count = omega arith;
+  main = refl;
+}

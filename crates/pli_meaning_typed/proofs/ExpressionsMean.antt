@@ -14,11 +14,11 @@ use Rattle.pli_map.specs.Values.{holds}
 use Rattle.pli_store.specs.World.{World, Answer, Yields, Raises, Wrong, held, slot_place, calculation, dummy_of}
 use Rattle.pli_value.specs.Value.{Value, Number, Characters, Bits}
 use Rattle.pli_value.specs.declared.number.Raised.TheVariants as raised
-use Rattle.pli_type_tree.specs.TypedTree.{Root, InSlot, OfProgram, Stride, TypedExpression, Literal, Held, Calculated, Called, TypedReference}
+use Rattle.pli_type_tree.specs.TypedTree.{Root, InSlot, OfProgram, Callee, Global, TypedUnit, Stride, TypedExpression, Literal, Held, Calculated, Called, TypedReference}
 use Rattle.pli_type_tree.specs.TypedTree.{Whole, Part, Operands, NoOperand, OperandThen, Subscripts, NoSubscript, SubscriptThen}
 use Rattle.pli_type_tree.specs.TypedTree.{TypedArguments, NoArgument, ByPlace, ByDummy}
 use Rattle.pli_type_tree.specs.ValueTypes.{OfCharacters, OfBits, ValueType, Numbers, Strings, type_held, IsOf, AreOf, IsWithin, IsHeldBy, Operates}
-use Rattle.pli_type_tree.specs.WellTyped.{scalars_of, BlockAround, Signature, TypingContext, slot_of, root_of, LeadTo, IsReached, IsTyped, IsPlaced, AreTyped}
+use Rattle.pli_type_tree.specs.WellTyped.{scalars_of, BlockAround, KnownProcedure, TypingContext, slot_of, root_of, LeadTo, IsCallee, IsTyped, IsPlaced, AreTyped}
 use Rattle.pli_type_tree.specs.WellTyped.{AreSubscripts, ArePassed}
 use Rattle.pli_meaning_tree.specs.Effects.{Effect, Doing, and_then, answered}
 use Rattle.pli_meaning_tree.specs.TreeMeaning.{Calls, a_value, in_order, root_place, element_of, value_of, operated, place_of, element_at, called_with}
@@ -26,7 +26,7 @@ use Rattle.pli_meaning_typed.specs.SoundWorlds.{IsPartAt, IsGood, AreGood, Shape
 use Rattle.pli_meaning_typed.proofs.MeansLemmas.{IsBelow, Means, then_means, answer_means}
 use Rattle.pli_meaning_typed.proofs.OperationsFit.{IsCalculated, operated_fits}
 use Rattle.pli_meaning_typed.proofs.PartsWithin.{parts_within}
-use Rattle.pli_meaning_typed.proofs.ContextLaws.{Known, Stand, slot_there, static_there}
+use Rattle.pli_meaning_typed.proofs.ContextLaws.{IsUnit, Known, Stand, slot_there, static_there}
 use Rattle.pli_meaning_typed.proofs.WorldLaws.{later_same, later_then, goods_later, error_named, held_answers, dummy_answers}
 
 some_same : {A : Type 0} {x y : A} → Some x ≡ Some y → x ≡ y
@@ -106,13 +106,19 @@ AtPlace d p w = IsGood w d p
 abbrev pub Gives : Option Description → Option Value → World → Type 0
 Gives d v w = IsReturned d v
 
--- procedures that are called mean something
-abbrev pub CallsMean : (unit : Name) → List Description → (ℕ → Option Signature) → (level : ℕ) → Calls → Type 0
-CallsMean unit statics procedures level call =
-    (block : ℕ) (p : Signature) → procedures block ≡ Some p → (known : Known) (x : Shape) (ss : List Shape) (blocks : List BlockAround)
-    → Stand known (x ∷ ss) (suc (length ss)) blocks → IsReached p.parent blocks p.around → IsBelow known (suc (length ss))
-    → (places : List Place) (w : World) (left : ℕ) → IsSound unit statics (x ∷ ss) w → AreGood w p.parameters places
-    → Means unit statics level left known (x ∷ ss) w (Gives p.value) (call block places w left)
+-- what is called means something
+abbrev pub CallsMean : List TypedUnit → (unit : Name) → List Global → (ℕ → Option KnownProcedure) → (level : ℕ) → Calls → Type 0
+CallsMean units unit globals procedures level call =
+    (callee : Callee) (parameters : List Description) (value : Option Description) (known : Known) (x : Shape) (ss : List Shape) (blocks : List BlockAround)
+    → IsCallee globals procedures blocks callee parameters value
+    → Stand unit known (x ∷ ss) (suc (length ss)) blocks → IsBelow known (suc (length ss))
+    → (places : List Place) (w : World) (left : ℕ) → IsSound units (x ∷ ss) w → AreGood w parameters places
+    → Means units level left known (x ∷ ss) w (Gives value) (call callee places w left)
+
+-- a part of a unit's text, which the newest activation runs
+pub record IsInside (units : List TypedUnit) (unit : Name) (globals : List Global) (x : Shape) : Type 0 where
+  pub own : IsUnit units unit globals
+  pub top : x.unit ≡ unit
 
 -- values and places in their order
 ordered_of : (done ts : List ValueType) (before vs : List Value) → AreOf done before → AreOf ts vs → AreOf (in_order done ts) (in_order before vs)
@@ -171,19 +177,19 @@ on_last w whole offset k d p f h = record {
       (outer.0, subst (λ n. first_scalar g.description n c ≡ Some outer.0) (sym (add_assoc b.0 offset more)) outer.1));
 }
 
-module _ (greatest level : ℕ) (call : Calls) (unit : Name) (s : TypingContext) (known : Known) (x : Shape) (ss : List Shape)
-    (stand : Stand known (x ∷ ss) (suc (length ss)) s.blocks) (below : IsBelow known (suc (length ss)))
-    (calls : CallsMean unit s.statics s.procedures level call) where
+module _ (units : List TypedUnit) (greatest level : ℕ) (call : Calls) (unit : Name) (s : TypingContext) (known : Known) (x : Shape) (ss : List Shape)
+    (inside : IsInside units unit s.globals x) (stand : Stand unit known (x ∷ ss) (suc (length ss)) s.blocks) (below : IsBelow known (suc (length ss)))
+    (calls : CallsMean units unit s.globals s.procedures level call) where
   abbrev Sound : World → Type 0
-  Sound w = IsSound unit s.statics (x ∷ ss) w
+  Sound w = IsSound units (x ∷ ss) w
 
   abbrev Here : {A : Type 0} → (left : ℕ) → World → (A → World → Type 0) → Effect A → Type 0
-  Here left u Is o = Means unit s.statics level left known (x ∷ ss) u Is o
+  Here left u Is o = Means units level left known (x ∷ ss) u Is o
 
   then_here : {A B : Type 0} (P : A → World → Type 0) (Q : B → World → Type 0) (left : ℕ) (u : World) (o : Effect A) (go : A → Doing B)
       → Here left u P o → ((x : A) (w : World) (l : ℕ) → P x w → Sound w → IsLater u w → Here l w Q (go x w l)) → Here left u Q (and_then o go)
   then_here P Q left u o go h f =
-      then_means unit s.statics P Q level left known (x ∷ ss) u o go h (λ y w l le is sound later. f y w l is sound later)
+      then_means units P Q level left known (x ∷ ss) u o go h (λ y w l le is sound later. f y w l is sound later)
 
   -- where a reference begins
   root_means : (r : Root) (d : Description) → root_of s r ≡ Some d → (w : World) (left : ℕ) → Sound w → Here left w (AtPlace d) (root_place r w left)
@@ -193,26 +199,26 @@ module _ (greatest level : ℕ) (call : Calls) (unit : Name) (s : TypingContext)
           → Here left w (AtPlace d) (answered (slot_place outward slot w) left)
       by None f e = absurd (none_some e)
       by (Some b) f e =
-          let p = slot_there unit s.statics known (x ∷ ss) s.blocks w outward slot b d sound stand f e in
+          let p = slot_there unit units known (x ∷ ss) s.blocks w outward slot b d sound stand f e in
           subst (λ a. Here left w (AtPlace d) (answered a left)) (sym p.1) (omega arith, p.2, sound, later_same w)
   root_means (OfProgram number) d e w left sound =
-      let p = static_there unit s.statics x ss w number d sound e in
+      let p = static_there units unit s.globals x ss w number d inside.own inside.top sound e in
       subst (λ a. Here left w (AtPlace d) (answered a left)) (sym p.1) (omega arith, p.2, sound, later_same w)
 
   -- what an operation comes to
   calculation_answers : (t : ValueType) (c : Calculation) (w : World) → Sound w → IsCalculated t c
       → Answers (λ v u. IsOf t v × Sound u × IsLater w u) (calculation c w)
   calculation_answers t (Calculates v) w sound h = (h, sound, later_same w)
-  calculation_answers t (RaisesCondition raised.Overflow) w sound h = error_named unit s.statics x ss w FixedOverflow sound
-  calculation_answers t (RaisesCondition raised.ZeroDivide) w sound h = error_named unit s.statics x ss w ZeroDivide sound
-  calculation_answers t OutOfString w sound h = error_named unit s.statics x ss w StringRange sound
+  calculation_answers t (RaisesCondition raised.Overflow) w sound h = error_named units x ss w FixedOverflow sound
+  calculation_answers t (RaisesCondition raised.ZeroDivide) w sound h = error_named units x ss w ZeroDivide sound
+  calculation_answers t OutOfString w sound h = error_named units x ss w StringRange sound
   calculation_answers t Misfits w sound h = absurd h
 
   pub calculated_means : (operation : Operation) (ts : List ValueType) (t : ValueType) (vs : List Value)
       → Operates greatest operation ts t → AreOf ts vs → (w : World) (left : ℕ) → Sound w
       → Here left w (OfType t) (answered (calculation (calculated greatest operation vs) w) left)
   calculated_means operation ts t vs fits are w left sound =
-      answer_means unit s.statics (OfType t) level left known (x ∷ ss) w (calculation (calculated greatest operation vs) w)
+      answer_means units (OfType t) level left known (x ∷ ss) w (calculation (calculated greatest operation vs) w)
       (calculation_answers t (calculated greatest operation vs) w sound (operated_fits greatest operation ts t vs fits are))
 
   -- a subscript
@@ -236,8 +242,8 @@ module _ (greatest level : ℕ) (call : Calls) (unit : Name) (s : TypingContext)
           → Here left w (AtPlace d) (and_then (answered (if b && c then Yields (field_of (unsigned_abs (is.0 -ℤ stride.low) * stride.multiplier) q.description q) w else Raises SubscriptRange w) left) go)
       by true true e g =
           f is.0 (field_of (unsigned_abs (is.0 -ℤ stride.low) * stride.multiplier) q.description q) w left e g sound (on_next w whole offset (unsigned_abs (is.0 -ℤ stride.low) * stride.multiplier) d q on)
-      by true false e g = error_named unit s.statics x ss w SubscriptRange sound
-      by false c e g = error_named unit s.statics x ss w SubscriptRange sound
+      by true false e g = error_named units x ss w SubscriptRange sound
+      by false c e g = error_named units x ss w SubscriptRange sound
 
   -- what is held, and what a function gives, is of its type
   held_of : (d : Description) (t : ValueType) (p : Place) (w : World) → type_held d ≡ Some t → (o : Answer Value)
@@ -250,8 +256,8 @@ module _ (greatest level : ℕ) (call : Calls) (unit : Name) (s : TypingContext)
       → IsGood w d p → Here left w (OfType t) (answered (held p w) left)
   held_means d t p e w left sound good =
       let one = one_scalar d t e in
-      answer_means unit s.statics (OfType t) level left known (x ∷ ss) w (held p w)
-      (held_of d t p w e (held p w) (held_answers unit s.statics x ss d p w sound good one.0 one.1))
+      answer_means units (OfType t) level left known (x ∷ ss) w (held p w)
+      (held_of d t p w e (held p w) (held_answers units x ss d p w sound good one.0 one.1))
 
   returned_means : (t : ValueType) (d : Description) (o : Option Description) (v : Option Value) (w : World) (left : ℕ) → o ≡ Some d
       → type_held d ≡ Some t → Sound w → IsReturned o v → Here left w (OfType t) (a_value v w left)
@@ -270,10 +276,10 @@ module _ (greatest level : ℕ) (call : Calls) (unit : Name) (s : TypingContext)
         (λ p w l good sound later. held_means d t p typed.2 w l sound good)
     value_means (Calculated operation operands) t typed w left sound =
         operated_means operands typed.0 operation [] [] t typed.1 tt typed.2 w left sound
-    value_means (Called block arguments) t typed w left sound =
-        then_here (Gives typed.0.value) (OfType t) left w (called_with greatest call block arguments [] w left) _
-        (called_means arguments typed.0.parameters block typed.0 [] [] typed.3 refl typed.1 typed.2 w left sound tt)
-        (λ v w l is sound later. returned_means t typed.4.0 typed.0.value v w l typed.4.1 typed.4.2 sound is)
+    value_means (Called callee arguments) t typed w left sound =
+        then_here (Gives (Some typed.1)) (OfType t) left w (called_with greatest call callee arguments [] w left) _
+        (called_means arguments typed.0 callee typed.0 (Some typed.1) [] [] typed.3 refl typed.2 w left sound tt)
+        (λ v w l is sound later. returned_means t typed.1 (Some typed.1) v w l refl typed.4 sound is)
 
     operated_means : (operands : Operands) (ts : List ValueType) (operation : Operation) (before : List Value) (done : List ValueType) (t : ValueType)
         → AreTyped greatest s operands ts → AreOf done before → Operates greatest operation (in_order done ts) t
@@ -306,24 +312,24 @@ module _ (greatest level : ℕ) (call : Calls) (unit : Name) (s : TypingContext)
         (λ q w left. element_at greatest call more q w left)
         (λ y q w l low high sound on. subscripts_mean more whole (offset + unsigned_abs (y -ℤ stride.low) * stride.multiplier) d q (lead y low high) are.1 w l sound on))
 
-    pub called_means : (arguments : TypedArguments) (parameters : List Description) (block : ℕ) (p : Signature) (before : List Place) (done : List Description)
-        → ArePassed greatest s arguments parameters → in_order done parameters ≡ p.parameters → s.procedures block ≡ Some p
-        → IsReached p.parent s.blocks p.around → (w : World) (left : ℕ) → Sound w → AreGood w done before
-        → Here left w (Gives p.value) (called_with greatest call block arguments before w left)
-    called_means NoArgument parameters block p before done passed same found reached w left sound good =
-        calls block p found known x ss s.blocks stand reached below (in_order before []) w left sound
+    pub called_means : (arguments : TypedArguments) (parameters : List Description) (callee : Callee) (all : List Description) (value : Option Description) (before : List Place) (done : List Description)
+        → ArePassed greatest s arguments parameters → in_order done parameters ≡ all → IsCallee s.globals s.procedures s.blocks callee all value
+        → (w : World) (left : ℕ) → Sound w → AreGood w done before
+        → Here left w (Gives value) (called_with greatest call callee arguments before w left)
+    called_means NoArgument parameters callee all value before done passed same found w left sound good =
+        calls callee all value known x ss s.blocks found stand below (in_order before []) w left sound
         (subst (λ ds. AreGood w ds (in_order before [])) (ap (λ ds. in_order done ds) (sym passed) ∙ same) (ordered_good w done [] before [] good tt))
-    called_means (ByPlace r more) parameters block p before done passed same found reached w left sound good =
-        then_here (AtPlace passed.0) (Gives p.value) left w (place_of greatest call r w left) _ (place_means r passed.0 passed.3 w left sound)
-        (λ q u l is sound later. called_means more passed.1 block p (q ∷ before) (passed.0 ∷ done) passed.4
-        (ap (λ ds. in_order done ds) (sym passed.2) ∙ same) found reached u l sound (is, goods_later w u done before later good))
-    called_means (ByDummy d e more) parameters block p before done passed same found reached w left sound good =
+    called_means (ByPlace r more) parameters callee all value before done passed same found w left sound good =
+        then_here (AtPlace passed.0) (Gives value) left w (place_of greatest call r w left) _ (place_means r passed.0 passed.3 w left sound)
+        (λ q u l is sound later. called_means more passed.1 callee all value (q ∷ before) (passed.0 ∷ done) passed.4
+        (ap (λ ds. in_order done ds) (sym passed.2) ∙ same) found u l sound (is, goods_later w u done before later good))
+    called_means (ByDummy d e more) parameters callee all value before done passed same found w left sound good =
         let t = passed.2.0 in
         let held = passed.2.2 in
         let one = one_scalar d held.0 held.1 in
-        then_here (OfType t) (Gives p.value) left w (value_of greatest call e w left) _ (value_means e t passed.2.1 w left sound)
+        then_here (OfType t) (Gives value) left w (value_of greatest call e w left) _ (value_means e t passed.2.1 w left sound)
         (λ v u l is sound later.
-        then_here (AtPlace d) (Gives p.value) l u (answered (dummy_of d v u) l) _
-        (answer_means unit s.statics (AtPlace d) level l known (x ∷ ss) u (dummy_of d v u) (dummy_answers unit s.statics x ss d v u sound (narrow_held d t v held is) one.1))
-        (λ q z l is sound later2. called_means more passed.0 block p (q ∷ before) (d ∷ done) passed.3
-        (ap (λ ds. in_order done ds) (sym passed.1) ∙ same) found reached z l sound (is, goods_later w z done before (later_then w u z later later2) good)))
+        then_here (AtPlace d) (Gives value) l u (answered (dummy_of d v u) l) _
+        (answer_means units (AtPlace d) level l known (x ∷ ss) u (dummy_of d v u) (dummy_answers units x ss d v u sound (narrow_held d t v held is) one.1))
+        (λ q z l is sound later2. called_means more passed.0 callee all value (q ∷ before) (d ∷ done) passed.3
+        (ap (λ ds. in_order done ds) (sym passed.1) ∙ same) found z l sound (is, goods_later w z done before (later_then w u z later later2) good)))

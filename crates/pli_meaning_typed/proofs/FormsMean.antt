@@ -7,7 +7,7 @@ use Rattle.pli_map.specs.Description.{Description}
 use Rattle.pli_store.specs.World.{World, stored, copied, line_ended}
 use Rattle.pli_value.specs.Conversions.{bit_constant}
 use Rattle.pli_value.specs.Value.{Value}
-use Rattle.pli_type_tree.specs.TypedTree.{TypedExpression, TypedReference, TypedArguments, Assign}
+use Rattle.pli_type_tree.specs.TypedTree.{Callee, TypedUnit, TypedExpression, TypedReference, TypedArguments, Assign}
 use Rattle.pli_type_tree.specs.TypedTree.{AssignAggregate, Call, ReturnValue}
 use Rattle.pli_type_tree.specs.ValueTypes.{StringKind, OfCharacters, OfBits, ValueType, Strings, IsOf}
 use Rattle.pli_type_tree.specs.WellTyped.{BlockAround, TypingContext, IsTyped, IsPlaced, IsString, AreItems}
@@ -18,7 +18,7 @@ use Rattle.pli_meaning_tree.specs.TreeMeaning.{does_call, returns_value, jumps_t
 use Rattle.pli_meaning_typed.specs.SoundWorlds.{Shape, IsSound, IsLater}
 use Rattle.pli_meaning_typed.proofs.MeansLemmas.{IsBelow, Means, Anything, means_from, then_means, answer_kept}
 use Rattle.pli_meaning_typed.proofs.MeansLemmas.{followed_means}
-use Rattle.pli_meaning_typed.proofs.ExpressionsMean.{IsReturned, Gives as GivesBack, OfType, AtPlace, CallsMean, narrow_held, one_scalar, value_means, place_means, called_means}
+use Rattle.pli_meaning_typed.proofs.ExpressionsMean.{IsReturned, Gives as GivesBack, OfType, AtPlace, CallsMean, IsInside, narrow_held, one_scalar, value_means, place_means, called_means}
 use Rattle.pli_meaning_typed.proofs.ContextLaws.{Known, Stand, height_there}
 use Rattle.pli_meaning_typed.proofs.WorldLaws.{later_same, good_later, stored_answers, copied_answers, printed_sound, line_sound}
 
@@ -31,41 +31,42 @@ FlowIs begins value Next w = Unit {0}
 FlowIs begins value (Returned outward v) w = (outward ≡ begins) × IsReturned value v
 
 -- what a typing context knows is there, in a block
-pub record Fits (known : Known) (x : Shape) (ss : List Shape) (s : TypingContext) (block : ℕ) : Type 0 where
-  pub stand : Stand known (x ∷ ss) (suc (length ss)) s.blocks
+pub record Fits (units : List TypedUnit) (unit : Name) (known : Known) (x : Shape) (ss : List Shape) (s : TypingContext) (block : ℕ) : Type 0 where
+  pub inside : IsInside units unit s.globals x
+  pub stand : Stand unit known (x ∷ ss) (suc (length ss)) s.blocks
   pub below : IsBelow known (suc (length ss))
   pub first : BlockAround
   pub others : List BlockAround
   pub blocks : s.blocks ≡ first ∷ others
   pub own : first.number ≡ block
 
-module _ (greatest level : ℕ) (call : Calls) (unit : Name) where
+module _ (units : List TypedUnit) (greatest level : ℕ) (call : Calls) (unit : Name) where
   abbrev pub Here : {A : Type 0} → TypingContext → Known → Shape → List Shape → (left : ℕ) → World → (A → World → Type 0) → Effect A → Type 0
-  Here s known x ss left u Is o = Means unit s.statics level left known (x ∷ ss) u Is o
+  Here s known x ss left u Is o = Means units level left known (x ∷ ss) u Is o
 
   abbrev pub Flows : TypingContext → Flow → World → Type 0
   Flows s = FlowIs s.begins s.value
 
   abbrev pub CallsIn : TypingContext → Type 0
-  CallsIn s = CallsMean unit s.statics s.procedures level call
+  CallsIn s = CallsMean units unit s.globals s.procedures level call
 
   -- straight statements, in a context
-  module _ (s : TypingContext) (known : Known) (x : Shape) (ss : List Shape) (block : ℕ) (fits : Fits known x ss s block) (calls : CallsIn s) where
+  module _ (s : TypingContext) (known : Known) (x : Shape) (ss : List Shape) (block : ℕ) (fits : Fits units unit known x ss s block) (calls : CallsIn s) where
     abbrev pub Sound : World → Type 0
-    Sound w = IsSound unit s.statics (x ∷ ss) w
+    Sound w = IsSound units (x ∷ ss) w
 
     pub then_here : {A B : Type 0} (P : A → World → Type 0) (Q : B → World → Type 0) (left : ℕ) (u : World) (o : Effect A) (go : A → Doing B)
         → Here s known x ss left u P o → ((y : A) (w : World) (l : ℕ) → P y w → Sound w → IsLater u w → Here s known x ss l w Q (go y w l))
         → Here s known x ss left u Q (and_then o go)
-    then_here P Q left u o go h f = then_means unit s.statics P Q level left known (x ∷ ss) u o go h (λ y w l le is sound later. f y w l is sound later)
+    then_here P Q left u o go h f = then_means units P Q level left known (x ∷ ss) u o go h (λ y w l le is sound later. f y w l is sound later)
 
     pub value : (e : TypedExpression) (t : ValueType) → IsTyped greatest s e t → (w : World) (left : ℕ) → Sound w
         → Here s known x ss left w (OfType t) (value_of greatest call e w left)
-    value = value_means greatest level call unit s known x ss fits.stand fits.below calls
+    value = value_means units greatest level call unit s known x ss fits.inside fits.stand fits.below calls
 
     pub place : (r : TypedReference) (d : Description) → IsPlaced greatest s r d → (w : World) (left : ℕ) → Sound w
         → Here s known x ss left w (AtPlace d) (place_of greatest call r w left)
-    place = place_means greatest level call unit s known x ss fits.stand fits.below calls
+    place = place_means units greatest level call unit s known x ss fits.inside fits.stand fits.below calls
 
     pub ends : (w : World) (left : ℕ) → Sound w → Here s known x ss left w (Flows s) (Gives Next w left)
     ends w left sound = (omega arith, tt, sound, later_same w)
@@ -89,8 +90,8 @@ module _ (greatest level : ℕ) (call : Calls) (unit : Name) where
         then_here (AtPlace d) (Flows s) left w (place_of greatest call target w left) _ (place target d typed.1 w left sound)
         (λ p v l good sound later. then_here (OfType t) (Flows s) l v (value_of greatest call e v l) _ (value e t typed.2.1 v l sound)
         (λ y u l is sound later. then_here Anything (Flows s) l u (answered (stored p y u) l) _
-        (answer_kept unit s.statics level l known (x ∷ ss) u (stored p y u)
-        (stored_answers unit s.statics x ss d p y u sound (good_later v u d p later good) (narrow_held d t y held is) (one_scalar d held.0 held.1).1))
+        (answer_kept units level l known (x ∷ ss) u (stored p y u)
+        (stored_answers units x ss d p y u sound (good_later v u d p later good) (narrow_held d t y held is) (one_scalar d held.0 held.1).1))
         (λ _ w l any sound later. ends w l sound)))
 
     pub aggregate_means : (target source : TypedReference) → IsTypedForm greatest s (AssignAggregate target source) → (w : World) (left : ℕ) → Sound w
@@ -100,16 +101,16 @@ module _ (greatest level : ℕ) (call : Calls) (unit : Name) where
         then_here (AtPlace d) (Flows s) left w (place_of greatest call target w left) _ (place target d typed.1 w left sound)
         (λ p v l good sound later. then_here (AtPlace d) (Flows s) l v (place_of greatest call source v l) _ (place source d typed.2 v l sound)
         (λ q u l from sound later. then_here Anything (Flows s) l u (answered (copied q p u) l) _
-        (answer_kept unit s.statics level l known (x ∷ ss) u (copied q p u) (copied_answers unit s.statics x ss d q p u sound from (good_later v u d p later good)))
+        (answer_kept units level l known (x ∷ ss) u (copied q p u) (copied_answers units x ss d q p u sound from (good_later v u d p later good)))
         (λ _ w l any sound later. ends w l sound)))
 
     item_means : (k : StringKind) (a b : ℕ) (v : Value) (w : World) (left : ℕ) → IsOf (Strings k a b) v → Sound w
         → Here s known x ss left w (Flows s) (printed_item v w left)
     item_means OfCharacters a b v w left is sound =
-        let p = printed_sound unit s.statics (x ∷ ss) is.0 w sound in
+        let p = printed_sound units (x ∷ ss) is.0 w sound in
         subst (λ v. Here s known x ss left w (Flows s) (printed_item v w left)) (sym is.1) (omega arith, tt, p.0, p.1)
     item_means OfBits a b v w left is sound =
-        let p = printed_sound unit s.statics (x ∷ ss) (bit_constant is.0) w sound in
+        let p = printed_sound units (x ∷ ss) (bit_constant is.0) w sound in
         subst (λ v. Here s known x ss left w (Flows s) (printed_item v w left)) (sym is.1) (omega arith, tt, p.0, p.1)
 
     pub puts_means : (items : List TypedExpression) → AreItems greatest s items → (w : World) (left : ℕ) → Sound w
@@ -119,7 +120,7 @@ module _ (greatest level : ℕ) (call : Calls) (unit : Name) where
         let k = typed.0.0 in
         let a = typed.0.1.0 in
         let b = typed.0.1.1 in
-        followed_means unit s.statics (Flows s) level left known (x ∷ ss) w (and_then (value_of greatest call e w left) (λ v w left. printed_item v w left)) (puts greatest call es)
+        followed_means units (Flows s) level left known (x ∷ ss) w (and_then (value_of greatest call e w left) (λ v w left. printed_item v w left)) (puts greatest call es)
         (then_here (OfType (Strings k a b)) (Flows s) left w (value_of greatest call e w left) _ (value e (Strings k a b) typed.0.1.2 w left sound)
         (λ v w l is sound later. item_means k a b v w l is sound))
         (λ w l le sound. puts_means es typed.1 w l sound)
@@ -128,8 +129,8 @@ module _ (greatest level : ℕ) (call : Calls) (unit : Name) where
         → Here s known x ss left w (Flows s) (skips greatest call skip (puts greatest call items) w left)
     skips_means false items typed w left sound = puts_means items typed w left sound
     skips_means true items typed w left sound =
-        let l = line_sound unit s.statics (x ∷ ss) w sound in
-        means_from unit s.statics (Flows s) level left left known (x ∷ ss) w (line_ended w) (puts greatest call items (line_ended w) left) (omega arith) l.1
+        let l = line_sound units (x ∷ ss) w sound in
+        means_from units (Flows s) level left left known (x ∷ ss) w (line_ended w) (puts greatest call items (line_ended w) left) (omega arith) l.1
         (puts_means items typed (line_ended w) left l.0)
 
     no_value_means : (o : Option Description) (v : Option Value) (w : World) (left : ℕ) → o ≡ None → IsReturned o v → Sound w
@@ -138,24 +139,23 @@ module _ (greatest level : ℕ) (call : Calls) (unit : Name) where
     no_value_means None (Some v) w left e is sound = absurd is
     no_value_means (Some d) (Some v) w left e is sound = absurd (none_some (sym e))
 
-    pub call_means : (called : ℕ) (arguments : TypedArguments) → IsTypedForm greatest s (Call called arguments) → (w : World) (left : ℕ) → Sound w
-        → Here s known x ss left w (Flows s) (does_call greatest call called arguments w left)
-    call_means called arguments typed w left sound =
-        let p = typed.0 in
-        then_here (GivesBack p.value) (Flows s) left w (called_with greatest call called arguments [] w left) no_value
-        (called_means greatest level call unit s known x ss fits.stand fits.below calls arguments p.parameters called p [] [] typed.3 refl typed.1 typed.2 w left sound tt)
-        (λ v w l is sound later. no_value_means p.value v w l typed.4 is sound)
+    pub call_means : (callee : Callee) (arguments : TypedArguments) → IsTypedForm greatest s (Call callee arguments) → (w : World) (left : ℕ) → Sound w
+        → Here s known x ss left w (Flows s) (does_call greatest call callee arguments w left)
+    call_means callee arguments typed w left sound =
+        then_here (GivesBack None) (Flows s) left w (called_with greatest call callee arguments [] w left) no_value
+        (called_means units greatest level call unit s known x ss fits.inside fits.stand fits.below calls arguments typed.0 callee typed.0 None [] [] typed.2 refl typed.1 w left sound tt)
+        (λ v w l is sound later. no_value_means None v w l refl is sound)
 
     pub jump_means : (outward label : ℕ) → knows_label (slice_get s.blocks outward) label → (w : World) (left : ℕ) → Sound w
-        → Means unit s.statics level (suc left) known (x ∷ ss) w (Flows s) (jumps_to outward label w left)
+        → Means units level (suc left) known (x ∷ ss) w (Flows s) (jumps_to outward label w left)
     jump_means outward label typed w left sound = by (slice_get s.blocks outward) refl typed
       where
         by : (o : Option BlockAround) → slice_get s.blocks outward ≡ o → knows_label o label
-            → Means unit s.statics level (suc left) known (x ∷ ss) w (Flows s) (jumps_to outward label w left)
+            → Means units level (suc left) known (x ∷ ss) w (Flows s) (jumps_to outward label w left)
         by None e k = absurd k
         by (Some b) e k =
-            let h = height_there unit s.statics known (x ∷ ss) s.blocks w outward b sound fits.stand e in
-            subst (λ a. Means unit s.statics level (suc left) known (x ∷ ss) w (Flows s) (and_then (answered a left) (λ h w left. Jumps h label w left))) (sym h.1)
+            let h = height_there unit units known (x ∷ ss) s.blocks w outward b sound fits.stand e in
+            subst (λ a. Means units level (suc left) known (x ∷ ss) w (Flows s) (and_then (answered a left) (λ h w left. Jumps h label w left))) (sym h.1)
             (omega arith, h.2 label k, sound, later_same w)
 
     pub return_means : (outward : ℕ) → outward ≡ s.begins → s.value ≡ None → (w : World) (left : ℕ) → Sound w

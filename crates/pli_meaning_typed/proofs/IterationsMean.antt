@@ -9,7 +9,7 @@ use Rattle.pli_operation.specs.Operations.{Operation, Add, Within, calculated}
 use Rattle.pli_store.specs.World.{World, known as looked_up, held, stored, calculation, at_statement}
 use Rattle.pli_value.specs.Value.{Value}
 use Rattle.pli_type_tree.specs.Iterations.{kept_by, limit_number, step_number, is_iterated}
-use Rattle.pli_type_tree.specs.TypedTree.{TypedExpression, TypedRange, Once, ToBy, ByTo, Repeated, Iteration}
+use Rattle.pli_type_tree.specs.TypedTree.{TypedUnit, TypedExpression, TypedRange, Once, ToBy, ByTo, Repeated, Iteration}
 use Rattle.pli_type_tree.specs.ValueTypes.{ValueType, Numbers, Strings, OfBits, type_held, IsOf, AreOf, Operates}
 use Rattle.pli_type_tree.specs.WellTyped.{scalars_of, TypingContext, IsTyped, IsPlaced, IsValueFor, Convert, Counts, IsRange, IsPossibleCondition, IsIteration}
 use Rattle.pli_meaning_tree.specs.Effects.{Effect, Gives, Flow, Doing, and_then, nothing_done, answered, as_statement, back_at, truth}
@@ -104,13 +104,13 @@ module _ (greatest : ℕ) (s : TypingContext) where
       }
   is_kept conversion d first (Repeated next) h = record { types = []; valued = tt; limit = tt; step = h }
 
-module _ (greatest level : ℕ) (call : Calls) (unit : Name) (s : TypingContext) (known : Known) (x : Shape) (ss : List Shape) (block : ℕ)
-    (fits : Fits known x ss s block) (calls : CallsMean unit s.statics s.procedures level call) where
+module _ (units : List TypedUnit) (greatest level : ℕ) (call : Calls) (unit : Name) (s : TypingContext) (known : Known) (x : Shape) (ss : List Shape) (block : ℕ)
+    (fits : Fits units unit known x ss s block) (calls : CallsMean units unit s.globals s.procedures level call) where
   abbrev Sound : World → Type 0
-  Sound w = IsSound unit s.statics (x ∷ ss) w
+  Sound w = IsSound units (x ∷ ss) w
 
   abbrev Here : {A : Type 0} → (left : ℕ) → World → (A → World → Type 0) → Effect A → Type 0
-  Here left w Is o = Means unit s.statics level left known (x ∷ ss) w Is o
+  Here left w Is o = Means units level left known (x ∷ ss) w Is o
 
   abbrev Flows : Flow → World → Type 0
   Flows = FlowIs s.begins s.value
@@ -121,18 +121,18 @@ module _ (greatest level : ℕ) (call : Calls) (unit : Name) (s : TypingContext)
 
   next_here : {A B : Type 0} (P : A → World → Type 0) (Q : B → World → Type 0) (left : ℕ) (u : World) (o : Effect A) (go : A → Doing B)
       → Here left u P o → ((y : A) (w : World) (l : ℕ) → P y w → Sound w → IsLater u w → Here l w Q (go y w l)) → Here left u Q (and_then o go)
-  next_here P Q left u o go h f = then_here greatest level call unit s known x ss block fits calls P Q left u o go h f
+  next_here P Q left u o go h f = then_here units greatest level call unit s known x ss block fits calls P Q left u o go h f
 
   value_here : (e : TypedExpression) (t : ValueType) → IsTyped greatest s e t → Does (OfType t) (value_of greatest call e)
-  value_here e t typed w left sound = value greatest level call unit s known x ss block fits calls e t typed w left sound
+  value_here e t typed w left sound = value units greatest level call unit s known x ss block fits calls e t typed w left sound
 
   place_here : (i : Iteration) (d : Description) → IsPlaced greatest s i.control d → Does (AtPlace d) (place_of greatest call i.control)
-  place_here i d placed w left sound = place greatest level call unit s known x ss block fits calls i.control d placed w left sound
+  place_here i d placed w left sound = place units greatest level call unit s known x ss block fits calls i.control d placed w left sound
 
   operation_here : (operation : Operation) (ts : List ValueType) (t : ValueType) (vs : List Value)
       → Operates greatest operation ts t → AreOf ts vs → Does (OfType t) (λ w left. answered (calculation (calculated greatest operation vs) w) left)
   operation_here operation ts t vs operates are w left sound =
-      calculated_means greatest level call unit s known x ss fits.stand fits.below calls operation ts t vs operates are w left sound
+      calculated_means units greatest level call unit s known x ss fits.inside fits.stand fits.below calls operation ts t vs operates are w left sound
 
   -- a value that is kept
   kept_means : (ts : List ValueType) (vs : List Value) → AreOf ts vs → (k : ℕ) (t : ValueType) → slice_get ts k ≡ Some t
@@ -158,9 +158,9 @@ module _ (greatest level : ℕ) (call : Calls) (unit : Name) (s : TypingContext)
       (λ p v l good sound later. next_here (OfType t) Flows l v (go v l) _ (f v l sound)
       (λ y u l is sound later2. next_here (HeldBy d) Flows l u (converted greatest call i.conversion y u l) _ (converted_means i.conversion t d c y is u l sound)
       (λ z r l holds sound later3. next_here Anything Flows l r (answered (stored p z r) l) _
-      (answer_kept unit s.statics level l known (x ∷ ss) r (stored p z r)
-      (stored_answers unit s.statics x ss d p z r sound (good_later u r d p later3 (good_later v u d p later2 good)) holds (converts_scalar greatest i.conversion t d c)))
-      (λ _ w l any sound later. ends greatest level call unit s known x ss block fits calls w l sound))))
+      (answer_kept units level l known (x ∷ ss) r (stored p z r)
+      (stored_answers units x ss d p z r sound (good_later u r d p later3 (good_later v u d p later2 good)) holds (converts_scalar greatest i.conversion t d c)))
+      (λ _ w l any sound later. ends units greatest level call unit s known x ss block fits calls w l sound))))
 
   -- the variable and a step more
   abbrev sum_type : ℕ → ℕ → ValueType
@@ -172,7 +172,7 @@ module _ (greatest level : ℕ) (call : Calls) (unit : Name) (s : TypingContext)
   advanced_means i d placed q e ts vs are step r f w left sound =
       next_here (AtPlace d) (OfType (sum_type q r)) left w (place_of greatest call i.control w left) _ (place_here i d placed w left sound)
       (λ p v l good sound later. next_here (OfType (Numbers q)) (OfType (sum_type q r)) l v (answered (held p v) l) _
-      (held_means greatest level call unit s known x ss fits.stand fits.below calls d (Numbers q) p e v l sound good)
+      (held_means units greatest level call unit s known x ss fits.inside fits.stand fits.below calls d (Numbers q) p e v l sound good)
       (λ y u l is sound later. next_here (OfType (Numbers r)) (OfType (sum_type q r)) l u (kept greatest call vs step u l) _
       (kept_means ts vs are step (Numbers r) f u l sound)
       (λ z o l is2 sound later. operation_here Add (Numbers q ∷ Numbers r ∷ []) (sum_type q r) (y ∷ z ∷ []) (q, r, refl, refl) (is, (is2, tt)) o l sound)))
@@ -187,18 +187,18 @@ module _ (greatest level : ℕ) (call : Calls) (unit : Name) (s : TypingContext)
       let c = h.2.0 in
       next_here (AtPlace d) Anything left w (place_of greatest call i.control w left) _ (place_here i d placed w left sound)
       (λ p v l good sound later. next_here (OfType (Numbers q)) Anything l v (answered (held p v) l) _
-      (held_means greatest level call unit s known x ss fits.stand fits.below calls d (Numbers q) p h.0.1 v l sound good)
+      (held_means units greatest level call unit s known x ss fits.inside fits.stand fits.below calls d (Numbers q) p h.0.1 v l sound good)
       (λ y u l is sound later. next_here (OfType (Numbers b)) Anything l u (kept greatest call vs limit u l) _
       (kept_means ts vs are limit (Numbers b) h.1.1 u l sound)
       (λ z o l is2 sound later. next_here (OfType (Numbers c)) Anything l o (kept greatest call vs step o l) _
       (kept_means ts vs are step (Numbers c) h.2.1 o l sound)
       (λ a r l is3 sound later. next_here (OfType (Strings OfBits 1 1)) Anything l r (answered (calculation (calculated greatest Within (y ∷ z ∷ a ∷ [])) r) l) truth
       (operation_here Within (Numbers q ∷ Numbers b ∷ Numbers c ∷ []) (Strings OfBits 1 1) (y ∷ z ∷ a ∷ []) ((q, b, c, refl), refl) (is, (is2, (is3, tt))) r l sound)
-      (λ v w l is sound later. truth_means greatest level call unit s known x ss block fits calls 1 1 v w l is sound)))))
+      (λ v w l is sound later. truth_means units greatest level call unit s known x ss block fits calls 1 1 v w l is sound)))))
 
   while_means : (e : Option TypedExpression) → IsPossibleCondition greatest s e → Does Anything (while_holds greatest call e)
   while_means None typed w left sound = (omega arith, tt, sound, later_same w)
-  while_means (Some e) typed w left sound = condition_means greatest level call unit s known x ss block fits calls e typed w left sound
+  while_means (Some e) typed w left sound = condition_means units greatest level call unit s known x ss block fits calls e typed w left sound
 
   test_means : (i : Iteration) (d : Description) → IsPlaced greatest s i.control d → (ts : List ValueType) (vs : List Value) → AreOf ts vs
       → HasLimit greatest s d ts (limit_number i.range) (step_number i.range) → IsPossibleCondition greatest s i.condition
@@ -206,13 +206,13 @@ module _ (greatest level : ℕ) (call : Calls) (unit : Name) (s : TypingContext)
   test_means i d placed ts vs are h typed w left sound =
       next_here Anything Anything left w (within_limit greatest call i (limit_number i.range) (step_number i.range) vs w left) _
       (limit_means i d placed ts vs are (limit_number i.range) (step_number i.range) h w left sound)
-      (λ b w l any sound later. chosen_means unit s.statics Anything level l known (x ∷ ss) w b (while_holds greatest call i.condition) (λ w left. Gives false w left) w l
+      (λ b w l any sound later. chosen_means units Anything level l known (x ∷ ss) w b (while_holds greatest call i.condition) (λ w left. Gives false w left) w l
       (while_means i.condition typed w l sound) (omega arith, tt, sound, later_same w))
 
   -- what comes between two turns
   advances_means : (i : Iteration) (d : Description) → IsPlaced greatest s i.control d → (ts : List ValueType) (vs : List Value) → AreOf ts vs
       → (range : TypedRange) → Advances greatest s i.conversion d ts range → Does Flows (advances greatest call range i vs)
-  advances_means i d placed ts vs are Once h w left sound = ends greatest level call unit s known x ss block fits calls w left sound
+  advances_means i d placed ts vs are Once h w left sound = ends units greatest level call unit s known x ss block fits calls w left sound
   advances_means i d placed ts vs are (ToBy to by) h w left sound =
       sets_means i d placed (sum_type h.0.0.0 h.1.0) (h.0.1 (min greatest (max h.0.0.0 h.1.0 + 1))) (advanced greatest call i 2 vs)
       (advanced_means i d placed h.0.0.0 h.0.0.1 ts vs are 2 h.1.0 h.1.1) w left sound
@@ -220,27 +220,27 @@ module _ (greatest level : ℕ) (call : Calls) (unit : Name) (s : TypingContext)
       sets_means i d placed (sum_type h.0.0.0 h.1.0) (h.0.1 (min greatest (max h.0.0.0 h.1.0 + 1))) (advanced greatest call i 1 vs)
       (advanced_means i d placed h.0.0.0 h.0.0.1 ts vs are 1 h.1.0 h.1.1) w left sound
   advances_means i d placed ts vs are (Repeated next) h w left sound =
-      assigns_means greatest level call unit s known x ss block fits calls i.control next (d, placed, h) w left sound
+      assigns_means units greatest level call unit s known x ss block fits calls i.control next (d, placed, h) w left sound
 
   -- a list that runs behind a step
   stepped_means : (number : ℕ) (list : Doing Flow) → Does Flows list → Does Flows (as_statement number list)
   stepped_means number list f w left sound =
-      statement_means unit s.statics Flows level known (x ∷ ss) number list w left sound
-      (λ v l e sound. means_from unit s.statics Flows level l (suc l) known (x ∷ ss) v v (list v l) (omega arith) (later_same v) (f v l sound))
+      statement_means units Flows level known (x ∷ ss) number list w left sound
+      (λ v l e sound. means_from units Flows level l (suc l) known (x ∷ ss) v v (list v l) (omega arith) (later_same v) (f v l sound))
 
   back_means : (number : ℕ) (go : Doing Flow) → Does Flows go → Does Flows (back_at number go)
   back_means number go f w left sound =
-      let t = statement_sound unit s.statics (x ∷ ss) number w sound in
-      means_from unit s.statics Flows level left left known (x ∷ ss) w (at_statement number w) (go (at_statement number w) left) (omega arith) t.1
+      let t = statement_sound units (x ∷ ss) number w sound in
+      means_from units Flows level left left known (x ∷ ss) w (at_statement number w) (go (at_statement number w) left) (omega arith) t.1
       (f (at_statement number w) left t.0)
 
   turned_means : (iterated : Bool) (number : ℕ) (test : Doing Bool) (list between : Doing Flow) → Does Anything test → Does Flows list → Does Flows between
       → Does Flows (turned greatest call iterated level test (as_statement number list) between)
   turned_means true number test list between f g h w left sound =
-      turns_means unit s.statics Flows level known (x ∷ ss) number test list between (λ w. tt) f g h level (omega arith) w left sound
+      turns_means units Flows level known (x ∷ ss) number test list between (λ w. tt) f g h level (omega arith) w left sound
   turned_means false number test list between f g h w left sound =
       next_here Anything Flows left w (test w left) _ (f w left sound)
-      (λ b w l any sound later. chosen_means unit s.statics Flows level l known (x ∷ ss) w b (as_statement number list) nothing_done w l
+      (λ b w l any sound later. chosen_means units Flows level l known (x ∷ ss) w b (as_statement number list) nothing_done w l
       (stepped_means number list g w l sound) (omega arith, tt, sound, later_same w))
 
   -- what is kept, one value after the other
@@ -263,7 +263,7 @@ module _ (greatest level : ℕ) (call : Calls) (unit : Name) (s : TypingContext)
       let k = is_kept greatest s i.conversion d t i.range typed.3 in
       let ts : List ValueType = t ∷ k.types in
       keeps_means (i.start ∷ kept_by i.range) ts (typed.2.1, k.valued) [] [] tt _
-      (λ vs are w left sound. followed_means unit s.statics Flows level left known (x ∷ ss) w (sets greatest call i (kept greatest call vs 0) w left) _
+      (λ vs are w left sound. followed_means units Flows level left known (x ∷ ss) w (sets greatest call i (kept greatest call vs 0) w left) _
       (sets_means i d typed.1 t typed.2.2 (kept greatest call vs 0) (kept_means ts vs are 0 t refl) w left sound)
       (λ w l le sound. turned_means (is_iterated i.range) number (may_turn greatest call i vs) list (back_at number (advances greatest call i.range i vs))
       (test_means i d typed.1 ts vs are k.limit typed.4) f

@@ -3,15 +3,14 @@ use Rattle.std.specs.Prelude.{◌≡◌, ◌≢◌, ℕ, zero, suc, ◌≤◌, �
 use Rattle.std.specs.Prelude.{List, ◌∷◌, length, if◌then◌else◌, refl}
 use Rattle.std.proofs.Common.{arith, sym, ◌∙◌, subst, true≢false}
 use Rattle.std.proofs.lemmas.Bool.{eqb-true}
-use Rattle.pli_base.specs.Name.{Name}
 use Rattle.pli_code.specs.declared.ending.Ending.TheVariants.{MachineFault}
 use Rattle.pli_code.specs.declared.ending.RunError.TheVariants.{TooManyActivations}
-use Rattle.pli_map.specs.Description.{Description}
 use Rattle.pli_store.specs.Activations.{activation_limit}
 use Rattle.pli_store.specs.World.{World, Answer, Yields, Raises, Wrong, height, stepped, at_statement, left_by, cleared, error_at}
+use Rattle.pli_type_tree.specs.TypedTree.{TypedUnit}
 use Rattle.pli_meaning_tree.specs.Effects.{Effect, Gives, Jumps, Fails, Spent, Lost, Short, Flow, Next, Returned, Doing, and_then}
 use Rattle.pli_meaning_tree.specs.Effects.{after_flow, followed, answered, as_step, as_statement, chosen, turns, on_jump, caught}
-use Rattle.pli_meaning_tree.specs.Effects.{unless_full, leaving, nothing_done}
+use Rattle.pli_meaning_tree.specs.Effects.{unless_full, leaving, closed, nothing_done}
 use Rattle.pli_meaning_typed.specs.SoundWorlds.{Shape, IsSound, IsLater, Answers}
 use Rattle.pli_meaning_typed.proofs.ContextLaws.{Known, shaped_length}
 use Rattle.pli_meaning_typed.proofs.WorldLaws.{later_same, later_then, error_named, statement_sound, stepped_sound, cleared_sound, cleared_later, left_sound, left_later}
@@ -27,15 +26,15 @@ also held height known h k = if nat_eq h height && held k then true else known h
 abbrev pub Anything : {A : Type 0} → A → World → Type 0
 Anything x w = Unit {0}
 
-module _ (unit : Name) (statics : List Description) where
+module _ (units : List TypedUnit) where
   abbrev Sound : List Shape → World → Type 0
-  Sound ss w = IsSound unit statics ss w
+  Sound ss w = IsSound units ss w
 
   -- at a level, from a world on with so many steps, an effect has a meaning: a result is as it should be, a jump leads to
   -- where it is known and took a step, an error names a statement
   abbrev pub Means : {A : Type 0} → (level steps : ℕ) → Known → List Shape → World → (A → World → Type 0) → Effect A → Type 0
-  Means n l known ss u Is (Gives x w left) = (left ≤ l) × Is x w × IsSound unit statics ss w × IsLater u w
-  Means n l known ss u Is (Jumps h k w left) = (left < l) × IsTrue (known h k) × IsSound unit statics ss w × IsLater u w
+  Means n l known ss u Is (Gives x w left) = (left ≤ l) × Is x w × IsSound units ss w × IsLater u w
+  Means n l known ss u Is (Jumps h k w left) = (left < l) × IsTrue (known h k) × IsSound units ss w × IsLater u w
   Means n l known ss u Is (Fails e w) = e ≢ MachineFault
   Means n l known ss u Is (Spent w) = Unit {0}
   Means n l known ss u Is Lost = ⊥
@@ -52,7 +51,7 @@ module _ (unit : Name) (statics : List Description) where
 
   pub then_means : {A B : Type 0} (P : A → World → Type 0) (Q : B → World → Type 0) (n l : ℕ) (known : Known) (ss : List Shape) (u : World)
       (o : Effect A) (go : A → Doing B) → Means n l known ss u P o
-      → ((x : A) (w : World) (left : ℕ) → left ≤ l → P x w → IsSound unit statics ss w → IsLater u w → Means n left known ss w Q (go x w left))
+      → ((x : A) (w : World) (left : ℕ) → left ≤ l → P x w → IsSound units ss w → IsLater u w → Means n left known ss w Q (go x w left))
       → Means n l known ss u Q (and_then o go)
   then_means P Q n l known ss u (Gives x w left) go h f =
       means_from Q n left l known ss u w (go x w left) h.0 h.3 (f x w left h.0 h.1 h.2 h.3)
@@ -64,34 +63,34 @@ module _ (unit : Name) (statics : List Description) where
 
   -- an operation
   pub answer_means : {A : Type 0} (P : A → World → Type 0) (n left : ℕ) (known : Known) (ss : List Shape) (u : World) (o : Answer A)
-      → Answers (λ x w. P x w × IsSound unit statics ss w × IsLater u w) o → Means n left known ss u P (answered o left)
+      → Answers (λ x w. P x w × IsSound units ss w × IsLater u w) o → Means n left known ss u P (answered o left)
   answer_means P n left known ss u (Yields x w) h = (omega arith, h.0, h.1, h.2)
   answer_means P n left known ss u (Raises e w) h = h
   answer_means P n left known ss u Wrong h = h
 
   pub answer_kept : (n left : ℕ) (known : Known) (ss : List Shape) (u : World) (o : Answer (Unit {0}))
-      → Answers (λ x w. IsSound unit statics ss w × IsLater u w) o → Means n left known ss u Anything (answered o left)
+      → Answers (λ x w. IsSound units ss w × IsLater u w) o → Means n left known ss u Anything (answered o left)
   answer_kept n left known ss u (Yields x w) h = (omega arith, tt, h.0, h.1)
   answer_kept n left known ss u (Raises e w) h = h
   answer_kept n left known ss u Wrong h = h
 
   -- steps
   pub step_means : {A : Type 0} (P : A → World → Type 0) (n : ℕ) (known : Known) (ss : List Shape) (go : Doing A) (w : World) (left : ℕ)
-      → IsSound unit statics ss w
-      → ((v : World) (l : ℕ) → suc l ≡ left → IsSound unit statics ss v → Means n (suc l) known ss v P (go v l))
+      → IsSound units ss w
+      → ((v : World) (l : ℕ) → suc l ≡ left → IsSound units ss v → Means n (suc l) known ss v P (go v l))
       → Means n left known ss w P (as_step go w left)
   step_means P n known ss go w zero sound f = tt
   step_means P n known ss go w (suc left) sound f =
-      let s = stepped_sound unit statics ss w sound in
+      let s = stepped_sound units ss w sound in
       means_from P n (suc left) (suc left) known ss w (stepped w) (go (stepped w) left) (omega arith) s.1 (f (stepped w) left refl s.0)
 
   pub statement_means : {A : Type 0} (P : A → World → Type 0) (n : ℕ) (known : Known) (ss : List Shape) (number : ℕ) (go : Doing A) (w : World) (left : ℕ)
-      → IsSound unit statics ss w
-      → ((v : World) (l : ℕ) → suc l ≡ left → IsSound unit statics ss v → Means n (suc l) known ss v P (go v l))
+      → IsSound units ss w
+      → ((v : World) (l : ℕ) → suc l ≡ left → IsSound units ss v → Means n (suc l) known ss v P (go v l))
       → Means n left known ss w P (as_statement number go w left)
   statement_means P n known ss number go w left sound f =
       step_means P n known ss (λ w left. go (at_statement number w) left) w left sound
-      (λ v l e s. let t = statement_sound unit statics ss number v s in
+      (λ v l e s. let t = statement_sound units ss number v s in
       means_from P n (suc l) (suc l) known ss v (at_statement number v) (go (at_statement number v) l) (omega arith) t.1 (f (at_statement number v) l e t.0))
 
   -- a choice
@@ -101,14 +100,14 @@ module _ (unit : Name) (statics : List Description) where
   chosen_means P n l known ss u false go other w left f g = g
 
   -- jumps that are caught
-  heights : (ss : List Shape) (w : World) → IsSound unit statics ss w → height w ≡ length ss
-  heights ss w sound = shaped_length unit w ss w.activations sound.stack
+  heights : (ss : List Shape) (w : World) → IsSound units ss w → height w ≡ length ss
+  heights ss w sound = shaped_length w ss w.activations sound.stack
 
   pub caught_means : (P : Flow → World → Type 0) (n : ℕ) (known : Known) (ss : List Shape) (held : ℕ → Bool) (run : Option ℕ → Doing Flow)
       (Starts : Option ℕ → Type 0) → ((k : ℕ) → held k ≡ true → Starts (Some k))
-      → ((from : Option ℕ) → Starts from → (w : World) (left : ℕ) → IsSound unit statics ss w
+      → ((from : Option ℕ) → Starts from → (w : World) (left : ℕ) → IsSound units ss w
       → Means n left (also held (length ss) known) ss w P (run from w left))
-      → (m : ℕ) → m ≤ n → (from : Option ℕ) → Starts from → (w : World) (left : ℕ) → IsSound unit statics ss w
+      → (m : ℕ) → m ≤ n → (from : Option ℕ) → Starts from → (w : World) (left : ℕ) → IsSound units ss w
       → Means m left known ss w P (caught m held run from w left)
   caught_means P n known ss held run Starts labels f zero le from starts w left sound = omega arith
   caught_means P n known ss held run Starts labels f (suc m) le from starts w left sound =
@@ -124,12 +123,12 @@ module _ (unit : Name) (statics : List Description) where
       again v rest Short lt later h = omega (arith, h, lt)
 
       jump : (h k : ℕ) (v : World) (rest : ℕ) (b : Bool) → (nat_eq h (length ss) && held k) ≡ b → rest < left
-          → IsTrue (if b then true else known h k) → IsSound unit statics ss v → IsLater w v
-          → ((k : ℕ) → held k ≡ true → (v : World) (rest : ℕ) → IsSound unit statics ss v → Means m rest known ss v P (caught m held run (Some k) v rest))
+          → IsTrue (if b then true else known h k) → IsSound units ss v → IsLater w v
+          → ((k : ℕ) → held k ≡ true → (v : World) (rest : ℕ) → IsSound units ss v → Means m rest known ss v P (caught m held run (Some k) v rest))
           → Means (suc m) left known ss w P (if b then caught m held run (Some k) (cleared v) rest else Jumps h k v rest)
       jump h k v rest true e lt known sound later f =
-          again (cleared v) rest (caught m held run (Some k) (cleared v) rest) lt (later_then w v (cleared v) later (cleared_later unit statics v))
-          (f k (right (nat_eq h (length ss)) (held k) e) (cleared v) rest (cleared_sound unit statics ss v sound))
+          again (cleared v) rest (caught m held run (Some k) (cleared v) rest) lt (later_then w v (cleared v) later (cleared_later units v))
+          (f k (right (nat_eq h (length ss)) (held k) e) (cleared v) rest (cleared_sound units ss v sound))
         where
           right : (a b : Bool) → a && b ≡ true → b ≡ true
           right true b h = h
@@ -137,7 +136,7 @@ module _ (unit : Name) (statics : List Description) where
       jump h k v rest false e lt known sound later f = (lt, known, sound, later)
 
       by : (o : Effect Flow) → Means n left (also held (length ss) known) ss w P o
-          → ((k : ℕ) → held k ≡ true → (v : World) (rest : ℕ) → IsSound unit statics ss v → Means m rest known ss v P (caught m held run (Some k) v rest))
+          → ((k : ℕ) → held k ≡ true → (v : World) (rest : ℕ) → IsSound units ss v → Means m rest known ss v P (caught m held run (Some k) v rest))
           → Means (suc m) left known ss w P (on_jump held o (λ k. caught m held run (Some k)))
       by (Gives x v rest) h f = h
       by (Jumps h k v rest) j f =
@@ -152,7 +151,7 @@ module _ (unit : Name) (statics : List Description) where
   -- the newest activation ends
   pub leaving_means : {A B : Type 0} (P : A → World → Type 0) (Q : B → World → Type 0) (n l : ℕ) (known : Known) (s : Shape) (ss : List Shape) (u : World)
       (o : Effect A) (go : A → Doing B) → IsBelow known (length ss) → Means n l known (s ∷ ss) u P o
-      → ((x : A) (w : World) (left : ℕ) → left ≤ l → P x w → IsSound unit statics (s ∷ ss) w → IsLater u w → Means n left known ss w Q (go x w left))
+      → ((x : A) (w : World) (left : ℕ) → left ≤ l → P x w → IsSound units (s ∷ ss) w → IsLater u w → Means n left known ss w Q (go x w left))
       → Means n l known ss u Q (leaving o go)
   leaving_means P Q n l known s ss u (Gives x w left) go below h f =
       means_from Q n left l known ss u w (go x w left) h.0 h.3 (f x w left h.0 h.1 h.2 h.3)
@@ -162,30 +161,40 @@ module _ (unit : Name) (statics : List Description) where
       by true e =
           let same : i ≡ suc (length ss) = eqb-true i (height w) e ∙ heights (s ∷ ss) w h.2 in
           absurd (true≢false (sym h.1 ∙ below i k (omega (arith, same))))
-      by false e = (h.0, h.1, left_sound unit statics s ss w h.2, later_then u w (left_by w) h.3 (left_later unit statics w))
+      by false e = (h.0, h.1, left_sound units s ss w h.2, later_then u w (left_by w) h.3 (left_later units w))
   leaving_means P Q n l known s ss u (Fails e w) go below h f = h
   leaving_means P Q n l known s ss u (Spent w) go below h f = h
   leaving_means P Q n l known s ss u Lost go below h f = h
   leaving_means P Q n l known s ss u Short go below h f = h
 
+  -- no jump leads out, where none is known outside
+  pub closed_means : {A : Type 0} (P : A → World → Type 0) (n l : ℕ) (known : Known) (ss : List Shape) (u : World) (o : Effect A)
+      → Means n l (λ h k. false) ss u P o → Means n l known ss u P (closed o)
+  closed_means P n l known ss u (Gives x w left) h = h
+  closed_means P n l known ss u (Jumps i k w left) h = absurd (true≢false (sym h.1))
+  closed_means P n l known ss u (Fails e w) h = h
+  closed_means P n l known ss u (Spent w) h = h
+  closed_means P n l known ss u Lost h = h
+  closed_means P n l known ss u Short h = h
+
   -- unless there are too many activations
   pub full_means : {A : Type 0} (P : A → World → Type 0) (n left : ℕ) (known : Known) (s : Shape) (ss : List Shape) (go : Doing A) (w : World)
-      → IsSound unit statics (s ∷ ss) w → Means n left known (s ∷ ss) w P (go w left)
+      → IsSound units (s ∷ ss) w → Means n left known (s ∷ ss) w P (go w left)
       → Means n left known (s ∷ ss) w P (unless_full go w left)
   full_means P n left known s ss go w sound h = by (nat_lt (height w) activation_limit)
     where
       by : (b : Bool) → Means n left known (s ∷ ss) w P (if b then go w left else Fails (error_at TooManyActivations w) w)
       by true = h
-      by false = error_named unit statics s ss w TooManyActivations sound
+      by false = error_named units s ss w TooManyActivations sound
 
   -- statements one after the other
   pub followed_means : (P : Flow → World → Type 0) (n l : ℕ) (known : Known) (ss : List Shape) (u : World) (o : Effect Flow) (go : Doing Flow)
       → Means n l known ss u P o
-      → ((w : World) (left : ℕ) → left ≤ l → IsSound unit statics ss w → Means n left known ss w P (go w left))
+      → ((w : World) (left : ℕ) → left ≤ l → IsSound units ss w → Means n left known ss w P (go w left))
       → Means n l known ss u P (followed o go)
   followed_means P n l known ss u o go h f = then_means P P n l known ss u o (after_flow go) h by
     where
-      by : (x : Flow) (w : World) (left : ℕ) → left ≤ l → P x w → IsSound unit statics ss w → IsLater u w → Means n left known ss w P (after_flow go x w left)
+      by : (x : Flow) (w : World) (left : ℕ) → left ≤ l → P x w → IsSound units ss w → IsLater u w → Means n left known ss w P (after_flow go x w left)
       by Next w left le is sound later = f w left le sound
       by (Returned outward v) w left le is sound later = (omega arith, is, sound, later_same w)
 
@@ -214,16 +223,16 @@ module _ (unit : Name) (statics : List Description) where
       followed (as_statement number list w left) (λ w left. followed (between w left) go)
 
   turn_means : (P : Flow → World → Type 0) (n m : ℕ) (known : Known) (ss : List Shape) (number : ℕ) (list between go : Doing Flow) → m ≤ n
-      → ((w : World) (left : ℕ) → IsSound unit statics ss w → Means n left known ss w P (list w left))
-      → ((w : World) (left : ℕ) → IsSound unit statics ss w → Means n left known ss w P (between w left))
-      → ((w : World) (left : ℕ) → IsSound unit statics ss w → Means m left known ss w P (go w left))
-      → (w : World) (left : ℕ) → IsSound unit statics ss w → Means (suc m) left known ss w P (turn_then number list between go w left)
+      → ((w : World) (left : ℕ) → IsSound units ss w → Means n left known ss w P (list w left))
+      → ((w : World) (left : ℕ) → IsSound units ss w → Means n left known ss w P (between w left))
+      → ((w : World) (left : ℕ) → IsSound units ss w → Means m left known ss w P (go w left))
+      → (w : World) (left : ℕ) → IsSound units ss w → Means (suc m) left known ss w P (turn_then number list between go w left)
   turn_means P n m known ss number list between go le g b rest w zero sound = tt
   turn_means P n m known ss number list between go le g b rest w (suc left) sound =
       let v = stepped w in
       let u = at_statement number v in
-      let s = stepped_sound unit statics ss w sound in
-      let t = statement_sound unit statics ss number v s.0 in
+      let s = stepped_sound units ss w sound in
+      let t = statement_sound units ss number v s.0 in
       behind_step P m left known ss w u (followed (list u left) (λ w left. followed (between w left) go)) (later_then w v u s.1 t.1)
       (followed_means P m left known ss u (list u left) (λ w left. followed (between w left) go)
       (lower_means P n m left known ss u (list u left) le (g u left t.0))
@@ -232,10 +241,10 @@ module _ (unit : Name) (statics : List Description) where
 
   pub turns_means : (P : Flow → World → Type 0) (n : ℕ) (known : Known) (ss : List Shape) (number : ℕ) (test : Doing Bool) (list between : Doing Flow)
       → ((w : World) → P Next w)
-      → ((w : World) (left : ℕ) → IsSound unit statics ss w → Means n left known ss w Anything (test w left))
-      → ((w : World) (left : ℕ) → IsSound unit statics ss w → Means n left known ss w P (list w left))
-      → ((w : World) (left : ℕ) → IsSound unit statics ss w → Means n left known ss w P (between w left))
-      → (m : ℕ) → m ≤ n → (w : World) (left : ℕ) → IsSound unit statics ss w
+      → ((w : World) (left : ℕ) → IsSound units ss w → Means n left known ss w Anything (test w left))
+      → ((w : World) (left : ℕ) → IsSound units ss w → Means n left known ss w P (list w left))
+      → ((w : World) (left : ℕ) → IsSound units ss w → Means n left known ss w P (between w left))
+      → (m : ℕ) → m ≤ n → (w : World) (left : ℕ) → IsSound units ss w
       → Means m left known ss w P (turns m test (as_statement number list) between w left)
   turns_means P n known ss number test list between next f g h zero le w left sound = omega arith
   turns_means P n known ss number test list between next f g h (suc m) le w left sound =

@@ -13,7 +13,7 @@ use Rattle.pli_store.specs.World.{World, Answer, Yields, Raises, Wrong, Head, en
 use Rattle.pli_type_tree.specs.Templates.{Template, variable_of}
 use Rattle.pli_type_tree.specs.TypedTree.{TypedExpression, BlockHead, TypedStatement, Statement, Form, Null, Assign}
 use Rattle.pli_type_tree.specs.TypedTree.{AssignAggregate, Put, If, Begin, Group, While, Iterate, Call, Goto, Return, ReturnValue, Stop, OtherWise, NoElse, Else}
-use Rattle.pli_type_tree.specs.TypedTree.{TypedStatements, NoStatement, StatementThen}
+use Rattle.pli_type_tree.specs.TypedTree.{TypedStatements, NoStatement, StatementThen, TypedUnit}
 use Rattle.pli_type_tree.specs.ValueTypes.{OfBits}
 use Rattle.pli_type_tree.specs.WellTyped.{AreMade, BlockAround, TypingContext, blocks_from, IsString, labels_of, with_labels}
 use Rattle.pli_type_tree.specs.WellTyped.{in_group, block_of, in_begin, IsTypedStatement, IsTypedForm, IsTypedElse, AreTypedStatements}
@@ -29,7 +29,7 @@ use Rattle.pli_meaning_typed.proofs.ExpressionsMean.{CallsMean}
 use Rattle.pli_meaning_typed.proofs.FormsMean.{FlowIs, Fits, condition_means, assigns_means, aggregate_means, skips_means, call_means}
 use Rattle.pli_meaning_typed.proofs.FormsMean.{jump_means, return_means, value_returned}
 use Rattle.pli_meaning_typed.proofs.IterationsMean.{iterates_means}
-use Rattle.pli_meaning_typed.proofs.ContextLaws.{Known, Wider, AreKnown, Stand, near, stand_wider, stand_labels, shaped_length}
+use Rattle.pli_meaning_typed.proofs.ContextLaws.{IsUnit, Known, Wider, AreKnown, Stand, near, stand_wider, stand_labels, shaped_length}
 use Rattle.pli_meaning_typed.proofs.WorldLaws.{later_same, entered_answers, left_sound, left_later, statement_sound}
 
 ended_other : Ended ≢ MachineFault
@@ -71,12 +71,13 @@ abbrev Starts : TypedStatements → Option ℕ → Type 0
 Starts statements None = Unit {0}
 Starts statements (Some label) = labels_in statements label ≡ true
 
-in_own_group : (known : Known) (x : Shape) (ss : List Shape) (s : TypingContext) (block : ℕ) (statements : TypedStatements) → Fits known x ss s block
-    → Fits (also (labels_in statements) (suc (length ss)) known) x ss (in_group statements s) block
-in_own_group known x ss s block statements f =
+in_own_group : (units : List TypedUnit) (unit : Name) (known : Known) (x : Shape) (ss : List Shape) (s : TypingContext) (block : ℕ) (statements : TypedStatements) → Fits units unit known x ss s block
+    → Fits units unit (also (labels_in statements) (suc (length ss)) known) x ss (in_group statements s) block
+in_own_group units unit known x ss s block statements f =
     let more = also (labels_in statements) (suc (length ss)) known in record {
+      inside = record { own = f.inside.own; top = f.inside.top };
       stand =
-          stand_labels known more (labels_of statements) (x ∷ ss) (suc (length ss)) s.blocks (also_wide (labels_in statements) (suc (length ss)) known)
+          stand_labels unit known more (labels_of statements) (x ∷ ss) (suc (length ss)) s.blocks (also_wide (labels_in statements) (suc (length ss)) known)
           (also_new statements (suc (length ss)) known) f.stand;
       below = also_below (labels_in statements) (suc (length ss)) known f.below;
       first = record f.first { labels = labels_of statements ++ f.first.labels };
@@ -91,21 +92,23 @@ variables_described [] = refl
 variables_described (t ∷ ts) = ap (λ ds. t.description ∷ ds) (variables_described ts)
 
 -- a block's own statements
-pub in_own_block : (known : Known) (head : BlockHead) (parameters : List Description) (statements : TypedStatements) (link : ℕ) (ss : List Shape)
-    (s : TypingContext) (around : List BlockAround) → s.blocks ≡ block_of head parameters statements ∷ around → Stand known ss link around → IsBelow known (length ss)
-    → Fits (also (labels_in statements) (suc (length ss)) known)
-    (record { block = head.number; link = link; slots = parameters ++ map (λ v. v.description) (map variable_of head.variables) }) ss s head.number
-in_own_block known head parameters statements link ss s around e stand below =
+pub in_own_block : (units : List TypedUnit) (unit : Name) (known : Known) (head : BlockHead) (parameters : List Description) (statements : TypedStatements) (link : ℕ) (ss : List Shape)
+    (s : TypingContext) (around : List BlockAround) → s.blocks ≡ block_of head parameters statements ∷ around → IsUnit units unit s.globals → Stand unit known ss link around → IsBelow known (length ss)
+    → Fits units unit (also (labels_in statements) (suc (length ss)) known)
+    (record { unit = unit; block = head.number; link = link; slots = parameters ++ map (λ v. v.description) (map variable_of head.variables) }) ss s head.number
+in_own_block units unit known head parameters statements link ss s around e own stand below =
     let h = suc (length ss) in
     let more = also (labels_in statements) h known in
-    let y : Shape = record { block = head.number; link = link; slots = parameters ++ map (λ v. v.description) (map variable_of head.variables) } in record {
-      stand = subst (λ bs. Stand more (y ∷ ss) h bs) (sym e)
+    let y : Shape = record { unit = unit; block = head.number; link = link; slots = parameters ++ map (λ v. v.description) (map variable_of head.variables) } in record {
+      inside = record { own = own; top = refl };
+      stand = subst (λ bs. Stand unit more (y ∷ ss) h bs) (sym e)
           (inr (
             refl,
             refl,
             ap (λ ds. parameters ++ ds) (variables_described head.variables),
             also_new statements h known,
-            stand_wider known more ss link around (also_wide (labels_in statements) h known) stand,
+            stand_wider unit known more ss link around (also_wide (labels_in statements) h known) stand,
+            refl,
           ));
       below = also_below (labels_in statements) h known (λ i k lt. below i k (omega (arith, lt)));
       first = block_of head parameters statements;
@@ -115,37 +118,37 @@ in_own_block known head parameters statements link ss s around e stand below =
     }
 
 -- an activation: it is entered, runs and is left
-pub activation_means : {A : Type 0} (unit : Name) (statics : List Description) (P : Flow → World → Type 0) (Q : A → World → Type 0) (n : ℕ) (known : Known)
+pub activation_means : {A : Type 0} (units : List TypedUnit) (P : Flow → World → Type 0) (Q : A → World → Type 0) (n : ℕ) (known : Known)
     (ss : List Shape) (head : Head) (link : ℕ) (places : List Place) (parameters : List Description) (run : Doing Flow) (end : Flow → Doing A)
-    (w : World) (left : ℕ) → IsBelow known (length ss) → IsSound unit statics ss w → head.unit ≡ unit → AreGood w parameters places → AreMade head.variables
-    → ((v : World) (l : ℕ) → IsSound unit statics (record { block = head.block; link = link; slots = parameters ++ map (λ v. v.description) head.variables } ∷ ss) v
-    → Means unit statics n l known (record { block = head.block; link = link; slots = parameters ++ map (λ v. v.description) head.variables } ∷ ss) v P (run v l))
-    → ((x : Flow) (v : World) (l : ℕ) → P x v → IsSound unit statics (record { block = head.block; link = link; slots = parameters ++ map (λ v. v.description) head.variables } ∷ ss) v
-    → Means unit statics n l known ss v Q (end x v l))
-    → Means unit statics n left known ss w Q (activation_of head link places run end w left)
-activation_means unit statics P Q n known ss head link places parameters run end w left below sound e good made f g =
-    by (entered head link places w) (entered_answers unit statics head link places parameters ss w sound e good made)
+    (w : World) (left : ℕ) → IsBelow known (length ss) → IsSound units ss w → AreGood w parameters places → AreMade head.variables
+    → ((v : World) (l : ℕ) → IsSound units (record { unit = head.unit; block = head.block; link = link; slots = parameters ++ map (λ v. v.description) head.variables } ∷ ss) v
+    → Means units n l known (record { unit = head.unit; block = head.block; link = link; slots = parameters ++ map (λ v. v.description) head.variables } ∷ ss) v P (run v l))
+    → ((x : Flow) (v : World) (l : ℕ) → P x v → IsSound units (record { unit = head.unit; block = head.block; link = link; slots = parameters ++ map (λ v. v.description) head.variables } ∷ ss) v
+    → Means units n l known ss v Q (end x v l))
+    → Means units n left known ss w Q (activation_of head link places run end w left)
+activation_means units P Q n known ss head link places parameters run end w left below sound good made f g =
+    by (entered head link places w) (entered_answers units head link places parameters ss w sound good made)
   where
     y : Shape
-    y = record { block = head.block; link = link; slots = parameters ++ map (λ v. v.description) head.variables }
+    y = record { unit = head.unit; block = head.block; link = link; slots = parameters ++ map (λ v. v.description) head.variables }
 
-    by : (o : Answer (Unit {0})) → Answers (λ _ v. IsSound unit statics (y ∷ ss) v × IsLater w v) o
-        → Means unit statics n left known ss w Q (and_then (answered o left) (λ _ w left. leaving (run w left) end))
+    by : (o : Answer (Unit {0})) → Answers (λ _ v. IsSound units (y ∷ ss) v × IsLater w v) o
+        → Means units n left known ss w Q (and_then (answered o left) (λ _ w left. leaving (run w left) end))
     by (Yields _ v) h =
-        means_from unit statics Q n left left known ss w v (leaving (run v left) end) (omega arith) h.1
-        (leaving_means unit statics P Q n left known y ss v (run v left) end below (f v left h.0) (λ x u l le is s later. g x u l is s))
+        means_from units Q n left left known ss w v (leaving (run v left) end) (omega arith) h.1
+        (leaving_means units P Q n left known y ss v (run v left) end below (f v left h.0) (λ x u l le is s later. g x u l is s))
     by (Raises r v) h = h
     by Wrong h = h
 
-module _ (greatest level : ℕ) (call : Calls) (unit : Name) where
+module _ (units : List TypedUnit) (greatest level : ℕ) (call : Calls) (unit : Name) where
   abbrev Here : {A : Type 0} → TypingContext → Known → Shape → List Shape → (left : ℕ) → World → (A → World → Type 0) → Effect A → Type 0
-  Here s known x ss left u Is o = Means unit s.statics level left known (x ∷ ss) u Is o
+  Here s known x ss left u Is o = Means units level left known (x ∷ ss) u Is o
 
   abbrev Flows : TypingContext → Flow → World → Type 0
   Flows s = FlowIs s.begins s.value
 
   abbrev CallsIn : TypingContext → Type 0
-  CallsIn s = CallsMean unit s.statics s.procedures level call
+  CallsIn s = CallsMean units unit s.globals s.procedures level call
 
   -- what a list does from a label
   picked : (s : TypingContext) (known : Known) (x : Shape) (ss : List Shape) (w : World) (left : ℕ) (b c : Bool) (o other : Effect Flow) → b || c ≡ true
@@ -155,43 +158,43 @@ module _ (greatest level : ℕ) (call : Calls) (unit : Name) where
   picked s known x ss w left false c o other h f g = g h
 
   grown : (s : TypingContext) (known : Known) (x : Shape) (ss : List Shape) (w : World) (left : ℕ) (o : Effect Flow) → Here s known x ss left w (Flows s) o
-      → Means unit s.statics level (suc left) known (x ∷ ss) w (Flows s) o
-  grown s known x ss w left o h = means_from unit s.statics (Flows s) level left (suc left) known (x ∷ ss) w w o (omega arith) (later_same w) h
+      → Means units level (suc left) known (x ∷ ss) w (Flows s) o
+  grown s known x ss w left o h = means_from units (Flows s) level left (suc left) known (x ∷ ss) w w o (omega arith) (later_same w) h
 
   -- a list, which catches the jumps to its labels
   list_run : (s : TypingContext) (known : Known) (x : Shape) (ss : List Shape) (block : ℕ) (statements : TypedStatements)
-      → ((from : Option ℕ) → Starts statements from → (w : World) (left : ℕ) → IsSound unit s.statics (x ∷ ss) w
+      → ((from : Option ℕ) → Starts statements from → (w : World) (left : ℕ) → IsSound units (x ∷ ss) w
       → Here s (also (labels_in statements) (suc (length ss)) known) x ss left w (Flows s) (does_from greatest call unit level block statements from w left))
-      → (w : World) (left : ℕ) → IsSound unit s.statics (x ∷ ss) w
+      → (w : World) (left : ℕ) → IsSound units (x ∷ ss) w
       → Here s known x ss left w (Flows s) (does_list greatest call unit level block statements w left)
   list_run s known x ss block statements f w left sound =
-      caught_means unit s.statics (Flows s) level known (x ∷ ss) (labels_in statements) (does_from greatest call unit level block statements)
+      caught_means units (Flows s) level known (x ∷ ss) (labels_in statements) (does_from greatest call unit level block statements)
       (Starts statements) (λ k e. e) f level (omega arith) None tt w left sound
 
   -- a BEGIN block
-  begun : (s : TypingContext) (known : Known) (x : Shape) (ss : List Shape) (block : ℕ) (head : BlockHead) (statements : TypedStatements) → Fits known x ss s block
+  begun : (s : TypingContext) (known : Known) (x : Shape) (ss : List Shape) (block : ℕ) (head : BlockHead) (statements : TypedStatements) → Fits units unit known x ss s block
       → AreMade (map variable_of head.variables)
-      → ((y : Shape) → Fits (also (labels_in statements) (suc (length (x ∷ ss))) known) y (x ∷ ss) (in_begin head statements s) head.number
-      → (w : World) (left : ℕ) → IsSound unit s.statics (y ∷ x ∷ ss) w
+      → ((y : Shape) → Fits units unit (also (labels_in statements) (suc (length (x ∷ ss))) known) y (x ∷ ss) (in_begin head statements s) head.number
+      → (w : World) (left : ℕ) → IsSound units (y ∷ x ∷ ss) w
       → Here (in_begin head statements s) known y (x ∷ ss) left w (Flows (in_begin head statements s)) (does_list greatest call unit level head.number statements w left))
-      → (w : World) (left : ℕ) → IsSound unit s.statics (x ∷ ss) w
+      → (w : World) (left : ℕ) → IsSound units (x ∷ ss) w
       → Here s known x ss left w (Flows s)
       (in_block (head_in unit head) (static_link unit (Some block) w) (does_list greatest call unit level head.number statements) w left)
   begun s known x ss block head statements fits made f w left sound =
       let own : blocks_from block s.blocks ≡ Some s.blocks = first_block s.blocks fits.first fits.others fits.blocks fits.own in
       let n = near unit known w (x ∷ ss) w.activations (suc (length ss)) block s.blocks s.blocks sound.stack fits.stand own in
       let link : static_link unit (Some block) w ≡ Some n.link =
-      ap (λ h. nearest_of unit block w.activations h) (shaped_length unit w (x ∷ ss) w.activations sound.stack) ∙ n.walked in
+      ap (λ h. nearest_of unit block w.activations h) (shaped_length w (x ∷ ss) w.activations sound.stack) ∙ n.walked in
       subst (λ o. Here s known x ss left w (Flows s) (in_block (head_in unit head) o (does_list greatest call unit level head.number statements) w left)) (sym link)
-      (full_means unit s.statics (Flows s) level left known x ss
+      (full_means units (Flows s) level left known x ss
       (activation_of (head_in unit head) n.link [] (does_list greatest call unit level head.number statements) block_end) w sound
-      (activation_means unit s.statics (Flows (in_begin head statements s)) (Flows s) level known (x ∷ ss) (head_in unit head) n.link [] []
-      (does_list greatest call unit level head.number statements) block_end w left fits.below sound refl tt made
-      (λ v l sound. f (inner n.link) (in_own_block known head [] statements n.link (x ∷ ss) (in_begin head statements s) s.blocks refl n.stand fits.below) v l sound)
+      (activation_means units (Flows (in_begin head statements s)) (Flows s) level known (x ∷ ss) (head_in unit head) n.link [] []
+      (does_list greatest call unit level head.number statements) block_end w left fits.below sound tt made
+      (λ v l sound. f (inner n.link) (in_own_block units unit known head [] statements n.link (x ∷ ss) (in_begin head statements s) s.blocks refl fits.inside.own n.stand fits.below) v l sound)
       (λ y v l is sound. ended (inner n.link) y v l is sound)))
     where
       inner : ℕ → Shape
-      inner link = record { block = head.number; link = link; slots = [] ++ map (λ v. v.description) (map variable_of head.variables) }
+      inner link = record { unit = unit; block = head.number; link = link; slots = [] ++ map (λ v. v.description) (map variable_of head.variables) }
 
       first_block : (blocks : List BlockAround) (b : BlockAround) (bs : List BlockAround) → blocks ≡ b ∷ bs → b.number ≡ block
           → blocks_from block blocks ≡ Some blocks
@@ -199,51 +202,51 @@ module _ (greatest level : ℕ) (call : Calls) (unit : Name) where
           subst (λ blocks. blocks_from block blocks ≡ Some blocks) (sym e)
           (ap (λ t. if t then Some (b ∷ bs) else blocks_from block bs) (eq-eqb b.number block same))
 
-      ended : (z : Shape) (y : Flow) (v : World) (l : ℕ) → FlowIs (suc s.begins) s.value y v → IsSound unit s.statics (z ∷ x ∷ ss) v
+      ended : (z : Shape) (y : Flow) (v : World) (l : ℕ) → FlowIs (suc s.begins) s.value y v → IsSound units (z ∷ x ∷ ss) v
           → Here s known x ss l v (Flows s) (block_end y v l)
-      ended z Next v l is sound = (omega arith, tt, left_sound unit s.statics z (x ∷ ss) v sound, left_later unit s.statics v)
+      ended z Next v l is sound = (omega arith, tt, left_sound units z (x ∷ ss) v sound, left_later units v)
       ended z (Returned zero o) v l is sound = absurd (cc)
       ended z (Returned (suc outward) o) v l is sound = (
         omega arith,
         (let e = is.0 in omega (arith, e), is.1),
-        left_sound unit s.statics z (x ∷ ss) v sound,
-        left_later unit s.statics v,
+        left_sound units z (x ∷ ss) v sound,
+        left_later units v,
       )
 
   -- a condition, with the statement as it was
   test_means : (s : TypingContext) (known : Known) (x : Shape) (ss : List Shape) (block number : ℕ) (e : TypedExpression) → IsString greatest s OfBits e
-      → Fits known x ss s block → CallsIn s → (w : World) (left : ℕ) → IsSound unit s.statics (x ∷ ss) w
+      → Fits units unit known x ss s block → CallsIn s → (w : World) (left : ℕ) → IsSound units (x ∷ ss) w
       → Here s known x ss left w Anything (back_at number (condition greatest call e) w left)
   test_means s known x ss block number e typed fits calls w left sound =
-      let t = statement_sound unit s.statics (x ∷ ss) number w sound in
-      means_from unit s.statics Anything level left left known (x ∷ ss) w (at_statement number w) (condition greatest call e (at_statement number w) left) (omega arith) t.1
-      (condition_means greatest level call unit s known x ss block fits calls e typed (at_statement number w) left t.0)
+      let t = statement_sound units (x ∷ ss) number w sound in
+      means_from units Anything level left left known (x ∷ ss) w (at_statement number w) (condition greatest call e (at_statement number w) left) (omega arith) t.1
+      (condition_means units greatest level call unit s known x ss block fits calls e typed (at_statement number w) left t.0)
 
   mutual
     pub does_means : (st : TypedStatement) (s : TypingContext) (known : Known) (x : Shape) (ss : List Shape) (block : ℕ) → IsTypedStatement greatest s st
-        → Fits known x ss s block → CallsIn s → (w : World) (left : ℕ) → IsSound unit s.statics (x ∷ ss) w
+        → Fits units unit known x ss s block → CallsIn s → (w : World) (left : ℕ) → IsSound units (x ∷ ss) w
         → Here s known x ss left w (Flows s) (does greatest call unit level block st w left)
     does_means (Statement number form) s known x ss block typed fits calls w left sound =
-        statement_means unit s.statics (Flows s) level known (x ∷ ss) number (does_form greatest call unit level block number form) w left sound
+        statement_means units (Flows s) level known (x ∷ ss) number (does_form greatest call unit level block number form) w left sound
         (λ v l e sound. form_means form s known x ss block number typed fits calls v l sound)
 
     form_means : (form : Form) (s : TypingContext) (known : Known) (x : Shape) (ss : List Shape) (block number : ℕ) → IsTypedForm greatest s form
-        → Fits known x ss s block → CallsIn s → (w : World) (left : ℕ) → IsSound unit s.statics (x ∷ ss) w
-        → Means unit s.statics level (suc left) known (x ∷ ss) w (Flows s) (does_form greatest call unit level block number form w left)
+        → Fits units unit known x ss s block → CallsIn s → (w : World) (left : ℕ) → IsSound units (x ∷ ss) w
+        → Means units level (suc left) known (x ∷ ss) w (Flows s) (does_form greatest call unit level block number form w left)
     form_means Null s known x ss block number typed fits calls w left sound = (omega arith, tt, sound, later_same w)
     form_means (Assign target e) s known x ss block number typed fits calls w left sound =
-        grown s known x ss w left (assigns greatest call target e w left) (assigns_means greatest level call unit s known x ss block fits calls target e typed w left sound)
+        grown s known x ss w left (assigns greatest call target e w left) (assigns_means units greatest level call unit s known x ss block fits calls target e typed w left sound)
     form_means (AssignAggregate target source) s known x ss block number typed fits calls w left sound =
         grown s known x ss w left (assigns_aggregate greatest call target source w left)
-        (aggregate_means greatest level call unit s known x ss block fits calls target source typed w left sound)
+        (aggregate_means units greatest level call unit s known x ss block fits calls target source typed w left sound)
     form_means (Put skip items) s known x ss block number typed fits calls w left sound =
         grown s known x ss w left (skips greatest call skip (puts greatest call items) w left)
-        (skips_means greatest level call unit s known x ss block fits calls skip items typed w left sound)
+        (skips_means units greatest level call unit s known x ss block fits calls skip items typed w left sound)
     form_means (If e consequence alternative) s known x ss block number typed fits calls w left sound =
         grown s known x ss w left (does_form greatest call unit level block number (If e consequence alternative) w left)
-        (then_means unit s.statics Anything (Flows s) level left known (x ∷ ss) w (condition greatest call e w left) _
-        (condition_means greatest level call unit s known x ss block fits calls e typed.0 w left sound)
-        (λ b v l le any sound later. chosen_means unit s.statics (Flows s) level l known (x ∷ ss) v b
+        (then_means units Anything (Flows s) level left known (x ∷ ss) w (condition greatest call e w left) _
+        (condition_means units greatest level call unit s known x ss block fits calls e typed.0 w left sound)
+        (λ b v l le any sound later. chosen_means units (Flows s) level l known (x ∷ ss) v b
         (does greatest call unit level block consequence) (does_else greatest call unit level block alternative) v l
         (does_means consequence s known x ss block typed.1 fits calls v l sound)
         (else_means alternative s known x ss block typed.2 fits calls v l sound)))
@@ -256,66 +259,66 @@ module _ (greatest level : ℕ) (call : Calls) (unit : Name) where
     form_means (Group statements) s known x ss block number typed fits calls w left sound =
         grown s known x ss w left (does_list greatest call unit level block statements w left)
         (list_run (in_group statements s) known x ss block statements
-        (λ from starts u m sound. from_means statements from (in_group statements s) (also (labels_in statements) (suc (length ss)) known) x ss block typed (in_own_group known x ss s block statements fits) calls starts u m sound)
+        (λ from starts u m sound. from_means statements from (in_group statements s) (also (labels_in statements) (suc (length ss)) known) x ss block typed (in_own_group units unit known x ss s block statements fits) calls starts u m sound)
         w left sound)
     form_means (While e statements) s known x ss block number typed fits calls w left sound =
         grown s known x ss w left (does_form greatest call unit level block number (While e statements) w left)
-        (turns_means unit s.statics (Flows s) level known (x ∷ ss) number (back_at number (condition greatest call e))
+        (turns_means units (Flows s) level known (x ∷ ss) number (back_at number (condition greatest call e))
         (does_list greatest call unit level block statements) nothing_done (λ w. tt)
         (λ v l sound. test_means s known x ss block number e typed.0 fits calls v l sound)
         (λ v l sound. list_run (in_group statements s) known x ss block statements
-        (λ from starts u m sound. from_means statements from (in_group statements s) (also (labels_in statements) (suc (length ss)) known) x ss block typed.1 (in_own_group known x ss s block statements fits) calls starts u m sound)
+        (λ from starts u m sound. from_means statements from (in_group statements s) (also (labels_in statements) (suc (length ss)) known) x ss block typed.1 (in_own_group units unit known x ss s block statements fits) calls starts u m sound)
         v l sound)
         (λ v l sound. (omega arith, tt, sound, later_same v))
         level (omega arith) w left sound)
     form_means (Iterate iteration statements) s known x ss block number typed fits calls w left sound =
         grown s known x ss w left (does_form greatest call unit level block number (Iterate iteration statements) w left)
-        (iterates_means greatest level call unit s known x ss block fits calls number iteration (does_list greatest call unit level block statements) typed.0
+        (iterates_means units greatest level call unit s known x ss block fits calls number iteration (does_list greatest call unit level block statements) typed.0
         (λ v l sound. list_run (in_group statements s) known x ss block statements
-        (λ from starts u m sound. from_means statements from (in_group statements s) (also (labels_in statements) (suc (length ss)) known) x ss block typed.1 (in_own_group known x ss s block statements fits) calls starts u m sound)
+        (λ from starts u m sound. from_means statements from (in_group statements s) (also (labels_in statements) (suc (length ss)) known) x ss block typed.1 (in_own_group units unit known x ss s block statements fits) calls starts u m sound)
         v l sound)
         w left sound)
-    form_means (Call called arguments) s known x ss block number typed fits calls w left sound =
-        grown s known x ss w left (does_call greatest call called arguments w left)
-        (call_means greatest level call unit s known x ss block fits calls called arguments typed w left sound)
+    form_means (Call callee arguments) s known x ss block number typed fits calls w left sound =
+        grown s known x ss w left (does_call greatest call callee arguments w left)
+        (call_means units greatest level call unit s known x ss block fits calls callee arguments typed w left sound)
     form_means (Goto outward label) s known x ss block number typed fits calls w left sound =
-        jump_means greatest level call unit s known x ss block fits calls outward label typed w left sound
+        jump_means units greatest level call unit s known x ss block fits calls outward label typed w left sound
     form_means (Return outward) s known x ss block number typed fits calls w left sound =
         grown s known x ss w left (Gives (Returned outward None) w left)
-        (return_means greatest level call unit s known x ss block fits calls outward typed.0 typed.1 w left sound)
+        (return_means units greatest level call unit s known x ss block fits calls outward typed.0 typed.1 w left sound)
     form_means (ReturnValue outward e) s known x ss block number typed fits calls w left sound =
         grown s known x ss w left (returns_value greatest call outward e w left)
-        (value_returned greatest level call unit s known x ss block fits calls outward e typed w left sound)
+        (value_returned units greatest level call unit s known x ss block fits calls outward e typed w left sound)
     form_means Stop s known x ss block number typed fits calls w left sound = ended_other
 
     else_means : (alternative : OtherWise) (s : TypingContext) (known : Known) (x : Shape) (ss : List Shape) (block : ℕ) → IsTypedElse greatest s alternative
-        → Fits known x ss s block → CallsIn s → (w : World) (left : ℕ) → IsSound unit s.statics (x ∷ ss) w
+        → Fits units unit known x ss s block → CallsIn s → (w : World) (left : ℕ) → IsSound units (x ∷ ss) w
         → Here s known x ss left w (Flows s) (does_else greatest call unit level block alternative w left)
     else_means NoElse s known x ss block typed fits calls w left sound = (omega arith, tt, sound, later_same w)
     else_means (Else st) s known x ss block typed fits calls w left sound = does_means st s known x ss block typed fits calls w left sound
 
     from_means : (statements : TypedStatements) (from : Option ℕ) (s : TypingContext) (known : Known) (x : Shape) (ss : List Shape) (block : ℕ)
-        → AreTypedStatements greatest s statements → Fits known x ss s block → CallsIn s → Starts statements from
-        → (w : World) (left : ℕ) → IsSound unit s.statics (x ∷ ss) w
+        → AreTypedStatements greatest s statements → Fits units unit known x ss s block → CallsIn s → Starts statements from
+        → (w : World) (left : ℕ) → IsSound units (x ∷ ss) w
         → Here s known x ss left w (Flows s) (does_from greatest call unit level block statements from w left)
     from_means NoStatement None s known x ss block typed fits calls starts w left sound = (omega arith, tt, sound, later_same w)
     from_means NoStatement (Some label) s known x ss block typed fits calls starts w left sound = absurd (cc)
     from_means (StatementThen st more) None s known x ss block typed fits calls starts w left sound =
-        followed_means unit s.statics (Flows s) level left known (x ∷ ss) w (does greatest call unit level block st w left) _
+        followed_means units (Flows s) level left known (x ∷ ss) w (does greatest call unit level block st w left) _
         (does_means st s known x ss block typed.0 fits calls w left sound)
         (λ v l le sound. from_means more None s known x ss block typed.1 fits calls tt v l sound)
     from_means (StatementThen st more) (Some label) s known x ss block typed fits calls starts w left sound =
         picked s known x ss w left (nat_eq (number_of st) label) (labels_in more label)
         (followed (does greatest call unit level block st w left) (does_from greatest call unit level block more None))
         (does_from greatest call unit level block more (Some label) w left) starts
-        (followed_means unit s.statics (Flows s) level left known (x ∷ ss) w (does greatest call unit level block st w left) _
+        (followed_means units (Flows s) level left known (x ∷ ss) w (does greatest call unit level block st w left) _
         (does_means st s known x ss block typed.0 fits calls w left sound)
         (λ v l le sound. from_means more None s known x ss block typed.1 fits calls tt v l sound))
         (λ there. from_means more (Some label) s known x ss block typed.1 fits calls there w left sound)
 
   pub list_means : (statements : TypedStatements) (s : TypingContext) (known : Known) (x : Shape) (ss : List Shape) (block : ℕ)
-      → AreTypedStatements greatest s statements → Fits (also (labels_in statements) (suc (length ss)) known) x ss s block → CallsIn s
-      → (w : World) (left : ℕ) → IsSound unit s.statics (x ∷ ss) w
+      → AreTypedStatements greatest s statements → Fits units unit (also (labels_in statements) (suc (length ss)) known) x ss s block → CallsIn s
+      → (w : World) (left : ℕ) → IsSound units (x ∷ ss) w
       → Here s known x ss left w (Flows s) (does_list greatest call unit level block statements w left)
   list_means statements s known x ss block typed fits calls w left sound =
       list_run s known x ss block statements

@@ -1,21 +1,22 @@
 -- The variables that are made before the program begins are there, where they have room.
-use Rattle.std.specs.Prelude.{◌≡◌, ℕ, zero, suc, ◌+◌, ◌≤◌, nat_eq, Bool, true, false, ◌&&◌, Some, None, List, [], ◌∷◌, ◌++◌}
+use Rattle.std.specs.Prelude.{◌≡◌, ℕ, zero, suc, ◌+◌, ◌≤◌, nat_eq, Bool, true, false, ◌&&◌, ◌||◌, Option, Some, None, List, [], ◌∷◌, ◌++◌}
 use Rattle.std.specs.Prelude.{length, map, slice_get, if◌then◌else◌, refl}
-use Rattle.std.proofs.Common.{arith, sym, ap, ◌∙◌, subst}
+use Rattle.std.specs.Cmp.Lexicographic.{same_text}
+use Rattle.std.proofs.Common.{arith, sym, ap, ◌∙◌, subst, append_assoc, length-append}
 use Rattle.std.proofs.lemmas.Bool.{eqb-true, eq-eqb}
 use Rattle.pli_base.specs.Name.{Name}
-use Rattle.pli_base.specs.Words.{same_name}
+use Rattle.pli_base.specs.Words.{same_name, is_among}
 use Rattle.pli_map.specs.Description.{Description}
 use Rattle.pli_map.specs.Sizes.{size_of}
 use Rattle.pli_store.specs.Storage.{Generation, Static as AsStatic, Place, whole, live_bytes, byte_limit, generation_limit}
-use Rattle.pli_store.specs.World.{Static, World, Yields, further, static_in, statics_made, nothing}
-use Rattle.pli_value.specs.Value.{Value}
+use Rattle.pli_store.specs.World.{Static, World, Answer, Yields, further, static_in, is_named, external_in, made_of, made_once, with_static, statics_made, nothing}
+use Rattle.pli_type_tree.specs.Globals.{global_variable, templates_in, description_of}
 use Rattle.pli_type_tree.specs.Templates.{Template, variable_of}
-use Rattle.pli_type_tree.specs.TypedTree.{TypedUnit}
-use Rattle.pli_type_tree.specs.WellTyped.{scalars_of, AreHeld, AreMade}
+use Rattle.pli_type_tree.specs.TypedTree.{Global, OwnVariable, ExternalVariable, EntryPoint, TypedUnit}
+use Rattle.pli_type_tree.specs.WellTyped.{AreMade}
 use Rattle.pli_meaning_tree.specs.TreeMeaning.{all_made}
 use Rattle.pli_meaning_typed.specs.SoundWorlds.{IsGood, HoldsValues, AreStatics, IsLater}
-use Rattle.pli_meaning_typed.specs.TypedPrograms.{descriptions, NoneIsNamed, AreNamedApart, bytes_of, static_bytes, static_count, AreTypedUnits}
+use Rattle.pli_meaning_typed.specs.TypedPrograms.{NoneIsNamed, AreNamedApart, all_globals, IsLinked, unless, made_for, bytes_of, AreTypedUnits}
 use Rattle.pli_meaning_typed.proofs.ContextLaws.{same_self}
 use Rattle.pli_meaning_typed.proofs.WorldLaws.{later_same, later_then, good_later, new_generation, with_new, new_later, new_values, new_good, room_gives}
 
@@ -50,172 +51,395 @@ live_more : (gs : List Generation) (g : Generation) → live_bytes (gs ++ g ∷ 
 live_more [] g = omega arith
 live_more (x ∷ gs) g = omega (arith, live_more gs g)
 
--- what making the variables of a unit, from a number on, comes to
-record MakesAll (name : Name) (number : ℕ) (ts : List Template) (w v : World) : Type 0 where
-  values : HoldsValues v
+-- what is made behind what was made
+further_gives : {A : Type 0} (a : Answer A) (go : A → World → Answer Unit) (y : A) (x z : World) → a ≡ Yields y x → go y x ≡ Yields tt z → further a go ≡ Yields tt z
+further_gives a go y x z e f = ap (λ o. further o go) e ∙ f
+
+-- the globals of a unit are among all
+
+among_front : (xs ys : List Global) (i : ℕ) (g : Global) → slice_get xs i ≡ Some g → slice_get (xs ++ ys) i ≡ Some g
+among_front [] ys i g e = absurd (none_some e)
+among_front (x ∷ xs) ys zero g e = e
+among_front (x ∷ xs) ys (suc i) g e = among_front xs ys i g e
+
+among_behind : (xs ys : List Global) (i : ℕ) (g : Global) → slice_get ys i ≡ Some g → (k : ℕ) × (slice_get (xs ++ ys) k ≡ Some g)
+among_behind [] ys i g e = (i, e)
+among_behind (x ∷ xs) ys i g e = let r = among_behind xs ys i g e in (suc r.0, r.1)
+
+pub global_among : (us : List TypedUnit) (i : ℕ) (u : TypedUnit) (number : ℕ) (g : Global) → slice_get us i ≡ Some u → slice_get u.globals number ≡ Some g
+    → (k : ℕ) × (slice_get (all_globals us) k ≡ Some g)
+global_among [] i u number g e h = absurd (none_some e)
+global_among (v ∷ us) zero u number g e h =
+    (number, among_front v.globals (all_globals us) number g (ap (λ u. slice_get u.globals number) (some_same e) ∙ h))
+global_among (v ∷ us) (suc i) u number g e h =
+    let r = global_among us i u number g e h in among_behind v.globals (all_globals us) r.0 g r.1
+
+-- what is made for globals, in parts
+
+abbrev named_after : List Name → List Global → List Name
+named_after before [] = before
+named_after before (OwnVariable t ∷ gs) = named_after before gs
+named_after before (ExternalVariable name t ∷ gs) = named_after (name ∷ before) gs
+named_after before (EntryPoint name s ∷ gs) = named_after before gs
+
+made_in_parts : (before : List Name) (gs hs : List Global) → made_for before (gs ++ hs) ≡ made_for before gs ++ made_for (named_after before gs) hs
+made_in_parts before [] hs = refl
+made_in_parts before (OwnVariable t ∷ gs) hs = ap (λ ts. t ∷ ts) (made_in_parts before gs hs)
+made_in_parts before (ExternalVariable name t ∷ gs) hs =
+    ap (λ ts. unless (is_among name before) t ++ ts) (made_in_parts (name ∷ before) gs hs)
+    ∙ sym (append_assoc (unless (is_among name before) t) (made_for (name ∷ before) gs) (made_for (named_after (name ∷ before) gs) hs))
+made_in_parts before (EntryPoint name s ∷ gs) hs = made_in_parts before gs hs
+
+bytes_in_parts : (ts us : List Template) → bytes_of (ts ++ us) ≡ bytes_of ts + bytes_of us
+bytes_in_parts [] us = omega arith
+bytes_in_parts (t ∷ ts) us = omega (arith, bytes_in_parts ts us)
+
+-- a static more, by the names of external variables
+abbrev first_of : Option Place → Option Place → Option Place
+first_of (Some p) o = Some p
+first_of None o = o
+
+external_more : (ss : List Static) (s : Static) (name : Name) → external_in (ss ++ s ∷ []) name ≡ first_of (external_in ss name) (if is_named name s.external then Some s.place else None)
+external_more [] s name = refl
+external_more (t ∷ ss) s name = by (is_named name t.external) (external_more ss s name)
+  where
+    by : (b : Bool) → external_in (ss ++ s ∷ []) name ≡ first_of (external_in ss name) (if is_named name s.external then Some s.place else None)
+        → (if b then Some t.place else external_in (ss ++ s ∷ []) name)
+        ≡ first_of (if b then Some t.place else external_in ss name) (if is_named name s.external then Some s.place else None)
+    by true rest = refl
+    by false rest = rest
+
+first_alone : (o : Option Place) → first_of o None ≡ o
+first_alone (Some p) = refl
+first_alone None = refl
+
+-- what is declared of an external variable
+abbrev Declared : List Global → Name → Template → Type 0
+Declared all name t = (k : ℕ) × (slice_get all k ≡ Some (ExternalVariable name t))
+
+-- the external variables of these names are made, and no others; each is as it is declared
+abbrev IsMade : List Global → World → Name → Bool → Option Place → Type 0
+IsMade all w name true (Some p) = (t : Template) → Declared all name t → IsGood w t.description p
+IsMade all w name true None = ⊥
+IsMade all w name false (Some p) = ⊥
+IsMade all w name false None = Unit {0}
+
+abbrev AreExternals : List Global → (before : List Name) → World → Type 0
+AreExternals all before w = (name : Name) → IsMade all w name (is_among name before) (external_in w.statics name)
+
+made_later : (all : List Global) (w v : World) (name : Name) (b : Bool) (o : Option Place) → IsLater w v → IsMade all w name b o → IsMade all v name b o
+made_later all w v name true (Some p) later h = λ t d. good_later w v t.description p later (h t d)
+made_later all w v name true None later h = absurd h
+made_later all w v name false (Some p) later h = absurd h
+made_later all w v name false None later h = tt
+
+-- what making the variables of a unit, from a number on, leaves and adds
+record Grown (name : Name) (number : ℕ) (gs : List Global) (w v : World) : Type 0 where
   later : IsLater w v
-  bytes : live_bytes v.storage ≡ live_bytes w.storage + bytes_of ts
-  count : v.made ≡ w.made + length ts
-  stack : v.activations ≡ w.activations
   kept : (unit : Name) (k : ℕ) (p : Place) → static_in w.statics unit k ≡ Some p → static_in v.statics unit k ≡ Some p
   apart : (unit : Name) (k : ℕ) → same_name name unit ≡ false → static_in w.statics unit k ≡ None → static_in v.statics unit k ≡ None
   found :
-      ((k : ℕ) → number ≤ k → static_in w.statics name k ≡ None) → (i : ℕ) (d : Description) → slice_get (descriptions ts) i ≡ Some d
+      ((k : ℕ) → number ≤ k → static_in w.statics name k ≡ None) → (i : ℕ) (d : Description) → description_of (slice_get gs i) ≡ Some d
       → (p : Place) × (static_in v.statics name (number + i) ≡ Some p) × IsGood v d p
 
-abbrev with_static : Template → Name → ℕ → World → World
-with_static t name number w = record (with_new t.description AsStatic (variable_of t).initial w) {
-  statics = w.statics ++ record { unit = name; number = number; place = whole w.made t.description } ∷ [];
-}
+-- a static more, at a place that is good
+module _ (name : Name) (number : ℕ) (external : Option Name) (d : Description) (p : Place) (w x : World) (same : x.statics ≡ w.statics) (later : IsLater w x)
+    (good : IsGood x d p) where
+  abbrev with_one : World
+  with_one = with_static name number external p x
 
-one_more : (t : Template) (ts : List Template) (name : Name) (number : ℕ) (w v : World) → HoldsValues w → AreHeld (scalars_of t.description) (variable_of t).initial
-    → MakesAll name (suc number) ts (with_static t name number w) v → MakesAll name number (t ∷ ts) w v
-one_more t ts name number w v values made m = record {
-  values = m.values;
-  later = later_then w w2 v later2 m.later;
-  bytes = omega (arith, m.bytes, live_more w.storage (new_generation d AsStatic vs w));
-  count = omega (arith, m.count);
-  stack = m.stack;
-  kept = λ unit k p h. m.kept unit k p (more_kept w.statics s unit k p h);
-  apart = λ unit k e h. m.apart unit k e (more_behind w.statics s unit k h ∙ ap (λ b. if b && nat_eq number k then Some s.place else None) e);
-  found = λ fresh i c e. found fresh i c e;
-}
+  abbrev new_one : Static
+  new_one = record { unit = name; number = number; external = external; place = p }
+
+  statics_are : with_one.statics ≡ w.statics ++ new_one ∷ []
+  statics_are = ap (λ ss. ss ++ new_one ∷ []) same
+
+  one_later : IsLater w with_one
+  one_later = record { more = later.more; lived = later.lived }
+
+  one_after : IsLater x with_one
+  one_after = record { more = omega arith; lived = λ n g lt h. (g, h, refl) }
+
+  grown_more : (g : Global) (gs : List Global) (v : World) → description_of (Some g) ≡ Some d → Grown name (suc number) gs with_one v → Grown name number (g ∷ gs) w v
+  grown_more g gs v is m = record {
+    later = later_then w with_one v one_later m.later;
+    kept = λ unit k q h. m.kept unit k q (subst (λ ss. static_in ss unit k ≡ Some q) (sym statics_are) (more_kept w.statics new_one unit k q h));
+    apart = λ unit k e h. m.apart unit k e (subst (λ ss. static_in ss unit k ≡ None) (sym statics_are)
+        (more_behind w.statics new_one unit k h ∙ ap (λ b. if b && nat_eq number k then Some p else None) e));
+    found = found;
+  }
+    where
+      unlike : (k : ℕ) → suc number ≤ k → nat_eq number k ≡ false
+      unlike k le = by (nat_eq number k) refl
+        where
+          by : (b : Bool) → nat_eq number k ≡ b → b ≡ false
+          by true e = absurd (omega (arith, eqb-true number k e, le))
+          by false e = refl
+
+      found : ((k : ℕ) → number ≤ k → static_in w.statics name k ≡ None) → (i : ℕ) (c : Description) → description_of (slice_get (g ∷ gs) i) ≡ Some c
+          → (q : Place) × (static_in v.statics name (number + i) ≡ Some q) × IsGood v c q
+      found fresh zero c e =
+          let z : number ≡ number + 0 = omega arith in
+          let here : static_in with_one.statics name number ≡ Some p =
+          ap (λ ss. static_in ss name number) statics_are
+          ∙ more_behind w.statics new_one name number (fresh number (omega arith))
+          ∙ ap (λ b. if b && nat_eq number number then Some p else None) (same_self name)
+          ∙ ap (λ b. if b then Some p else None) (eq-eqb number number refl) in (
+            p,
+            subst (λ n. static_in v.statics name n ≡ Some p) z (m.kept name number p here),
+            subst (λ c. IsGood v c p) (some_same (sym is ∙ e)) (good_later x v d p (later_then x with_one v one_after m.later) good),
+          )
+      found fresh (suc i) c e =
+          let z : suc number + i ≡ number + suc i = omega arith in
+          let q = m.found (λ k le. ap (λ ss. static_in ss name k) statics_are
+          ∙ more_behind w.statics new_one name k (fresh k (omega (arith, le)))
+          ∙ ap (λ b. if b && nat_eq number k then Some p else None) (same_self name)
+          ∙ ap (λ b. if b then Some p else None) (unlike k le)) i c e in
+          (q.0, subst (λ n. static_in v.statics name n ≡ Some q.0) z q.1, q.2)
+
+  external_at : (other : Name) → external_in with_one.statics other ≡ first_of (external_in w.statics other) (if is_named other external then Some p else None)
+  external_at other = ap (λ ss. external_in ss other) statics_are ∙ external_more w.statics new_one other
+
+-- the external variables stay, or one of a name is added
+own_externals : (all : List Global) (before : List Name) (name : Name) (number : ℕ) (d : Description) (p : Place) (w x : World) (same : x.statics ≡ w.statics) (later : IsLater w x)
+    (good : IsGood x d p) → AreExternals all before w → AreExternals all before (with_static name number None p x)
+own_externals all before name number d p w x same later good h other =
+    subst (λ o. IsMade all (with_static name number None p x) other (is_among other before) o)
+    (sym (external_at name number None d p w x same later good other ∙ first_alone (external_in w.statics other)))
+    (made_later all w (with_static name number None p x) other (is_among other before) (external_in w.statics other) (one_later name number None d p w x same later good) (h other))
+
+named_externals : (all : List Global) → ((i j : ℕ) (name : Name) (one other : Template) → slice_get all i ≡ Some (ExternalVariable name one) → slice_get all j ≡ Some (ExternalVariable name other) → one ≡ other)
+    → (before : List Name) (unit : Name) (number : ℕ) (name : Name) (t : Template) (p : Place) (w x : World) (same : x.statics ≡ w.statics) (later : IsLater w x)
+    (good : IsGood x t.description p) → Declared all name t → first_of (external_in w.statics name) (Some p) ≡ Some p
+    → AreExternals all before w → AreExternals all (name ∷ before) (with_static unit number (Some name) p x)
+named_externals all alike before unit number name t p w x same later good declared now h other = by (same_name other name) refl
   where
-    d : Description
-    d = t.description
+    v : World
+    v = with_static unit number (Some name) p x
 
-    vs : List Value
-    vs = (variable_of t).initial
-
-    s : Static
-    s = record { unit = name; number = number; place = whole w.made d }
-
-    w2 : World
-    w2 = with_static t name number w
-
-    w1 : World
-    w1 = with_new d AsStatic vs w
-
-    later1 : IsLater w w1
-    later1 = new_later d AsStatic vs w values made
-
-    later2 : IsLater w w2
-    later2 = record { more = later1.more; lived = later1.lived }
-
-    after : IsLater w1 w2
+    after : IsLater x v
     after = record { more = omega arith; lived = λ n g lt h. (g, h, refl) }
 
-    unlike : (k : ℕ) → suc number ≤ k → nat_eq number k ≡ false
-    unlike k le = by (nat_eq number k) refl
-      where
-        by : (b : Bool) → nat_eq number k ≡ b → b ≡ false
-        by true e = absurd (omega (arith, eqb-true number k e, le))
-        by false e = refl
+    this : IsMade all v name true (Some p)
+    this = λ one d. subst (λ t. IsGood v t.description p) (alike declared.0 d.0 name t one declared.1 d.1) (good_later x v t.description p after good)
 
-    found : ((k : ℕ) → number ≤ k → static_in w.statics name k ≡ None) → (i : ℕ) (c : Description) → slice_get (descriptions (t ∷ ts)) i ≡ Some c
-        → (p : Place) × (static_in v.statics name (number + i) ≡ Some p) × IsGood v c p
-    found fresh zero c e =
-        let z : number ≡ number + 0 = omega arith in
-        let here : static_in w2.statics name number ≡ Some (whole w.made d) =
-        more_behind w.statics s name number (fresh number (omega arith))
-        ∙ ap (λ b. if b && nat_eq number number then Some s.place else None) (same_self name)
-        ∙ ap (λ b. if b then Some s.place else None) (eq-eqb number number refl) in (
-          whole w.made d,
-          subst (λ n. static_in v.statics name n ≡ Some (whole w.made d)) z (m.kept name number (whole w.made d) here),
-          subst (λ c. IsGood v c (whole w.made d)) (some_same e)
-              (good_later w1 v d (whole w.made d) (later_then w1 w2 v after m.later) (new_good d AsStatic vs w values made)),
-        )
-    found fresh (suc i) c e =
-        let z : suc number + i ≡ number + suc i = omega arith in
-        let p = m.found (λ k le. more_behind w.statics s name k (fresh k (omega (arith, le)))
-        ∙ ap (λ b. if b && nat_eq number k then Some s.place else None) (same_self name)
-        ∙ ap (λ b. if b then Some s.place else None) (unlike k le)) i c e in
-        (p.0, subst (λ n. static_in v.statics name n ≡ Some p.0) z p.1, p.2)
+    by : (b : Bool) → same_name other name ≡ b → IsMade all v other (b || is_among other before) (external_in v.statics other)
+    by true e =
+        subst (λ o. IsMade all v other true o)
+        (sym (external_at unit number (Some name) t.description p w x same later good other
+        ∙ ap (λ b. first_of (external_in w.statics other) (if b then Some p else None)) e
+        ∙ ap (λ n. first_of (external_in w.statics n) (Some p)) (same_text other name (sym e)) ∙ now))
+        (subst (λ n. IsMade all v n true (Some p)) (sym (same_text other name (sym e))) this)
+    by false e =
+        subst (λ o. IsMade all v other (is_among other before) o)
+        (sym (external_at unit number (Some name) t.description p w x same later good other
+        ∙ ap (λ b. first_of (external_in w.statics other) (if b then Some p else None)) e ∙ first_alone (external_in w.statics other)))
+        (made_later all w v other (is_among other before) (external_in w.statics other) (one_later unit number (Some name) t.description p w x same later good) (h other))
 
-makes_all : (ts : List Template) (name : Name) (number : ℕ) (w : World) → HoldsValues w → AreMade (map variable_of ts)
-    → w.made + length ts ≤ generation_limit → live_bytes w.storage + bytes_of ts ≤ byte_limit
-    → (v : World) × (statics_made name number (map variable_of ts) w ≡ Yields tt v) × MakesAll name number ts w v
-makes_all [] name number w values made few small = (
-  w,
-  refl,
-  record {
-    values = values;
-    later = later_same w;
-    bytes = omega arith;
-    count = omega arith;
-    stack = refl;
-    kept = λ unit k p h. h;
-    apart = λ unit k e h. h;
-    found = λ fresh i d e. absurd (none_some e);
-  },
-)
-makes_all (t ∷ ts) name number w values made few small =
-    let d = t.description in
-    let vs = (variable_of t).initial in
-    let w2 = with_static t name number w in
-    let few2 : suc w.made + length ts ≤ generation_limit = omega (arith, few) in
-    let small2 : live_bytes (w.storage ++ new_generation d AsStatic vs w ∷ []) + bytes_of ts ≤ byte_limit =
-    omega (arith, small, live_more w.storage (new_generation d AsStatic vs w)) in
-    let rest = makes_all ts name (suc number) w2 (new_values d AsStatic vs w values made.0) made.1 few2 small2 in (
-      rest.0,
-      ap (λ o. further o (λ p w. statics_made name (suc number) (map variable_of ts) (record w { statics = w.statics ++ record { unit = name; number = number; place = p } ∷ [] })))
-          (room_gives d AsStatic vs w values made.0 (omega (arith, few)) (omega (arith, small))) ∙ rest.1,
-      one_more t ts name number w rest.0 values made.0 rest.2,
-    )
+module _ (all : List Global)
+    (alike : (i j : ℕ) (name : Name) (one other : Template) → slice_get all i ≡ Some (ExternalVariable name one) → slice_get all j ≡ Some (ExternalVariable name other) → one ≡ other) where
+  -- what making the variables of a unit, from a number on, comes to
+  record MakesAll (name : Name) (number : ℕ) (before : List Name) (gs : List Global) (w v : World) : Type 0 where
+    values : HoldsValues v
+    bytes : live_bytes v.storage ≡ live_bytes w.storage + bytes_of (made_for before gs)
+    count : v.made ≡ w.made + length (made_for before gs)
+    stack : v.activations ≡ w.activations
+    externals : AreExternals all (named_after before gs) v
+    grown : Grown name number gs w v
 
--- the variables of all units: those of a unit whose name no unit before has are there
-record Made (us : List TypedUnit) (w v : World) : Type 0 where
-  values : HoldsValues v
-  later : IsLater w v
-  stack : v.activations ≡ w.activations
-  kept : (unit : Name) (k : ℕ) (p : Place) → static_in w.statics unit k ≡ Some p → static_in v.statics unit k ≡ Some p
-  found :
-      (n : ℕ) (u : TypedUnit) → slice_get us n ≡ Some u
-      → ((other : TypedUnit) (i k : ℕ) → slice_get us i ≡ Some other → static_in w.statics other.name k ≡ None)
-      → AreStatics u.name (descriptions u.statics) v
+  abbrev Makes : (name : Name) (number : ℕ) → List Name → List Global → World → Answer Unit → Type 0
+  Makes name number before gs w a = (v : World) × (a ≡ Yields tt v) × MakesAll name number before gs w v
 
-named_apart : (name : Name) (us : List TypedUnit) (i : ℕ) (u : TypedUnit) → NoneIsNamed name us → slice_get us i ≡ Some u → same_name name u.name ≡ false
-named_apart name [] i u h e = absurd (none_some e)
-named_apart name (v ∷ us) zero u h e = subst (λ v. same_name name v.name ≡ false) (some_same e) h.0
-named_apart name (v ∷ us) (suc i) u h e = named_apart name us i u h.1 e
+  -- all globals of a unit are among all
+  abbrev AreAmong : List Global → Type 0
+  AreAmong gs = (i : ℕ) (g : Global) → slice_get gs i ≡ Some g → (k : ℕ) × (slice_get all k ≡ Some g)
 
-all_are_made : (n : ℕ) (us : List TypedUnit) (w : World) → AreTypedUnits n us → AreNamedApart us → HoldsValues w
-    → w.made + static_count us ≤ generation_limit → live_bytes w.storage + static_bytes us ≤ byte_limit
-    → (v : World) × (all_made us w ≡ Yields tt v) × Made us w v
-all_are_made n [] w typed names values few small =
-    (w, refl, record { values = values; later = later_same w; stack = refl; kept = λ unit k p h. h; found = λ i u e fresh. absurd (none_some e) })
-all_are_made n (u ∷ us) w typed names values few small =
-    let first = makes_all u.statics u.name 0 w values typed.0.made (omega (arith, few)) (omega (arith, small)) in
-    let m = first.2 in
-    let rest = all_are_made n us first.0 typed.1 names.1 m.values (omega (arith, few, m.count)) (omega (arith, small, m.bytes)) in
-    let r = rest.2 in (
-      rest.0,
-      ap (λ o. further o (λ _ w. all_made us w)) first.1 ∙ rest.1,
-      record {
-        values = r.values;
-        later = later_then w first.0 rest.0 m.later r.later;
-        stack = r.stack ∙ m.stack;
-        kept = λ unit k p h. r.kept unit k p (m.kept unit k p h);
-        found = λ i v e fresh. found first.0 rest.0 m r i v e fresh;
-      },
-    )
-  where
-    found : (w1 v1 : World) → MakesAll u.name 0 u.statics w w1 → Made us w1 v1 → (i : ℕ) (v : TypedUnit) → slice_get (u ∷ us) i ≡ Some v
-        → ((other : TypedUnit) (i k : ℕ) → slice_get (u ∷ us) i ≡ Some other → static_in w.statics other.name k ≡ None)
-        → AreStatics v.name (descriptions v.statics) v1
-    found w1 v1 m r zero v e fresh =
-        subst (λ v. AreStatics v.name (descriptions v.statics) v1) (some_same e)
-        (λ k d h. let p = m.found (λ k le. fresh u 0 k refl) k d h in
-        let z : 0 + k ≡ k = omega arith in
-        (p.0, r.kept u.name k p.0 (subst (λ n. static_in w1.statics u.name n ≡ Some p.0) z p.1), good_later w1 v1 d p.0 r.later p.2))
-    found w1 v1 m r (suc i) v e fresh =
-        r.found i v e (λ other j k f. m.apart other.name k (named_apart u.name us j other names.0 f) (fresh other (suc j) k f))
+  makes_all : (gs : List Global) (name : Name) (number : ℕ) (before : List Name) (w : World) → HoldsValues w → AreExternals all before w → AreMade (map variable_of (templates_in gs)) → AreAmong gs
+      → w.made + length (made_for before gs) ≤ generation_limit → live_bytes w.storage + bytes_of (made_for before gs) ≤ byte_limit
+      → Makes name number before gs w (statics_made name number (map global_variable gs) w)
+  makes_all [] name number before w values externals made among few small = (
+    w,
+    refl,
+    record {
+      values = values;
+      bytes = omega arith;
+      count = omega arith;
+      stack = refl;
+      externals = externals;
+      grown = record { later = later_same w; kept = λ unit k p h. h; apart = λ unit k e h. h; found = λ fresh i d e. absurd (none_some e) };
+    },
+  )
+  makes_all (EntryPoint entry s ∷ gs) name number before w values externals made among few small =
+      let r = makes_all gs name (suc number) before w values externals made (λ i g e. among (suc i) g e) few small in
+      let m = r.2 in (
+        r.0,
+        r.1,
+        record {
+          values = m.values;
+          bytes = m.bytes;
+          count = m.count;
+          stack = m.stack;
+          externals = m.externals;
+          grown = record { later = m.grown.later; kept = m.grown.kept; apart = m.grown.apart; found = found r.0 m.grown };
+        },
+      )
+    where
+      found : (v : World) → Grown name (suc number) gs w v → ((k : ℕ) → number ≤ k → static_in w.statics name k ≡ None) → (i : ℕ) (d : Description)
+          → description_of (slice_get (EntryPoint entry s ∷ gs) i) ≡ Some d → (p : Place) × (static_in v.statics name (number + i) ≡ Some p) × IsGood v d p
+      found v m fresh zero d e = absurd (none_some e)
+      found v m fresh (suc i) d e =
+          let z : suc number + i ≡ number + suc i = omega arith in
+          let q = m.found (λ k le. fresh k (omega (arith, le))) i d e in
+          (q.0, subst (λ n. static_in v.statics name n ≡ Some q.0) z q.1, q.2)
+  makes_all (OwnVariable t ∷ gs) name number before w values externals made among few small =
+      let d = t.description in
+      let vs = (variable_of t).initial in
+      let x = with_new d AsStatic vs w in
+      let p = whole w.made d in
+      let later = new_later d AsStatic vs w values made.0 in
+      let good = new_good d AsStatic vs w values made.0 in
+      let few2 : suc w.made + length (made_for before gs) ≤ generation_limit = omega (arith, few) in
+      let small2 : live_bytes (w.storage ++ new_generation d AsStatic vs w ∷ []) + bytes_of (made_for before gs) ≤ byte_limit =
+      omega (arith, small, live_more w.storage (new_generation d AsStatic vs w)) in
+      let r = makes_all gs name (suc number) before (with_static name number None p x) (new_values d AsStatic vs w values made.0)
+      (own_externals all before name number d p w x refl later good externals) made.1 (λ i g e. among (suc i) g e) few2 small2 in
+      let m = r.2 in (
+        r.0,
+        further_gives (made_of d AsStatic vs w) (λ p w. statics_made name (suc number) (map global_variable gs) (with_static name number None p w)) p x r.0
+            (room_gives d AsStatic vs w values made.0 (omega (arith, few)) (omega (arith, small))) r.1,
+        record {
+          values = m.values;
+          bytes = omega (arith, m.bytes, live_more w.storage (new_generation d AsStatic vs w));
+          count = omega (arith, m.count);
+          stack = m.stack;
+          externals = m.externals;
+          grown = grown_more name number None d p w x refl later good (OwnVariable t) gs r.0 refl m.grown;
+        },
+      )
+  makes_all (ExternalVariable own t ∷ gs) name number before w values externals made among few small =
+      by (is_among own before) (external_in w.statics own) refl refl (externals own) few small
+      (λ x v e f g. makes_all gs name (suc number) (own ∷ before) x v e made.1 (λ i g e. among (suc i) g e) f g)
+    where
+      declared : Declared all own t
+      declared = among 0 (ExternalVariable own t) refl
 
-pub statics_there : (n : ℕ) (us : List TypedUnit) → AreTypedUnits n us → AreNamedApart us → static_count us ≤ generation_limit
-    → static_bytes us ≤ byte_limit
+      by : (b : Bool) (o : Option Place) → is_among own before ≡ b → external_in w.statics own ≡ o → IsMade all w own b o
+          → w.made + length (unless b t ++ made_for (own ∷ before) gs) ≤ generation_limit
+          → live_bytes w.storage + bytes_of (unless b t ++ made_for (own ∷ before) gs) ≤ byte_limit
+          → ((x : World) → HoldsValues x → AreExternals all (own ∷ before) x
+          → x.made + length (made_for (own ∷ before) gs) ≤ generation_limit → live_bytes x.storage + bytes_of (made_for (own ∷ before) gs) ≤ byte_limit
+          → Makes name (suc number) (own ∷ before) gs x (statics_made name (suc number) (map global_variable gs) x))
+          → Makes name number before (ExternalVariable own t ∷ gs) w
+          (further (made_once (variable_of t) o w) (λ p w. statics_made name (suc number) (map global_variable gs) (with_static name number (Some own) p w)))
+      by true None e f is few small rest = absurd is
+      by false (Some p) e f is few small rest = absurd is
+      by true (Some p) e f is few small rest =
+          let later = later_same w in
+          let good : IsGood w t.description p = is t declared in
+          let r = rest (with_static name number (Some own) p w) values
+          (named_externals all alike before name number own t p w w refl later good declared (ap (λ o. first_of o (Some p)) f) externals) few small in
+          let m = r.2 in (
+            r.0,
+            r.1,
+            record {
+              values = m.values;
+              bytes = m.bytes ∙ ap (λ b. live_bytes w.storage + bytes_of (unless b t ++ made_for (own ∷ before) gs)) (sym e);
+              count = m.count ∙ ap (λ b. w.made + length (unless b t ++ made_for (own ∷ before) gs)) (sym e);
+              stack = m.stack;
+              externals = m.externals;
+              grown = grown_more name number (Some own) t.description p w w refl later good (ExternalVariable own t) gs r.0 refl m.grown;
+            },
+          )
+      by false None e f is few small rest =
+          let x = with_new t.description AsStatic (variable_of t).initial w in
+          let p = whole w.made t.description in
+          let later = new_later t.description AsStatic (variable_of t).initial w values made.0 in
+          let good = new_good t.description AsStatic (variable_of t).initial w values made.0 in
+          let bytes = live_more w.storage (new_generation t.description AsStatic (variable_of t).initial w) in
+          let few2 : suc w.made + length (made_for (own ∷ before) gs) ≤ generation_limit = omega (arith, few) in
+          let small2 : live_bytes (w.storage ++ new_generation t.description AsStatic (variable_of t).initial w ∷ []) + bytes_of (made_for (own ∷ before) gs) ≤ byte_limit =
+          omega (arith, small, bytes) in
+          let r = rest (with_static name number (Some own) p x) (new_values t.description AsStatic (variable_of t).initial w values made.0)
+          (named_externals all alike before name number own t p w x refl later good declared (ap (λ o. first_of o (Some p)) f) externals) few2 small2 in
+          let m = r.2 in
+          let m_bytes : live_bytes r.0.storage ≡ live_bytes w.storage + bytes_of (t ∷ made_for (own ∷ before) gs) = omega (arith, m.bytes, bytes) in
+          let m_count : r.0.made ≡ w.made + length (t ∷ made_for (own ∷ before) gs) = omega (arith, m.count) in (
+            r.0,
+            further_gives (made_of t.description AsStatic (variable_of t).initial w)
+                (λ p w. statics_made name (suc number) (map global_variable gs) (with_static name number (Some own) p w)) p x r.0
+                (room_gives t.description AsStatic (variable_of t).initial w values made.0 (omega (arith, few)) (omega (arith, small))) r.1,
+            record {
+              values = m.values;
+              bytes = m_bytes ∙ ap (λ b. live_bytes w.storage + bytes_of (unless b t ++ made_for (own ∷ before) gs)) (sym e);
+              count = m_count ∙ ap (λ b. w.made + length (unless b t ++ made_for (own ∷ before) gs)) (sym e);
+              stack = m.stack;
+              externals = m.externals;
+              grown = grown_more name number (Some own) t.description p w x refl later good (ExternalVariable own t) gs r.0 refl m.grown;
+            },
+          )
+
+  -- the variables of all units: those of a unit whose name no unit before has are there
+  record Made (us : List TypedUnit) (w v : World) : Type 0 where
+    values : HoldsValues v
+    later : IsLater w v
+    stack : v.activations ≡ w.activations
+    kept : (unit : Name) (k : ℕ) (p : Place) → static_in w.statics unit k ≡ Some p → static_in v.statics unit k ≡ Some p
+    found :
+        (n : ℕ) (u : TypedUnit) → slice_get us n ≡ Some u
+        → ((other : TypedUnit) (i k : ℕ) → slice_get us i ≡ Some other → static_in w.statics other.name k ≡ None)
+        → AreStatics u.name u.globals v
+
+  named_apart : (name : Name) (us : List TypedUnit) (i : ℕ) (u : TypedUnit) → NoneIsNamed name us → slice_get us i ≡ Some u → same_name name u.name ≡ false
+  named_apart name [] i u h e = absurd (none_some e)
+  named_apart name (v ∷ us) zero u h e = subst (λ v. same_name name v.name ≡ false) (some_same e) h.0
+  named_apart name (v ∷ us) (suc i) u h e = named_apart name us i u h.1 e
+
+  behind : (u : TypedUnit) (us : List TypedUnit) (before : List Name) (w x y : World) → NoneIsNamed u.name us → MakesAll u.name 0 before u.globals w x → Made us x y → Made (u ∷ us) w y
+  behind u us before w x y apart m r = record {
+    values = r.values;
+    later = later_then w x y m.grown.later r.later;
+    stack = r.stack ∙ m.stack;
+    kept = λ unit k p h. r.kept unit k p (m.grown.kept unit k p h);
+    found = found;
+  }
+    where
+      found : (i : ℕ) (v : TypedUnit) → slice_get (u ∷ us) i ≡ Some v
+          → ((other : TypedUnit) (i k : ℕ) → slice_get (u ∷ us) i ≡ Some other → static_in w.statics other.name k ≡ None)
+          → AreStatics v.name v.globals y
+      found zero v e fresh =
+          subst (λ v. AreStatics v.name v.globals y) (some_same e)
+          (λ k d h. let p = m.grown.found (λ k le. fresh u 0 k refl) k d h in
+          let z : 0 + k ≡ k = omega arith in
+          (p.0, r.kept u.name k p.0 (subst (λ n. static_in x.statics u.name n ≡ Some p.0) z p.1), good_later x y d p.0 r.later p.2))
+      found (suc i) v e fresh =
+          r.found i v e (λ other j k f. m.grown.apart other.name k (named_apart u.name us j other apart f) (fresh other (suc j) k f))
+
+  all_are_made : (n : ℕ) (us : List TypedUnit) (before : List Name) (w : World) → AreTypedUnits n us → AreNamedApart us → HoldsValues w → AreExternals all before w
+      → AreAmong (all_globals us) → w.made + length (made_for before (all_globals us)) ≤ generation_limit
+      → live_bytes w.storage + bytes_of (made_for before (all_globals us)) ≤ byte_limit
+      → (v : World) × (all_made us w ≡ Yields tt v) × Made us w v
+  all_are_made n [] before w typed names values externals among few small =
+      (w, refl, record { values = values; later = later_same w; stack = refl; kept = λ unit k p h. h; found = λ i u e fresh. absurd (none_some e) })
+  all_are_made n (u ∷ us) before w typed names values externals among few small =
+      let few2 = subst (λ k. w.made + k ≤ generation_limit)
+      (ap (λ ts. length ts) (made_in_parts before u.globals (all_globals us)) ∙ length-append (made_for before u.globals) (made_for (named_after before u.globals) (all_globals us))) few in
+      let small2 = subst (λ k. live_bytes w.storage + k ≤ byte_limit)
+      (ap (λ ts. bytes_of ts) (made_in_parts before u.globals (all_globals us)) ∙ bytes_in_parts (made_for before u.globals) (made_for (named_after before u.globals) (all_globals us))) small in
+      let first = makes_all u.globals u.name 0 before w values externals typed.0.made (λ i g e. among i g (among_front u.globals (all_globals us) i g e)) (omega (arith, few2)) (omega (arith, small2)) in
+      let m = first.2 in
+      let rest = all_are_made n us (named_after before u.globals) first.0 typed.1 names.1 m.values m.externals (λ i g e. let b = among_behind u.globals (all_globals us) i g e in among b.0 g b.1)
+      (omega (arith, few2, m.count)) (omega (arith, small2, m.bytes)) in
+      (
+        rest.0,
+        further_gives (statics_made u.name 0 (map global_variable u.globals) w) (λ _ w. all_made us w) tt first.0 rest.0 first.1 rest.1,
+        behind u us before w first.0 rest.0 names.0 m rest.2,
+      )
+
+pub statics_there : (n : ℕ) (us : List TypedUnit) → AreTypedUnits n us → AreNamedApart us → IsLinked us → length (made_for [] (all_globals us)) ≤ generation_limit
+    → bytes_of (made_for [] (all_globals us)) ≤ byte_limit
     → (v : World) × (all_made us nothing ≡ Yields tt v) × HoldsValues v × (v.activations ≡ [])
-    × ((i : ℕ) (u : TypedUnit) → slice_get us i ≡ Some u → AreStatics u.name (descriptions u.statics) v)
+    × ((i : ℕ) (u : TypedUnit) → slice_get us i ≡ Some u → AreStatics u.name u.globals v)
 unfolding nothing
-statics_there n us typed names few small =
-    let m = all_are_made n us nothing typed names (λ k g h. absurd (none_some h)) (omega (arith, few)) (omega (arith, small)) in
+statics_there n us typed names linked few small =
+    let m = all_are_made (all_globals us) linked.variables n us [] nothing typed names (λ k g h. absurd (none_some h)) (λ name. tt) (λ i g e. (i, e)) (omega (arith, few)) (omega (arith, small)) in
     (m.0, m.1, m.2.values, m.2.stack, λ i u e. m.2.found i u e (λ other j k f. refl))

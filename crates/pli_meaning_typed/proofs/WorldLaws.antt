@@ -1,6 +1,6 @@
 -- The operations keep worlds sound, and none is wrong where what it needs is there.
 use Rattle.std.specs.Prelude.{◌≡◌, ◌≢◌, ℕ, suc, ◌+◌, ◌≤◌, ◌<◌, nat_eq, nat_lt, nat_le, Bool, true, false, ◌&&◌, IsTrue, Option, Some, None}
-use Rattle.std.specs.Prelude.{List, [], ◌∷◌, ◌++◌, ◌⊎◌, map, if◌then◌else◌, refl}
+use Rattle.std.specs.Prelude.{List, [], ◌∷◌, ◌++◌, ◌⊎◌, map, slice_get, if◌then◌else◌, refl}
 use Rattle.std.proofs.Common.{arith, sym, ap, ◌∙◌, subst, inl, inr, append_assoc, append-nil, lt-ltb, le-leb}
 use Rattle.pli_base.specs.Name.{Name}
 use Rattle.pli_code.specs.declared.ending.Ending.TheVariants.{MachineFault}
@@ -20,6 +20,7 @@ use Rattle.pli_store.specs.World.{parts_stored, single, held, stored, copied, Va
 use Rattle.pli_store.specs.World.{without_handed, begun_in, entered, ended_with, prepared_by, left_by, cleared, at_statement, stepped, dummy_of}
 use Rattle.pli_store.specs.World.{static_in, printed, line_ended, error_in, error_at}
 use Rattle.pli_value.specs.Value.{Value}
+use Rattle.pli_type_tree.specs.TypedTree.{TypedUnit}
 use Rattle.pli_type_tree.specs.WellTyped.{scalars_of, AreHeld, AreMade}
 use Rattle.pli_meaning_typed.specs.SoundWorlds.{IsPartAt, IsGood, AreGood, HoldsValues, Shape, AreShaped, AreStatics}
 use Rattle.pli_meaning_typed.specs.SoundWorlds.{IsSound, IsLater, Answers}
@@ -58,26 +59,29 @@ goods_later v w [] (p ∷ ps) later g = absurd g
 goods_later v w (d ∷ ds) [] later g = absurd g
 goods_later v w (d ∷ ds) (p ∷ ps) later g = (good_later v w d p later g.0, goods_later v w ds ps later g.1)
 
-module _ (unit : Name) (statics : List Description) where
-  pub shaped_later : (v w : World) (ss : List Shape) (stack : List Activation) → IsLater v w → AreShaped unit v ss stack
-      → AreShaped unit w ss stack
+module _ (units : List TypedUnit) where
+  pub shaped_later : (v w : World) (ss : List Shape) (stack : List Activation) → IsLater v w → AreShaped v ss stack
+      → AreShaped w ss stack
   shaped_later v w [] [] later h = tt
   shaped_later v w [] (a ∷ older) later h = absurd h
   shaped_later v w (s ∷ ss) [] later h = absurd h
   shaped_later v w (s ∷ ss) (a ∷ older) later h =
       (h.0, h.1, h.2, goods_later v w s.slots a.slots later h.3, shaped_later v w ss older later h.4)
 
-  statics_later : (v w : World) → IsLater v w → w.statics ≡ v.statics → AreStatics unit statics v → AreStatics unit statics w
-  statics_later v w later e h n d g =
-      let p = h n d g in
-      (p.0, subst (λ ss. static_in ss unit n ≡ Some p.0) (sym e) p.1, good_later v w d p.0 later p.2)
+  abbrev AllStatics : World → Type 0
+  AllStatics w = (i : ℕ) (u : TypedUnit) → slice_get units i ≡ Some u → AreStatics u.name u.globals w
+
+  statics_later : (v w : World) → IsLater v w → w.statics ≡ v.statics → AllStatics v → AllStatics w
+  statics_later v w later e h i u f n d g =
+      let p = h i u f n d g in
+      (p.0, subst (λ ss. static_in ss u.name n ≡ Some p.0) (sym e) p.1, good_later v w d p.0 later p.2)
 
   -- the stack as it was
-  pub same_stack : (ss : List Shape) (v w : World) → IsSound unit statics ss v → IsLater v w → HoldsValues w
-      → w.activations ≡ v.activations → w.statics ≡ v.statics → IsSound unit statics ss w
+  pub same_stack : (ss : List Shape) (v w : World) → IsSound units ss v → IsLater v w → HoldsValues w
+      → w.activations ≡ v.activations → w.statics ≡ v.statics → IsSound units ss w
   same_stack ss v w s later values e f = record {
     values = values;
-    stack = subst (λ stack. AreShaped unit w ss stack) (sym e) (shaped_later v w ss v.activations later s.stack);
+    stack = subst (λ stack. AreShaped w ss stack) (sym e) (shaped_later v w ss v.activations later s.stack);
     made = statics_later v w later f s.made;
   }
 
@@ -85,8 +89,8 @@ module _ (unit : Name) (statics : List Description) where
   pub newest_later : (change : Activation → Activation) (w : World) → IsLater w (in_newest change w)
   newest_later change w = record { more = omega arith; lived = λ n g lt h. (g, h, refl) }
 
-  pub newest_sound : (change : Activation → Activation) (ss ts : List Shape) (w : World) → IsSound unit statics ss w
-      → AreShaped unit w ts (with_newest change w.activations) → IsSound unit statics ts (in_newest change w)
+  pub newest_sound : (change : Activation → Activation) (ss ts : List Shape) (w : World) → IsSound units ss w
+      → AreShaped w ts (with_newest change w.activations) → IsSound units ts (in_newest change w)
   newest_sound change ss ts w sound h = record {
     values = sound.values;
     stack = shaped_later w (in_newest change w) ts (with_newest change w.activations) (newest_later change w) h;
@@ -94,12 +98,12 @@ module _ (unit : Name) (statics : List Description) where
   }
 
   -- an error names a statement
-  named : (s : Shape) (ss : List Shape) (w : World) (e : RunError) (stack : List Activation) → AreShaped unit w (s ∷ ss) stack
+  named : (s : Shape) (ss : List Shape) (w : World) (e : RunError) (stack : List Activation) → AreShaped w (s ∷ ss) stack
       → error_in e stack ≢ MachineFault
   named s ss w e [] h = absurd h
   named s ss w e (a ∷ older) h = λ f. absurd (cc)
 
-  pub error_named : (s : Shape) (ss : List Shape) (w : World) (e : RunError) → IsSound unit statics (s ∷ ss) w
+  pub error_named : (s : Shape) (ss : List Shape) (w : World) (e : RunError) → IsSound units (s ∷ ss) w
       → error_at e w ≢ MachineFault
   unfolding error_at
   error_named s ss w e h = named s ss w e w.activations h.stack
@@ -155,9 +159,9 @@ module _ (d : Description) (how : Made) (vs : List Value) (w : World) (old : Hol
       (lt-ltb w.made generation_limit few)
       ∙ ap (λ b. if b then Yields (whole w.made d) (with_new d how vs w) else Raises StorageLimit w) (le-leb (live_bytes w.storage + size_of d) byte_limit small)
 
-module _ (unit : Name) (statics : List Description) (s : Shape) (ss : List Shape) where
+module _ (units : List TypedUnit) (s : Shape) (ss : List Shape) where
   abbrev Sound : World → Type 0
-  Sound w = IsSound unit statics (s ∷ ss) w
+  Sound w = IsSound units (s ∷ ss) w
 
   abbrev MadeAt : World → Description → Place → World → Type 0
   MadeAt w d p v = IsGood v d p × Sound v × IsLater w v
@@ -172,10 +176,10 @@ module _ (unit : Name) (statics : List Description) (s : Shape) (ss : List Shape
       by true =
           let later = new_later d how vs w sound.values h in (
             new_good d how vs w sound.values h,
-            same_stack unit statics (s ∷ ss) w (with_new d how vs w) sound later (new_values d how vs w sound.values h) refl refl,
+            same_stack units (s ∷ ss) w (with_new d how vs w) sound later (new_values d how vs w sound.values h) refl refl,
             later,
           )
-      by false = error_named unit statics s ss w StorageLimit sound
+      by false = error_named units s ss w StorageLimit sound
 
   -- what a place holds
   first_there : (d : Description) (p : Place) (w : World) (g : Generation) → IsGood w d p → generation_in w.storage p.generation ≡ Some g
@@ -201,7 +205,7 @@ module _ (unit : Name) (statics : List Description) (s : Shape) (ss : List Shape
       by : (o : Option Generation) → generation_in w.storage p.generation ≡ o
           → Answers (HeldAt w d)
           (further (unless_dead o w) (λ g w. further (known (scalar_at g p) w) (λ k w. Yields (values_from k (scalars_in p.description) g.values) w)))
-      by None e = error_named unit statics s ss w DeadLocator sound
+      by None e = error_named units s ss w DeadLocator sound
       by (Some g) e =
           let f = first_there d p w g good e in
           subst (λ o. Answers (HeldAt w d) (further (known o w) (λ k w. Yields (values_from k (scalars_in p.description) g.values) w))) (sym f.1) (
@@ -225,7 +229,7 @@ module _ (unit : Name) (statics : List Description) (s : Shape) (ss : List Shape
 
       by : (o : Option Generation) → generation_in w.storage p.generation ≡ o
           → Answers (Kept w) (further (unless_dead o w) (λ g w. further (known (scalar_at g p) w) (λ k w. Yields tt (record w { storage = with_values w.storage p.generation (with_values_at k vs g.values) }))))
-      by None e = error_named unit statics s ss w DeadLocator sound
+      by None e = error_named units s ss w DeadLocator sound
       by (Some g) e =
           let f = first_there d p w g good e in
           let xs = with_values_at f.0 vs g.values in
@@ -235,7 +239,7 @@ module _ (unit : Name) (statics : List Description) (s : Shape) (ss : List Shape
             lived = λ n x lt e. let r = replaced w.storage p.generation xs n x e in (r.old, r.there, r.described);
           } in
           subst (λ o. Answers (Kept w) (further (known o w) (λ k w. Yields tt (record w { storage = with_values w.storage p.generation (with_values_at k vs g.values) })))) (sym f.1)
-          (same_stack unit statics (s ∷ ss) w new sound later (values g e f.0 f.2) refl refl, later)
+          (same_stack units (s ∷ ss) w new sound later (values g e f.0 f.2) refl refl, later)
         where
           values : (g : Generation) → generation_in w.storage p.generation ≡ Some g → (k : ℕ) → first_scalar g.description p.offset d ≡ Some k
               → HoldsValues (record w { storage = with_values w.storage p.generation (with_values_at k vs g.values) })
@@ -284,7 +288,7 @@ module _ (unit : Name) (statics : List Description) (s : Shape) (ss : List Shape
 
       by : (o : Option Generation)
           → Answers (Kept w) (further (unless_dead o w) (λ g w. if holds p.description x then parts_stored p (x ∷ []) w else Wrong))
-      by None = error_named unit statics s ss w DeadLocator sound
+      by None = error_named units s ss w DeadLocator sound
       by (Some g) =
           subst (λ b. Answers (Kept w) (if b then parts_stored p (x ∷ []) w else Wrong)) (sym (ap (λ d. holds d x) good.described ∙ h)) put
 
@@ -321,23 +325,23 @@ module _ (unit : Name) (statics : List Description) (s : Shape) (ss : List Shape
       change : Place → Activation → Activation
       change p a = record a { pending = a.pending ++ p.generation ∷ [] }
 
-      shaped : (p : Place) (v : World) (stack : List Activation) → AreShaped unit v (s ∷ ss) stack
-          → AreShaped unit v (s ∷ ss) (with_newest (λ a. record a { pending = a.pending ++ p.generation ∷ [] }) stack)
+      shaped : (p : Place) (v : World) (stack : List Activation) → AreShaped v (s ∷ ss) stack
+          → AreShaped v (s ∷ ss) (with_newest (λ a. record a { pending = a.pending ++ p.generation ∷ [] }) stack)
       shaped p v [] h = absurd h
       shaped p v (a ∷ older) h = h
 
       pending : (p : Place) (v : World) → IsGood v d p → Sound v → IsLater w v
           → MadeAt w d p (in_newest (λ a. record a { pending = a.pending ++ p.generation ∷ [] }) v)
       pending p v good sound later =
-          let after : IsLater v (in_newest (change p) v) = newest_later unit statics (change p) v in (
+          let after : IsLater v (in_newest (change p) v) = newest_later units (change p) v in (
             good_later v (in_newest (change p) v) d p after good,
-            newest_sound unit statics (change p) (s ∷ ss) (s ∷ ss) v sound (shaped p v v.activations sound.stack),
+            newest_sound units (change p) (s ∷ ss) (s ∷ ss) v sound (shaped p v v.activations sound.stack),
             later_then w v (in_newest (change p) v) later after,
           )
 
 -- activations
 
-module _ (unit : Name) (statics : List Description) where
+module _ (units : List TypedUnit) where
   -- a slot more
   goods_more : (w : World) (ds : List Description) (ps : List Place) (d : Description) (p : Place) → AreGood w ds ps → IsGood w d p
       → AreGood w (ds ++ d ∷ []) (ps ++ p ∷ [])
@@ -346,68 +350,68 @@ module _ (unit : Name) (statics : List Description) where
   goods_more w (e ∷ es) [] d p h g = absurd h
   goods_more w (e ∷ es) (q ∷ qs) d p h g = (h.0, goods_more w es qs d p h.1 g)
 
-  abbrev shape : (block link : ℕ) → List Description → Shape
-  shape block link slots = record { block = block; link = link; slots = slots }
+  abbrev shape : (unit : Name) (block link : ℕ) → List Description → Shape
+  shape unit block link slots = record { unit = unit; block = block; link = link; slots = slots }
 
-  slotted : (block link : ℕ) (slots : List Description) (ss : List Shape) (w : World) (d : Description) (p : Place) (stack : List Activation)
-      → AreShaped unit w (shape block link slots ∷ ss) stack → IsGood w d p
-      → AreShaped unit w (shape block link (slots ++ d ∷ []) ∷ ss) (with_newest (with_slot p) stack)
-  slotted block link slots ss w d p [] h g = absurd h
-  slotted block link slots ss w d p (a ∷ older) h g = (h.0, h.1, h.2, goods_more w slots a.slots d p h.3 g, h.4)
+  slotted : (unit : Name) (block link : ℕ) (slots : List Description) (ss : List Shape) (w : World) (d : Description) (p : Place) (stack : List Activation)
+      → AreShaped w (shape unit block link slots ∷ ss) stack → IsGood w d p
+      → AreShaped w (shape unit block link (slots ++ d ∷ []) ∷ ss) (with_newest (with_slot p) stack)
+  slotted unit block link slots ss w d p [] h g = absurd h
+  slotted unit block link slots ss w d p (a ∷ older) h g = (h.0, h.1, h.2, goods_more w slots a.slots d p h.3 g, h.4)
 
   abbrev Entered : World → List Shape → Unit {0} → World → Type 0
-  Entered w ss _ v = IsSound unit statics ss v × IsLater w v
+  Entered w ss _ v = IsSound units ss v × IsLater w v
 
   weaken : (ss : List Shape) (w v : World) (a : Answer Unit) → IsLater w v → Answers (Entered v ss) a → Answers (Entered w ss) a
   weaken ss w v (Yields x u) later h = (h.0, later_then w v u later h.1)
   weaken ss w v (Raises e u) later h = h
   weaken ss w v Wrong later h = h
 
-  made_all_answers : (vs : List Variable) (block link : ℕ) (slots : List Description) (ss : List Shape) (w : World)
-      → IsSound unit statics (shape block link slots ∷ ss) w → AreMade vs
-      → Answers (Entered w (shape block link (slots ++ map (λ v. v.description) vs) ∷ ss)) (made_all vs w)
-  made_all_answers [] block link slots ss w sound h =
-      (subst (λ ds. IsSound unit statics (shape block link ds ∷ ss) w) (sym (append-nil slots)) sound, later_same w)
-  made_all_answers (x ∷ vs) block link slots ss w sound h =
-      let top = shape block link slots in
+  made_all_answers : (vs : List Variable) (unit : Name) (block link : ℕ) (slots : List Description) (ss : List Shape) (w : World)
+      → IsSound units (shape unit block link slots ∷ ss) w → AreMade vs
+      → Answers (Entered w (shape unit block link (slots ++ map (λ v. v.description) vs) ∷ ss)) (made_all vs w)
+  made_all_answers [] unit block link slots ss w sound h =
+      (subst (λ ds. IsSound units (shape unit block link ds ∷ ss) w) (sym (append-nil slots)) sound, later_same w)
+  made_all_answers (x ∷ vs) unit block link slots ss w sound h =
+      let top = shape unit block link slots in
       let rest = map (λ v. v.description) vs in
-      further_answers (MadeAt unit statics top ss w x.description)
-      (Entered w (shape block link (slots ++ map (λ v. v.description) (x ∷ vs)) ∷ ss))
+      further_answers (MadeAt units top ss w x.description)
+      (Entered w (shape unit block link (slots ++ map (λ v. v.description) (x ∷ vs)) ∷ ss))
       (made_of x.description Automatic x.initial w) (λ p w. made_all vs (in_newest (with_slot p) w))
-      (made_answers unit statics top ss x.description Automatic x.initial w sound h.0)
+      (made_answers units top ss x.description Automatic x.initial w sound h.0)
       (λ p v m. let u = in_newest (with_slot p) v in
-      subst (λ ds. Answers (Entered w (shape block link ds ∷ ss)) (made_all vs u)) (append_assoc slots (x.description ∷ []) rest)
-      (weaken (shape block link ((slots ++ x.description ∷ []) ++ rest) ∷ ss) w u (made_all vs u)
-      (later_then w v u m.2 (newest_later unit statics (with_slot p) v))
-      (made_all_answers vs block link (slots ++ x.description ∷ []) ss u
-      (newest_sound unit statics (with_slot p) (top ∷ ss) (shape block link (slots ++ x.description ∷ []) ∷ ss) v m.1
-      (slotted block link slots ss v x.description p v.activations m.1.stack m.0)) h.1)))
+      subst (λ ds. Answers (Entered w (shape unit block link ds ∷ ss)) (made_all vs u)) (append_assoc slots (x.description ∷ []) rest)
+      (weaken (shape unit block link ((slots ++ x.description ∷ []) ++ rest) ∷ ss) w u (made_all vs u)
+      (later_then w v u m.2 (newest_later units (with_slot p) v))
+      (made_all_answers vs unit block link (slots ++ x.description ∷ []) ss u
+      (newest_sound units (with_slot p) (top ∷ ss) (shape unit block link (slots ++ x.description ∷ []) ∷ ss) v m.1
+      (slotted unit block link slots ss v x.description p v.activations m.1.stack m.0)) h.1)))
 
-  handed_shaped : (ss : List Shape) (w : World) (given : List Place) (stack : List Activation) → AreShaped unit w ss stack
-      → AreShaped unit w ss (with_newest (without_handed given) stack)
+  handed_shaped : (ss : List Shape) (w : World) (given : List Place) (stack : List Activation) → AreShaped w ss stack
+      → AreShaped w ss (with_newest (without_handed given) stack)
   handed_shaped [] w given [] h = h
   handed_shaped [] w given (a ∷ older) h = absurd h
   handed_shaped (s ∷ ss) w given [] h = absurd h
   handed_shaped (s ∷ ss) w given (a ∷ older) h = h
 
   pub entered_answers : (head : Head) (link : ℕ) (given : List Place) (parameters : List Description) (ss : List Shape) (w : World)
-      → IsSound unit statics ss w → head.unit ≡ unit → AreGood w parameters given → AreMade head.variables
-      → Answers (Entered w (shape head.block link (parameters ++ map (λ v. v.description) head.variables) ∷ ss)) (entered head link given w)
+      → IsSound units ss w → AreGood w parameters given → AreMade head.variables
+      → Answers (Entered w (shape head.unit head.block link (parameters ++ map (λ v. v.description) head.variables) ∷ ss)) (entered head link given w)
   unfolding entered
-  entered_answers head link given parameters ss w sound e good h =
+  entered_answers head link given parameters ss w sound good h =
       let u = begun_in head link given w in
       let later : IsLater w u = record { more = omega arith; lived = λ n g lt h. (g, h, refl) } in
-      weaken (shape head.block link (parameters ++ map (λ v. v.description) head.variables) ∷ ss) w u (made_all head.variables u) later
-      (made_all_answers head.variables head.block link parameters ss u (record {
+      weaken (shape head.unit head.block link (parameters ++ map (λ v. v.description) head.variables) ∷ ss) w u (made_all head.variables u) later
+      (made_all_answers head.variables head.unit head.block link parameters ss u (record {
         values = sound.values;
         stack = (
-          e,
+          refl,
           refl,
           refl,
           goods_later w u parameters given later good,
-          shaped_later unit statics w u ss _ later (handed_shaped ss w given w.activations sound.stack),
+          shaped_later units w u ss _ later (handed_shaped ss w given w.activations sound.stack),
         );
-        made = statics_later unit statics w u later refl sound.made;
+        made = statics_later units w u later refl sound.made;
       }) h)
 
   -- the newest ends
@@ -417,8 +421,8 @@ module _ (unit : Name) (statics : List Description) where
     lived = λ n g lt h. (g, lived_before numbers w.storage n g (sym (ap (λ gs. generation_in gs n) e) ∙ h), refl);
   }
 
-  older_shaped : (s : Shape) (ss : List Shape) (w : World) (stack : List Activation) → AreShaped unit w (s ∷ ss) stack
-      → AreShaped unit w ss (without_newest stack)
+  older_shaped : (s : Shape) (ss : List Shape) (w : World) (stack : List Activation) → AreShaped w (s ∷ ss) stack
+      → AreShaped w ss (without_newest stack)
   older_shaped s ss w [] h = absurd h
   older_shaped s ss w (a ∷ older) h = h.4
 
@@ -426,18 +430,18 @@ module _ (unit : Name) (statics : List Description) where
   unfolding left_by
   left_later w = ended_later (ended_with w.activations) w (left_by w) refl refl
 
-  pub left_sound : (s : Shape) (ss : List Shape) (w : World) → IsSound unit statics (s ∷ ss) w → IsSound unit statics ss (left_by w)
+  pub left_sound : (s : Shape) (ss : List Shape) (w : World) → IsSound units (s ∷ ss) w → IsSound units ss (left_by w)
   unfolding left_by
   left_sound s ss w sound =
       let later = ended_later (ended_with w.activations) w (left_by w) refl refl in record {
         values = λ n g h. sound.values n g (lived_before (ended_with w.activations) w.storage n g h);
-        stack = shaped_later unit statics w (left_by w) ss (without_newest w.activations) later (older_shaped s ss w w.activations sound.stack);
-        made = statics_later unit statics w (left_by w) later refl sound.made;
+        stack = shaped_later units w (left_by w) ss (without_newest w.activations) later (older_shaped s ss w w.activations sound.stack);
+        made = statics_later units w (left_by w) later refl sound.made;
       }
 
   -- the calls that it prepares are given up
-  cleared_shaped : (ss : List Shape) (w : World) (stack : List Activation) → AreShaped unit w ss stack
-      → AreShaped unit w ss (with_newest (λ a. record a { pending = [] }) stack)
+  cleared_shaped : (ss : List Shape) (w : World) (stack : List Activation) → AreShaped w ss stack
+      → AreShaped w ss (with_newest (λ a. record a { pending = [] }) stack)
   cleared_shaped [] w [] h = h
   cleared_shaped [] w (a ∷ older) h = absurd h
   cleared_shaped (s ∷ ss) w [] h = absurd h
@@ -447,48 +451,48 @@ module _ (unit : Name) (statics : List Description) where
   unfolding cleared
   cleared_later w = ended_later (prepared_by w.activations) w (cleared w) refl refl
 
-  pub cleared_sound : (ss : List Shape) (w : World) → IsSound unit statics ss w → IsSound unit statics ss (cleared w)
+  pub cleared_sound : (ss : List Shape) (w : World) → IsSound units ss w → IsSound units ss (cleared w)
   unfolding cleared
   cleared_sound ss w sound =
       let later = ended_later (prepared_by w.activations) w (cleared w) refl refl in record {
         values = λ n g h. sound.values n g (lived_before (prepared_by w.activations) w.storage n g h);
-        stack = shaped_later unit statics w (cleared w) ss _ later (cleared_shaped ss w w.activations sound.stack);
-        made = statics_later unit statics w (cleared w) later refl sound.made;
+        stack = shaped_later units w (cleared w) ss _ later (cleared_shaped ss w w.activations sound.stack);
+        made = statics_later units w (cleared w) later refl sound.made;
       }
 
   -- a statement, a step, output
-  statement_shaped : (ss : List Shape) (w : World) (n : ℕ) (stack : List Activation) → AreShaped unit w ss stack
-      → AreShaped unit w ss (with_newest (λ a. record a { statement = n }) stack)
+  statement_shaped : (ss : List Shape) (w : World) (n : ℕ) (stack : List Activation) → AreShaped w ss stack
+      → AreShaped w ss (with_newest (λ a. record a { statement = n }) stack)
   statement_shaped [] w n [] h = h
   statement_shaped [] w n (a ∷ older) h = absurd h
   statement_shaped (s ∷ ss) w n [] h = absurd h
   statement_shaped (s ∷ ss) w n (a ∷ older) h = h
 
-  pub statement_sound : (ss : List Shape) (n : ℕ) (w : World) → IsSound unit statics ss w
-      → IsSound unit statics ss (at_statement n w) × IsLater w (at_statement n w)
+  pub statement_sound : (ss : List Shape) (n : ℕ) (w : World) → IsSound units ss w
+      → IsSound units ss (at_statement n w) × IsLater w (at_statement n w)
   unfolding at_statement
   statement_sound ss n w sound = (
-    newest_sound unit statics (λ a. record a { statement = n }) ss ss w sound (statement_shaped ss w n w.activations sound.stack),
-    newest_later unit statics (λ a. record a { statement = n }) w,
+    newest_sound units (λ a. record a { statement = n }) ss ss w sound (statement_shaped ss w n w.activations sound.stack),
+    newest_later units (λ a. record a { statement = n }) w,
   )
 
-  pub stepped_sound : (ss : List Shape) (w : World) → IsSound unit statics ss w
-      → IsSound unit statics ss (stepped w) × IsLater w (stepped w)
+  pub stepped_sound : (ss : List Shape) (w : World) → IsSound units ss w
+      → IsSound units ss (stepped w) × IsLater w (stepped w)
   unfolding stepped
   stepped_sound ss w sound =
       let later : IsLater w (stepped w) = record { more = omega arith; lived = λ n g lt h. (g, h, refl) } in
-      (same_stack unit statics ss w (stepped w) sound later sound.values refl refl, later)
+      (same_stack units ss w (stepped w) sound later sound.values refl refl, later)
 
-  pub printed_sound : (ss : List Shape) (text : List ℕ) (w : World) → IsSound unit statics ss w
-      → IsSound unit statics ss (printed text w) × IsLater w (printed text w)
+  pub printed_sound : (ss : List Shape) (text : List ℕ) (w : World) → IsSound units ss w
+      → IsSound units ss (printed text w) × IsLater w (printed text w)
   unfolding printed
   printed_sound ss text w sound =
       let later : IsLater w (printed text w) = record { more = omega arith; lived = λ n g lt h. (g, h, refl) } in
-      (same_stack unit statics ss w (printed text w) sound later sound.values refl refl, later)
+      (same_stack units ss w (printed text w) sound later sound.values refl refl, later)
 
-  pub line_sound : (ss : List Shape) (w : World) → IsSound unit statics ss w
-      → IsSound unit statics ss (line_ended w) × IsLater w (line_ended w)
+  pub line_sound : (ss : List Shape) (w : World) → IsSound units ss w
+      → IsSound units ss (line_ended w) × IsLater w (line_ended w)
   unfolding line_ended
   line_sound ss w sound =
       let later : IsLater w (line_ended w) = record { more = omega arith; lived = λ n g lt h. (g, h, refl) } in
-      (same_stack unit statics ss w (line_ended w) sound later sound.values refl refl, later)
+      (same_stack units ss w (line_ended w) sound later sound.values refl refl, later)

@@ -7,6 +7,8 @@ use Rattle.pli_map.specs.Scalars.{first_scalar}
 use Rattle.pli_store.specs.Activations.{Activation}
 use Rattle.pli_store.specs.Storage.{Generation, Place, generation_in}
 use Rattle.pli_store.specs.World.{World, Answer, Yields, Raises, Wrong, static_in, error_at}
+use Rattle.pli_type_tree.specs.Globals.{description_of}
+use Rattle.pli_type_tree.specs.TypedTree.{Global, TypedUnit}
 use Rattle.pli_type_tree.specs.WellTyped.{scalars_of, AreHeld}
 
 -- each part of one description is a part of another, so many bytes further
@@ -34,30 +36,33 @@ HoldsValues w =
     (number : ℕ) (g : Generation) → generation_in w.storage number ≡ Some g
     → (number < w.made) × AreHeld (scalars_of g.description) g.values
 
--- what stays of an activation while it runs: its block, its static link, and the descriptions of its slots
+-- what stays of an activation while it runs: its unit and block, its static link, and the descriptions of its
+-- slots
 pub record Shape : Type 0 where
+  pub unit : Name
   pub block : ℕ
   pub link : ℕ
   pub slots : List Description
 
--- activations of a unit are of these shapes
-abbrev pub AreShaped : (unit : Name) → World → List Shape → List Activation → Type 0
-AreShaped unit w [] [] = Unit {0}
-AreShaped unit w (s ∷ ss) (a ∷ older) =
-    (a.unit ≡ unit) × (a.block ≡ s.block) × (a.link ≡ s.link) × AreGood w s.slots a.slots
-    × AreShaped unit w ss older
-AreShaped unit w ss stack = ⊥
+-- activations are of these shapes
+abbrev pub AreShaped : World → List Shape → List Activation → Type 0
+AreShaped w [] [] = Unit {0}
+AreShaped w (s ∷ ss) (a ∷ older) =
+    (a.unit ≡ s.unit) × (a.block ≡ s.block) × (a.link ≡ s.link) × AreGood w s.slots a.slots
+    × AreShaped w ss older
+AreShaped w ss stack = ⊥
 
--- the variables of a unit that were made before the program began
-abbrev pub AreStatics : (unit : Name) → List Description → World → Type 0
-AreStatics unit statics w =
-    (number : ℕ) (d : Description) → slice_get statics number ≡ Some d
+-- the variables among a unit's globals, which were made before the program began
+abbrev pub AreStatics : (unit : Name) → List Global → World → Type 0
+AreStatics unit globals w =
+    (number : ℕ) (d : Description) → description_of (slice_get globals number) ≡ Some d
     → (p : Place) × (static_in w.statics unit number ≡ Some p) × IsGood w d p
 
-pub record IsSound (unit : Name) (statics : List Description) (shapes : List Shape) (w : World) : Type 0 where
+-- a world of a program of these units
+pub record IsSound (units : List TypedUnit) (shapes : List Shape) (w : World) : Type 0 where
   pub values : HoldsValues w
-  pub stack : AreShaped unit w shapes w.activations
-  pub made : AreStatics unit statics w
+  pub stack : AreShaped w shapes w.activations
+  pub made : (i : ℕ) (u : TypedUnit) → slice_get units i ≡ Some u → AreStatics u.name u.globals w
 
 -- a later world: what lives there and was made before lived before, and is of the same description
 pub record IsLater (before after : World) : Type 0 where

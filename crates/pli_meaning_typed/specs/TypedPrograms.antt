@@ -1,26 +1,27 @@
--- Well-typed programs: each procedure of each unit is, and the variables that are made before the program
--- begins have room.
-use Rattle.std.specs.Prelude.{◌≡◌, ℕ, ◌+◌, ◌≤◌, IsFalse, Option, Some, None, List, [], ◌∷◌, length, map}
-use Rattle.std.specs.Prelude.{slice_get}
+-- Well-typed programs: each procedure of each unit is, the units are linked, and the variables that are made
+-- before the program begins have room.
+use Rattle.std.specs.Prelude.{◌≡◌, ℕ, ◌+◌, ◌≤◌, Bool, true, false, IsFalse, Option, Some, None}
+use Rattle.std.specs.Prelude.{List, [], ◌∷◌, ◌++◌, length, map, slice_get}
+use Rattle.std.specs.List.{flat_map}
 use Rattle.pli_base.specs.Name.{Name}
-use Rattle.pli_base.specs.Words.{same_name}
+use Rattle.pli_base.specs.Words.{same_name, is_among}
 use Rattle.pli_map.specs.Description.{Description}
 use Rattle.pli_map.specs.Sizes.{size_of}
 use Rattle.pli_machine_step.specs.Runs.{Outcome}
 use Rattle.pli_store.specs.Storage.{byte_limit, generation_limit}
 use Rattle.pli_type_tree.specs.Templates.{Template, variable_of}
-use Rattle.pli_type_tree.specs.TypedTree.{TypedProcedure, TypedUnit}
-use Rattle.pli_type_tree.specs.WellTyped.{AreMade, Signature, TypingContext, block_of, AreTypedStatements}
-use Rattle.pli_meaning_tree.specs.TreeMeaning.{TypedProgram, procedure_in, whole_run}
-
-abbrev pub descriptions : List Template → List Description
-descriptions ts = map (λ t. t.description) ts
+use Rattle.pli_type_tree.specs.Globals.{templates_in}
+use Rattle.pli_type_tree.specs.TypedTree.{TypedProcedure, Signature, Global, OwnVariable, ExternalVariable}
+use Rattle.pli_type_tree.specs.TypedTree.{EntryPoint, TypedUnit}
+use Rattle.pli_type_tree.specs.WellTyped.{AreMade, KnownProcedure, TypingContext, block_of}
+use Rattle.pli_type_tree.specs.WellTyped.{AreTypedStatements}
+use Rattle.pli_meaning_tree.specs.TreeMeaning.{TypedProgram, procedure_in, unit_named, whole_run}
 
 -- what a procedure's own statements know
-abbrev pub context_in : (statics : List Description) → (procedures : ℕ → Option Signature) → Signature
+abbrev pub context_in : List Global → (procedures : ℕ → Option KnownProcedure) → KnownProcedure
     → TypedProcedure → TypingContext
-context_in statics procedures p f = record {
-  statics = statics;
+context_in globals procedures p f = record {
+  globals = globals;
   procedures = procedures;
   blocks = block_of f.head p.parameters f.statements ∷ p.around;
   begins = 0;
@@ -33,23 +34,29 @@ HasEnd None None = Unit {0}
 HasEnd None (Some d) = ⊥
 HasEnd (Some s) value = Unit {0}
 
--- a procedure is as its signature says
-pub record IsTypedProcedure (greatest : ℕ) (statics : List Description) (procedures : ℕ → Option Signature)
-    (p : Signature) (f : TypedProcedure) : Type 0 where
+-- a procedure is as it is known
+pub record IsTypedProcedure (greatest : ℕ) (globals : List Global) (procedures : ℕ → Option KnownProcedure)
+    (p : KnownProcedure) (f : TypedProcedure) : Type 0 where
   pub parent : f.parent ≡ p.parent
   pub parameters : f.parameters ≡ length p.parameters
   pub end : HasEnd f.function_end p.value
   pub made : AreMade (map variable_of f.head.variables)
-  pub statements : AreTypedStatements greatest (context_in statics procedures p f) f.statements
+  pub statements : AreTypedStatements greatest (context_in globals procedures p f) f.statements
 
--- a unit: each procedure that has a signature is there
+-- the external procedure is known as one that stands in no block, takes the parameters of a signature and
+-- gives its result
+abbrev pub IsOuter : Option KnownProcedure → Signature → Type 0
+IsOuter o s = o ≡ Some (record { parent = None; around = []; parameters = s.parameters; value = s.result })
+
+-- a unit: each procedure that is known is there; the external one is block 0
 pub record IsTypedUnit (greatest : ℕ) (u : TypedUnit) : Type 0 where
-  pub procedures : (number : ℕ) → Option Signature
-  pub made : AreMade (map variable_of u.statics)
+  pub procedures : (number : ℕ) → Option KnownProcedure
+  pub outer : IsOuter (procedures 0) u.signature
+  pub made : AreMade (map variable_of (templates_in u.globals))
   pub typed :
-      (number : ℕ) (p : Signature) → procedures number ≡ Some p
+      (number : ℕ) (p : KnownProcedure) → procedures number ≡ Some p
       → (f : TypedProcedure) × (procedure_in u.procedures number ≡ Some f)
-      × IsTypedProcedure greatest (descriptions u.statics) procedures p f
+      × IsTypedProcedure greatest u.globals procedures p f
 
 abbrev pub AreTypedUnits : (greatest : ℕ) → List TypedUnit → Type 0
 AreTypedUnits n [] = Unit {0}
@@ -64,32 +71,52 @@ abbrev pub AreNamedApart : List TypedUnit → Type 0
 AreNamedApart [] = Unit {0}
 AreNamedApart (u ∷ us) = NoneIsNamed u.name us × AreNamedApart us
 
--- the bytes of variables, and how many there are
+-- all globals, in the order of the units
+abbrev pub all_globals : List TypedUnit → List Global
+all_globals us = flat_map (λ u. u.globals) us
+
+-- the units are linked: each entry names the external procedure of a unit, which takes and gives what the
+-- entry says; and where several declare an external variable of one name, they declare it alike
+pub record IsLinked (units : List TypedUnit) : Type 0 where
+  pub entries :
+      (i : ℕ) (name : Name) (signature : Signature)
+      → slice_get (all_globals units) i ≡ Some (EntryPoint name signature)
+      → (u : TypedUnit) × (unit_named units name ≡ Some u) × (u.signature ≡ signature)
+  pub variables :
+      (i j : ℕ) (name : Name) (one other : Template)
+      → slice_get (all_globals units) i ≡ Some (ExternalVariable name one)
+      → slice_get (all_globals units) j ≡ Some (ExternalVariable name other) → one ≡ other
+
+-- what is made for globals: an external variable is made once, where it is declared first; those of these
+-- names were made before
+abbrev pub unless : Bool → Template → List Template
+unless true t = []
+unless false t = t ∷ []
+
+abbrev pub made_for : (before : List Name) → List Global → List Template
+made_for before [] = []
+made_for before (OwnVariable t ∷ gs) = t ∷ made_for before gs
+made_for before (ExternalVariable name t ∷ gs) =
+    unless (is_among name before) t ++ made_for (name ∷ before) gs
+made_for before (EntryPoint name signature ∷ gs) = made_for before gs
+
+-- the bytes of variables
 abbrev pub bytes_of : List Template → ℕ
 bytes_of [] = 0
 bytes_of (t ∷ ts) = size_of t.description + bytes_of ts
 
-abbrev pub static_bytes : List TypedUnit → ℕ
-static_bytes [] = 0
-static_bytes (u ∷ us) = bytes_of u.statics + static_bytes us
-
-abbrev pub static_count : List TypedUnit → ℕ
-static_count [] = 0
-static_count (u ∷ us) = length u.statics + static_count us
-
--- a main unit's block 0 is a procedure without parameters, in no block, and no function
-abbrev pub HasMain : (greatest : ℕ) → Option TypedUnit → Type 0
-HasMain n None = ⊥
-HasMain n (Some u) =
-    (typed : IsTypedUnit n u) × (p : Signature) × (typed.procedures 0 ≡ Some p) × (p.parent ≡ None)
-    × (p.around ≡ []) × (p.parameters ≡ []) × (p.value ≡ None)
+-- the procedure of the main unit takes nothing and gives nothing
+abbrev pub HasMain : Option TypedUnit → Type 0
+HasMain None = ⊥
+HasMain (Some u) = u.signature ≡ record { parameters = []; result = None }
 
 pub record WellTyped (p : TypedProgram) : Type 0 where
   pub units : AreTypedUnits p.greatest p.units
   pub names : AreNamedApart p.units
-  pub bytes : static_bytes p.units ≤ byte_limit
-  pub count : static_count p.units ≤ generation_limit
-  pub main : HasMain p.greatest (slice_get p.units p.main)
+  pub linked : IsLinked p.units
+  pub bytes : bytes_of (made_for [] (all_globals p.units)) ≤ byte_limit
+  pub count : length (made_for [] (all_globals p.units)) ≤ generation_limit
+  pub main : HasMain (slice_get p.units p.main)
 
 -- Every run of a well-typed program has a meaning: it is never lost, no bound of the definition is too low,
 -- no jump leads out of the program, and it does not end in a fault of the machine.

@@ -1,7 +1,7 @@
 -- The worked examples, each by computing it.
 use Rattle.std.specs.Prelude.{refl}
 use Rattle.pli_store.specs.World.{nothing, made_of, parts_held, parts_stored, held, stored, copied, entered, cleared, left_by, height_of, slot_place, dummy_of, static_place}
-use Rattle.pli_store.specs.examples.StorageExamples.{OuterVariable, DummyNumber, DummyEnds, TooLong, DummyDead, PartStored, PartHeld, ElementCopied, AggregateHeld, NoElement, NoPart, StaticStays, StaticOfOther}
+use Rattle.pli_store.specs.examples.StorageExamples.{OuterVariable, DummyNumber, DummyEnds, TooLong, DummyDead, PartStored, PartHeld, ElementCopied, AggregateHeld, NoElement, NoPart, StaticStays, StaticOfOther, ExternalIsShared}
 
 pub outer_variable : OuterVariable
 unfolding nothing made_of held stored parts_held parts_stored entered height_of slot_place
@@ -54,3 +54,7 @@ static_stays = refl
 pub static_of_other : StaticOfOther
 unfolding nothing made_of entered static_place
 static_of_other = refl
+
+pub external_is_shared : ExternalIsShared
+unfolding nothing made_of parts_held parts_stored held stored entered static_place
+external_is_shared = refl

@@ -1,7 +1,8 @@
 -- What the meaning of a program and the machine share: storage, activations, output and column, and the
 -- operations on them. An operation gives a result and a world; or it raises an error, in a world; or it is
 -- one that no well-typed program asks for.
-use Rattle.std.specs.Prelude.{ℕ, suc, ◌+◌, ◌*◌, nat_eq, nat_le, nat_lt, Bool, ◌&&◌, not, ℤ, ◌-ℤ◌, int_le}
+use Rattle.std.specs.Prelude.{ℕ, suc, ◌+◌, ◌*◌, nat_eq, nat_le, nat_lt, Bool, false, ◌&&◌, not, ℤ, ◌-ℤ◌}
+use Rattle.std.specs.Prelude.{int_le}
 use Rattle.std.specs.Prelude.{unsigned_abs, Option, Some, None, List, [], ◌∷◌, ◌++◌, length, slice_get}
 use Rattle.std.specs.Prelude.{if◌then◌else◌}
 use Rattle.std.specs.List.{filter, list_any}
@@ -27,11 +28,12 @@ use Rattle.pli_store.specs.Storage.{field_of, generation_in, scalar_at, values_f
 use Rattle.pli_store.specs.Storage.{with_values, without, live_bytes, byte_limit, generation_limit}
 use Rattle.pli_map.specs.Values.{holds}
 
--- a variable that is made once, before the program begins: the unit and the number among its variables of
--- that kind, and its place
+-- a variable that was made before the program began, as a unit has it: the unit and the number among its
+-- globals; its name, if it is external; and its place, which is the same in all units that declare the name
 pub record Static : Type 0 where
   pub unit : Name
   pub number : ℕ
+  pub external : Option Name
   pub place : Place
 
 -- storage with the number that the next generation gets; the variables made before the program began;
@@ -279,13 +281,42 @@ static_place number w =
     further (known (newest_unit w.activations) w)
     (λ unit w. known (static_in w.statics unit number) w)
 
--- those of a unit are made, one after another, from a number on
-abbrev pub statics_made : (unit : Name) (number : ℕ) → List Variable → World → Answer Unit
+-- such a variable: its name, if it is external
+pub record GlobalVariable : Type 0 where
+  pub external : Option Name
+  pub variable : Variable
+
+-- the place of the external variable of a name, if it was made already
+abbrev pub is_named : (name : Name) → Option Name → Bool
+is_named name None = false
+is_named name (Some other) = same_name name other
+
+abbrev pub external_in : List Static → (name : Name) → Option Place
+external_in [] name = None
+external_in (s ∷ ss) name = if is_named name s.external then Some s.place else external_in ss name
+
+abbrev pub made_before : (external : Option Name) → List Static → Option Place
+made_before None ss = None
+made_before (Some name) ss = external_in ss name
+
+-- what was made already is not made again
+abbrev pub made_once : Variable → (before : Option Place) → World → Answer Place
+made_once v (Some p) w = Yields p w
+made_once v None w = made_of v.description AsStatic v.initial w
+
+-- a unit has such a variable at this place
+abbrev pub with_static : (unit : Name) (number : ℕ) (external : Option Name) → Place → World → World
+with_static unit number external p w = record w {
+  statics = w.statics ++ record { unit = unit; number = number; external = external; place = p } ∷ [];
+}
+
+-- those among the globals of a unit are made, one after another, from a number on
+abbrev pub statics_made : (unit : Name) (number : ℕ) → List (Option GlobalVariable) → World → Answer Unit
 statics_made unit number [] w = Yields tt w
-statics_made unit number (v ∷ vs) w =
-    further (made_of v.description AsStatic v.initial w)
-    (λ p w. statics_made unit (suc number) vs
-    (record w { statics = w.statics ++ record { unit = unit; number = number; place = p } ∷ [] }))
+statics_made unit number (None ∷ gs) w = statics_made unit (suc number) gs w
+statics_made unit number (Some g ∷ gs) w =
+    further (made_once g.variable (made_before g.external w.statics) w)
+    (λ p w. statics_made unit (suc number) gs (with_static unit number g.external p w))
 
 -- output
 

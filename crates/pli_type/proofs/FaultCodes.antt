@@ -31,7 +31,7 @@ use Rattle.pli_type.specs.Typing.{referred, joined, begun, is_call, all_subscrip
 use Rattle.pli_type.specs.Typing.{as_value, one_value, ended, with_more}
 use Rattle.pli_type.specs.declared.expression_type.ExpressionType.{ExpressionType}
 use Rattle.pli_type.specs.laws.Laws.{is_of_types, AreOfTypes, IsFault, IsToldOfTypes, FaultsAreOfTypes}
-use Rattle.pli_type_tree.specs.TypedTree.{TypedExpression, TypedArguments, TypedRange, TypedStatements}
+use Rattle.pli_type_tree.specs.TypedTree.{Callee, TypedExpression, TypedArguments, TypedRange, TypedStatements}
 use Rattle.pli_type_tree.specs.TypedTree.{TypedProcedure, TypedUnit}
 
 -- a fault, where there is one, is of types
@@ -93,16 +93,16 @@ only_passed : (greatest : ℕ) (p : NamedProcedure) (at : ℕ) (gs : List Argume
     → Only (arguments_passed greatest p at gs)
 only_passed greatest p at gs = only_if _ _ _ (only_wrong at _) (told _ _ refl)
 
-only_result : (at block : ℕ) (arguments : TypedArguments) (o : Option ExpressionType)
-    → Only (result_of at block arguments o)
-only_result at block arguments None = told _ _ refl
-only_result at block arguments (Some kind) = fine _
+only_result : (at : ℕ) (callee : Callee) (arguments : TypedArguments) (o : Option ExpressionType)
+    → Only (result_of at callee arguments o)
+only_result at callee arguments None = told _ _ refl
+only_result at callee arguments (Some kind) = fine _
 
 only_procedure : (greatest : ℕ) (p : NamedProcedure) (at : ℕ) (gs : List Argument)
     → Only (typing.procedure_called greatest p at gs)
 only_procedure greatest p at gs =
     only_then _ _ (only_passed greatest p at gs)
-    (λ passed. only_then _ _ (only_result at p.block passed _) (λ v. fine _))
+    (λ passed. only_then _ _ (only_result at p.callee passed _) (λ v. fine _))
 
 only_given : (at : ℕ) (o : Option TypedValue) → Only (or_bad_argument at o)
 only_given at None = told _ _ refl
@@ -219,14 +219,14 @@ only_condition n e =
 only_goto : (n : Naming) (s : statements.Surroundings) (label : Identifier) → Only (statements.goto_typed n s label)
 only_goto n s label = only_or NotYetBuilt label.at _ refl
 
-only_no_function : (at block : ℕ) (d : Option Description) (arguments : TypedArguments)
-    → Only (statements.no_function at block d arguments)
-only_no_function at block None arguments = fine _
-only_no_function at block (Some d) arguments = told _ _ refl
+only_no_function : (at : ℕ) (callee : Callee) (d : Option Description) (arguments : TypedArguments)
+    → Only (statements.no_function at callee d arguments)
+only_no_function at callee None arguments = fine _
+only_no_function at callee (Some d) arguments = told _ _ refl
 
 only_call_of : (greatest at : ℕ) (name : NamedAs) (gs : List Argument) → Only (statements.call_of greatest at name gs)
 only_call_of greatest at (AProcedure p) gs =
-    only_then _ _ (only_passed greatest p at gs) (λ arguments. only_no_function at p.block p.returned arguments)
+    only_then _ _ (only_passed greatest p at gs) (λ arguments. only_no_function at p.callee p.returned arguments)
 only_call_of greatest at (AVariable v) gs = told _ _ refl
 only_call_of greatest at (AFunction function) gs = told _ _ refl
 only_call_of greatest at (ALabel statement) gs = told _ _ refl

@@ -1,19 +1,20 @@
 -- The typed unit, or all its faults of types: one for each statement, in the order of the text. A unit with a
 -- form that is not compiled yet has Z1 in their place.
-use Rattle.std.specs.Prelude.{ℕ, Option, Some, None, List, [], ◌∷◌, Result, Ok, Err}
-use Rattle.pli_base.specs.Statements.{Statements}
+use Rattle.std.specs.Prelude.{ℕ, Bool, true, false, ◌&&◌, Option, Some, None, List, [], ◌∷◌, length, Result, Ok, Err}
+use Rattle.pli_base.specs.Statements.{ExternalProcedure, Statements}
 use Rattle.pli_base.specs.declared.code.Code.TheVariants.{NotYetBuilt}
 use Rattle.pli_base.specs.declared.token.Fault.{Fault}
+use Rattle.pli_map.specs.Description.{Description}
 use Rattle.pli_type.specs.Names.{NamedUnit}
-use Rattle.pli_type.specs.StatementTyping.{Surroundings, WithProcedures, enclosing}
+use Rattle.pli_type.specs.StatementTyping.{Surroundings, WithProcedures, enclosing, function_end}
 use Rattle.pli_type.specs.StatementTyping.{statements_typed}
 use Rattle.pli_type.specs.Temporaries.{Next, temporaries_among}
 use Rattle.pli_type.specs.Unbuilt.{first_unbuilt, is_main}
-use Rattle.pli_type_tree.specs.TypedTree.{TypedUnit, TypedProcedure, TypedStatements}
+use Rattle.pli_type_tree.specs.TypedTree.{Signature, TypedUnit, TypedProcedure, TypedStatements}
 
--- the external procedure is block 0, and no function
-abbrev pub in_unit : Statements → Surroundings
-in_unit statements = record { blocks = enclosing 0 statements ∷ []; begins = 0; value = None }
+-- the external procedure is block 0; it gives this, if it is a function
+abbrev pub in_unit : (value : Option Description) → Statements → Surroundings
+in_unit value statements = record { blocks = enclosing 0 statements ∷ []; begins = 0; value = value }
 
 abbrev pub first_inside : Next
 first_inside = record { block = 1; temporary = 0 }
@@ -27,16 +28,34 @@ external_of u list = record {
     temporaries = temporaries_among u.tree.statements;
   };
   parent = None;
-  parameters = 0;
-  function_end = None;
+  parameters = length (u.parameters 0);
+  function_end = function_end (u.returned 0) u.tree.end;
   statements = list;
 }
+
+-- what the external procedure takes and gives
+abbrev pub outer_signature : NamedUnit → Signature
+outer_signature u = record { parameters = u.parameters 0; result = u.returned 0 }
+
+-- a program may begin with a unit that has OPTIONS(MAIN): its procedure has no parameters and no RETURNS, as
+-- is asked of its declaration
+abbrev pub is_nothing : List Description → Option Description → Bool
+is_nothing [] None = true
+is_nothing parameters result = false
+
+abbrev pub takes_nothing : Signature → Bool
+takes_nothing s = is_nothing s.parameters s.result
+
+abbrev pub may_begin : ExternalProcedure → Signature → Bool
+may_begin u s = is_main u && takes_nothing s
 
 abbrev pub unit_of : NamedUnit → WithProcedures TypedStatements → TypedUnit
 unit_of u list = record {
   name = u.tree.heading.name.name;
-  is_main = is_main u.tree;
-  statics = u.statics;
+  procedure = u.tree.heading.name.name;
+  is_main = may_begin u.tree (outer_signature u);
+  signature = outer_signature u;
+  globals = u.globals;
   procedures = external_of u list.part ∷ list.procedures;
 }
 
@@ -53,4 +72,4 @@ unless_unbuilt (Some at) typed = Err (record { code = NotYetBuilt; at = at } ∷
 unfoldable pub checked : NamedUnit → Result TypedUnit (List Fault)
 checked u =
     unless_unbuilt (first_unbuilt u.compiled u.tree)
-    (typed_as u (statements_typed u (in_unit u.tree.statements) first_inside u.tree.statements))
+    (typed_as u (statements_typed u (in_unit (u.returned 0) u.tree.statements) first_inside u.tree.statements))

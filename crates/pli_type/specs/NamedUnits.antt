@@ -5,7 +5,10 @@ use Rattle.std.specs.Prelude.{ℕ, zero, suc, ◌+◌, nat_eq, nat_lt, nat_le, B
 use Rattle.std.specs.Prelude.{unsigned_abs, Option, Some, None, option_map, option_and_then, List, [], ◌∷◌}
 use Rattle.std.specs.Prelude.{◌++◌, get_or, take, slice_get, Result, if◌then◌else◌}
 use Rattle.std.specs.List.{flat_map}
+use Rattle.pli_base.specs.Name.{Name}
 use Rattle.pli_base.specs.declared.token.Fault.{Fault}
+use Rattle.pli_declare_attributes.specs.declared.completed.Scope.{Scope}
+use Rattle.pli_declare_attributes.specs.declared.completed.Scope.TheVariants as scopes
 use Rattle.pli_map.specs.Description as described
 use Rattle.pli_map.specs.Description.{Description, FixedBinary, Character, Varying, Bit, Array, Structure}
 use Rattle.pli_map.specs.Description.{Members, NoMembers, MemberThen}
@@ -26,6 +29,7 @@ use Rattle.pli_type.specs.Names.{NamedAs, AVariable, AFunction, AProcedure, ALab
 use Rattle.pli_type.specs.Names.{Naming, Compiled, NamedUnit}
 use Rattle.pli_type.specs.Unbuilt.{is_later_function}
 use Rattle.pli_type_tree.specs.Templates.{Template}
+use Rattle.pli_type_tree.specs.TypedTree.{OfBlock, OfEntry, Global, OwnVariable, ExternalVariable, EntryPoint}
 use Rattle.pli_type_tree.specs.TypedTree.{Root, InSlot, OfProgram, TypedUnit}
 
 -- which variables there are
@@ -79,18 +83,14 @@ abbrev pub of_block : {A : Type 0} → (ResolvedBlock → A) → (otherwise : A)
 of_block part otherwise None = otherwise
 of_block part otherwise (Some b) = part b
 
--- a procedure, and one inside the external procedure, which has no parameters and gives nothing so far
 abbrev pub is_procedure : ResolvedBlockKind → Bool
 is_procedure kinds.Procedure = true
 is_procedure other = false
 
-abbrev pub is_internal : (block : ℕ) → ResolvedBlockKind → Bool
-is_internal block kind = nat_lt 0 block && is_procedure kind
-
 -- the numbers of its parameters among its symbols, each under its slot
 abbrev pub parameter_numbers : ResolvedUnit → (block : ℕ) → List ℕ
 parameter_numbers r block =
-    of_block (λ b. if is_internal block b.kind then b.parameters else []) [] (slice_get r.blocks block)
+    of_block (λ b. if is_procedure b.kind then b.parameters else []) [] (slice_get r.blocks block)
 
 -- what a variable of its own is; each parameter is one
 abbrev pub description_in : Option Symbol → Description
@@ -118,7 +118,7 @@ returned_by (Some s) = of_kind s.kind
 abbrev pub returned_of : ResolvedUnit → (block : ℕ) → Option Description
 returned_of r block =
     option_and_then (λ key. returned_by (symbol_at r key))
-    (of_block (λ b. if is_internal block b.kind then b.name else None) None (slice_get r.blocks block))
+    (of_block (λ b. if is_procedure b.kind then b.name else None) None (slice_get r.blocks block))
 
 -- where variables begin
 
@@ -133,10 +133,29 @@ such_before is_such [] number = 0
 such_before is_such (s ∷ ss) zero = 0
 such_before is_such (s ∷ ss) (suc number) = one_such is_such s.kind + such_before is_such ss number
 
--- how many of the symbols of all these blocks
-abbrev pub such_in : (StorageClass → Description → Bool) → List (List Symbol) → ℕ
-such_in is_such [] = 0
-such_in is_such (ss ∷ more) = such_before is_such ss (length ss) + such_in is_such more
+-- how many globals a symbol is: a STATIC variable is one, and an external procedure
+abbrev pub one_global : (greatest : ℕ) → SymbolKind → ℕ
+one_global greatest (Variable description class scope initial area) =
+    if is_static greatest class description then 1 else 0
+one_global greatest (Entry parameters returned) = 1
+one_global greatest kind = 0
+
+-- how many globals there are before the symbol of this number, and in all these blocks
+abbrev pub globals_before : (greatest : ℕ) → List Symbol → (number : ℕ) → ℕ
+globals_before greatest [] number = 0
+globals_before greatest (s ∷ ss) zero = 0
+globals_before greatest (s ∷ ss) (suc number) =
+    one_global greatest s.kind + globals_before greatest ss number
+
+abbrev pub globals_in : (greatest : ℕ) → List (List Symbol) → ℕ
+globals_in greatest [] = 0
+globals_in greatest (ss ∷ more) = globals_before greatest ss (length ss) + globals_in greatest more
+
+-- the number of a symbol among all globals
+abbrev pub global_number : (greatest : ℕ) → ResolvedUnit → SymbolKey → ℕ
+global_number greatest r key =
+    globals_in greatest (take key.block (all_symbols r))
+    + globals_before greatest (block_symbols r key.block) key.number
 
 -- how many static links outward a block is, if it stands around
 abbrev pub outward_to : (blocks : List ℕ) → (block : ℕ) → Option ℕ
@@ -155,9 +174,9 @@ is_parameter numbers slot number = is_number (slice_get numbers slot)
     is_number None = false
     is_number (Some n) = nat_eq n number
 
--- Parameters stand in slots, each in its own, and AUTOMATIC variables behind them; STATIC variables stand
--- before the program begins, block after block. Each kind stands in the order of the text. Other variables
--- begin nowhere yet
+-- Parameters stand in slots, each in its own, and AUTOMATIC variables behind them; STATIC variables are
+-- globals, which stand block after block. Each kind stands in the order of the text. Other variables begin
+-- nowhere yet
 abbrev pub root_of : (greatest : ℕ) → ResolvedUnit → (blocks : List ℕ) → SymbolKey → StorageClass → Description
     → Option Root
 root_of greatest r blocks key classes.Automatic d =
@@ -170,10 +189,7 @@ root_of greatest r blocks key (classes.Parameter slot) d =
     if is_stored greatest d && is_parameter (parameter_numbers r key.block) slot key.number
     then in_slot (outward_to blocks key.block) slot else None
 root_of greatest r blocks key classes.Static d =
-    if is_stored greatest d
-    then Some (OfProgram (such_in (is_static greatest) (take key.block (all_symbols r))
-    + such_before (is_static greatest) (block_symbols r key.block) key.number))
-    else None
+    if is_stored greatest d then Some (OfProgram (global_number greatest r key)) else None
 root_of greatest r blocks key class d = None
 
 -- what names mean
@@ -213,12 +229,19 @@ gives_stored greatest (Some d) = is_stored greatest d
 
 abbrev pub named_procedure : ResolvedUnit → (block : ℕ) → NamedProcedure
 named_procedure r block =
-    record { block = block; parameters = parameters_of r block; returned = returned_of r block }
+    record { callee = OfBlock block; parameters = parameters_of r block; returned = returned_of r block }
 
 abbrev pub procedure_named : (greatest : ℕ) → ResolvedUnit → (blocks : List ℕ) → (block : ℕ) → NamedAs
 procedure_named greatest r blocks block =
     if is_reached blocks (slice_get r.blocks block) && gives_stored greatest (returned_of r block)
     then AProcedure (named_procedure r block) else Untyped
+
+-- an external procedure, by its entry
+abbrev pub entry_named : (greatest : ℕ) → (number : ℕ) → List Description → Option Description → NamedAs
+entry_named greatest number parameters returned =
+    if gives_stored greatest returned
+    then AProcedure (record { callee = OfEntry number; parameters = parameters; returned = returned })
+    else Untyped
 
 -- by the symbols of its block
 abbrev pub symbol_meant : (greatest : ℕ) → ResolvedUnit → (blocks : List ℕ) → SymbolKey → SymbolKind → NamedAs
@@ -229,7 +252,8 @@ symbol_meant greatest r blocks key (Member root path initial area) =
     (slice_get (block_symbols r key.block) root)
 symbol_meant greatest r blocks key (Label statement) = ALabel statement
 symbol_meant greatest r blocks key (Procedure block returned area) = procedure_named greatest r blocks block
-symbol_meant greatest r blocks key (Entry parameters returned) = Untyped
+symbol_meant greatest r blocks key (Entry parameters returned) =
+    entry_named greatest (global_number greatest r key) parameters returned
 symbol_meant greatest r blocks key BuiltIn = Untyped
 
 abbrev pub declared_as : (greatest : ℕ) → ResolvedUnit → (blocks : List ℕ) → SymbolKey → NamedAs
@@ -290,9 +314,36 @@ templates_of is_such symbols = templates_from is_such symbols 0 symbols
 
 -- the unit
 
--- the STATIC variables of blocks, block after block
-abbrev pub all_statics : (greatest : ℕ) → List (List Symbol) → List Template
-all_statics greatest blocks = flat_map (templates_of (is_static greatest)) blocks
+-- a variable by its scope
+abbrev pub global_of : Scope → Name → Template → Global
+global_of scopes.Internal name template = OwnVariable template
+global_of scopes.External name template = ExternalVariable name template
+
+-- the global that a symbol is, if it is one: a STATIC variable, or an entry
+abbrev pub global_with : (greatest : ℕ) → (all : List Symbol) → (number : ℕ) → Name → SymbolKind
+    → List Global
+global_with greatest all number name (Variable description class scope initial area) =
+    map (global_of scope name)
+    (template_at (is_static greatest) all number (Variable description class scope initial area))
+global_with greatest all number name (Entry parameters returned) =
+    EntryPoint name (record { parameters = parameters; result = returned }) ∷ []
+global_with greatest all number name kind = []
+
+abbrev pub global_at : (greatest : ℕ) → (all : List Symbol) → (number : ℕ) → Symbol → List Global
+global_at greatest all number s = global_with greatest all number s.identifier.name s.kind
+
+-- those among symbols, the first of which has this number
+abbrev pub globals_from : (greatest : ℕ) → (all : List Symbol) → (number : ℕ) → List Symbol → List Global
+globals_from greatest all number [] = []
+globals_from greatest all number (s ∷ ss) =
+    global_at greatest all number s ++ globals_from greatest all (suc number) ss
+
+abbrev pub globals_of : (greatest : ℕ) → List Symbol → List Global
+globals_of greatest symbols = globals_from greatest symbols 0 symbols
+
+-- the globals of blocks, block after block
+abbrev pub all_globals : (greatest : ℕ) → List (List Symbol) → List Global
+all_globals greatest blocks = flat_map (globals_of greatest) blocks
 
 abbrev pub named_unit : (greatest : ℕ) → ResolvedUnit → NamedUnit
 named_unit greatest r = record {
@@ -302,7 +353,7 @@ named_unit greatest r = record {
   parameters = parameters_of r;
   returned = returned_of r;
   automatic = λ block. templates_of (is_automatic greatest) (block_symbols r block);
-  statics = all_statics greatest (all_symbols r);
+  globals = all_globals greatest (all_symbols r);
 }
 
 -- what `check` answers for a resolved unit, where numbers have at most 31 binary digits

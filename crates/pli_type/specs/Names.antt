@@ -4,7 +4,7 @@ use Rattle.pli_base.specs.Statements.{ExternalProcedure}
 use Rattle.pli_map.specs.Description.{Description}
 use Rattle.pli_resolve.specs.declared.built_in.BuiltInFunction.{BuiltInFunction}
 use Rattle.pli_type_tree.specs.Templates.{Template}
-use Rattle.pli_type_tree.specs.TypedTree.{Root}
+use Rattle.pli_type_tree.specs.TypedTree.{Callee, Global, Root}
 
 -- a variable of its own, or a member of one: where the variable begins, the description of the whole
 -- variable, and the members on the way, each counted from 0
@@ -13,9 +13,9 @@ pub record NamedVariable : Type 0 where
   pub whole : Description
   pub path : List ℕ
 
--- a procedure: its block, what its parameters are, and what it gives if it is a function
+-- a procedure: what a call of it calls, what its parameters are, and what it gives if it is a function
 pub record NamedProcedure : Type 0 where
-  pub block : ℕ
+  pub callee : Callee
   pub parameters : List Description
   pub returned : Option Description
 
@@ -42,8 +42,7 @@ pub record Compiled : Type 0 where
 
 -- a unit without faults of declarations: its tree; what is compiled; what its names mean where these blocks
 -- stand around, the innermost first; of each block what its parameters are, what it gives if it is that of a
--- function, and what its AUTOMATIC variables are made from; and what the STATIC variables of all blocks are
--- made from
+-- function, and what its AUTOMATIC variables are made from; and the globals of all blocks
 pub record NamedUnit : Type 0 where
   pub tree : ExternalProcedure
   pub compiled : Compiled
@@ -51,4 +50,4 @@ pub record NamedUnit : Type 0 where
   pub parameters : (block : ℕ) → List Description
   pub returned : (block : ℕ) → Option Description
   pub automatic : (block : ℕ) → List Template
-  pub statics : List Template
+  pub globals : List Global

@@ -13,8 +13,8 @@ use Rattle.pli_type.specs.FunctionCalls.{Denoted, DenotesVariable, DenotesResult
 use Rattle.pli_type.specs.FunctionCalls.{WholeAggregate, meant_as, Argument}
 use Rattle.pli_type.specs.Names.{NamedProcedure}
 use Rattle.pli_type.specs.declared.expression_type.ExpressionType.{ExpressionType}
-use Rattle.pli_type_tree.specs.TypedTree.{TypedExpression, Called, TypedReference, TypedArguments, NoArgument}
-use Rattle.pli_type_tree.specs.TypedTree.{ByPlace, ByDummy}
+use Rattle.pli_type_tree.specs.TypedTree.{Callee, TypedExpression, Called, TypedReference, TypedArguments}
+use Rattle.pli_type_tree.specs.TypedTree.{NoArgument, ByPlace, ByDummy}
 
 -- a variable of the very description of the parameter is handed over itself
 abbrev pub passed_place : Description → Denoted → Option TypedReference
@@ -60,9 +60,9 @@ arguments_passed greatest p at arguments =
     else at_fault WrongNumberOfArguments at
 
 -- what a function gives; T8 at the called name of what is none
-abbrev pub result_of : (at block : ℕ) → TypedArguments → Option ExpressionType → Result TypedValue Fault
-result_of at block arguments None = at_fault NotCallableHere at
-result_of at block arguments (Some kind) = Ok (record { expression = Called block arguments; kind = kind })
+abbrev pub result_of : (at : ℕ) → Callee → TypedArguments → Option ExpressionType → Result TypedValue Fault
+result_of at callee arguments None = at_fault NotCallableHere at
+result_of at callee arguments (Some kind) = Ok (record { expression = Called callee arguments; kind = kind })
 
 abbrev pub type_returned : Option Description → Option ExpressionType
 type_returned None = None

@@ -25,7 +25,7 @@ use Rattle.pli_type.specs.References.{AsArgument, AsLocator, AsTarget, Referent}
 use Rattle.pli_type.specs.Temporaries.{Next, behind, temporaries_among, limits_kept}
 use Rattle.pli_type.specs.Typing.{first_token, or_fault, meant, referred, value_of, all_arguments}
 use Rattle.pli_type_tree.specs.TypedTree as typed
-use Rattle.pli_type_tree.specs.TypedTree.{TypedExpression, Held, TypedReference, Whole, Part, Subscripts}
+use Rattle.pli_type_tree.specs.TypedTree.{Callee, TypedExpression, Held, TypedReference, Whole, Part, Subscripts}
 use Rattle.pli_type_tree.specs.TypedTree.{NoSubscript, SubscriptThen, BlockHead, TypedRange, Iteration, Form}
 use Rattle.pli_type_tree.specs.TypedTree.{TypedArguments, TypedStatement, TypedStatements, NoStatement}
 use Rattle.pli_type_tree.specs.TypedTree.{StatementThen, OtherWise, NoElse, Else, TypedProcedure}
@@ -191,13 +191,13 @@ arguments_typed n Absent = Ok []
 arguments_typed n (Given list) = all_arguments n [] list
 
 -- a call of what is no function: T6, T7 or T8 at the name, in this order
-abbrev pub no_function : (at block : ℕ) → Option Description → TypedArguments → Result Form Fault
-no_function at block None arguments = Ok (typed.Call block arguments)
-no_function at block (Some d) arguments = at_fault NotCallableHere at
+abbrev pub no_function : (at : ℕ) → Callee → Option Description → TypedArguments → Result Form Fault
+no_function at callee None arguments = Ok (typed.Call callee arguments)
+no_function at callee (Some d) arguments = at_fault NotCallableHere at
 
 abbrev pub call_of : (greatest : ℕ) → (at : ℕ) → NamedAs → List Argument → Result Form Fault
 call_of greatest at (AProcedure p) gs =
-    arguments_passed greatest p at gs >>= no_function at p.block p.returned
+    arguments_passed greatest p at gs >>= no_function at p.callee p.returned
 call_of greatest at other gs = at_fault NotCallableHere at
 
 abbrev pub call_typed : Naming → (name : Identifier) → Arguments → Result Form Fault

@@ -83,7 +83,7 @@ abbrev pub procedure_called : (greatest : ℕ) → NamedProcedure → (at : ℕ)
     → Result Segment Fault
 procedure_called greatest p at gs = do
   passed ← arguments_passed greatest p at gs
-  v ← result_of at p.block passed (type_returned p.returned)
+  v ← result_of at p.callee passed (type_returned p.returned)
   Ok (OfFunction v)
 
 abbrev pub roles_or_none : Option (List Role) → List Role

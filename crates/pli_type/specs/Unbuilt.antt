@@ -2,10 +2,11 @@
 -- has one. A declaration of what is not compiled yet is such a form, used or not; what stands behind THEN and
 -- ELSE is a statement (own).
 use Rattle.std.specs.Prelude.{ℕ, ◌^◌, nat_lt, nat_le, length, Bool, true, false, not, ◌||◌, ◌&&◌, Option}
-use Rattle.std.specs.Prelude.{Some, None, List, [], ◌∷◌}
+use Rattle.std.specs.Prelude.{Some, None}
 use Rattle.std.specs.Prelude.{if◌then◌else◌}
 use Rattle.std.specs.List.{list_any}
-use Rattle.pli_base.specs.Declarations.{SimpleAttribute, Attribute, Simple, Item, DescribedAttribute, Plain}
+use Rattle.pli_base.specs.Declarations.{SimpleAttribute, Attribute, Simple, Item}
+use Rattle.pli_base.specs.Declarations.{DescribedAttribute, Plain, ParameterDescription}
 use Rattle.pli_base.specs.Declarations as declared
 use Rattle.pli_base.specs.Name.{Name}
 use Rattle.pli_base.specs.Statements as tree
@@ -79,30 +80,42 @@ abbrev mutual
   later_list n Empty = false
   later_list n (Listed first more) = later_expression n first || later_list n more
 
--- locators, areas, storage that is allocated, and what other units share; STATIC in a unit that is not MAIN
-abbrev pub later_simple : (main : Bool) → SimpleAttribute → Bool
-later_simple main declared.Pointer = true
-later_simple main (declared.Offset area) = true
-later_simple main (declared.Area size) = true
-later_simple main (declared.Based locator) = true
-later_simple main declared.Controlled = true
-later_simple main declared.External = true
-later_simple main declared.Static = not main
-later_simple main attribute = false
+-- of what there may be, such a part
+abbrev pub later_part : {A : Type 0} → (A → Bool) → Option A → Bool
+later_part is_later None = false
+later_part is_later (Some x) = is_later x
 
--- ENTRY and RETURNS too
-abbrev pub later_attribute : (main : Bool) → Attribute → Bool
-later_attribute main (Simple attribute) = later_simple main attribute
-later_attribute main other = true
+-- locators, areas, and storage that is allocated
+abbrev pub later_simple : SimpleAttribute → Bool
+later_simple declared.Pointer = true
+later_simple (declared.Offset area) = true
+later_simple (declared.Area size) = true
+later_simple (declared.Based locator) = true
+later_simple declared.Controlled = true
+later_simple attribute = false
+
+-- in what is said of a parameter or of a result
+abbrev pub later_described : DescribedAttribute → Bool
+later_described (Plain attribute) = later_simple attribute
+later_described other = true
+
+abbrev pub later_parameter : ParameterDescription → Bool
+later_parameter p = list_any later_described p.attributes
+
+-- of ENTRY and RETURNS what they say of parameters and results
+abbrev pub later_attribute : Attribute → Bool
+later_attribute (Simple attribute) = later_simple attribute
+later_attribute (declared.Entry parameters) = later_part (list_any later_parameter) parameters
+later_attribute (declared.Returns attributes) = list_any later_described attributes
 
 -- BUILTIN of a function that is not compiled yet
 abbrev pub is_builtin : Attribute → Bool
 is_builtin (Simple declared.Builtin) = true
 is_builtin attribute = false
 
-abbrev pub later_item : (main : Bool) → Item → Bool
-later_item main item =
-    list_any (later_attribute main) item.attributes
+abbrev pub later_item : Item → Bool
+later_item item =
+    list_any later_attribute item.attributes
     || (list_any is_builtin item.attributes && list_any (λ i. is_later_name i.name) item.names)
 
 -- the first token of a statement
@@ -121,11 +134,6 @@ token_if later at = if later then Some at else None
 
 -- statements
 
--- of what there may be, such a part
-abbrev pub later_part : {A : Type 0} → (A → Bool) → Option A → Bool
-later_part is_later None = false
-later_part is_later (Some x) = is_later x
-
 -- what limits or continues a group
 abbrev pub later_range : Compiled → Range → Bool
 later_range n (tree.To to by) = later_expression n to || later_part (later_expression n) by
@@ -139,69 +147,58 @@ later_control n (tree.Iterate variable equals first range condition) =
     || later_part (later_expression n) condition
 
 -- what a function gives
-abbrev pub later_described : DescribedAttribute → Bool
-later_described (Plain attribute) = later_simple true attribute
-later_described other = true
-
 abbrev pub later_option : ProcedureOption → Bool
 later_option (Returns attributes) = list_any later_described attributes
 later_option option = false
 
 -- at is the first token of the statement, its label where it has one; the label of a PROCEDURE is its name
 abbrev mutual
-  pub later_statement : Compiled → (main : Bool) → Statement → Option ℕ
-  later_statement n main (Numbered number label at body) = later_body n main (first_of label at) body
+  pub later_statement : Compiled → Statement → Option ℕ
+  later_statement n (Numbered number label at body) = later_body n (first_of label at) body
 
-  pub later_body : Compiled → (main : Bool) → (at : ℕ) → Body → Option ℕ
-  later_body n main at tree.Null = None
-  later_body n main at (tree.Assign target equals value) =
+  pub later_body : Compiled → (at : ℕ) → Body → Option ℕ
+  later_body n at tree.Null = None
+  later_body n at (tree.Assign target equals value) =
       token_if (later_reference n target || later_expression n value) at
-  later_body n main at (tree.Declare items) = token_if (list_any (later_item main) items) at
-  later_body n main at (tree.Procedure heading statements end) =
+  later_body n at (tree.Declare items) = token_if (list_any later_item items) at
+  later_body n at (tree.Procedure heading statements end) =
       or_else (token_if (list_any later_option heading.options) heading.name.at)
-      (later_statements n main statements)
-  later_body n main at (tree.Begin statements end) = later_statements n main statements
-  later_body n main at (tree.Do control statements end) =
-      or_else (token_if (later_part (later_control n) control) at) (later_statements n main statements)
-  later_body n main at (tree.If condition consequence alternative) =
+      (later_statements n statements)
+  later_body n at (tree.Begin statements end) = later_statements n statements
+  later_body n at (tree.Do control statements end) =
+      or_else (token_if (later_part (later_control n) control) at) (later_statements n statements)
+  later_body n at (tree.If condition consequence alternative) =
       or_else (token_if (later_expression n condition) at)
-      (or_else (later_statement n main consequence) (later_alternative n main alternative))
-  later_body n main at tree.Stop = None
-  later_body n main at (tree.Call name arguments) = token_if (later_arguments n arguments) at
-  later_body n main at (tree.Goto label) = None
-  later_body n main at (tree.Return value) = token_if (later_part (later_expression n) value) at
-  later_body n main at (tree.Put skip items) = token_if (list_any (later_expression n) items) at
-  later_body n main at other = Some at
+      (or_else (later_statement n consequence) (later_alternative n alternative))
+  later_body n at tree.Stop = None
+  later_body n at (tree.Call name arguments) = token_if (later_arguments n arguments) at
+  later_body n at (tree.Goto label) = None
+  later_body n at (tree.Return value) = token_if (later_part (later_expression n) value) at
+  later_body n at (tree.Put skip items) = token_if (list_any (later_expression n) items) at
+  later_body n at other = Some at
 
-  pub later_alternative : Compiled → (main : Bool) → Alternative → Option ℕ
-  later_alternative n main tree.NoElse = None
-  later_alternative n main (tree.Else statement) = later_statement n main statement
+  pub later_alternative : Compiled → Alternative → Option ℕ
+  later_alternative n tree.NoElse = None
+  later_alternative n (tree.Else statement) = later_statement n statement
 
-  pub later_statements : Compiled → (main : Bool) → Statements → Option ℕ
-  later_statements n main Ended = None
-  later_statements n main (Before first more) =
-      or_else (later_statement n main first) (later_statements n main more)
+  pub later_statements : Compiled → Statements → Option ℕ
+  later_statements n Ended = None
+  later_statements n (Before first more) =
+      or_else (later_statement n first) (later_statements n more)
 
--- the unit's PROCEDURE: without parameters and RETURNS
+-- a unit
 
 abbrev pub is_main_option : ProcedureOption → Bool
 is_main_option Main = true
 is_main_option option = false
 
-abbrev pub is_returns : ProcedureOption → Bool
-is_returns (Returns attributes) = true
-is_returns option = false
-
 abbrev pub is_main : ExternalProcedure → Bool
 is_main u = list_any is_main_option u.heading.options
 
-abbrev pub has_parameters : {A : Type 0} → List A → Bool
-has_parameters [] = false
-has_parameters (p ∷ ps) = true
-
+-- its PROCEDURE
 abbrev pub later_heading : Heading → Option ℕ
-later_heading h = token_if (has_parameters h.parameters || list_any is_returns h.options) h.name.at
+later_heading h = token_if (list_any later_option h.options) h.name.at
 
 -- the token at which Z1 stands, if a form of the unit is not compiled yet
 abbrev pub first_unbuilt : Compiled → ExternalProcedure → Option ℕ
-first_unbuilt n u = or_else (later_heading u.heading) (later_statements n (is_main u) u.statements)
+first_unbuilt n u = or_else (later_heading u.heading) (later_statements n u.statements)

@@ -18,4 +18,4 @@ pub use laws::{
 };
 pub use operators::{infix_value, prefix_value};
 pub use typed_value::TypedValue;
-pub use unbuilt::{is_later_function, later_heading, later_item, later_items, later_returns};
+pub use unbuilt::{is_later_function, later_item, later_items, later_returns};

@@ -1,11 +1,13 @@
 //! What is not compiled yet, as far as it shows without names.
-ghost use Rattle.std.specs.Prelude.{◌≡◌, ◌||◌, map};
+ghost use Rattle.std.specs.Prelude.{◌≡◌, map};
 ghost use Rattle.std.specs.List.{list_any};
-ghost use Rattle.pli_base.specs.views.DeclarationView.{attribute_view, described_view, item_view, simple_view};
+ghost use Rattle.pli_base.specs.views.DeclarationView.{attribute_view, described_view, item_view, parameter_view, simple_view};
 ghost use Rattle.pli_base.specs.views.StatementView.{option_view};
 ghost use Rattle.pli_type.specs.Unbuilt as spec;
 
-use pli_base::declaration::{Attribute, DescribedAttribute, Item, SimpleAttribute};
+use pli_base::declaration::{
+    Attribute, DescribedAttribute, Item, ParameterDescription, SimpleAttribute,
+};
 use pli_base::statement::ProcedureOption;
 use pli_base::syntax::Identifier;
 use pli_resolve::{BuiltInFunction, function_named};
@@ -25,30 +27,68 @@ pub fn is_later_function(function: BuiltInFunction) -> bool
     )
 }
 
-/// Whether an attribute is one of a declaration that is not compiled yet: of locators, areas, storage that is
-/// allocated and what other units share, and of STATIC in a unit that is not MAIN (own).
-fn later_simple(main: bool, attribute: &SimpleAttribute) -> bool
-    ensures { result ≡ spec.later_simple main (simple_view attribute.now) }
+/// Whether an attribute is one of a declaration that is not compiled yet: of locators, areas, and storage that is
+/// allocated (own).
+fn later_simple(attribute: &SimpleAttribute) -> bool
+    ensures { result ≡ spec.later_simple (simple_view attribute.now) }
+{
+    matches!(
+        attribute,
+        SimpleAttribute::Pointer
+            | SimpleAttribute::Offset(_)
+            | SimpleAttribute::Area(_)
+            | SimpleAttribute::Based(_)
+            | SimpleAttribute::Controlled
+    )
+}
+
+/// Whether an attribute of a parameter or of a result is of what is not compiled yet.
+fn later_described(attribute: &DescribedAttribute) -> bool
+    ensures { result ≡ spec.later_described (described_view attribute.now) }
 {
     match attribute {
-        SimpleAttribute::Pointer
-        | SimpleAttribute::Offset(_)
-        | SimpleAttribute::Area(_)
-        | SimpleAttribute::Based(_)
-        | SimpleAttribute::Controlled
-        | SimpleAttribute::External => true,
-        SimpleAttribute::Static => !main,
-        _ => false,
+        DescribedAttribute::Simple(attribute) => later_simple(attribute),
+        DescribedAttribute::Entry | DescribedAttribute::Returns => true,
     }
 }
 
-/// The same of any attribute: ENTRY and RETURNS too.
-fn later_attribute(main: bool, attribute: &Attribute) -> bool
-    ensures { result ≡ spec.later_attribute main (attribute_view attribute.now) }
+/// Whether one of the attributes of a parameter or of a result is of what is not compiled yet.
+fn any_described(attributes: &[DescribedAttribute]) -> bool
+    ensures { result ≡ list_any (λ attribute. spec.later_described (described_view attribute)) attributes.now }
+{
+    attributes
+        .iter()
+        .any(|attribute| later_described(attribute))
+}
+
+/// Whether what ENTRY says of a parameter is of what is not compiled yet.
+#[tactic(auto, using(crate::proofs::Lists::any_map))]
+fn later_parameter(parameter: &ParameterDescription) -> bool
+    ensures { result ≡ spec.later_parameter (parameter_view parameter.now) }
+{
+    let later = any_described(parameter.attributes.as_slice());
+    later
+}
+
+/// Whether what ENTRY says of one of the parameters is.
+fn any_parameter(parameters: &[ParameterDescription]) -> bool
+    ensures { result ≡ list_any (λ parameter. spec.later_parameter (parameter_view parameter)) parameters.now }
+{
+    parameters
+        .iter()
+        .any(|parameter| later_parameter(parameter))
+}
+
+/// Whether an attribute is one of a declaration that is not compiled yet.
+#[tactic(auto, using(crate::proofs::Lists::any_map))]
+fn later_attribute(attribute: &Attribute) -> bool
+    ensures { result ≡ spec.later_attribute (attribute_view attribute.now) }
 {
     match attribute {
-        Attribute::Simple(attribute) => later_simple(main, attribute),
-        Attribute::Entry(_) | Attribute::Returns(_) => true,
+        Attribute::Simple(attribute) => later_simple(attribute),
+        Attribute::Entry(None) => false,
+        Attribute::Entry(Some(parameters)) => any_parameter(parameters.as_slice()),
+        Attribute::Returns(attributes) => any_described(attributes.as_slice()),
     }
 }
 
@@ -70,12 +110,12 @@ fn is_later_name(name: &Identifier) -> bool
 }
 
 /// Whether one of the attributes is one of a declaration that is not compiled yet.
-fn any_later(main: bool, attributes: &[Attribute]) -> bool
-    ensures { result ≡ list_any (λ attribute. spec.later_attribute main (attribute_view attribute)) attributes.now }
+fn any_later(attributes: &[Attribute]) -> bool
+    ensures { result ≡ list_any (λ attribute. spec.later_attribute (attribute_view attribute)) attributes.now }
 {
     attributes
         .iter()
-        .any(|attribute| later_attribute(main, attribute))
+        .any(|attribute| later_attribute(attribute))
 }
 
 /// Whether one of the attributes is BUILTIN.
@@ -94,69 +134,27 @@ fn any_later_name(names: &[Identifier]) -> bool
 
 /// Whether an item declares what is not compiled yet, BUILTIN of such a function too.
 #[tactic(auto, using(crate::proofs::Lists::any_map))]
-pub fn later_item(main: bool, item: &Item) -> bool
-    ensures { result ≡ spec.later_item main (item_view item.now) }
+pub fn later_item(item: &Item) -> bool
+    ensures { result ≡ spec.later_item (item_view item.now) }
 {
     let attributes = item.attributes.as_slice();
-    any_later(main, attributes)
-        || (any_builtin(attributes) && any_later_name(item.names.as_slice()))
+    any_later(attributes) || (any_builtin(attributes) && any_later_name(item.names.as_slice()))
 }
 
 /// Whether one of the items declares what is not compiled yet.
-fn any_item(main: bool, items: &[Item]) -> bool
-    ensures { result ≡ list_any (λ item. spec.later_item main (item_view item)) items.now }
+fn any_item(items: &[Item]) -> bool
+    ensures { result ≡ list_any (λ item. spec.later_item (item_view item)) items.now }
 {
-    items.iter().any(|item| later_item(main, item))
+    items.iter().any(|item| later_item(item))
 }
 
 /// Whether items declare what is not compiled yet.
 #[tactic(auto, using(crate::proofs::Lists::any_map))]
-pub fn later_items(main: bool, items: &[Item]) -> bool
-    ensures { result ≡ list_any (spec.later_item main) (map item_view items.now) }
+pub fn later_items(items: &[Item]) -> bool
+    ensures { result ≡ list_any spec.later_item (map item_view items.now) }
 {
-    let later = any_item(main, items);
+    let later = any_item(items);
     later
-}
-
-/// Whether an option makes a procedure a function.
-fn is_returns(option: &ProcedureOption) -> bool
-    ensures { result ≡ spec.is_returns (option_view option.now) }
-{
-    matches!(option, ProcedureOption::Returns(_))
-}
-
-/// Whether one of the options makes a procedure a function.
-fn any_returns(options: &[ProcedureOption]) -> bool
-    ensures { result ≡ list_any (λ option. spec.is_returns (option_view option)) options.now }
-{
-    options.iter().any(|option| is_returns(option))
-}
-
-/// Whether a procedure has parameters or RETURNS, which is not compiled yet.
-#[tactic(auto, using(crate::proofs::Lists::any_map))]
-pub fn later_heading(parameters: &[Identifier], options: &[ProcedureOption]) -> bool
-    ensures { result ≡ (spec.has_parameters parameters.now || list_any spec.is_returns (map option_view options.now)) }
-{
-    !parameters.is_empty() || any_returns(options)
-}
-
-/// Whether an attribute in RETURNS is of what is not compiled yet.
-fn later_described(attribute: &DescribedAttribute) -> bool
-    ensures { result ≡ spec.later_described (described_view attribute.now) }
-{
-    match attribute {
-        DescribedAttribute::Simple(attribute) => later_simple(true, attribute),
-        DescribedAttribute::Entry | DescribedAttribute::Returns => true,
-    }
-}
-
-/// Whether one of the attributes in RETURNS is of what is not compiled yet.
-fn any_described(attributes: &[DescribedAttribute]) -> bool
-    ensures { result ≡ list_any (λ attribute. spec.later_described (described_view attribute)) attributes.now }
-{
-    attributes
-        .iter()
-        .any(|attribute| later_described(attribute))
 }
 
 /// Whether an option is RETURNS with an attribute of what is not compiled yet.
@@ -177,7 +175,7 @@ fn any_later_option(options: &[ProcedureOption]) -> bool
     options.iter().any(|option| later_option(option))
 }
 
-/// Whether an internal procedure gives what is not compiled yet: a locator (own).
+/// Whether a procedure gives what is not compiled yet: a locator (own).
 #[tactic(auto, using(crate::proofs::Lists::any_map))]
 pub fn later_returns(options: &[ProcedureOption]) -> bool
     ensures { result ≡ list_any spec.later_option (map option_view options.now) }

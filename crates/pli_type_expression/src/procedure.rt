@@ -10,7 +10,7 @@ ghost use Rattle.pli_type_expression.specs.answers.TypingAnswers.{Gives};
 ghost use Rattle.pli_type_expression.specs.views.TypingView.{argument_view, denoted_view, meant_view, segment_view};
 ghost use Rattle.pli_type_names.specs.Meant.{IsProcedure};
 ghost use Rattle.pli_type_tree.specs.TypedTree as tree;
-ghost use Rattle.pli_type_tree.specs.views.TypedView.{argument_before, arguments_view};
+ghost use Rattle.pli_type_tree.specs.views.TypedView.{argument_before, arguments_view, callee_view};
 
 use crate::answer::{TypeError, fault};
 use crate::argument::Argument;
@@ -20,7 +20,7 @@ use pli_base::Code;
 use pli_map::Description;
 use pli_type::{ExpressionType, TypedValue, converted};
 use pli_type_names::NamedProcedure;
-use pli_type_tree::{TypedArgument, TypedExpression};
+use pli_type_tree::{Callee, TypedArgument, TypedExpression};
 use std::alloc::{AllocError, Global};
 
 /// A value as a dummy argument of the parameter's description, to which it is converted; none where it does not suit.
@@ -116,11 +116,11 @@ pub fn pass(
 #[tactic(auto, using(pli_type_tree::specs::laws::TypedTreeLaws::called_made))]
 fn result_of(
     at: u32,
-    block: u32,
+    callee: Callee,
     arguments: Vec<TypedArgument>,
     returned: Option<&Description>,
 ) -> Result<TypedValue, TypeError>
-    ensures { Gives value_view result (spec.result_of at block (arguments_view arguments.items)
+    ensures { Gives value_view result (spec.result_of at (callee_view callee) (arguments_view arguments.items)
         (spec.type_returned (option_map (λ d. description_view d.now) returned.entry))) }
 {
     let Some(description) = returned else {
@@ -128,7 +128,7 @@ fn result_of(
     };
     match ExpressionType::of(description) {
         Some(kind) => Ok(TypedValue {
-            expression: TypedExpression::Called { block, arguments },
+            expression: TypedExpression::Called { callee, arguments },
             kind,
         }),
         None => Err(fault(Code::NotCallableHere, at)),
@@ -148,6 +148,6 @@ pub(crate) fn procedure_called(
         (typing.procedure_called greatest named at (map argument_view arguments.entry.items)) }
 {
     let passed = pass(alloc, greatest, procedure, at, arguments)?;
-    let value = result_of(at, procedure.block, passed, procedure.returned)?;
+    let value = result_of(at, procedure.callee, passed, procedure.returned)?;
     Ok(Segment::Function(value))
 }

@@ -1,7 +1,7 @@
 -- Calls of procedures: arguments fit parameters, and functions give values of their types.
 use Rattle.std.specs.Prelude.{◌≡◌, ℕ, nat_eq, Bool, true, false, IsTrue, Option, Some, None, List, [], ◌∷◌, length, refl}
 use Rattle.std.specs.Prelude.{if◌then◌else◌}
-use Rattle.std.proofs.Common.{sym, subst, ◌∙◌}
+use Rattle.std.proofs.Common.{subst}
 use Rattle.pli_map.specs.Description.{Description}
 use Rattle.pli_map.specs.Same.{same}
 use Rattle.pli_map.specs.laws.SameLaws.{same_decides}
@@ -18,15 +18,11 @@ use Rattle.pli_type_laws.proofs.Operators.{HasValue}
 use Rattle.pli_type_laws.proofs.References.{read_if}
 use Rattle.pli_type_laws.specs.ExpressionTyping.{HasType}
 use Rattle.pli_type_tree.specs.TypedTree.{TypedExpression, TypedReference, TypedArguments, Called}
-use Rattle.pli_type_tree.specs.WellTyped.{Signature, TypingContext, IsReached, IsPlaced, ArePassed, IsValueFor}
+use Rattle.pli_type_tree.specs.WellTyped.{TypingContext, IsCallee, IsPlaced, ArePassed, IsValueFor}
 
--- a procedure that a name means is one of the unit, and reached; what it gives is plain
+-- a procedure that a name means is one of the unit, and reached, or an entry; what it gives is plain
 pub record IsCallable (s : TypingContext) (p : NamedProcedure) : Type 0 where
-  pub signature : Signature
-  pub there : s.procedures p.block ≡ Some signature
-  pub reached : IsReached signature.parent s.blocks signature.around
-  pub parameters : signature.parameters ≡ p.parameters
-  pub value : signature.value ≡ p.returned
+  pub there : IsCallee s.globals s.procedures s.blocks p.callee p.parameters p.returned
   pub plain : (d : Description) → p.returned ≡ Some d → IsTrue (is_plain 31 d)
 
 module _ (s : TypingContext) where
@@ -79,21 +75,22 @@ module _ (s : TypingContext) where
       (or_wrong at p.parameters (all_passed 31 p.parameters gs) (suited p.parameters gs h)) tt
 
   module _ (p : NamedProcedure) (callable : IsCallable s p) (xs : TypedArguments) (fit : ArePassed 31 s xs p.parameters) where
-    pub fit_signature : ArePassed 31 s xs callable.signature.parameters
-    fit_signature = subst (ArePassed 31 s xs) (sym callable.parameters) fit
+    -- it gives this
+    pub gives : (o : Option Description) → p.returned ≡ o → IsCallee s.globals s.procedures s.blocks p.callee p.parameters o
+    gives o e = subst (IsCallee s.globals s.procedures s.blocks p.callee p.parameters) e callable.there
 
-    of_kind : (at : ℕ) (o : Option ExpressionType) → OnGiven (HasType s (Called p.block xs)) o
-        → OnRead (HasValue s) (result_of at p.block xs o)
+    of_kind : (at : ℕ) (o : Option ExpressionType) → OnGiven (HasType s (Called p.callee xs)) o
+        → OnRead (HasValue s) (result_of at p.callee xs o)
     of_kind at (Some kind) h = h
     of_kind at None h = tt
 
     by_returned : (at : ℕ) (o : Option Description) → p.returned ≡ o
-        → OnRead (HasValue s) (result_of at p.block xs (type_returned o))
+        → OnRead (HasValue s) (result_of at p.callee xs (type_returned o))
     by_returned at None e = tt
     by_returned at (Some d) e =
         of_kind at (type_of d)
-        (scalar_typed s (Called p.block xs) d (callable.plain d e)
-        (λ t held. (callable.signature, callable.there, callable.reached, fit_signature, (d, callable.value ∙ e, held))))
+        (scalar_typed s (Called p.callee xs) d (callable.plain d e)
+        (λ t held. (p.parameters, d, gives (Some d) e, fit, held)))
 
-    pub result_typed : (at : ℕ) → OnRead (HasValue s) (result_of at p.block xs (type_returned p.returned))
+    pub result_typed : (at : ℕ) → OnRead (HasValue s) (result_of at p.callee xs (type_returned p.returned))
     result_typed at = by_returned at p.returned refl

@@ -1,12 +1,21 @@
 -- What the type checker gives for a unit that was read.
-use Rattle.std.specs.Prelude.{◌≡◌, ℕ, true, Ok}
+use Rattle.std.specs.Prelude.{◌≡◌, ℕ, true, Option, Some, None, List, [], ◌∷◌, Result, Ok, Err, refl}
+use Rattle.std.proofs.Common.{subst}
+use Rattle.std.proofs.lemmas.Bool.{and_parts, false≢true}
+use Rattle.pli_base.specs.declared.token.Fault.{Fault}
 use Rattle.pli_gen_tree.specs.WellNumbered.{IsWellNumbered}
+use Rattle.pli_meaning_typed.specs.TypedPrograms.{IsTypedUnit}
 use Rattle.pli_resolve.specs.ResolvedUnits.{ResolvedUnit, all_symbols, meaning_at, resolved_unit_of}
-use Rattle.pli_type.specs.NamedUnits.{is_automatic, all_statics, block_symbols, parameters_of, returned_of, means_later, named_as}
+use Rattle.pli_map.specs.Description.{Description}
+use Rattle.pli_type.specs.Checked.{checked, is_nothing, typed_as, unit_of, unless_unbuilt}
+use Rattle.pli_type.specs.Names.{NamedUnit}
+use Rattle.pli_type.specs.StatementTyping.{WithProcedures}
+use Rattle.pli_type.specs.Unbuilt.{is_main}
+use Rattle.pli_type.specs.NamedUnits.{is_automatic, all_globals, block_symbols, parameters_of, returned_of, means_later, named_as}
 use Rattle.pli_type.specs.NamedUnits.{named_unit, templates_of, checked_unit}
 use Rattle.pli_type_laws.proofs.NumberedUnits.{units_are_numbered}
 use Rattle.pli_type_laws.proofs.Units.{unit_is_typed}
-use Rattle.pli_type_laws.specs.TypedUnits.{IsTypedMain, CheckedIsTyped}
+use Rattle.pli_type_laws.specs.TypedUnits.{MainTakesNothing, CheckedIsTyped}
 use Rattle.pli_type_name_laws.specs.Nesting.{ListNests}
 use Rattle.pli_type_name_laws.specs.Numbering.{AreNumbered}
 use Rattle.pli_type_name_laws.specs.UnitBlocks.{BlocksAreOfTree}
@@ -14,19 +23,48 @@ use Rattle.pli_type_name_laws.proofs.BlocksOfUnits.{blocks_are_of_tree}
 use Rattle.pli_type_name_laws.proofs.NameFactsHold.{facts_hold}
 use Rattle.pli_type_name_laws.proofs.NestingHolds.{unit_nests}
 use Rattle.pli_type_name_laws.proofs.NumberingHolds as numbering
-use Rattle.pli_type_tree.specs.TypedTree.{TypedUnit}
+use Rattle.pli_type_tree.specs.TypedTree.{Signature, TypedStatements, TypedUnit}
+
+abbrev nothing_given : Signature
+nothing_given = record { parameters = []; result = None }
 
 module _ (r : ResolvedUnit) (t : TypedUnit) (nests : ListNests true 63 r.tree.statements) where
-  resolved_is_typed : BlocksAreOfTree r → checked_unit r ≡ Ok t → IsTypedMain 31 t
+  resolved_is_typed : BlocksAreOfTree r → checked_unit r ≡ Ok t → IsTypedUnit 31 t
   unfolding checked_unit
   resolved_is_typed blocks e =
       unit_is_typed r.tree (λ at. means_later (meaning_at r at)) (λ blocks at. named_as 31 r blocks (meaning_at r at))
       (parameters_of r) (returned_of r) (λ block. templates_of (is_automatic 31) (block_symbols r block))
-      (all_statics 31 (all_symbols r)) (facts_hold r blocks) nests t e
+      (all_globals 31 (all_symbols r)) (facts_hold r blocks) nests t e
 
   resolved_is_numbered : (from : ℕ) → AreNumbered from r.tree.statements → checked_unit r ≡ Ok t → IsWellNumbered t
   unfolding checked_unit
   resolved_is_numbered from h e = units_are_numbered (named_unit 31 r) t from h nests e
+
+nothing_there : (ds : List Description) (o : Option Description) → is_nothing ds o ≡ true
+    → record { parameters = ds; result = o } ≡ nothing_given
+nothing_there [] None e = refl
+nothing_there [] (Some d) e = absurd (false≢true e)
+nothing_there (d ∷ ds) o e = absurd (false≢true e)
+
+given_same : {A B : Type 0} {x y : A} (r : Result A B) → r ≡ Ok x → r ≡ Ok y → x ≡ y
+given_same r e f = cc
+
+error_given : {A B : Type 0} {x : A} {y : B} (r : Result A B) → r ≡ Err y → r ≡ Ok x → ⊥
+error_given r f e = absurd (cc)
+
+unit_takes_nothing : (u : NamedUnit) (y : WithProcedures TypedStatements) → MainTakesNothing (unit_of u y)
+unit_takes_nothing u y is =
+    nothing_there (u.parameters 0) (u.returned 0) (and_parts (is_main u.tree) (is_nothing (u.parameters 0) (u.returned 0)) is).1
+
+given_nothing : (u : NamedUnit) (t : TypedUnit) (o : Option ℕ) (r : Result (WithProcedures TypedStatements) (List Fault))
+    → unless_unbuilt o (typed_as u r) ≡ Ok t → MainTakesNothing t
+given_nothing u t (Some at) r e = absurd (error_given _ refl e)
+given_nothing u t None (Err fs) e = absurd (error_given _ refl e)
+given_nothing u t None (Ok y) e = subst MainTakesNothing (given_same (Ok (unit_of u y)) refl e) (unit_takes_nothing u y)
+
+main_takes_nothing : (r : ResolvedUnit) (t : TypedUnit) → checked_unit r ≡ Ok t → MainTakesNothing t
+unfolding checked_unit checked
+main_takes_nothing r t e = given_nothing (named_unit 31 r) t _ _ e
 
 pub checked_is_typed : CheckedIsTyped
 checked_is_typed texts u read t e =
@@ -34,4 +72,5 @@ checked_is_typed texts u read t e =
     let nests : ListNests true 63 u.statements = unit_nests texts u read in (
       resolved_is_typed (resolved_unit_of u) t nests (blocks_are_of_tree u) e,
       resolved_is_numbered (resolved_unit_of u) t nests numbers.0 numbers.1 e,
+      main_takes_nothing (resolved_unit_of u) t e,
     )

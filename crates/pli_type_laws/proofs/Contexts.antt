@@ -13,10 +13,12 @@ use Rattle.pli_type.specs.StatementTyping.{Enclosing, Surroundings, label_found}
 use Rattle.pli_type_laws.proofs.BlocksKnown.{Within, within_both, AreHome, StandsDirectly}
 use Rattle.pli_type_laws.proofs.Calls.{IsCallable}
 use Rattle.pli_type_laws.proofs.Expressions.{IsMeaning}
-use Rattle.pli_type_name_laws.specs.NameFacts.{HaveSlots, VariableFacts, ProcedureFacts, NameFacts, StandsAround}
-use Rattle.pli_type_name_laws.specs.SourceBlocks.{SourceBlock, unit_blocks, innermost, slots_in, known_blocks, signatures}
-use Rattle.pli_type_tree.specs.WellTyped.{BlockAround, Signature, TypingContext, AreAround, IsReached, blocks_from, knows_label}
+use Rattle.pli_type_name_laws.specs.NameFacts.{HaveSlots, VariableFacts, IsCalled, ProcedureFacts, NameFacts, StandsAround}
+use Rattle.pli_type_name_laws.specs.SourceBlocks.{SourceBlock, unit_blocks, innermost, slots_in, known_blocks, known_procedures}
+use Rattle.pli_type_tree.specs.WellTyped.{BlockAround, KnownProcedure, TypingContext, AreAround, IsCallee, IsReached, blocks_from, knows_label}
 use Rattle.pli_type_tree.specs.WellTyped as trees
+use Rattle.pli_type_tree.specs.Globals.{signature_of}
+use Rattle.pli_type_tree.specs.TypedTree.{Callee, OfBlock, OfEntry}
 
 -- ---- blocks around
 
@@ -31,8 +33,8 @@ module _ (u : NamedUnit) where
 
   -- a context knows at least what a place of the source shows
   pub record Knows (s : TypingContext) (here : Surroundings) : Type 0 where
-    pub statics : s.statics ≡ map (λ t. t.description) u.statics
-    pub procedures : s.procedures ≡ signatures u
+    pub globals : s.globals ≡ u.globals
+    pub procedures : s.procedures ≡ known_procedures u
     pub blocks : AreAround s.blocks (known_blocks u here.blocks)
     pub begins : s.begins ≡ here.begins
     pub value : s.value ≡ here.value
@@ -77,17 +79,17 @@ module _ (u : NamedUnit) where
 
   -- ---- procedures
 
-  abbrev pub own_signature : (number : ℕ) → SourceBlock → Signature
-  own_signature number b = record {
+  abbrev pub own_procedure : (number : ℕ) → SourceBlock → KnownProcedure
+  own_procedure number b = record {
     parent = innermost b.around;
     around = known_blocks u b.around;
     parameters = u.parameters number;
     value = u.returned number;
   }
 
-  pub signature_there : (number : ℕ) (b : SourceBlock) → slice_get All number ≡ Some b → b.kind ≡ kinds.Procedure
-      → signatures u number ≡ Some (own_signature number b)
-  signature_there number b there kind = rw (there, kind) refl
+  pub procedure_there : (number : ℕ) (b : SourceBlock) → slice_get All number ≡ Some b → b.kind ≡ kinds.Procedure
+      → known_procedures u number ≡ Some (own_procedure number b)
+  procedure_there number b there kind = rw (there, kind) refl
 
   -- the place from which the blocks around a procedure are known
   abbrev Found : (number : ℕ) (bs around : List BlockAround) → Type 0
@@ -157,21 +159,25 @@ module _ (u : NamedUnit) where
   module _ (facts : NameFacts u)
       (direct : (number : ℕ) (b : SourceBlock) → slice_get All number ≡ Some b → b.kind ≡ kinds.Procedure → StandsDirectly All b.around)
       (s : TypingContext) (here : Surroundings) (knows : Knows s here) (home : AreHome All here.blocks) where
+    callee_known : (p : NamedProcedure) (c : Callee) → IsCalled u (map (λ x. x.number) here.blocks) p c
+        → IsCallee s.globals s.procedures s.blocks c p.parameters p.returned
+    callee_known p (OfBlock number) f = (
+      own_procedure number f.block,
+      ap (λ (g : ℕ → Option KnownProcedure). g number) knows.procedures ∙ procedure_there number f.block f.there f.kind,
+      reached f.block.around here.blocks s.blocks home knows.blocks (direct number f.block f.there f.kind) f.reached,
+      sym f.parameters,
+      sym f.returned,
+    )
+    callee_known p (OfEntry number) f = ap (λ gs. signature_of (slice_get gs number)) knows.globals ∙ f
+
     callable : (p : NamedProcedure) → ProcedureFacts u (map (λ x. x.number) here.blocks) p → IsCallable s p
-    callable p f = record {
-      signature = own_signature p.block f.block;
-      there = ap (λ (g : ℕ → Option Signature). g p.block) knows.procedures ∙ signature_there p.block f.block f.there f.kind;
-      reached = reached f.block.around here.blocks s.blocks home knows.blocks (direct p.block f.block f.there f.kind) f.reached;
-      parameters = sym f.parameters;
-      value = sym f.returned;
-      plain = f.plain;
-    }
+    callable p f = record { there = callee_known p p.callee f.called; plain = f.plain }
 
     pub known_as : (at : ℕ) (a : NamedAs) → (u.naming (map (λ x. x.number) here.blocks)).meaning at ≡ a → IsMeaning s a
     known_as at (AVariable v) e =
         let own : VariableFacts u (map (λ x. x.number) here.blocks) v = facts.variables (map (λ x. x.number) here.blocks) at v e in
         record {
-          begins = own.begins s knows.statics (slots_known here.blocks s.blocks knows.blocks);
+          begins = own.begins s knows.globals (slots_known here.blocks s.blocks knows.blocks);
           leads = own.leads;
           whole = own.whole;
         }

@@ -78,7 +78,7 @@ module _ (s : TypingContext) where
   procedure_typed p callable at gs h =
       read_then (λ xs. ArePassed 31 s xs p.parameters) (IsSegment s) (arguments_passed 31 p at gs) _
       (arguments_fit s p at gs h)
-      (λ xs fit. read_then (HasValue s) (IsSegment s) (result_of at p.block xs (type_returned p.returned)) _
+      (λ xs fit. read_then (HasValue s) (IsSegment s) (result_of at p.callee xs (type_returned p.returned)) _
       (result_typed s p callable xs fit at) (λ v k. k))
 
 module _ (is_later : ℕ → Bool) (meaning : ℕ → NamedAs) (s : TypingContext) (known : (at : ℕ) → IsMeaning s (meaning at)) where

@@ -29,7 +29,7 @@ use Rattle.pli_type.specs.Typing.{first_token, or_fault, meant, referred, value_
 use Rattle.pli_type.specs.Unbuilt.{later_expression, later_reference, later_arguments, later_part, later_range, later_control}
 use Rattle.pli_type.specs.declared.expression_type.ExpressionType.{ExpressionType}
 use Rattle.pli_type.specs.declared.expression_type.ExpressionType.TheVariants as types
-use Rattle.pli_type_laws.proofs.Calls.{IsCallable, arguments_fit, fit_signature}
+use Rattle.pli_type_laws.proofs.Calls.{IsCallable, arguments_fit, gives}
 use Rattle.pli_type_laws.proofs.Conversions.{OnGiven, IsItem, conversion_held, printing_held}
 use Rattle.pli_type_laws.proofs.Denotations.{OnRead, IsReferent, IsMeant, IsDenoted, AreArguments}
 use Rattle.pli_type_laws.proofs.Expressions.{IsMeaning, N, C, or_parts, read_option, meant_typed, referred_typed, value_typed}
@@ -138,9 +138,9 @@ module _ (is_later : ℕ → Bool) (meaning : ℕ → NamedAs) (s : TypingContex
 
   -- calls
   no_function_typed : (p : NamedProcedure) (callable : IsCallable s p) (xs : TypedArguments) → ArePassed 31 s xs p.parameters
-      → (at : ℕ) (o : Option Description) → p.returned ≡ o → OnRead (IsTypedForm 31 s) (no_function at p.block o xs)
+      → (at : ℕ) (o : Option Description) → p.returned ≡ o → OnRead (IsTypedForm 31 s) (no_function at p.callee o xs)
   no_function_typed p callable xs fit at None e =
-      (callable.signature, callable.there, callable.reached, fit_signature s p callable xs fit, callable.value ∙ e)
+      (p.parameters, gives s p callable xs fit None e, fit)
   no_function_typed p callable xs fit at (Some d) e = tt
 
   call_of_typed : (at : ℕ) (a : NamedAs) → IsMeaning s a → (gs : List Argument) → AreArguments s gs

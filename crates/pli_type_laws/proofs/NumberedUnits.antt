@@ -405,10 +405,10 @@ module _ (u : NamedUnit) where
   unfolding checked
   unit_numbered t from h n e =
       numbered_unit t from _ _ (first_unbuilt u.compiled u.tree)
-      (statements_typed u (in_unit u.tree.statements) first_inside u.tree.statements)
+      (statements_typed u (in_unit (u.returned 0) u.tree.statements) first_inside u.tree.statements)
       (list_at 63 0 (0 + temporaries_among u.tree.statements) _ from _ _ 1 _ _
-      (statements_typed u (in_unit u.tree.statements) first_inside u.tree.statements) (omega arith) refl refl
-      (list_good true 63 (in_unit u.tree.statements) first_inside from u.tree.statements (omega arith) n h)) e
+      (statements_typed u (in_unit (u.returned 0) u.tree.statements) first_inside u.tree.statements) (omega arith) refl refl
+      (list_good true 63 (in_unit (u.returned 0) u.tree.statements) first_inside from u.tree.statements (omega arith) n h)) e
 
 pub units_are_numbered : TypedUnitsAreNumbered
 units_are_numbered u t from h nests e = unit_numbered u t from h nests e

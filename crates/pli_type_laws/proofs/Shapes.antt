@@ -84,7 +84,7 @@ simple_call_of : (greatest at : ℕ) (a : NamedAs) (gs : List Argument) → OnRe
 simple_call_of greatest at (AProcedure p) gs =
     read_any IsSimple (arguments_passed greatest p at gs) _ (λ xs. of_returned p.returned xs)
   where
-    of_returned : (o : Option Description) (xs : typed.TypedArguments) → OnRead IsSimple (no_function at p.block o xs)
+    of_returned : (o : Option Description) (xs : typed.TypedArguments) → OnRead IsSimple (no_function at p.callee o xs)
     of_returned None xs = tt
     of_returned (Some d) xs = tt
 simple_call_of greatest at other gs = tt

@@ -1,4 +1,4 @@
--- Statements are typed as the meaning of typed trees asks, and each procedure as its signature says.
+-- Statements are typed as the meaning of typed trees asks, and each procedure as it is known.
 use Rattle.std.specs.Prelude.{◌≡◌, ℕ, suc, ◌+◌, Bool, true, false, ◌||◌, Option, Some, None, List, [], ◌∷◌, ◌++◌, map}
 use Rattle.std.specs.Prelude.{slice_get, Result, Ok, Err, refl, if◌then◌else◌}
 use Rattle.std.proofs.Common.{sym, ap, ◌∙◌, subst, eq-eqb}
@@ -6,7 +6,7 @@ use Rattle.pli_base.specs.Statements as tree
 use Rattle.pli_base.specs.Statements.{ExternalProcedure, Statement, Numbered, Body, Statements, Ended, Before, Alternative}
 use Rattle.pli_base.specs.declared.token.Fault.{Fault}
 use Rattle.pli_map.specs.Description.{Description}
-use Rattle.pli_meaning_typed.specs.TypedPrograms.{HasEnd, context_in, descriptions}
+use Rattle.pli_meaning_typed.specs.TypedPrograms.{HasEnd, context_in}
 use Rattle.pli_resolve.specs.declared.block_numbers.ResolvedBlockKind.TheVariants as kinds
 use Rattle.pli_type.specs.Names.{NamedUnit, NamedAs, Compiled}
 use Rattle.pli_type.specs.StatementTyping as source
@@ -20,7 +20,7 @@ use Rattle.pli_type.specs.Unbuilt.{later_expression, later_control, or_else, tok
 use Rattle.pli_type.specs.Unbuilt.{later_body, later_alternative, later_statements}
 use Rattle.pli_type_laws.proofs.BlocksKnown.{Within, within_self, within_both, within_behind, begun_count, Sits, sits_parts}
 use Rattle.pli_type_laws.proofs.BlocksKnown.{AreHome, home_labels, StandsDirectly}
-use Rattle.pli_type_laws.proofs.Contexts.{Knows, around_self, group_known, label_known, known_as, own_signature, signature_there}
+use Rattle.pli_type_laws.proofs.Contexts.{Knows, around_self, group_known, label_known, known_as, own_procedure, procedure_there}
 use Rattle.pli_type_laws.proofs.Expressions.{IsMeaning, or_parts}
 use Rattle.pli_type_laws.proofs.Forms.{condition_typed, items_typed, assignment_typed, call_is_typed, return_is_typed, goto_is_typed}
 use Rattle.pli_type_laws.proofs.Forms.{iteration_typed}
@@ -28,12 +28,12 @@ use Rattle.pli_type_laws.proofs.TypedParts.{OnTyped, typed_map, has_front, has_b
 use Rattle.pli_type_laws.proofs.TypedParts.{Typed, typed_made, typed_own, typed_with, typed_both, with_list}
 use Rattle.pli_type_laws.specs.TypedUnits.{unit_with}
 use Rattle.pli_type_name_laws.specs.NameFacts.{NameFacts}
-use Rattle.pli_type_name_laws.specs.SourceBlocks.{SourceBlock, unit_blocks, innermost, known_blocks, signatures, begun_in, begun_by}
+use Rattle.pli_type_name_laws.specs.SourceBlocks.{SourceBlock, unit_blocks, innermost, known_blocks, known_procedures, begun_in, begun_by}
 use Rattle.pli_type_name_laws.specs.SourceBlocks.{begun_among, begun_behind}
 use Rattle.pli_type_tree.specs.Templates.{Template}
 use Rattle.pli_type_tree.specs.TypedTree as typed
 use Rattle.pli_type_tree.specs.TypedTree.{Form, TypedStatement, TypedStatements, NoStatement, StatementThen, OtherWise, NoElse, Else}
-use Rattle.pli_type_tree.specs.TypedTree.{TypedProcedure}
+use Rattle.pli_type_tree.specs.TypedTree.{Global, TypedProcedure}
 use Rattle.pli_type_tree.specs.ValueTypes.{OfBits}
 use Rattle.pli_type_tree.specs.WellTyped as trees
 use Rattle.pli_type_tree.specs.WellTyped.{TypingContext, AreAround, IsString, IsIteration, AreItems, IsTypedStatement, IsTypedForm}
@@ -100,7 +100,7 @@ parent_is : (bs : List Enclosing) (begins : ℕ) (value : Option Description) �
 parent_is [] begins value h = absurd h
 parent_is (b ∷ bs) begins value h = refl
 
-has_end : (end : ℕ) (o : Option Description) → HasEnd (function_end o end) o
+pub has_end : (end : ℕ) (o : Option Description) → HasEnd (function_end o end) o
 has_end end None = tt
 has_end end (Some d) = tt
 
@@ -113,9 +113,9 @@ begin_no_procedure : kinds.Begin ≡ kinds.Procedure → ⊥
 begin_no_procedure e = absurd (cc)
 
 module _ (program : ExternalProcedure) (is_later : ℕ → Bool) (meaning : List ℕ → ℕ → NamedAs) (parameters : ℕ → List Description)
-    (returned : ℕ → Option Description) (automatic : ℕ → List Template) (statics : List Template) where
+    (returned : ℕ → Option Description) (automatic : ℕ → List Template) (globals : List Global) where
   abbrev pub U : NamedUnit
-  U = unit_with program is_later meaning parameters returned automatic statics
+  U = unit_with program is_later meaning parameters returned automatic globals
 
   abbrev L : Compiled
   L = record { greatest = 31; is_later = is_later }
@@ -136,7 +136,7 @@ module _ (program : ExternalProcedure) (is_later : ℕ → Bool) (meaning : List
       grouped : (ss : Statements) (list : TypedStatements) → Within (source.labels_of ss) (trees.labels_of list)
           → Knows U (trees.in_group list t) (source.in_group ss s)
       grouped ss list f = record {
-        statics = knows.statics;
+        globals = knows.globals;
         procedures = knows.procedures;
         blocks = group_known U (source.labels_of ss) (trees.labels_of list) s.blocks t.blocks f knows.blocks;
         begins = knows.begins;
@@ -147,11 +147,11 @@ module _ (program : ExternalProcedure) (is_later : ℕ → Bool) (meaning : List
         begun : b.kind ≡ kinds.Begin → (list : TypedStatements) → Within (source.labels_of ss) (trees.labels_of list)
             → Knows U (trees.in_begin (head_of U number statement ss) list t) (source.in_begin number ss s)
         begun kind list f = record {
-          statics = knows.statics;
+          globals = knows.globals;
           procedures = knows.procedures;
           blocks = (
             refl,
-            ap (λ ds. ds ++ map (λ v. v.description) (automatic number)) (sym (facts.blocks.begins number b there kind)),
+            ap (λ ds. ds ++ map (λ v. v.description) (automatic number)) (sym (facts.begins number b there kind)),
             f,
             knows.blocks,
           );
@@ -166,12 +166,12 @@ module _ (program : ExternalProcedure) (is_later : ℕ → Bool) (meaning : List
       Made list = procedure_of U (Some (block_at s)) number statement end ss list
 
       abbrev Within_it : TypedStatements → TypingContext
-      Within_it list = context_in (descriptions statics) (signatures U) (own_signature U number b) (Made list)
+      Within_it list = context_in globals (known_procedures U) (own_procedure U number b) (Made list)
 
       entered : (list : TypedStatements) → Within (source.labels_of ss) (trees.labels_of list)
           → Knows U (Within_it list) (source.in_procedure number (returned number) ss s)
       entered list f = record {
-        statics = refl;
+        globals = refl;
         procedures = refl;
         blocks = (
           refl,
@@ -185,8 +185,8 @@ module _ (program : ExternalProcedure) (is_later : ℕ → Bool) (meaning : List
 
       is_ours : IsInside s.blocks → (list : TypedStatements) → AreTypedStatements 31 (Within_it list) list → IsOurs U (Made list)
       is_ours within list h = (
-        own_signature U number b,
-        signature_there U number b there kind,
+        own_procedure U number b,
+        procedure_there U number b there kind,
         record {
           parent = parent_is s.blocks s.begins s.value within ∙ ap innermost (sym same);
           parameters = refl;
@@ -234,141 +234,140 @@ module _ (program : ExternalProcedure) (is_later : ℕ → Bool) (meaning : List
         (typed_map _ _ (statements_typed U (source.in_group ss s) x ss) (λ y f. grouped s home t knows ss y.part f)
         (labels_kept U (source.in_group ss s) x ss))
 
-    module _ (main : Bool) where
-      mutual
-        statement_is_typed : (s : Surroundings) (x : Next) (st : Statement) → later_statement L main st ≡ None
-            → AreHome All s.blocks → IsInside s.blocks → Sits All x.block (begun_in s.blocks x.block st)
-            → (t : TypingContext) → Knows U t s
-            → OnTyped (Typed U (IsTypedStatement 31 t) x.block (begun_in s.blocks x.block st)) (statement_typed U s x st)
-        statement_is_typed s x (Numbered number None at body) l home within sits t knows =
-            typed_made U (IsTypedForm 31 t) (IsTypedStatement 31 t) (typed.Statement number) x.block _
-            (body_typed U s x number at body) (λ f h. h) (body_is_typed s x number at at body l home within sits t knows)
-        statement_is_typed s x (Numbered number (Some label) at body) l home within sits t knows =
-            typed_made U (IsTypedForm 31 t) (IsTypedStatement 31 t) (typed.Statement number) x.block _
-            (body_typed U s x number at body) (λ f h. h) (body_is_typed s x number label.at at body l home within sits t knows)
+    mutual
+      statement_is_typed : (s : Surroundings) (x : Next) (st : Statement) → later_statement L st ≡ None
+          → AreHome All s.blocks → IsInside s.blocks → Sits All x.block (begun_in s.blocks x.block st)
+          → (t : TypingContext) → Knows U t s
+          → OnTyped (Typed U (IsTypedStatement 31 t) x.block (begun_in s.blocks x.block st)) (statement_typed U s x st)
+      statement_is_typed s x (Numbered number None at body) l home within sits t knows =
+          typed_made U (IsTypedForm 31 t) (IsTypedStatement 31 t) (typed.Statement number) x.block _
+          (body_typed U s x number at body) (λ f h. h) (body_is_typed s x number at at body l home within sits t knows)
+      statement_is_typed s x (Numbered number (Some label) at body) l home within sits t knows =
+          typed_made U (IsTypedForm 31 t) (IsTypedStatement 31 t) (typed.Statement number) x.block _
+          (body_typed U s x number at body) (λ f h. h) (body_is_typed s x number label.at at body l home within sits t knows)
 
-        body_is_typed : (s : Surroundings) (x : Next) (number first at : ℕ) (body : Body) → later_body L main first body ≡ None
-            → AreHome All s.blocks → IsInside s.blocks → Sits All x.block (begun_by s.blocks x.block number body)
-            → (t : TypingContext) → Knows U t s
-            → OnTyped (Typed U (IsTypedForm 31 t) x.block (begun_by s.blocks x.block number body)) (body_typed U s x number at body)
-        body_is_typed s x number first at tree.Null l home within sits t knows = (tt, tt, tt)
-        body_is_typed s x number first at (tree.Assign target equals value) l home within sits t knows =
-            let parts : (_ ≡ false) × (later_expression L value ≡ false) = or_parts _ _ (no_token _ first l) in
-            typed_own U (IsTypedForm 31 t) x.block (assignment (naming_at U s) at target equals value)
-            (assignment_typed is_later (meaning (numbers s)) t (known s home t knows) at target equals value parts.0 parts.1)
-        body_is_typed s x number first at (tree.Declare declared) l home within sits t knows = (tt, tt, tt)
-        body_is_typed s x number first at (tree.Procedure heading ss end) l home within sits t knows =
-            procedure_typed s x.block number end ss _ sits.0 refl refl within t _
-            (statements_typed U (source.in_procedure x.block (returned x.block) ss s) (inside x) ss)
-            (with_list U (statements_typed U (source.in_procedure x.block (returned x.block) ss s) (inside x) ss)
-            (Within_it s x.block number end ss _ sits.0 refl refl)
-            (λ t. Knows U t (source.in_procedure x.block (returned x.block) ss s)) (suc x.block) _
-            (list_is_typed (source.in_procedure x.block (returned x.block) ss s) (inside x) ss ((no_either _ _ l).1)
-            ((_, sits.0, refl, within_self (source.labels_of ss)), home) tt sits.1)
-            (typed_map _ _ (statements_typed U (source.in_procedure x.block (returned x.block) ss s) (inside x) ss)
-            (λ y f. entered s x.block number end ss _ sits.0 refl refl y.part f)
-            (labels_kept U (source.in_procedure x.block (returned x.block) ss s) (inside x) ss)))
-        body_is_typed s x number first at (tree.Begin ss end) l home within sits t knows =
-            begin_typed s x number ss t _ sits.0 (statements_typed U (source.in_begin x.block ss s) (inside x) ss)
-            (with_list U (statements_typed U (source.in_begin x.block ss s) (inside x) ss)
-            (λ list. trees.in_begin (head_of U x.block number ss) list t) (λ t. Knows U t (source.in_begin x.block ss s)) (suc x.block) _
-            (list_is_typed (source.in_begin x.block ss s) (inside x) ss l
-            ((_, sits.0, refl, within_self (source.labels_of ss)), home) tt sits.1)
-            (typed_map _ _ (statements_typed U (source.in_begin x.block ss s) (inside x) ss)
-            (λ y f. begun s home t knows x.block number ss _ sits.0 refl y.part f)
-            (labels_kept U (source.in_begin x.block ss s) (inside x) ss)))
-        body_is_typed s x number first at (tree.Do None ss end) l home within sits t knows =
-            typed_made U (λ list. AreTypedStatements 31 (trees.in_group list t) list) (IsTypedForm 31 t) typed.Group x.block _
-            (statements_typed U (source.in_group ss s) x ss) (λ list h. h)
-            (group_typed s home t knows x ss _
-            (list_is_typed (source.in_group ss s) x ss ((no_either (token_if false first) (later_statements L main ss) l).1) (home_labels All (source.labels_of ss) s.blocks home)
-            (inside_group (source.labels_of ss) s.blocks within) sits))
-        body_is_typed s x number first at (tree.Do (Some (tree.While tested)) ss end) l home within sits t knows =
-            let parts : (token_if (later_expression L tested) first ≡ None) × (later_statements L main ss ≡ None) = no_either _ _ l in
-            typed_with U (IsString 31 t OfBits) (λ list. AreTypedStatements 31 (trees.in_group list t) list) (IsTypedForm 31 t)
-            typed.While x.block _ (condition (naming_at U s) tested) (statements_typed U (source.in_group ss s) x ss)
-            (λ c list h k. (h, k))
-            (condition_typed is_later (meaning (numbers s)) t (known s home t knows) tested (no_token _ first parts.0))
-            (group_typed s home t knows x ss _
-            (list_is_typed (source.in_group ss s) x ss parts.1 (home_labels All (source.labels_of ss) s.blocks home)
-            (inside_group (source.labels_of ss) s.blocks within) sits))
-        body_is_typed s x number first at (tree.Do (Some (tree.Iterate variable equals start range tested)) ss end) l home within sits
-            t knows =
-            let parts : (token_if (later_control L (tree.Iterate variable equals start range tested)) first ≡ None)
-            × (later_statements L main ss ≡ None) = no_either _ _ l in
-            typed_with U (IsIteration 31 t) (λ list. AreTypedStatements 31 (trees.in_group list t) list) (IsTypedForm 31 t)
-            typed.Iterate x.block _ (iteration (naming_at U s) x.temporary variable equals start range tested)
-            (statements_typed U (source.in_group ss s) (behind_limits range x) ss) (λ c list h k. (h, k))
-            (iteration_typed is_later (meaning (numbers s)) t (known s home t knows) x.temporary variable equals start range tested
-            (no_token _ first parts.0))
-            (group_typed s home t knows (behind_limits range x) ss _
-            (list_is_typed (source.in_group ss s) (behind_limits range x) ss parts.1
-            (home_labels All (source.labels_of ss) s.blocks home) (inside_group (source.labels_of ss) s.blocks within) sits))
-        body_is_typed s x number first at (tree.If tested consequence alternative) l home within sits t knows =
-            let parts : (token_if (later_expression L tested) first ≡ None)
-            × (or_else (later_statement L main consequence) (later_alternative L main alternative) ≡ None) = no_either _ _ l in
-            let inner : (later_statement L main consequence ≡ None) × (later_alternative L main alternative ≡ None) =
-            no_either _ _ parts.1 in
-            let places : Sits All x.block (begun_in s.blocks x.block consequence)
-            × Sits All (x.block + blocks.blocks_in consequence)
-            (begun_behind s.blocks (x.block + blocks.blocks_in consequence) alternative) =
-            sits_parts All x.block (blocks.blocks_in consequence) _ _ (begun_count s.blocks x.block consequence) sits in
-            typed_with U (IsString 31 t OfBits) (λ b. IsTypedStatement 31 t b.0 × IsTypedElse 31 t b.1) (IsTypedForm 31 t)
-            (λ c b. typed.If c b.0 b.1) x.block _ (condition (naming_at U s) tested)
-            (together (λ y z. (y, z)) (statement_typed U s x consequence) (alternative_typed U s (behind x consequence) alternative))
-            (λ c b h k. (h, k.0, k.1))
-            (condition_typed is_later (meaning (numbers s)) t (known s home t knows) tested (no_token _ first parts.0))
-            (typed_both U (IsTypedStatement 31 t) (IsTypedElse 31 t) (λ b. IsTypedStatement 31 t b.0 × IsTypedElse 31 t b.1)
-            (λ y z. (y, z)) x.block (blocks.blocks_in consequence) _ _ (statement_typed U s x consequence)
-            (alternative_typed U s (behind x consequence) alternative) (begun_count s.blocks x.block consequence)
-            (λ y z h k. (h, k)) (statement_is_typed s x consequence inner.0 home within places.0 t knows)
-            (alternative_is_typed s (behind x consequence) alternative inner.1 home within places.1 t knows))
-        body_is_typed s x number first at tree.Stop l home within sits t knows = (tt, tt, tt)
-        body_is_typed s x number first at (tree.Call name arguments) l home within sits t knows =
-            typed_own U (IsTypedForm 31 t) x.block (call_typed (naming_at U s) name arguments)
-            (call_is_typed is_later (meaning (numbers s)) t (known s home t knows) name arguments (no_token _ first l))
-        body_is_typed s x number first at (tree.Goto label) l home within sits t knows =
-            typed_own U (IsTypedForm 31 t) x.block (goto_typed (naming_at U s) s label)
-            (goto_is_typed is_later (meaning (numbers s)) t (known s home t knows) s
-            (λ n outward e. label_known U s.blocks t.blocks n outward knows.blocks e) label)
-        body_is_typed s x number first at (tree.Return value) l home within sits t knows =
-            typed_own U (IsTypedForm 31 t) x.block (return_typed (naming_at U s) s at value)
-            (return_is_typed is_later (meaning (numbers s)) t (known s home t knows) s knows.begins knows.value at value
-            (no_token _ first l))
-        body_is_typed s x number first at (tree.Put skip list) l home within sits t knows =
-            typed_made U (AreItems 31 t) (IsTypedForm 31 t) (typed.Put skip) x.block [] (of_own (items (naming_at U s) list))
-            (λ xs h. h)
-            (typed_own U (AreItems 31 t) x.block (items (naming_at U s) list)
-            (items_typed is_later (meaning (numbers s)) t (known s home t knows) list (no_token _ first l)))
-        body_is_typed s x number first at other l home within sits t knows = absurd (some_none l)
+      body_is_typed : (s : Surroundings) (x : Next) (number first at : ℕ) (body : Body) → later_body L first body ≡ None
+          → AreHome All s.blocks → IsInside s.blocks → Sits All x.block (begun_by s.blocks x.block number body)
+          → (t : TypingContext) → Knows U t s
+          → OnTyped (Typed U (IsTypedForm 31 t) x.block (begun_by s.blocks x.block number body)) (body_typed U s x number at body)
+      body_is_typed s x number first at tree.Null l home within sits t knows = (tt, tt, tt)
+      body_is_typed s x number first at (tree.Assign target equals value) l home within sits t knows =
+          let parts : (_ ≡ false) × (later_expression L value ≡ false) = or_parts _ _ (no_token _ first l) in
+          typed_own U (IsTypedForm 31 t) x.block (assignment (naming_at U s) at target equals value)
+          (assignment_typed is_later (meaning (numbers s)) t (known s home t knows) at target equals value parts.0 parts.1)
+      body_is_typed s x number first at (tree.Declare declared) l home within sits t knows = (tt, tt, tt)
+      body_is_typed s x number first at (tree.Procedure heading ss end) l home within sits t knows =
+          procedure_typed s x.block number end ss _ sits.0 refl refl within t _
+          (statements_typed U (source.in_procedure x.block (returned x.block) ss s) (inside x) ss)
+          (with_list U (statements_typed U (source.in_procedure x.block (returned x.block) ss s) (inside x) ss)
+          (Within_it s x.block number end ss _ sits.0 refl refl)
+          (λ t. Knows U t (source.in_procedure x.block (returned x.block) ss s)) (suc x.block) _
+          (list_is_typed (source.in_procedure x.block (returned x.block) ss s) (inside x) ss ((no_either _ _ l).1)
+          ((_, sits.0, refl, within_self (source.labels_of ss)), home) tt sits.1)
+          (typed_map _ _ (statements_typed U (source.in_procedure x.block (returned x.block) ss s) (inside x) ss)
+          (λ y f. entered s x.block number end ss _ sits.0 refl refl y.part f)
+          (labels_kept U (source.in_procedure x.block (returned x.block) ss s) (inside x) ss)))
+      body_is_typed s x number first at (tree.Begin ss end) l home within sits t knows =
+          begin_typed s x number ss t _ sits.0 (statements_typed U (source.in_begin x.block ss s) (inside x) ss)
+          (with_list U (statements_typed U (source.in_begin x.block ss s) (inside x) ss)
+          (λ list. trees.in_begin (head_of U x.block number ss) list t) (λ t. Knows U t (source.in_begin x.block ss s)) (suc x.block) _
+          (list_is_typed (source.in_begin x.block ss s) (inside x) ss l
+          ((_, sits.0, refl, within_self (source.labels_of ss)), home) tt sits.1)
+          (typed_map _ _ (statements_typed U (source.in_begin x.block ss s) (inside x) ss)
+          (λ y f. begun s home t knows x.block number ss _ sits.0 refl y.part f)
+          (labels_kept U (source.in_begin x.block ss s) (inside x) ss)))
+      body_is_typed s x number first at (tree.Do None ss end) l home within sits t knows =
+          typed_made U (λ list. AreTypedStatements 31 (trees.in_group list t) list) (IsTypedForm 31 t) typed.Group x.block _
+          (statements_typed U (source.in_group ss s) x ss) (λ list h. h)
+          (group_typed s home t knows x ss _
+          (list_is_typed (source.in_group ss s) x ss ((no_either (token_if false first) (later_statements L ss) l).1) (home_labels All (source.labels_of ss) s.blocks home)
+          (inside_group (source.labels_of ss) s.blocks within) sits))
+      body_is_typed s x number first at (tree.Do (Some (tree.While tested)) ss end) l home within sits t knows =
+          let parts : (token_if (later_expression L tested) first ≡ None) × (later_statements L ss ≡ None) = no_either _ _ l in
+          typed_with U (IsString 31 t OfBits) (λ list. AreTypedStatements 31 (trees.in_group list t) list) (IsTypedForm 31 t)
+          typed.While x.block _ (condition (naming_at U s) tested) (statements_typed U (source.in_group ss s) x ss)
+          (λ c list h k. (h, k))
+          (condition_typed is_later (meaning (numbers s)) t (known s home t knows) tested (no_token _ first parts.0))
+          (group_typed s home t knows x ss _
+          (list_is_typed (source.in_group ss s) x ss parts.1 (home_labels All (source.labels_of ss) s.blocks home)
+          (inside_group (source.labels_of ss) s.blocks within) sits))
+      body_is_typed s x number first at (tree.Do (Some (tree.Iterate variable equals start range tested)) ss end) l home within sits
+          t knows =
+          let parts : (token_if (later_control L (tree.Iterate variable equals start range tested)) first ≡ None)
+          × (later_statements L ss ≡ None) = no_either _ _ l in
+          typed_with U (IsIteration 31 t) (λ list. AreTypedStatements 31 (trees.in_group list t) list) (IsTypedForm 31 t)
+          typed.Iterate x.block _ (iteration (naming_at U s) x.temporary variable equals start range tested)
+          (statements_typed U (source.in_group ss s) (behind_limits range x) ss) (λ c list h k. (h, k))
+          (iteration_typed is_later (meaning (numbers s)) t (known s home t knows) x.temporary variable equals start range tested
+          (no_token _ first parts.0))
+          (group_typed s home t knows (behind_limits range x) ss _
+          (list_is_typed (source.in_group ss s) (behind_limits range x) ss parts.1
+          (home_labels All (source.labels_of ss) s.blocks home) (inside_group (source.labels_of ss) s.blocks within) sits))
+      body_is_typed s x number first at (tree.If tested consequence alternative) l home within sits t knows =
+          let parts : (token_if (later_expression L tested) first ≡ None)
+          × (or_else (later_statement L consequence) (later_alternative L alternative) ≡ None) = no_either _ _ l in
+          let inner : (later_statement L consequence ≡ None) × (later_alternative L alternative ≡ None) =
+          no_either _ _ parts.1 in
+          let places : Sits All x.block (begun_in s.blocks x.block consequence)
+          × Sits All (x.block + blocks.blocks_in consequence)
+          (begun_behind s.blocks (x.block + blocks.blocks_in consequence) alternative) =
+          sits_parts All x.block (blocks.blocks_in consequence) _ _ (begun_count s.blocks x.block consequence) sits in
+          typed_with U (IsString 31 t OfBits) (λ b. IsTypedStatement 31 t b.0 × IsTypedElse 31 t b.1) (IsTypedForm 31 t)
+          (λ c b. typed.If c b.0 b.1) x.block _ (condition (naming_at U s) tested)
+          (together (λ y z. (y, z)) (statement_typed U s x consequence) (alternative_typed U s (behind x consequence) alternative))
+          (λ c b h k. (h, k.0, k.1))
+          (condition_typed is_later (meaning (numbers s)) t (known s home t knows) tested (no_token _ first parts.0))
+          (typed_both U (IsTypedStatement 31 t) (IsTypedElse 31 t) (λ b. IsTypedStatement 31 t b.0 × IsTypedElse 31 t b.1)
+          (λ y z. (y, z)) x.block (blocks.blocks_in consequence) _ _ (statement_typed U s x consequence)
+          (alternative_typed U s (behind x consequence) alternative) (begun_count s.blocks x.block consequence)
+          (λ y z h k. (h, k)) (statement_is_typed s x consequence inner.0 home within places.0 t knows)
+          (alternative_is_typed s (behind x consequence) alternative inner.1 home within places.1 t knows))
+      body_is_typed s x number first at tree.Stop l home within sits t knows = (tt, tt, tt)
+      body_is_typed s x number first at (tree.Call name arguments) l home within sits t knows =
+          typed_own U (IsTypedForm 31 t) x.block (call_typed (naming_at U s) name arguments)
+          (call_is_typed is_later (meaning (numbers s)) t (known s home t knows) name arguments (no_token _ first l))
+      body_is_typed s x number first at (tree.Goto label) l home within sits t knows =
+          typed_own U (IsTypedForm 31 t) x.block (goto_typed (naming_at U s) s label)
+          (goto_is_typed is_later (meaning (numbers s)) t (known s home t knows) s
+          (λ n outward e. label_known U s.blocks t.blocks n outward knows.blocks e) label)
+      body_is_typed s x number first at (tree.Return value) l home within sits t knows =
+          typed_own U (IsTypedForm 31 t) x.block (return_typed (naming_at U s) s at value)
+          (return_is_typed is_later (meaning (numbers s)) t (known s home t knows) s knows.begins knows.value at value
+          (no_token _ first l))
+      body_is_typed s x number first at (tree.Put skip list) l home within sits t knows =
+          typed_made U (AreItems 31 t) (IsTypedForm 31 t) (typed.Put skip) x.block [] (of_own (items (naming_at U s) list))
+          (λ xs h. h)
+          (typed_own U (AreItems 31 t) x.block (items (naming_at U s) list)
+          (items_typed is_later (meaning (numbers s)) t (known s home t knows) list (no_token _ first l)))
+      body_is_typed s x number first at other l home within sits t knows = absurd (some_none l)
 
-        alternative_is_typed : (s : Surroundings) (x : Next) (a : Alternative) → later_alternative L main a ≡ None
-            → AreHome All s.blocks → IsInside s.blocks → Sits All x.block (begun_behind s.blocks x.block a)
-            → (t : TypingContext) → Knows U t s
-            → OnTyped (Typed U (IsTypedElse 31 t) x.block (begun_behind s.blocks x.block a)) (alternative_typed U s x a)
-        alternative_is_typed s x tree.NoElse l home within sits t knows = (tt, tt, tt)
-        alternative_is_typed s x (tree.Else st) l home within sits t knows =
-            typed_made U (IsTypedStatement 31 t) (IsTypedElse 31 t) Else x.block _ (statement_typed U s x st) (λ y h. h)
-            (statement_is_typed s x st l home within sits t knows)
+      alternative_is_typed : (s : Surroundings) (x : Next) (a : Alternative) → later_alternative L a ≡ None
+          → AreHome All s.blocks → IsInside s.blocks → Sits All x.block (begun_behind s.blocks x.block a)
+          → (t : TypingContext) → Knows U t s
+          → OnTyped (Typed U (IsTypedElse 31 t) x.block (begun_behind s.blocks x.block a)) (alternative_typed U s x a)
+      alternative_is_typed s x tree.NoElse l home within sits t knows = (tt, tt, tt)
+      alternative_is_typed s x (tree.Else st) l home within sits t knows =
+          typed_made U (IsTypedStatement 31 t) (IsTypedElse 31 t) Else x.block _ (statement_typed U s x st) (λ y h. h)
+          (statement_is_typed s x st l home within sits t knows)
 
-        pub list_is_typed : (s : Surroundings) (x : Next) (ss : Statements) → later_statements L main ss ≡ None
-            → AreHome All s.blocks → IsInside s.blocks → Sits All x.block (begun_among s.blocks x.block ss)
-            → (t : TypingContext) → Knows U t s
-            → OnTyped (Typed U (AreTypedStatements 31 t) x.block (begun_among s.blocks x.block ss)) (statements_typed U s x ss)
-        list_is_typed s x Ended l home within sits t knows = (tt, tt, tt)
-        list_is_typed s x (Before (Numbered number label at body) more) l home within sits t knows =
-            let parts : (later_statement L main (Numbered number label at body) ≡ None) × (later_statements L main more ≡ None) =
-            no_either _ _ l in
-            let places : Sits All x.block (begun_in s.blocks x.block (Numbered number label at body))
-            × Sits All (x.block + blocks.blocks_in (Numbered number label at body))
-            (begun_among s.blocks (x.block + blocks.blocks_in (Numbered number label at body)) more) =
-            sits_parts All x.block (blocks.blocks_in (Numbered number label at body)) _ _
-            (begun_count s.blocks x.block (Numbered number label at body)) sits in
-            typed_both U (IsTypedStatement 31 t) (AreTypedStatements 31 t) (AreTypedStatements 31 t)
-            (put_before (leaves_nothing body)) x.block (blocks.blocks_in (Numbered number label at body)) _ _
-            (statement_typed U s x (Numbered number label at body))
-            (statements_typed U s (behind x (Numbered number label at body)) more)
-            (begun_count s.blocks x.block (Numbered number label at body))
-            (λ y z h k. put_typed t (leaves_nothing body) y z h k)
-            (statement_is_typed s x (Numbered number label at body) parts.0 home within places.0 t knows)
-            (list_is_typed s (behind x (Numbered number label at body)) more parts.1 home within places.1 t knows)
+      pub list_is_typed : (s : Surroundings) (x : Next) (ss : Statements) → later_statements L ss ≡ None
+          → AreHome All s.blocks → IsInside s.blocks → Sits All x.block (begun_among s.blocks x.block ss)
+          → (t : TypingContext) → Knows U t s
+          → OnTyped (Typed U (AreTypedStatements 31 t) x.block (begun_among s.blocks x.block ss)) (statements_typed U s x ss)
+      list_is_typed s x Ended l home within sits t knows = (tt, tt, tt)
+      list_is_typed s x (Before (Numbered number label at body) more) l home within sits t knows =
+          let parts : (later_statement L (Numbered number label at body) ≡ None) × (later_statements L more ≡ None) =
+          no_either _ _ l in
+          let places : Sits All x.block (begun_in s.blocks x.block (Numbered number label at body))
+          × Sits All (x.block + blocks.blocks_in (Numbered number label at body))
+          (begun_among s.blocks (x.block + blocks.blocks_in (Numbered number label at body)) more) =
+          sits_parts All x.block (blocks.blocks_in (Numbered number label at body)) _ _
+          (begun_count s.blocks x.block (Numbered number label at body)) sits in
+          typed_both U (IsTypedStatement 31 t) (AreTypedStatements 31 t) (AreTypedStatements 31 t)
+          (put_before (leaves_nothing body)) x.block (blocks.blocks_in (Numbered number label at body)) _ _
+          (statement_typed U s x (Numbered number label at body))
+          (statements_typed U s (behind x (Numbered number label at body)) more)
+          (begun_count s.blocks x.block (Numbered number label at body))
+          (λ y z h k. put_typed t (leaves_nothing body) y z h k)
+          (statement_is_typed s x (Numbered number label at body) parts.0 home within places.0 t knows)
+          (list_is_typed s (behind x (Numbered number label at body)) more parts.1 home within places.1 t knows)

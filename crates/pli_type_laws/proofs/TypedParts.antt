@@ -1,5 +1,5 @@
--- Parts of a typed unit with the procedures in them: the part has a property, each procedure is as its signature
--- says, and each procedure that begins there is among them.
+-- Parts of a typed unit with the procedures in them: the part has a property, each procedure is as it is known, and
+-- each procedure that begins there is among them.
 use Rattle.std.specs.Prelude.{◌≡◌, ℕ, zero, suc, ◌+◌, nat_eq, Bool, true, false, ◌||◌, IsTrue, Some, List, [], ◌∷◌, ◌++◌}
 use Rattle.std.specs.Prelude.{length, slice_get, Result, Ok, Err, refl, if◌then◌else◌}
 use Rattle.std.specs.List.{list_any}
@@ -8,14 +8,14 @@ use Rattle.std.proofs.lemmas.Bool.{eqb-true}
 use Rattle.std.proofs.lemmas.Option.{same_Some, none-some}
 use Rattle.pli_base.specs.declared.token.Fault.{Fault}
 use Rattle.pli_meaning_tree.specs.TreeMeaning.{procedure_in}
-use Rattle.pli_meaning_typed.specs.TypedPrograms.{IsTypedProcedure, descriptions}
+use Rattle.pli_meaning_typed.specs.TypedPrograms.{IsTypedProcedure}
 use Rattle.pli_resolve.specs.declared.block_numbers.ResolvedBlockKind.TheVariants as kinds
 use Rattle.pli_type.specs.Names.{NamedUnit}
 use Rattle.pli_type.specs.StatementTyping.{WithProcedures, of_own, together, made}
 use Rattle.pli_type_laws.proofs.Denotations.{OnRead}
-use Rattle.pli_type_name_laws.specs.SourceBlocks.{SourceBlock, signatures}
+use Rattle.pli_type_name_laws.specs.SourceBlocks.{SourceBlock, known_procedures}
 use Rattle.pli_type_tree.specs.TypedTree.{TypedProcedure, TypedStatements}
-use Rattle.pli_type_tree.specs.WellTyped.{Signature, TypingContext, AreTypedStatements}
+use Rattle.pli_type_tree.specs.WellTyped.{KnownProcedure, TypingContext, AreTypedStatements}
 
 -- what is given, if there are no faults
 abbrev pub OnTyped : {A : Type 0} → (A → Type 0) → Result A (List Fault) → Type 0
@@ -100,11 +100,11 @@ found_among k (f ∷ fs) h = by (nat_eq f.head.number k) refl h (λ e. found_amo
     by false e h rest = further e (rest h)
 
 module _ (u : NamedUnit) where
-  -- a procedure is as its signature says
+  -- a procedure is as it is known
   abbrev pub IsOurs : TypedProcedure → Type 0
   IsOurs f =
-      (p : Signature) × (signatures u f.head.number ≡ Some p)
-      × IsTypedProcedure 31 (descriptions u.statics) (signatures u) p f
+      (p : KnownProcedure) × (known_procedures u f.head.number ≡ Some p)
+      × IsTypedProcedure 31 u.globals (known_procedures u) p f
 
   abbrev pub AreOurs : List TypedProcedure → Type 0
   AreOurs [] = Unit {0}

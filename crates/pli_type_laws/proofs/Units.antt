@@ -7,27 +7,27 @@ use Rattle.pli_base.specs.Statements.{ExternalProcedure}
 use Rattle.pli_base.specs.declared.token.Fault.{Fault}
 use Rattle.pli_map.specs.Description.{Description}
 use Rattle.pli_meaning_tree.specs.TreeMeaning.{procedure_in}
-use Rattle.pli_meaning_typed.specs.TypedPrograms.{HasEnd, IsTypedProcedure, context_in, descriptions}
+use Rattle.pli_meaning_typed.specs.TypedPrograms.{IsTypedProcedure, IsTypedUnit, context_in}
 use Rattle.pli_resolve.specs.declared.block_numbers.ResolvedBlockKind.{ResolvedBlockKind}
 use Rattle.pli_resolve.specs.declared.block_numbers.ResolvedBlockKind.TheVariants as kinds
 use Rattle.pli_type.specs.Checked.{in_unit, first_inside, external_of, unit_of, typed_as, checked, unless_unbuilt}
 use Rattle.pli_type.specs.Names.{NamedUnit, NamedAs, Compiled}
 use Rattle.pli_type.specs.StatementTyping as source
 use Rattle.pli_type.specs.StatementTyping.{Enclosing, enclosing, WithProcedures, statements_typed}
-use Rattle.pli_type.specs.Unbuilt.{first_unbuilt, later_heading, later_statements, is_main}
+use Rattle.pli_type.specs.Unbuilt.{first_unbuilt, later_heading, later_statements}
 use Rattle.pli_type_laws.proofs.BlocksKnown.{Within, within_self, Sits, sits_all, AreHome, StandsDirectly, AreDirect, direct_among, direct_at}
-use Rattle.pli_type_laws.proofs.Contexts.{Knows, own_signature}
-use Rattle.pli_type_laws.proofs.Statements.{no_either, list_is_typed, labels_kept}
+use Rattle.pli_type_laws.proofs.Contexts.{Knows, own_procedure}
+use Rattle.pli_type_laws.proofs.Statements.{no_either, has_end, list_is_typed, labels_kept}
 use Rattle.pli_type_laws.proofs.TypedParts.{OnTyped, typed_map, Has, has_back, Covers, covers_more, covered, found_among, IsOurs}
 use Rattle.pli_type_laws.proofs.TypedParts.{AreOurs, ours_found, Typed, with_list}
-use Rattle.pli_type_laws.specs.TypedUnits.{IsTypedMain, TypedUnitsAreTyped, unit_with}
+use Rattle.pli_type_laws.specs.TypedUnits.{TypedUnitsAreTyped, unit_with}
 use Rattle.pli_type_name_laws.specs.NameFacts.{NameFacts}
 use Rattle.pli_type_name_laws.specs.Nesting.{ListNests}
-use Rattle.pli_type_name_laws.specs.SourceBlocks.{SourceBlock, unit_blocks, signature_of, signatures, begun_among}
+use Rattle.pli_type_name_laws.specs.SourceBlocks.{SourceBlock, unit_blocks, procedure_known, known_procedures, begun_among}
 use Rattle.pli_type_tree.specs.Templates.{Template}
-use Rattle.pli_type_tree.specs.TypedTree.{TypedProcedure, TypedStatements, TypedUnit}
+use Rattle.pli_type_tree.specs.TypedTree.{Global, TypedProcedure, TypedStatements, TypedUnit}
 use Rattle.pli_type_tree.specs.WellTyped as trees
-use Rattle.pli_type_tree.specs.WellTyped.{Signature, TypingContext, AreTypedStatements}
+use Rattle.pli_type_tree.specs.WellTyped.{KnownProcedure, TypingContext, AreTypedStatements}
 
 given_same : {A B : Type 0} {x y : A} (r : Result A B) → r ≡ Ok x → r ≡ Ok y → x ≡ y
 given_same r e f = cc
@@ -36,9 +36,9 @@ error_given : {A B : Type 0} {x : A} {y : B} (r : Result A B) → r ≡ Err y �
 error_given r f e = absurd (cc)
 
 module _ (program : ExternalProcedure) (is_later : ℕ → Bool) (meaning : List ℕ → ℕ → NamedAs) (parameters : ℕ → List Description)
-    (returned : ℕ → Option Description) (automatic : ℕ → List Template) (statics : List Template) where
+    (returned : ℕ → Option Description) (automatic : ℕ → List Template) (globals : List Global) where
   abbrev V : NamedUnit
-  V = unit_with program is_later meaning parameters returned automatic statics
+  V = unit_with program is_later meaning parameters returned automatic globals
 
   abbrev L : Compiled
   L = record { greatest = 31; is_later = is_later }
@@ -71,53 +71,50 @@ module _ (program : ExternalProcedure) (is_later : ℕ → Bool) (meaning : List
     direct : (number : ℕ) (b : SourceBlock) → slice_get All number ≡ Some b → b.kind ≡ kinds.Procedure → StandsDirectly All b.around
     direct number b there kind = direct_at All All number b all_direct there kind
 
-    home : AreHome All (in_unit program.statements).blocks
+    home : AreHome All (in_unit (returned 0) program.statements).blocks
     home = ((Outer, refl, refl, within_self (source.labels_of program.statements)), tt)
 
     -- the statements of the external procedure
     abbrev Context : TypedStatements → TypingContext
-    Context list = context_in (descriptions statics) (signatures V) (own_signature V 0 Outer) (external_of V list)
+    Context list = context_in globals (known_procedures V) (own_procedure V 0 Outer) (external_of V list)
 
     entered : (list : TypedStatements) → Within (source.labels_of program.statements) (trees.labels_of list)
-        → Knows V (Context list) (in_unit program.statements)
+        → Knows V (Context list) (in_unit (returned 0) program.statements)
     entered list f = record {
-      statics = refl;
+      globals = refl;
       procedures = refl;
       blocks = (refl, refl, f, tt);
       begins = refl;
-      value = facts.blocks.returned;
+      value = refl;
     }
 
     abbrev Result_of : Result (WithProcedures TypedStatements) (List Fault)
-    Result_of = statements_typed V (in_unit program.statements) first_inside program.statements
+    Result_of = statements_typed V (in_unit (returned 0) program.statements) first_inside program.statements
 
     abbrev Inner : List SourceBlock
     Inner = begun_among (enclosing 0 program.statements ∷ []) 1 program.statements
 
-    list_typed : later_statements L (is_main program) program.statements ≡ None
+    list_typed : later_statements L program.statements ≡ None
         → OnTyped (Typed V (λ list. AreTypedStatements 31 (Context list) list) 1 Inner) Result_of
     list_typed l =
-        with_list V Result_of Context (λ t. Knows V t (in_unit program.statements)) 1 Inner
-        (list_is_typed program is_later meaning parameters returned automatic statics facts direct (is_main program)
-        (in_unit program.statements) first_inside program.statements l home tt all_sit.1)
-        (typed_map _ _ Result_of (λ y f. entered y.part f) (labels_kept V (in_unit program.statements) first_inside program.statements))
+        with_list V Result_of Context (λ t. Knows V t (in_unit (returned 0) program.statements)) 1 Inner
+        (list_is_typed program is_later meaning parameters returned automatic globals facts direct
+        (in_unit (returned 0) program.statements) first_inside program.statements l home tt all_sit.1)
+        (typed_map _ _ Result_of (λ y f. entered y.part f) (labels_kept V (in_unit (returned 0) program.statements) first_inside program.statements))
 
     module _ (y : WithProcedures TypedStatements) (h : Typed V (λ list. AreTypedStatements 31 (Context list) list) 1 Inner y) where
       abbrev Procedures : List TypedProcedure
       Procedures = external_of V y.part ∷ y.procedures
 
-      none_given : HasEnd None (returned 0)
-      none_given = subst (HasEnd None) (sym facts.blocks.returned) tt
-
       ours : AreOurs V Procedures
       ours = (
         (
-          own_signature V 0 Outer,
+          own_procedure V 0 Outer,
           refl,
           record {
             parent = refl;
-            parameters = sym (ap length facts.blocks.parameters);
-            end = none_given;
+            parameters = refl;
+            end = has_end program.end (returned 0);
             made = facts.automatic 0;
             statements = h.0;
           },
@@ -131,77 +128,74 @@ module _ (program : ExternalProcedure) (is_later : ℕ → Bool) (meaning : List
         covers_more y.procedures Procedures 1 Inner (λ k a. has_back k (external_of V y.part ∷ []) y.procedures a) h.2,
       )
 
-      abbrev IsThere : ℕ → Signature → Type 0
+      abbrev IsThere : ℕ → KnownProcedure → Type 0
       IsThere number p =
           (f : TypedProcedure) × (procedure_in Procedures number ≡ Some f)
-          × IsTypedProcedure 31 (descriptions statics) (signatures V) p f
+          × IsTypedProcedure 31 globals (known_procedures V) p f
 
-      as_signed : (number : ℕ) (p : Signature) → signatures V number ≡ Some p
+      as_signed : (number : ℕ) (p : KnownProcedure) → known_procedures V number ≡ Some p
           → (f : TypedProcedure) × (procedure_in Procedures number ≡ Some f) × (f.head.number ≡ number) → IsThere number p
       as_signed number p signed (f, at, same) =
           let own : IsOurs V f = ours_found V number f Procedures ours at in (
             f,
             at,
-            subst (λ q. IsTypedProcedure 31 (descriptions statics) (signatures V) q f)
-                (same_Some own.0 p (sym own.1 ∙ ap (signatures V) same ∙ signed)) own.2,
+            subst (λ q. IsTypedProcedure 31 globals (known_procedures V) q f)
+                (same_Some own.0 p (sym own.1 ∙ ap (known_procedures V) same ∙ signed)) own.2,
           )
 
-      no_signature : (number : ℕ) (p : Signature) → slice_get All number ≡ None → signatures V number ≡ Some p → ⊥
-      no_signature number p none signed = none-some p (sym (ap (option_and_then (signature_of V number)) none) ∙ signed)
+      not_known : (number : ℕ) (p : KnownProcedure) → slice_get All number ≡ None → known_procedures V number ≡ Some p → ⊥
+      not_known number p none signed = none-some p (sym (ap (option_and_then (procedure_known V number)) none) ∙ signed)
 
-      no_procedure : (number : ℕ) (p : Signature) (b : SourceBlock) → slice_get All number ≡ Some b
-          → signature_of V number b ≡ None → signatures V number ≡ Some p → ⊥
+      no_procedure : (number : ℕ) (p : KnownProcedure) (b : SourceBlock) → slice_get All number ≡ Some b
+          → procedure_known V number b ≡ None → known_procedures V number ≡ Some p → ⊥
       no_procedure number p b there none signed =
-          none-some p (sym none ∙ sym (ap (option_and_then (signature_of V number)) there) ∙ signed)
+          none-some p (sym none ∙ sym (ap (option_and_then (procedure_known V number)) there) ∙ signed)
 
-      of_kind : (number : ℕ) (p : Signature) (b : SourceBlock) → slice_get All number ≡ Some b → signatures V number ≡ Some p
+      of_kind : (number : ℕ) (p : KnownProcedure) (b : SourceBlock) → slice_get All number ≡ Some b → known_procedures V number ≡ Some p
           → (kind : ResolvedBlockKind) → b.kind ≡ kind → IsThere number p
       of_kind number p b there signed kinds.Procedure is =
           as_signed number p signed
           (found_among number Procedures (subst (λ k. Has k Procedures) (omega arith) (covered Procedures 0 number All b covers there is)))
       of_kind number p b there signed kinds.Begin is = absurd (no_procedure number p b there (none is) signed)
         where
-          none : b.kind ≡ kinds.Begin → signature_of V number b ≡ None
+          none : b.kind ≡ kinds.Begin → procedure_known V number b ≡ None
           none is = rw is refl
       of_kind number p b there signed kinds.OnUnit is = absurd (no_procedure number p b there (none is) signed)
         where
-          none : b.kind ≡ kinds.OnUnit → signature_of V number b ≡ None
+          none : b.kind ≡ kinds.OnUnit → procedure_known V number b ≡ None
           none is = rw is refl
 
-      each_procedure : (number : ℕ) (p : Signature) → signatures V number ≡ Some p → IsThere number p
+      each_procedure : (number : ℕ) (p : KnownProcedure) → known_procedures V number ≡ Some p → IsThere number p
       each_procedure number p signed = by (slice_get All number) refl
         where
           by : (o : Option SourceBlock) → slice_get All number ≡ o → IsThere number p
-          by None is = absurd (no_signature number p is signed)
+          by None is = absurd (not_known number p is signed)
           by (Some b) is = of_kind number p b is signed b.kind refl
 
-      is_typed_main : IsTypedMain 31 (unit_of V y)
-      is_typed_main = record {
-        typed = record { procedures = signatures V; made = facts.statics; typed = each_procedure };
-        signature = own_signature V 0 Outer;
-        is_first = refl;
-        parent = refl;
-        around = refl;
-        parameters = facts.blocks.parameters;
-        value = facts.blocks.returned;
+      is_typed : IsTypedUnit 31 (unit_of V y)
+      is_typed = record {
+        procedures = known_procedures V;
+        outer = refl;
+        made = facts.globals;
+        typed = each_procedure;
       }
 
     of_result : (t : TypedUnit) (r : Result (WithProcedures TypedStatements) (List Fault))
-        → OnTyped (Typed V (λ list. AreTypedStatements 31 (Context list) list) 1 Inner) r → typed_as V r ≡ Ok t → IsTypedMain 31 t
-    of_result t (Ok y) h e = subst (IsTypedMain 31) (given_same (Ok (unit_of V y)) refl e) (is_typed_main y h)
+        → OnTyped (Typed V (λ list. AreTypedStatements 31 (Context list) list) 1 Inner) r → typed_as V r ≡ Ok t → IsTypedUnit 31 t
+    of_result t (Ok y) h e = subst (IsTypedUnit 31) (given_same (Ok (unit_of V y)) refl e) (is_typed y h)
     of_result t (Err fs) h e = absurd (error_given _ refl e)
 
     of_built : (t : TypedUnit) (o : Option ℕ) → first_unbuilt L program ≡ o → unless_unbuilt o (typed_as V Result_of) ≡ Ok t
-        → IsTypedMain 31 t
+        → IsTypedUnit 31 t
     of_built t None none e =
         of_result t Result_of
-        (list_typed ((no_either (later_heading program.heading) (later_statements L (is_main program) program.statements) none).1)) e
+        (list_typed ((no_either (later_heading program.heading) (later_statements L program.statements) none).1)) e
     of_built t (Some at) some e = absurd (error_given _ refl e)
 
-    pub unit_is_typed_so : (t : TypedUnit) → checked V ≡ Ok t → IsTypedMain 31 t
+    pub unit_is_typed_so : (t : TypedUnit) → checked V ≡ Ok t → IsTypedUnit 31 t
     unfolding checked
     unit_is_typed_so t e = of_built t (first_unbuilt L program) refl e
 
 pub unit_is_typed : TypedUnitsAreTyped
-unit_is_typed program is_later meaning parameters returned automatic statics facts nests t e =
-    unit_is_typed_so program is_later meaning parameters returned automatic statics facts nests t e
+unit_is_typed program is_later meaning parameters returned automatic globals facts nests t e =
+    unit_is_typed_so program is_later meaning parameters returned automatic globals facts nests t e

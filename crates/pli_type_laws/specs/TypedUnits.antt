@@ -16,18 +16,7 @@ use Rattle.pli_type_name_laws.specs.NameFacts.{NameFacts}
 use Rattle.pli_type_name_laws.specs.Nesting.{ListNests}
 use Rattle.pli_type_name_laws.specs.Numbering.{AreNumbered}
 use Rattle.pli_type_tree.specs.Templates.{Template}
-use Rattle.pli_type_tree.specs.TypedTree.{TypedUnit}
-use Rattle.pli_type_tree.specs.WellTyped.{Signature}
-
--- a unit is well typed, and its block 0 is a procedure without parameters, in no block, and no function
-pub record IsTypedMain (greatest : ℕ) (u : TypedUnit) : Type 0 where
-  pub typed : IsTypedUnit greatest u
-  pub signature : Signature
-  pub is_first : typed.procedures 0 ≡ Some signature
-  pub parent : signature.parent ≡ None
-  pub around : signature.around ≡ []
-  pub parameters : signature.parameters ≡ []
-  pub value : signature.value ≡ None
+use Rattle.pli_type_tree.specs.TypedTree.{Global, TypedUnit}
 
 -- A unit whose statements are numbered in the order of the text, from any number on, and nest within the limit,
 -- gives a typed unit that is numbered well.
@@ -39,15 +28,15 @@ TypedUnitsAreNumbered =
 -- a unit by its parts, where numbers have at most 31 binary digits
 abbrev pub unit_with : ExternalProcedure → (is_later : ℕ → Bool) → (meaning : (blocks : List ℕ) → ℕ → NamedAs)
     → (parameters : (block : ℕ) → List Description) → (returned : (block : ℕ) → Option Description)
-    → (automatic : (block : ℕ) → List Template) → (statics : List Template) → NamedUnit
-unit_with tree is_later meaning parameters returned automatic statics = record {
+    → (automatic : (block : ℕ) → List Template) → (globals : List Global) → NamedUnit
+unit_with tree is_later meaning parameters returned automatic globals = record {
   tree = tree;
   compiled = record { greatest = 31; is_later = is_later };
   naming = λ blocks. record { greatest = 31; meaning = meaning blocks };
   parameters = parameters;
   returned = returned;
   automatic = automatic;
-  statics = statics;
+  globals = globals;
 }
 
 -- A unit whose names mean variables and procedures that are there, whose variables begin with values that they
@@ -56,15 +45,19 @@ abbrev pub TypedUnitsAreTyped : Type 0
 TypedUnitsAreTyped =
     (tree : ExternalProcedure) (is_later : ℕ → Bool) (meaning : (blocks : List ℕ) → ℕ → NamedAs)
     (parameters : (block : ℕ) → List Description) (returned : (block : ℕ) → Option Description)
-    (automatic : (block : ℕ) → List Template) (statics : List Template)
-    → NameFacts (unit_with tree is_later meaning parameters returned automatic statics)
+    (automatic : (block : ℕ) → List Template) (globals : List Global)
+    → NameFacts (unit_with tree is_later meaning parameters returned automatic globals)
     → Deeper (λ m. ListNests true m tree.statements) nesting_limit → (t : TypedUnit)
-    → checked (unit_with tree is_later meaning parameters returned automatic statics) ≡ Ok t
-    → IsTypedMain 31 t
+    → checked (unit_with tree is_later meaning parameters returned automatic globals) ≡ Ok t
+    → IsTypedUnit 31 t
 
--- What the type checker gives for a unit that was read is well typed, with a block 0 that a program may begin
--- with, and numbered well.
+-- the procedure of a unit with which a program may begin takes nothing and gives nothing
+abbrev pub MainTakesNothing : TypedUnit → Type 0
+MainTakesNothing u = u.is_main ≡ true → u.signature ≡ record { parameters = []; result = None }
+
+-- What the type checker gives for a unit that was read is well typed and numbered well, and a program may
+-- begin with it if it is MAIN.
 abbrev pub CheckedIsTyped : Type 0
 CheckedIsTyped =
     (texts : Tokens) (u : ExternalProcedure) → unit_of texts ≡ Ok u → (t : TypedUnit)
-    → checked_unit (resolved_unit_of u) ≡ Ok t → IsTypedMain 31 t × IsWellNumbered t
+    → checked_unit (resolved_unit_of u) ≡ Ok t → IsTypedUnit 31 t × IsWellNumbered t × MainTakesNothing t

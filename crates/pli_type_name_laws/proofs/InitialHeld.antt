@@ -2,10 +2,13 @@
 use Rattle.std.specs.Prelude.{◌≡◌, ℕ, zero, suc, ◌+◌, ◌-◌, ◌*◌, ◌^◌, ◌≤◌, Bool, true, false, IsTrue, ℤ, pos}
 use Rattle.std.specs.Prelude.{Some, List, [], ◌∷◌, ◌++◌, length, map, take, replicate, slice_get, slice_set, if◌then◌else◌, refl}
 use Rattle.std.specs.List.{flat_map, AllByRecursion}
-use Rattle.std.proofs.Common.{sym, ◌∙◌, ap, arith, pow_pos, append_assoc, append-nil, length-append, length-take, eq-eqb, le-leb}
+use Rattle.std.proofs.Common.{sym, ◌∙◌, ap, subst, arith, pow_pos, append_assoc, append-nil, length-append, length-take, eq-eqb, le-leb}
 use Rattle.std.proofs.lemmas.Bool.{and_parts, lt-ltb}
 use Rattle.std.proofs.lemmas.List.{length-replicate}
 use Rattle.std.proofs.lemmas.Option.{same_Some, none-some}
+use Rattle.pli_base.specs.Name.{Name}
+use Rattle.pli_declare_attributes.specs.declared.completed.Scope.{Scope}
+use Rattle.pli_declare_attributes.specs.declared.completed.Scope.TheVariants as scopes
 use Rattle.pli_map.specs.Description.{Description, FixedBinary, Character, Varying, Bit, Array, Structure, Members, NoMembers, MemberThen}
 use Rattle.pli_map.specs.Scalars.{is_scalar, scalars_in, scalars_among}
 use Rattle.pli_map.specs.Sizes.{count_of}
@@ -13,8 +16,11 @@ use Rattle.pli_map.specs.Values.{holds, first_values, first_values_of}
 use Rattle.pli_resolve.specs.Symbols.{Symbol, SymbolKind, Variable, Member, Label, Procedure, Entry, BuiltIn}
 use Rattle.pli_resolve.specs.declared.symbol.StorageClass.{StorageClass}
 use Rattle.pli_type.specs.InitialScalars.{NumberedScalar, counted_from, scalars_on, scalars_in_member, as_held, each_with, values_written, InitialItem, initial_scalars, template_of}
-use Rattle.pli_type.specs.NamedUnits.{is_plain, all_plain, member_items, template_at, templates_from, templates_of}
+use Rattle.pli_type.specs.NamedUnits.{is_plain, all_plain, is_static, member_items, template_at, templates_from}
+use Rattle.pli_type.specs.NamedUnits.{global_of, global_with, globals_from, globals_of, all_globals}
+use Rattle.pli_type_tree.specs.Globals.{templates_in}
 use Rattle.pli_type_tree.specs.Templates.{InitialScalar, Template, with_initial, variable_of}
+use Rattle.pli_type_tree.specs.TypedTree.{Global, OwnVariable, ExternalVariable, EntryPoint}
 use Rattle.pli_type_tree.specs.WellTyped.{scalars_of, scalars_of_members, AreHeld, AreMade}
 use Rattle.pli_value.specs.Numbers.{has_digits}
 use Rattle.pli_value.specs.Strings.{fitted}
@@ -237,15 +243,41 @@ module _ (n : ℕ) (is_such : StorageClass → Description → Bool) (plain : (c
   all_made number [] = tt
   all_made number (s ∷ ss) = symbol_made number s.kind (templates_from is_such all (suc number) ss) (all_made (suc number) ss)
 
-made_both : (ts us : List Template) → AreMade (map variable_of ts) → AreMade (map variable_of us) → AreMade (map variable_of (ts ++ us))
-made_both [] us h g = g
-made_both (t ∷ ts) us h g = (h.0, made_both ts us h.1 g)
+-- ---- globals
 
--- of several blocks
-pub made_behind : (n : ℕ) (is_such : StorageClass → Description → Bool)
-    → ((class : StorageClass) (d : Description) → is_such class d ≡ true → is_plain n d ≡ true) → (blocks : List (List Symbol))
-    → AreMade (map variable_of (flat_map (templates_of is_such) blocks))
-made_behind n is_such plain [] = tt
-made_behind n is_such plain (ss ∷ more) =
-    made_both (templates_of is_such ss) (flat_map (templates_of is_such) more) (all_made n is_such plain ss 0 ss)
-    (made_behind n is_such plain more)
+scoped_made : (scope : Scope) (name : Name) (ts : List Template) (rest : List Global) → AreMade (map variable_of ts)
+    → AreMade (map variable_of (templates_in rest)) → AreMade (map variable_of (templates_in (map (global_of scope name) ts ++ rest)))
+scoped_made scope name [] rest h g = g
+scoped_made scopes.Internal name (t ∷ ts) rest h g = (h.0, scoped_made scopes.Internal name ts rest h.1 g)
+scoped_made scopes.External name (t ∷ ts) rest h g = (h.0, scoped_made scopes.External name ts rest h.1 g)
+
+both_made : (xs ys : List Global) → AreMade (map variable_of (templates_in xs)) → AreMade (map variable_of (templates_in ys))
+    → AreMade (map variable_of (templates_in (xs ++ ys)))
+both_made [] ys h g = g
+both_made (OwnVariable t ∷ xs) ys h g = (h.0, both_made xs ys h.1 g)
+both_made (ExternalVariable name t ∷ xs) ys h g = (h.0, both_made xs ys h.1 g)
+both_made (EntryPoint name signature ∷ xs) ys h g = both_made xs ys h g
+
+module _ (n : ℕ) (plain : (class : StorageClass) (d : Description) → is_static n class d ≡ true → is_plain n d ≡ true) where
+  global_made : (all : List Symbol) (number : ℕ) (name : Name) (kind : SymbolKind) (rest : List Global)
+      → AreMade (map variable_of (templates_in rest)) → AreMade (map variable_of (templates_in (global_with n all number name kind ++ rest)))
+  global_made all number name (Variable d class scope initial area) rest h =
+      let ts : List Template = template_at (is_static n) all number (Variable d class scope initial area) in
+      scoped_made scope name ts rest
+      (subst (λ us. AreMade (map variable_of us)) (append-nil ts)
+      (symbol_made n (is_static n) plain all number (Variable d class scope initial area) [] tt)) h
+  global_made all number name (Member root path initial area) rest h = h
+  global_made all number name (Label statement) rest h = h
+  global_made all number name (Procedure block returned area) rest h = h
+  global_made all number name (Entry parameters returned) rest h = h
+  global_made all number name BuiltIn rest h = h
+
+  globals_made : (all : List Symbol) (number : ℕ) (ss : List Symbol) → AreMade (map variable_of (templates_in (globals_from n all number ss)))
+  globals_made all number [] = tt
+  globals_made all number (s ∷ ss) = global_made all number s.identifier.name s.kind (globals_from n all (suc number) ss) (globals_made all (suc number) ss)
+
+  -- of several blocks
+  pub globals_behind : (blocks : List (List Symbol)) → AreMade (map variable_of (templates_in (all_globals n blocks)))
+  globals_behind [] = tt
+  globals_behind (ss ∷ more) =
+      both_made (globals_of n ss) (all_globals n more) (globals_made ss 0 ss) (globals_behind more)

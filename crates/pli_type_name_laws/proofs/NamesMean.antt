@@ -14,14 +14,14 @@ use Rattle.pli_resolve.specs.declared.symbol.NameMeaning.TheVariants as meanings
 use Rattle.pli_resolve.specs.declared.symbol.StorageClass.{StorageClass}
 use Rattle.pli_resolve.specs.declared.symbol.SymbolKey.{SymbolKey}
 use Rattle.pli_type.specs.NamedUnits.{is_stored, block_symbols, outward_to, root_of, variable_from, variable_at, is_procedure}
-use Rattle.pli_type.specs.NamedUnits.{stands_around, is_reached, gives_stored, returned_of, named_procedure}
+use Rattle.pli_type.specs.NamedUnits.{global_number, stands_around, is_reached, gives_stored, returned_of, named_procedure}
 use Rattle.pli_type.specs.NamedUnits.{symbol_meant, declared_as, named_as}
 use Rattle.pli_type.specs.Names.{NamedVariable, NamedProcedure, AVariable, AProcedure, ALabel, Untyped}
-use Rattle.pli_type_tree.specs.TypedTree.{Root}
+use Rattle.pli_type_tree.specs.TypedTree.{Callee, OfBlock, OfEntry, Root}
 use Rattle.pli_type_name_laws.specs.NameFacts.{StandsAround}
 use Rattle.pli_type_name_laws.specs.SourceBlocks.{SourceBlock}
 use Rattle.pli_type_name_laws.specs.UnitBlocks.{in_unit, in_tree}
-use Rattle.pli_type_name_laws.proofs.RootsStand.{IsOf, Standing, root_begins}
+use Rattle.pli_type_name_laws.proofs.RootsStand.{IsOf, IsEntry, Standing, root_begins}
 
 not_true : false ≡ true → ⊥
 not_true e = absurd (cc)
@@ -85,7 +85,9 @@ module _ (n : ℕ) (r : ResolvedUnit) (blocks : List ℕ) where
         of_member (record { block = key.block; number = root }) path _ refl e
     of_symbol key s (Label statement) there is e = absurd (no_label statement e)
     of_symbol key s (Procedure block returned area) there is e = absurd (named_or_not _ (named_procedure r block) e)
-    of_symbol key s (Entry parameters returned) there is e = absurd (untyped e)
+    of_symbol key s (Entry parameters returned) there is e =
+        absurd (named_or_not (gives_stored n returned)
+        (record { callee = OfEntry (global_number n r key); parameters = parameters; returned = returned }) e)
     of_symbol key s BuiltIn there is e = absurd (untyped e)
 
     of_declared : (key : SymbolKey) (o : Option Symbol) → symbol_at r key ≡ o → declared_as n r blocks key ≡ AVariable v → Begins
@@ -106,10 +108,23 @@ module _ (n : ℕ) (r : ResolvedUnit) (blocks : List ℕ) where
   -- ---- procedures
 
   module _ (p : NamedProcedure) where
-    -- it is the procedure of a block that is reached, and gives what could be stored
+    -- it is that of an entry among the globals
+    pub record IsOfEntry (number : ℕ) : Type 0 where
+      pub key : SymbolKey
+      pub symbol : Symbol
+      pub there : slice_get (block_symbols r key.block) key.number ≡ Some symbol
+      pub entry : IsEntry p.parameters p.returned symbol.kind
+      pub is : number ≡ global_number n r key
+
+    -- it is the procedure of a block that is reached, or that of an entry
+    abbrev pub IsThere : Callee → Type 0
+    IsThere (OfBlock block) =
+        (named_procedure r block ≡ p) × (is_reached blocks (slice_get r.blocks block) ≡ true)
+    IsThere (OfEntry number) = IsOfEntry number
+
+    -- and gives what could be stored
     pub record IsNamed : Type 0 where
-      pub is : p ≡ named_procedure r p.block
-      pub reached : is_reached blocks (slice_get r.blocks p.block) ≡ true
+      pub there : IsThere p.callee
       pub stored : gives_stored n p.returned ≡ true
 
     nothing : Untyped ≡ AProcedure p → ⊥
@@ -136,31 +151,55 @@ module _ (n : ℕ) (r : ResolvedUnit) (blocks : List ℕ) where
         → (if b then AProcedure (named_procedure r block) else Untyped) ≡ AProcedure p → IsNamed
     of_block block true h e =
         let same : named_procedure r block ≡ p = same_procedure (named_procedure r block) p e in
-        let number : block ≡ p.block = ap (λ (q : NamedProcedure). q.block) same in
         let parts : (is_reached blocks (slice_get r.blocks block) ≡ true) × (gives_stored n (returned_of r block) ≡ true) =
         and_parts _ _ h in
         record {
-          is = sym same ∙ ap (named_procedure r) number;
-          reached = ap (λ k. is_reached blocks (slice_get r.blocks k)) (sym number) ∙ parts.0;
+          there = subst IsThere (ap (λ (q : NamedProcedure). q.callee) same) (same, parts.0);
           stored = ap (λ (q : NamedProcedure). gives_stored n q.returned) (sym same) ∙ parts.1;
         }
     of_block block false h e = absurd (nothing e)
 
-    symbol_named : (key : SymbolKey) (kind : SymbolKind) → symbol_meant n r blocks key kind ≡ AProcedure p → IsNamed
-    symbol_named key (Variable d class scope initial area) e = absurd (from_variable (root_of n r blocks key class d) d [] e)
-    symbol_named key (Member root path initial area) e =
+    of_entry : (key : SymbolKey) (s : Symbol) → slice_get (block_symbols r key.block) key.number ≡ Some s
+        → (parameters : List Description) (returned : Option Description) → s.kind ≡ Entry parameters returned
+        → (b : Bool) → gives_stored n returned ≡ b
+        → (if b then AProcedure (record { callee = OfEntry (global_number n r key); parameters = parameters; returned = returned })
+        else Untyped) ≡ AProcedure p → IsNamed
+    of_entry key s there parameters returned is true h e =
+        let q : NamedProcedure = record { callee = OfEntry (global_number n r key); parameters = parameters; returned = returned } in
+        let same : q ≡ p = same_procedure q p e in
+        record {
+          there =
+              subst IsThere (ap (λ (x : NamedProcedure). x.callee) same)
+              (record {
+                key = key;
+                symbol = s;
+                there = there;
+                entry =
+                    subst (IsEntry p.parameters p.returned) (sym is)
+                    (ap (λ (x : NamedProcedure). x.parameters) same, ap (λ (x : NamedProcedure). x.returned) same);
+                is = refl;
+              });
+          stored = ap (λ (x : NamedProcedure). gives_stored n x.returned) (sym same) ∙ h;
+        }
+    of_entry key s there parameters returned is false h e = absurd (nothing e)
+
+    symbol_named : (key : SymbolKey) (s : Symbol) → slice_get (block_symbols r key.block) key.number ≡ Some s → (kind : SymbolKind)
+        → s.kind ≡ kind → symbol_meant n r blocks key kind ≡ AProcedure p → IsNamed
+    symbol_named key s there (Variable d class scope initial area) is e = absurd (from_variable (root_of n r blocks key class d) d [] e)
+    symbol_named key s there (Member root path initial area) is e =
         absurd (member_means (record { block = key.block; number = root }) path (slice_get (block_symbols r key.block) root) e)
-    symbol_named key (Label statement) e = absurd (cc)
-    symbol_named key (Procedure block returned area) e = of_block block _ refl e
-    symbol_named key (Entry parameters returned) e = absurd (nothing e)
-    symbol_named key BuiltIn e = absurd (nothing e)
+    symbol_named key s there (Label statement) is e = absurd (cc)
+    symbol_named key s there (Procedure block returned area) is e = of_block block _ refl e
+    symbol_named key s there (Entry parameters returned) is e =
+        of_entry key s there parameters returned is (gives_stored n returned) refl e
+    symbol_named key s there BuiltIn is e = absurd (nothing e)
 
     declared_named : (key : SymbolKey) (o : Option Symbol) → symbol_at r key ≡ o → declared_as n r blocks key ≡ AProcedure p → IsNamed
     declared_named key None there e = absurd (nothing (sym (none_there there) ∙ e))
       where
         none_there : symbol_at r key ≡ None → declared_as n r blocks key ≡ Untyped
         none_there e = rw e refl
-    declared_named key (Some s) there e = symbol_named key s.kind (sym (one_there there) ∙ e)
+    declared_named key (Some s) there e = symbol_named key s there s.kind refl (sym (one_there there) ∙ e)
       where
         one_there : symbol_at r key ≡ Some s → declared_as n r blocks key ≡ symbol_meant n r blocks key s.kind
         one_there e = rw e refl

@@ -1,11 +1,13 @@
 -- A variable's root leads to its description: a block's slots are its parameters and then what its AUTOMATIC
--- variables are made from, in the order of the symbols; what STATIC variables are made from stands block after block.
+-- variables are made from, in the order of the symbols; globals stand block after block.
 use Rattle.std.specs.Prelude.{◌≡◌, ℕ, zero, suc, ◌+◌, Bool, true, false, ◌&&◌, nat_eq, Option, Some, None, List, [], ◌∷◌, ◌++◌}
 use Rattle.std.specs.Prelude.{length, map, take, get_or, slice_get, if◌then◌else◌, refl}
-use Rattle.std.specs.List.{flat_map}
-use Rattle.std.proofs.Common.{sym, ◌∙◌, ap, subst, arith}
+use Rattle.std.proofs.Common.{sym, ◌∙◌, ap, subst, arith, length-append}
 use Rattle.std.proofs.lemmas.Bool.{and_parts, eqb-true}
 use Rattle.std.proofs.lemmas.Option.{same_Some, none-some}
+use Rattle.pli_base.specs.Name.{Name}
+use Rattle.pli_declare_attributes.specs.declared.completed.Scope.{Scope}
+use Rattle.pli_declare_attributes.specs.declared.completed.Scope.TheVariants as scopes
 use Rattle.pli_map.specs.Description.{Description}
 use Rattle.pli_resolve.specs.ResolvedUnits.{ResolvedUnit, all_symbols}
 use Rattle.pli_resolve.specs.Symbols.{Symbol, SymbolKind, Variable, Member, Label, Procedure, Entry, BuiltIn}
@@ -13,11 +15,13 @@ use Rattle.pli_resolve.specs.declared.symbol.StorageClass.{StorageClass}
 use Rattle.pli_resolve.specs.declared.symbol.StorageClass.TheVariants as classes
 use Rattle.pli_resolve.specs.declared.symbol.SymbolKey.{SymbolKey}
 use Rattle.pli_type.specs.InitialScalars.{template_of}
-use Rattle.pli_type.specs.NamedUnits.{is_stored, is_automatic, is_static, one_such, such_before, such_in, block_symbols}
+use Rattle.pli_type.specs.NamedUnits.{is_stored, is_automatic, is_static, one_such, such_before, one_global, globals_before, globals_in}
 use Rattle.pli_type.specs.NamedUnits.{parameter_numbers, description_in, parameters_of, outward_to, in_slot, is_parameter}
-use Rattle.pli_type.specs.NamedUnits.{root_of, member_items, template_at, templates_from, templates_of, all_statics}
+use Rattle.pli_type.specs.NamedUnits.{root_of, member_items, template_at, templates_from, templates_of}
+use Rattle.pli_type.specs.NamedUnits.{block_symbols, global_number, global_of, global_with, global_at, globals_from, globals_of, all_globals}
 use Rattle.pli_type_tree.specs.Templates.{Template}
-use Rattle.pli_type_tree.specs.TypedTree.{Root, InSlot, OfProgram}
+use Rattle.pli_type_tree.specs.Globals.{description_of, signature_of}
+use Rattle.pli_type_tree.specs.TypedTree.{Global, EntryPoint, Root, InSlot, OfProgram}
 
 abbrev pub descriptions : List Template → List Description
 descriptions ts = map (λ t. t.description) ts
@@ -76,35 +80,10 @@ module _ (is_such : StorageClass → Description → Bool) (all : List Symbol) w
       symbol_passed number t.kind (templates_from is_such all (suc number) ss) (such_before is_such ss k)
       ∙ found ss (suc number) k s d e h
 
--- ---- how many there are
+-- ---- lists
 
 length_one : {A : Type 0} (x : A) (xs : List A) → length (x ∷ xs) ≡ suc (length xs)
 length_one x xs = omega arith
-
-module _ (is_such : StorageClass → Description → Bool) (all : List Symbol) where
-  one_counted : (b : Bool) (t : Template) (rest : List Template) (k : ℕ) → length rest ≡ k
-      → length ((if b then t ∷ [] else []) ++ rest) ≡ (if b then 1 else 0) + k
-  one_counted true t rest k e = omega (arith, length_one t rest, e)
-  one_counted false t rest k e = omega (arith, e)
-
-  symbol_counted : (number : ℕ) (kind : SymbolKind) (rest : List Template) (k : ℕ) → length rest ≡ k
-      → length (template_at is_such all number kind ++ rest) ≡ one_such is_such kind + k
-  symbol_counted number (Variable d class scope initial area) rest k e =
-      one_counted (is_such class d) (template_of d (record { path = []; values = initial } ∷ member_items number all)) rest k e
-  symbol_counted number (Member root path initial area) rest k e = omega (arith, e)
-  symbol_counted number (Label statement) rest k e = omega (arith, e)
-  symbol_counted number (Procedure block returned area) rest k e = omega (arith, e)
-  symbol_counted number (Entry parameters returned) rest k e = omega (arith, e)
-  symbol_counted number BuiltIn rest k e = omega (arith, e)
-
-  all_counted : (number : ℕ) (ss : List Symbol)
-      → length (templates_from is_such all number ss) ≡ such_before is_such ss (length ss)
-  all_counted number [] = refl
-  all_counted number (s ∷ ss) =
-      symbol_counted number s.kind (templates_from is_such all (suc number) ss) (such_before is_such ss (length ss))
-      (all_counted (suc number) ss)
-
--- ---- lists
 
 in_front : {A : Type 0} (xs ys : List A) (j : ℕ) (x : A) → slice_get xs j ≡ Some x → slice_get (xs ++ ys) j ≡ Some x
 in_front [] ys j x e = absurd (none-some x e)
@@ -125,35 +104,65 @@ length_mapped : {A B : Type 0} (f : A → B) (xs : List A) → length (map f xs)
 length_mapped f [] = refl
 length_mapped f (x ∷ xs) = ap suc (length_mapped f xs)
 
-map_both : {A B : Type 0} (f : A → B) (xs ys : List A) → map f (xs ++ ys) ≡ map f xs ++ map f ys
-map_both f [] ys = refl
-map_both f (x ∷ xs) ys = ap (λ zs. f x ∷ zs) (map_both f xs ys)
+-- ---- globals, block after block
 
--- ---- STATIC variables, block after block
+if_counted : {A : Type 0} (f : Template → A) (b : Bool) (t : Template) → length (map f (if b then t ∷ [] else [])) ≡ (if b then 1 else 0)
+if_counted f true t = length_one (f t) []
+if_counted f false t = refl
 
-module _ (is_such : StorageClass → Description → Bool) where
-  found_in_blocks : (all : List (List Symbol)) (k number : ℕ) (s : Symbol) (d : Description)
-      → slice_get (get_or all k []) number ≡ Some s → IsSuch is_such [] d s.kind
-      → slice_get (descriptions (flat_map (templates_of is_such) all))
-      (such_in is_such (take k all) + such_before is_such (get_or all k []) number) ≡ Some d
-  found_in_blocks [] k number s d e h = absurd (none-some s e)
-  found_in_blocks (ss ∷ more) zero number s d e h =
-      ap (λ ts. slice_get ts (0 + such_before is_such ss number))
-      (map_both (λ (t : Template). t.description) (templates_of is_such ss) (flat_map (templates_of is_such) more))
-      ∙ in_front (descriptions (templates_of is_such ss)) (descriptions (flat_map (templates_of is_such) more))
-      (0 + such_before is_such ss number) d
-      (none_passed (descriptions (templates_of is_such ss)) (such_before is_such ss number)
-      ∙ found is_such ss ss 0 number s d e h)
-  found_in_blocks (ss ∷ more) (suc k) number s d e h =
-      let own : List Description = descriptions (templates_of is_such ss) in
-      let rest : List Description = descriptions (flat_map (templates_of is_such) more) in
-      let before : ℕ = such_in is_such (take k more) + such_before is_such (get_or more k []) number in
-      ap (λ ts. slice_get ts (such_before is_such ss (length ss) + such_in is_such (take k more)
-      + such_before is_such (get_or more k []) number))
-      (map_both (λ (t : Template). t.description) (templates_of is_such ss) (flat_map (templates_of is_such) more))
-      ∙ behind_front own rest before _
-      (omega (arith, length_mapped (λ (t : Template). t.description) (templates_of is_such ss), all_counted is_such ss 0 ss))
-      ∙ found_in_blocks more k number s d e h
+global_counted : (n : ℕ) (all : List Symbol) (number : ℕ) (name : Name) (kind : SymbolKind)
+    → length (global_with n all number name kind) ≡ one_global n kind
+global_counted n all number name (Variable d class scope initial area) =
+    if_counted (global_of scope name) (is_static n class d)
+    (template_of d (record { path = []; values = initial } ∷ member_items number all))
+global_counted n all number name (Entry parameters returned) = length_one (EntryPoint name (record { parameters = parameters; result = returned })) []
+global_counted n all number name (Member root path initial area) = refl
+global_counted n all number name (Label statement) = refl
+global_counted n all number name (Procedure block returned area) = refl
+global_counted n all number name BuiltIn = refl
+
+module _ (n : ℕ) (all : List Symbol) where
+  globals_counted : (number : ℕ) (ss : List Symbol) → length (globals_from n all number ss) ≡ globals_before n ss (length ss)
+  globals_counted number [] = refl
+  globals_counted number (s ∷ ss) =
+      omega (
+        arith,
+        length-append (global_at n all number s) (globals_from n all (suc number) ss),
+        global_counted n all number s.identifier.name s.kind,
+        globals_counted (suc number) ss,
+      )
+
+  -- the global that a symbol is stands where it is counted
+  global_found : (ss : List Symbol) (from k number : ℕ) (s : Symbol) (g : Global) → from + k ≡ number → slice_get ss k ≡ Some s
+      → global_at n all number s ≡ g ∷ [] → slice_get (globals_from n all from ss) (globals_before n ss k) ≡ Some g
+  global_found [] from k number s g e at is = absurd (none-some s at)
+  global_found (t ∷ ss) from zero number s g e at is =
+      let here : from ≡ number = omega (arith, e) in
+      ap (λ gs. slice_get (gs ++ globals_from n all (suc from) ss) 0)
+      (ap (λ k. global_at n all k t) here ∙ ap (global_at n all number) (same_Some t s at) ∙ is)
+  global_found (t ∷ ss) from (suc k) number s g e at is =
+      behind_front (global_at n all from t) (globals_from n all (suc from) ss) (globals_before n ss k) _
+      (omega (arith, global_counted n all from t.identifier.name t.kind))
+      ∙ global_found ss (suc from) k number s g (omega (arith, e)) at is
+
+module _ (n : ℕ) where
+  pub found_in_blocks : (all : List (List Symbol)) (k number : ℕ) (s : Symbol) (g : Global)
+      → slice_get (get_or all k []) number ≡ Some s → global_at n (get_or all k []) number s ≡ g ∷ []
+      → slice_get (all_globals n all) (globals_in n (take k all) + globals_before n (get_or all k []) number) ≡ Some g
+  found_in_blocks [] k number s g e is = absurd (none-some s e)
+  found_in_blocks (ss ∷ more) zero number s g e is =
+      in_front (globals_of n ss) (all_globals n more) (0 + globals_before n ss number) g
+      (none_passed (globals_of n ss) (globals_before n ss number)
+      ∙ global_found n ss ss 0 number number s g (omega arith) e is)
+  found_in_blocks (ss ∷ more) (suc k) number s g e is =
+      let before : ℕ = globals_in n (take k more) + globals_before n (get_or more k []) number in
+      behind_front (globals_of n ss) (all_globals n more) before _ (omega (arith, globals_counted n ss 0 ss))
+      ∙ found_in_blocks more k number s g e is
+
+-- a variable, by its scope
+global_described : (scope : Scope) (name : Name) (t : Template) → description_of (Some (global_of scope name t)) ≡ Some t.description
+global_described scopes.Internal name t = refl
+global_described scopes.External name t = refl
 
 -- ---- where a variable begins
 
@@ -170,6 +179,24 @@ such is_such class d (Label statement) h e = absurd h
 such is_such class d (Procedure block returned area) h e = absurd h
 such is_such class d (Entry parameters returned) h e = absurd h
 such is_such class d BuiltIn h e = absurd h
+
+-- a STATIC variable is a global of its description
+abbrev IsGlobal : (n : ℕ) (all : List Symbol) (number : ℕ) (name : Name) (kind : SymbolKind) (d : Description) → Type 0
+IsGlobal n all number name kind d =
+    (g : Global) × (global_with n all number name kind ≡ g ∷ []) × (description_of (Some g) ≡ Some d)
+
+static_global : (n : ℕ) (all : List Symbol) (number : ℕ) (name : Name) (d : Description) (kind : SymbolKind) → IsOf classes.Static d kind
+    → is_stored n d ≡ true → IsGlobal n all number name kind d
+static_global n all number name d (Variable description class scope initial area) h e =
+    let t : Template = template_of description (record { path = []; values = initial } ∷ member_items number all) in
+    let is : is_static n class description ≡ true =
+    ap (λ x. is_static n class x) h.0 ∙ ap (λ x. is_static n x d) h.1 ∙ e in
+    (global_of scope name t, ap (λ b. map (global_of scope name) (if b then t ∷ [] else [])) is, global_described scope name t ∙ ap Some h.0)
+static_global n all number name d (Member root path initial area) h e = absurd h
+static_global n all number name d (Label statement) h e = absurd h
+static_global n all number name d (Procedure block returned area) h e = absurd h
+static_global n all number name d (Entry parameters returned) h e = absurd h
+static_global n all number name d BuiltIn h e = absurd h
 
 described : (class : StorageClass) (d : Description) (s : Symbol) (kind : SymbolKind) → s.kind ≡ kind → IsOf class d kind
     → description_in (Some s) ≡ d
@@ -208,7 +235,7 @@ module _ (n : ℕ) (r : ResolvedUnit) (blocks : List ℕ) where
   abbrev pub Standing : Root → Description → Type 0
   Standing (InSlot outward slot) d =
       (block : ℕ) × (outward_to blocks block ≡ Some outward) × (slice_get (slots block) slot ≡ Some d)
-  Standing (OfProgram number) d = slice_get (descriptions (all_statics n (all_symbols r))) number ≡ Some d
+  Standing (OfProgram number) d = description_of (slice_get (all_globals n (all_symbols r)) number) ≡ Some d
 
   slot_stands : (o : Option ℕ) (block slot : ℕ) (d : Description) (root : Root) → outward_to blocks block ≡ o
       → slice_get (slots block) slot ≡ Some d → in_slot o slot ≡ Some root → Standing root d
@@ -251,14 +278,14 @@ module _ (n : ℕ) (r : ResolvedUnit) (blocks : List ℕ) where
     parameter_begins slot of false both e = absurd (none-some root e)
 
     static_begins : IsOf classes.Static d s.kind → (b : Bool) → is_stored n d ≡ b
-        → (if b then Some (OfProgram (such_in (is_static n) (take key.block (all_symbols r))
-        + such_before (is_static n) (block_symbols r key.block) key.number)) else None) ≡ Some root → Begun
-    static_begins of true stored e = (
-      subst (λ q. Standing q d) (same_Some _ root e)
-          (found_in_blocks (is_static n) (all_symbols r) key.block key.number s d there
-          (such (is_static n) classes.Static d s.kind of stored)),
-      stored,
-    )
+        → (if b then Some (OfProgram (global_number n r key)) else None) ≡ Some root → Begun
+    static_begins of true stored e =
+        let is : IsGlobal n (block_symbols r key.block) key.number s.identifier.name s.kind d =
+        static_global n (block_symbols r key.block) key.number s.identifier.name d s.kind of stored in (
+          subst (λ q. Standing q d) (same_Some (OfProgram (global_number n r key)) root e)
+              (ap description_of (found_in_blocks n (all_symbols r) key.block key.number s is.0 there is.1) ∙ is.2),
+          stored,
+        )
     static_begins of false stored e = absurd (none-some root e)
 
     pub root_begins : (class : StorageClass) → IsOf class d s.kind → root_of n r blocks key class d ≡ Some root → Begun
@@ -267,3 +294,30 @@ module _ (n : ℕ) (r : ResolvedUnit) (blocks : List ℕ) where
     root_begins classes.Static of e = static_begins of (is_stored n d) refl e
     root_begins classes.Controlled of e = absurd (none-some root e)
     root_begins (classes.Based locator) of e = absurd (none-some root e)
+
+-- the entry that a symbol is stands where it is counted
+abbrev pub IsEntry : List Description → Option Description → SymbolKind → Type 0
+IsEntry parameters returned (Entry ps o) = (ps ≡ parameters) × (o ≡ returned)
+IsEntry parameters returned kind = ⊥
+
+entry_global : (n : ℕ) (all : List Symbol) (number : ℕ) (name : Name) (parameters : List Description) (returned : Option Description)
+    (kind : SymbolKind) → IsEntry parameters returned kind
+    → global_with n all number name kind ≡ EntryPoint name (record { parameters = parameters; result = returned }) ∷ []
+entry_global n all number name parameters returned (Entry ps o) h =
+    ap (λ ds. EntryPoint name (record { parameters = ds; result = o }) ∷ []) h.0
+    ∙ ap (λ d. EntryPoint name (record { parameters = parameters; result = d }) ∷ []) h.1
+entry_global n all number name parameters returned (Variable d class scope initial area) h = absurd h
+entry_global n all number name parameters returned (Member root path initial area) h = absurd h
+entry_global n all number name parameters returned (Label statement) h = absurd h
+entry_global n all number name parameters returned (Procedure block o area) h = absurd h
+entry_global n all number name parameters returned BuiltIn h = absurd h
+
+pub entry_stands : (n : ℕ) (r : ResolvedUnit) (key : SymbolKey) (s : Symbol) (parameters : List Description) (returned : Option Description)
+    → slice_get (block_symbols r key.block) key.number ≡ Some s → IsEntry parameters returned s.kind
+    → signature_of (slice_get (all_globals n (all_symbols r)) (global_number n r key))
+    ≡ Some (record { parameters = parameters; result = returned })
+entry_stands n r key s parameters returned there is =
+    ap signature_of
+    (found_in_blocks n (all_symbols r) key.block key.number s
+    (EntryPoint s.identifier.name (record { parameters = parameters; result = returned })) there
+    (entry_global n (block_symbols r key.block) key.number s.identifier.name parameters returned s.kind is))

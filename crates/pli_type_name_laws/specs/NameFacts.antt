@@ -7,7 +7,8 @@ use Rattle.pli_type.specs.NamedUnits.{is_plain, outward_to}
 use Rattle.pli_type.specs.Names.{NamedUnit, NamedVariable, AVariable, NamedProcedure, AProcedure}
 use Rattle.pli_type.specs.References.{StridedPart, part_of, with_subscripts, subscripts_at}
 use Rattle.pli_type_tree.specs.Templates.{variable_of}
-use Rattle.pli_type_tree.specs.TypedTree.{TypedExpression}
+use Rattle.pli_type_tree.specs.Globals.{signature_of, templates_in}
+use Rattle.pli_type_tree.specs.TypedTree.{Callee, OfBlock, OfEntry, TypedExpression}
 use Rattle.pli_type_tree.specs.WellTyped.{AreMade, BlockAround, LeadTo, TypingContext, root_of}
 use Rattle.pli_type_name_laws.specs.SourceBlocks.{SourceBlock, unit_blocks, innermost, slots_in}
 
@@ -21,7 +22,7 @@ HaveSlots u ns bs = ⊥
 -- leads to that part
 pub record VariableFacts (u : NamedUnit) (blocks : List ℕ) (v : NamedVariable) : Type 0 where
   pub begins :
-      (s : TypingContext) → s.statics ≡ map (λ t. t.description) u.statics → HaveSlots u blocks s.blocks
+      (s : TypingContext) → s.globals ≡ u.globals → HaveSlots u blocks s.blocks
       → root_of s v.root ≡ Some v.whole
   pub plain : IsTrue (is_plain 31 v.whole)
   -- with as many subscripts as it has levels, or with none where no level above it has subscripts
@@ -40,24 +41,26 @@ abbrev pub StandsAround : (blocks : List ℕ) → (number : Option ℕ) → Type
 StandsAround blocks None = Unit {0}
 StandsAround blocks (Some number) = (outward : ℕ) × (outward_to blocks number ≡ Some outward)
 
--- a procedure that a name means is one of the tree, which stands directly in a block around or in none; what
--- it gives could be held by a variable
-pub record ProcedureFacts (u : NamedUnit) (blocks : List ℕ) (p : NamedProcedure) : Type 0 where
+-- the block of a procedure of the tree, which stands directly in a block around or in none
+pub record BlockCalled (u : NamedUnit) (blocks : List ℕ) (p : NamedProcedure) (number : ℕ) : Type 0 where
   pub block : SourceBlock
-  pub there : slice_get (unit_blocks u.tree) p.block ≡ Some block
+  pub there : slice_get (unit_blocks u.tree) number ≡ Some block
   pub kind : block.kind ≡ kinds.Procedure
   pub reached : StandsAround blocks (innermost block.around)
-  pub parameters : p.parameters ≡ u.parameters p.block
-  pub returned : p.returned ≡ u.returned p.block
-  pub plain : (d : Description) → p.returned ≡ Some d → IsTrue (is_plain 31 d)
+  pub parameters : p.parameters ≡ u.parameters number
+  pub returned : p.returned ≡ u.returned number
 
--- the external procedure has no parameters and gives nothing; a BEGIN block has no parameters
-pub record BlockFacts (u : NamedUnit) : Type 0 where
-  pub parameters : u.parameters 0 ≡ []
-  pub returned : u.returned 0 ≡ None
-  pub begins :
-      (number : ℕ) (b : SourceBlock) → slice_get (unit_blocks u.tree) number ≡ Some b → b.kind ≡ kinds.Begin
-      → u.parameters number ≡ []
+-- what a call calls: such a block, or an entry among the globals
+abbrev pub IsCalled : NamedUnit → (blocks : List ℕ) → NamedProcedure → Callee → Type 0
+IsCalled u blocks p (OfBlock number) = BlockCalled u blocks p number
+IsCalled u blocks p (OfEntry number) =
+    signature_of (slice_get u.globals number)
+    ≡ Some (record { parameters = p.parameters; result = p.returned })
+
+-- a procedure that a name means is there; what it gives could be held by a variable
+pub record ProcedureFacts (u : NamedUnit) (blocks : List ℕ) (p : NamedProcedure) : Type 0 where
+  pub called : IsCalled u blocks p p.callee
+  pub plain : (d : Description) → p.returned ≡ Some d → IsTrue (is_plain 31 d)
 
 pub record NameFacts (u : NamedUnit) : Type 0 where
   pub variables :
@@ -66,6 +69,9 @@ pub record NameFacts (u : NamedUnit) : Type 0 where
   pub procedures :
       (blocks : List ℕ) (at : ℕ) (p : NamedProcedure) → (u.naming blocks).meaning at ≡ AProcedure p
       → ProcedureFacts u blocks p
-  pub blocks : BlockFacts u
+  -- a BEGIN block has no parameters
+  pub begins :
+      (number : ℕ) (b : SourceBlock) → slice_get (unit_blocks u.tree) number ≡ Some b → b.kind ≡ kinds.Begin
+      → u.parameters number ≡ []
   pub automatic : (block : ℕ) → AreMade (map variable_of (u.automatic block))
-  pub statics : AreMade (map variable_of u.statics)
+  pub globals : AreMade (map variable_of (templates_in u.globals))

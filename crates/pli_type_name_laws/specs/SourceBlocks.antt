@@ -11,7 +11,7 @@ use Rattle.pli_resolve.specs.declared.block_numbers.ResolvedBlockKind.TheVariant
 use Rattle.pli_type.specs.Names.{NamedUnit}
 use Rattle.pli_type.specs.StatementTyping.{Enclosing, enclosing, labels_of, with_labels}
 use Rattle.pli_resolve.specs.TreeBlocks as blocks
-use Rattle.pli_type_tree.specs.WellTyped.{BlockAround, Signature}
+use Rattle.pli_type_tree.specs.WellTyped.{BlockAround, KnownProcedure}
 
 -- a block: its PROCEDURE, BEGIN or ON; the blocks around it, the innermost first, each with the labels of its
 -- lists in which the block stands; and the labels of its own list
@@ -81,10 +81,10 @@ known_blocks u (b ∷ bs) =
     record { number = b.number; slots = slots_in u b.number; labels = b.labels } ∷ known_blocks u bs
 
 -- a procedure of a unit, by its block
-abbrev pub signature_of : NamedUnit → (number : ℕ) → SourceBlock → Option Signature
-signature_of u number b = of_kind b.kind
+abbrev pub procedure_known : NamedUnit → (number : ℕ) → SourceBlock → Option KnownProcedure
+procedure_known u number b = of_kind b.kind
   where
-    of_kind : ResolvedBlockKind → Option Signature
+    of_kind : ResolvedBlockKind → Option KnownProcedure
     of_kind kinds.Procedure = Some (record {
       parent = innermost b.around;
       around = known_blocks u b.around;
@@ -93,5 +93,5 @@ signature_of u number b = of_kind b.kind
     })
     of_kind other = None
 
-abbrev pub signatures : NamedUnit → (number : ℕ) → Option Signature
-signatures u number = option_and_then (signature_of u number) (slice_get (unit_blocks u.tree) number)
+abbrev pub known_procedures : NamedUnit → (number : ℕ) → Option KnownProcedure
+known_procedures u number = option_and_then (procedure_known u number) (slice_get (unit_blocks u.tree) number)

@@ -7,7 +7,7 @@ use Rattle.pli_resolve.specs.ResolvedUnits.{ResolvedUnit, ResolvedBlock, meaning
 use Rattle.pli_resolve.specs.declared.built_in.BuiltInFunction.{BuiltInFunction}
 use Rattle.pli_resolve.specs.declared.symbol.NameMeaning.TheVariants as meanings
 use Rattle.pli_resolve.specs.declared.symbol.SymbolKey.{SymbolKey}
-use Rattle.pli_type.specs.NamedUnits.{block_symbols, declared_as, description_in, is_internal, named_as, of_block, parameters_of, returned_by, returned_of}
+use Rattle.pli_type.specs.NamedUnits.{block_symbols, declared_as, description_in, is_procedure, named_as, of_block, parameters_of, returned_by, returned_of}
 use Rattle.pli_type_names.specs.BlockEntries.{BlockEntry, entry_at, parameters_in, returned_in}
 use Rattle.pli_type_names.specs.Meant.{IsMeantAs}
 use Rattle.pli_type_names.specs.Seen.{seen}
@@ -46,13 +46,13 @@ declared_meant n at key a e is =
 parameters_there : (r : ResolvedUnit) (block : ℕ) (o : Option ResolvedBlock) → slice_get r.blocks block ≡ o
     → parameters_in (option_map (entry_at r block) o) ≡ parameters_of r block
 parameters_there r block None e =
-    ap (λ x. map (λ number. description_in (slice_get (block_symbols r block) number)) (of_block (λ b. if is_internal block b.kind then b.parameters else []) [] x)) (sym e)
+    ap (λ x. map (λ number. description_in (slice_get (block_symbols r block) number)) (of_block (λ b. if is_procedure b.kind then b.parameters else []) [] x)) (sym e)
 parameters_there r block (Some b) e = refl
 
 returned_there : (r : ResolvedUnit) (block : ℕ) (o : Option ResolvedBlock) → slice_get r.blocks block ≡ o
     → returned_in (option_map (entry_at r block) o) ≡ returned_of r block
 returned_there r block None e =
-    ap (λ x. option_and_then (λ key. returned_by (symbol_at r key)) (of_block (λ b. if is_internal block b.kind then b.name else None) None x)) (sym e)
+    ap (λ x. option_and_then (λ key. returned_by (symbol_at r key)) (of_block (λ b. if is_procedure b.kind then b.name else None) None x)) (sym e)
 returned_there r block (Some b) e = refl
 
 -- by what is found for the block

@@ -7,13 +7,12 @@ use Rattle.std.proofs.lemmas.Option.{slice_get-get_or, unwrap_or-slice_get}
 use Rattle.pli_resolve.specs.ResolvedUnits.{ResolvedUnit, ResolvedBlock, all_symbols}
 use Rattle.pli_resolve.specs.Symbols.{Symbol}
 use Rattle.pli_resolve.specs.views.UnitView.{without_symbols}
-use Rattle.pli_type.specs.NamedUnits.{block_symbols, such_before, such_in}
+use Rattle.pli_type.specs.NamedUnits.{block_symbols, globals_before, globals_in}
 use Rattle.pli_type_names.specs.BlockEntries.{BlockEntry, entry_at}
 use Rattle.pli_type_names.specs.BlockFacts.{facts_of}
 use Rattle.pli_type_names.specs.Numbered.{each_from}
 use Rattle.pli_type_names.specs.Seen.{Kept, kept_symbols}
-use Rattle.pli_type_names.proofs.Lists.{each_at, each_get, take_one_more, take_whole}
-use Rattle.pli_type_names.proofs.Owns.{Class}
+use Rattle.pli_type_names.proofs.Lists.{each_at, each_counted, each_get, take_one_more, take_whole}
 
 -- ---- entries
 
@@ -59,28 +58,24 @@ no_rows : (r : ResolvedUnit) (n : ℕ) (o : Option (List Symbol)) → slice_get 
 no_rows r n None e =
     let none : block_symbols r n ≡ [] = sym (unwrap_or-slice_get (all_symbols r) n []) ∙ ap (λ o. unwrap_or o []) e in
     let f = facts_of r n in
-    ap (λ ss. kept_symbols (record { parameters = f.parameters; statics = f.statics; symbols = ss })) (sym none)
+    ap (λ ss. kept_symbols (record { parameters = f.parameters; globals = f.globals; symbols = ss })) (sym none)
 no_rows r n (Some ss) e = refl
 
 pub all_rows : (r : ResolvedUnit) (n : ℕ) (rows : List (List Kept)) → length r.blocks + 1 ≤ n → rows ≡ take n (rows_of r)
     → (block : ℕ) → get_or rows block [] ≡ kept_symbols (facts_of r block)
 all_rows r n rows h is block =
     let f : ℕ → List Symbol → List Kept = λ b ss. kept_symbols (facts_of r b) in
-    let long : length (rows_of r) ≤ n = omega (arith, h, all_counted r, each_long f 0 (all_symbols r)) in
+    let long : length (rows_of r) ≤ n = omega (arith, h, all_counted r, each_counted f 0 (all_symbols r)) in
     ap (λ xs. get_or xs block []) (is ∙ take_all n (rows_of r) long)
     ∙ each_get f (all_symbols r) 0 block block [] (omega arith)
     ∙ no_rows r block (slice_get (all_symbols r) block) refl
-  where
-    each_long : {A B : Type 0} (f : ℕ → B → A) (from : ℕ) (xs : List B) → length (each_from f from xs) ≡ length xs
-    each_long f from [] = refl
-    each_long f from (x ∷ xs) = omega (arith, each_long f (from + 1) xs)
 
--- ---- STATIC variables
+-- ---- globals
 
-such_behind : (f : Class) (xss : List (List Symbol)) (xs : List Symbol) → such_in f (xss ++ xs ∷ []) ≡ such_in f xss + such_before f xs (length xs)
-such_behind f [] xs = omega arith
-such_behind f (ys ∷ xss) xs = omega (arith, such_behind f xss xs)
+globals_behind : (xss : List (List Symbol)) (xs : List Symbol) → globals_in 31 (xss ++ xs ∷ []) ≡ globals_in 31 xss + globals_before 31 xs (length xs)
+globals_behind [] xs = omega arith
+globals_behind (ys ∷ xss) xs = omega (arith, globals_behind xss xs)
 
-pub such_more : (f : Class) (xss : List (List Symbol)) (n : ℕ) (xs : List Symbol) → slice_get xss n ≡ Some xs
-    → such_in f (take (n + 1) xss) ≡ such_in f (take n xss) + such_before f xs (length xs)
-such_more f xss n xs e = ap (such_in f) (take_one_more xss n xs e) ∙ such_behind f (take n xss) xs
+pub globals_more : (xss : List (List Symbol)) (n : ℕ) (xs : List Symbol) → slice_get xss n ≡ Some xs
+    → globals_in 31 (take (n + 1) xss) ≡ globals_in 31 (take n xss) + globals_before 31 xs (length xs)
+globals_more xss n xs e = ap (globals_in 31) (take_one_more xss n xs e) ∙ globals_behind (take n xss) xs

@@ -3,7 +3,7 @@ use Rattle.std.proofs.Common.{◌≡◌, ℕ, zero, suc, ◌+◌, ◌<◌, Some,
 use Rattle.std.proofs.Common.{refl, ap, sym, ◌∙◌, arith}
 use Rattle.std.specs.Option.{unwrap_or}
 use Rattle.std.proofs.lemmas.Option.{none-some, same_Some}
-use Rattle.std.proofs.lemmas.List.{at_drop_more, map-append}
+use Rattle.std.proofs.lemmas.List.{append_assoc, at_drop_more, map-append}
 use Rattle.pli_resolve.specs.Symbols.{Symbol}
 use Rattle.pli_resolve.specs.declared.symbol.Symbol as program
 use Rattle.pli_resolve.specs.views.SymbolView.{symbol_view}
@@ -67,6 +67,34 @@ numbered_more view f ss n d made x all h is e =
     one_more view made x rest
     ∙ ap (λ y. map view made ++ (y ∷ rest)) is
     ∙ ap (λ ys. map view made ++ ys) (sym step)
+    ∙ e
+
+-- what the symbol of a number gives
+pub each_counted : {A B : Type 0} (f : ℕ → B → A) (from : ℕ) (xs : List B) → length (each_from f from xs) ≡ length xs
+each_counted f from [] = refl
+each_counted f from (x ∷ xs) = omega (arith, each_counted f (from + 1) xs)
+
+there_from : (f : ℕ → Symbol → ℕ) (ss : List program.Symbol) (from n number d : ℕ) (s : program.Symbol) → from + n ≡ number → n < length ss
+    → get_or (each_from f from (map symbol_view ss)) n d ≡ f number (symbol_view (get_or ss n s))
+there_from f [] from n number d s e h = absurd (omega (arith, h))
+there_from f (x ∷ ss) from zero number d s e h =
+    let same : from ≡ number = omega (arith, e) in
+    ap (λ k. f k (symbol_view x)) same
+there_from f (x ∷ ss) from (suc n) number d s e h = there_from f ss (from + 1) n number d s (omega (arith, e)) (omega (arith, h))
+
+pub number_there : (f : ℕ → Symbol → ℕ) (ss : List program.Symbol) (n d : ℕ) (s : program.Symbol) → n < length ss
+    → get_or (each_from f 0 (map symbol_view ss)) n d ≡ f n (symbol_view (get_or ss n s))
+number_there f ss n d s h = there_from f ss 0 n n d s (omega arith) h
+
+-- the same of what stands for itself
+pub number_more : (f : ℕ → Symbol → ℕ) (ss : List program.Symbol) (n : ℕ) (d : program.Symbol) (made : List ℕ) (x : ℕ) (all : List ℕ)
+    → n < length ss → x ≡ f n (symbol_view (get_or ss n d)) → made ++ each_from f n (map symbol_view (drop n ss)) ≡ all
+    → (made ++ x ∷ []) ++ each_from f (n + 1) (map symbol_view (drop (n + 1) ss)) ≡ all
+number_more f ss n d made x all h is e =
+    let rest = each_from f (n + 1) (map symbol_view (drop (n + 1) ss)) in
+    append_assoc made (x ∷ []) rest
+    ∙ ap (λ y. made ++ (y ∷ rest)) is
+    ∙ ap (λ ys. made ++ ys) (sym (at_drop_more (λ xs. each_from f n (map symbol_view xs)) ss n d h))
     ∙ e
 
 -- the same of what numbers give

@@ -12,23 +12,23 @@ use Rattle.pli_resolve.specs.declared.symbol.StorageClass.TheVariants as classes
 use Rattle.pli_resolve.specs.declared.symbol.SymbolKey.{SymbolKey}
 use Rattle.pli_type.specs.Names as plain
 use Rattle.pli_type.specs.Names.{AVariable, AFunction, AProcedure, ALabel, Untyped}
-use Rattle.pli_type.specs.NamedUnits.{block_symbols, declared_as, gives_stored, is_parameter, is_procedure, is_reached, is_stored}
+use Rattle.pli_type.specs.NamedUnits.{block_symbols, declared_as, gives_stored, global_number, is_parameter, is_procedure, is_reached, is_stored}
 use Rattle.pli_type.specs.NamedUnits.{named_procedure, parameter_numbers, returned_of, root_of, stands_around}
 use Rattle.pli_type.specs.NamedUnits.{symbol_meant, variable_at, variable_from}
 use Rattle.pli_type.specs.References.{StridedPart, part_on}
 use Rattle.pli_type_names.specs.BlockEntries.{BlockEntry, entry_at}
 use Rattle.pli_type_names.specs.BlockFacts.{BlockFacts, facts_of}
 use Rattle.pli_type_names.specs.Meant.{IsMeantAs, is_way}
-use Rattle.pli_type_names.specs.OwnVariables.{OwnVariable, begun, own_at, own_variables, place_at}
+use Rattle.pli_type_names.specs.OwnVariables.{OwnVariable, begun, global_at, own_at, own_variables, place_at}
 use Rattle.pli_type_names.specs.Seen.{Seen, SeenVariable, SeenFunction, SeenProcedure, SeenLabel, SeenUntyped, seen}
-use Rattle.pli_type_names.specs.Seen.{Kept, KeptNothing, kept_seen, kept_symbols, kind_kept, on_way, procedure_seen, root_from, variable_seen}
+use Rattle.pli_type_names.specs.Seen.{Kept, KeptEntry, KeptNothing, kept_seen, kept_symbols, kind_kept, on_way, procedure_seen, root_from, variable_seen}
 use Rattle.pli_type_names.specs.declared.naming.NamedAs.{NamedAs}
 use Rattle.pli_type_names.specs.declared.naming.NamedAs.TheVariants as answers
 use Rattle.pli_type_names.specs.declared.place.Place.{Place}
 use Rattle.pli_type_names.specs.declared.place.Place.TheVariants.{InBlock}
 use Rattle.pli_type_names.specs.views.MeaningView.{answer_view, procedure_view}
 use Rattle.pli_type_names.proofs.Lists.{each_get}
-use Rattle.pli_type_tree.specs.TypedTree.{Root}
+use Rattle.pli_type_tree.specs.TypedTree.{OfEntry, Root}
 
 -- ---- where variables begin
 
@@ -106,6 +106,13 @@ procedure_there r blocks block None = refl
 procedure_there r blocks block (Some b) =
     if_named (is_procedure b.kind) (gives_stored 31 (returned_of r block)) (stands_around blocks b.outer) (named_procedure r block)
 
+if_entry : (blocks : List ℕ) (entries : List BlockEntry) (block number : ℕ) (parameters : List Description) (returned : Option Description)
+    (gives : Bool)
+    → kept_seen blocks entries block (if gives then KeptEntry number parameters returned else KeptNothing)
+    ≡ seen (if gives then AProcedure (record { callee = OfEntry number; parameters = parameters; returned = returned }) else Untyped)
+if_entry blocks entries block number parameters returned true = refl
+if_entry blocks entries block number parameters returned false = refl
+
 -- ---- symbols
 
 -- what is found once for the blocks of a unit
@@ -115,7 +122,7 @@ AreAll r entries = (number : ℕ) → slice_get entries number ≡ option_map (e
 module _ (r : ResolvedUnit) (blocks : List ℕ) (entries : List BlockEntry) where
   kind_seen : (key : SymbolKey) (s : Symbol) (k : SymbolKind) → AreAll r entries
       → slice_get (block_symbols r key.block) key.number ≡ Some s → s.kind ≡ k
-      → kept_seen blocks entries key.block (kind_kept (own_variables (facts_of r key.block)) key.number k) ≡ seen (symbol_meant 31 r blocks key k)
+      → kept_seen blocks entries key.block (kind_kept (own_variables (facts_of r key.block)) key.number (global_number 31 r key) k) ≡ seen (symbol_meant 31 r blocks key k)
   kind_seen key s (Variable d class scope initial area) all e is =
       let f = facts_of r key.block in
       ap (λ o. kept_seen blocks entries key.block (on_way o []))
@@ -128,11 +135,12 @@ module _ (r : ResolvedUnit) (blocks : List ℕ) (entries : List BlockEntry) wher
   kind_seen key s (Label statement) all e is = refl
   kind_seen key s (Procedure block returned area) all e is =
       ap (λ o. procedure_seen blocks o block) (all block) ∙ procedure_there r blocks block (slice_get r.blocks block)
-  kind_seen key s (Entry parameters returned) all e is = refl
+  kind_seen key s (Entry parameters returned) all e is =
+      if_entry blocks entries key.block (global_number 31 r key) parameters returned (gives_stored 31 returned)
   kind_seen key s BuiltIn all e is = refl
 
   abbrev kept_there : SymbolKey → Option Symbol → Kept
-  kept_there key o = unwrap_or (option_map (λ (s : Symbol). kind_kept (own_variables (facts_of r key.block)) key.number s.kind) o) KeptNothing
+  kept_there key o = unwrap_or (option_map (λ (s : Symbol). kind_kept (own_variables (facts_of r key.block)) key.number (global_number 31 r key) s.kind) o) KeptNothing
 
   symbol_there : (key : SymbolKey) (o : Option Symbol) → AreAll r entries → slice_get (block_symbols r key.block) key.number ≡ o
       → kept_seen blocks entries key.block (kept_there key o) ≡ seen (declared_as 31 r blocks key)
@@ -144,7 +152,7 @@ module _ (r : ResolvedUnit) (blocks : List ℕ) (entries : List BlockEntry) wher
       → kept_seen blocks entries key.block kept ≡ seen (declared_as 31 r blocks key)
   declared_seen key kept all is =
       ap (kept_seen blocks entries key.block)
-      (is ∙ each_get (λ m s. kind_kept (own_variables (facts_of r key.block)) m s.kind) (block_symbols r key.block) 0 key.number key.number KeptNothing (omega arith))
+      (is ∙ each_get (λ m s. kind_kept (own_variables (facts_of r key.block)) m (global_at (facts_of r key.block) m) s.kind) (block_symbols r key.block) 0 key.number key.number KeptNothing (omega arith))
       ∙ symbol_there key (slice_get (block_symbols r key.block) key.number) all refl
 
 -- ---- what an answer says
@@ -188,7 +196,7 @@ is_meant (answers.Procedure p) (AVariable w) e = absurd (cc)
 is_meant (answers.Procedure p) (AFunction g) e = absurd (cc)
 is_meant (answers.Procedure p) (AProcedure q) e =
     let same : procedure_view p ≡ q = ap (procedure_of q) e in
-    record { block = ap (λ x. x.block) same; parameters = ap (λ x. x.parameters) same; returned = ap (λ x. x.returned) same }
+    record { callee = ap (λ x. x.callee) same; parameters = ap (λ x. x.parameters) same; returned = ap (λ x. x.returned) same }
 is_meant (answers.Procedure p) (ALabel t) e = absurd (cc)
 is_meant (answers.Procedure p) Untyped e = absurd (cc)
 is_meant (answers.Label s) (AVariable w) e = absurd (cc)

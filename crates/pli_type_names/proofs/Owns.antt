@@ -9,9 +9,9 @@ use Rattle.pli_resolve.specs.declared.symbol.Symbol.{Symbol}
 use Rattle.pli_resolve.specs.declared.symbol.StorageClass.{StorageClass}
 use Rattle.pli_resolve.specs.declared.symbol.StorageClass.TheVariants as classes
 use Rattle.pli_resolve.specs.views.SymbolView.{symbol_view, symbol_kind_view}
-use Rattle.pli_type.specs.NamedUnits.{is_parameter, is_stored, is_automatic, is_static, one_such, such_before}
+use Rattle.pli_type.specs.NamedUnits.{is_parameter, is_stored, is_automatic, is_static, one_such, such_before, one_global, globals_before}
 use Rattle.pli_type_names.specs.BlockFacts.{BlockFacts}
-use Rattle.pli_type_names.specs.OwnVariables.{OwnVariable, begun, own_at, own_behind, slots_of, statics_of}
+use Rattle.pli_type_names.specs.OwnVariables.{OwnVariable, begun, global_at, own_at, own_behind, slots_of, globals_of}
 use Rattle.pli_type_names.specs.declared.place.Place.{Place}
 use Rattle.pli_type_names.specs.declared.place.Place.TheVariants.{InBlock, BeforeProgram}
 
@@ -32,25 +32,25 @@ nowhere true o = refl
 nowhere false o = refl
 
 -- the variable that a symbol is, by those before it
-pub own_is : (f : BlockFacts) (number slots statics : ℕ) (k : SymbolKind)
+pub own_is : (f : BlockFacts) (number slots globals : ℕ) (k : SymbolKind)
     → slots ≡ length f.parameters + such_before (is_automatic 31) f.symbols number
-    → statics ≡ f.statics + such_before (is_static 31) f.symbols number
-    → own_behind f.parameters slots statics number k ≡ own_at f number k
-own_is f number slots statics (Variable d classes.Automatic scope initial area) e g =
+    → globals ≡ global_at f number
+    → own_behind f.parameters slots globals number k ≡ own_at f number k
+own_is f number slots globals (Variable d classes.Automatic scope initial area) e g =
     in_order (is_stored 31 d) (InBlock slots) d
     ∙ ap (λ n. begun (if is_stored 31 d then Some (InBlock n) else None) d) e
-own_is f number slots statics (Variable d classes.Static scope initial area) e g =
-    in_order (is_stored 31 d) (BeforeProgram statics) d
+own_is f number slots globals (Variable d classes.Static scope initial area) e g =
+    in_order (is_stored 31 d) (BeforeProgram globals) d
     ∙ ap (λ n. begun (if is_stored 31 d then Some (BeforeProgram n) else None) d) g
-own_is f number slots statics (Variable d (classes.Parameter slot) scope initial area) e g =
+own_is f number slots globals (Variable d (classes.Parameter slot) scope initial area) e g =
     in_both (is_stored 31 d) (is_parameter f.parameters slot number) (InBlock slot) d
-own_is f number slots statics (Variable d classes.Controlled scope initial area) e g = nowhere (is_stored 31 d) None
-own_is f number slots statics (Variable d (classes.Based locator) scope initial area) e g = nowhere (is_stored 31 d) None
-own_is f number slots statics (Member root path initial area) e g = refl
-own_is f number slots statics (Label statement) e g = refl
-own_is f number slots statics (Procedure block returned area) e g = refl
-own_is f number slots statics (Entry parameters returned) e g = refl
-own_is f number slots statics BuiltIn e g = refl
+own_is f number slots globals (Variable d classes.Controlled scope initial area) e g = nowhere (is_stored 31 d) None
+own_is f number slots globals (Variable d (classes.Based locator) scope initial area) e g = nowhere (is_stored 31 d) None
+own_is f number slots globals (Member root path initial area) e g = refl
+own_is f number slots globals (Label statement) e g = refl
+own_is f number slots globals (Procedure block returned area) e g = refl
+own_is f number slots globals (Entry parameters returned) e g = refl
+own_is f number slots globals BuiltIn e g = refl
 
 -- ---- counting
 
@@ -66,13 +66,13 @@ slots_stored d (classes.Parameter slot) e = refl
 slots_stored d classes.Controlled e = refl
 slots_stored d (classes.Based locator) e = refl
 
-pub statics_stored : (d : Description) (class : StorageClass) → is_stored 31 d ≡ true
-    → one_if (is_static 31 class d) ≡ statics_of class
-statics_stored d classes.Automatic e = refl
-statics_stored d classes.Static e = ap one_if e
-statics_stored d (classes.Parameter slot) e = refl
-statics_stored d classes.Controlled e = refl
-statics_stored d (classes.Based locator) e = refl
+pub globals_stored : (d : Description) (class : StorageClass) → is_stored 31 d ≡ true
+    → one_if (is_static 31 class d) ≡ globals_of class
+globals_stored d classes.Automatic e = refl
+globals_stored d classes.Static e = ap one_if e
+globals_stored d (classes.Parameter slot) e = refl
+globals_stored d classes.Controlled e = refl
+globals_stored d (classes.Based locator) e = refl
 
 -- one that is not
 pub slots_unstored : (d : Description) (class : StorageClass) → is_stored 31 d ≡ false
@@ -83,13 +83,13 @@ slots_unstored d (classes.Parameter slot) e = refl
 slots_unstored d classes.Controlled e = refl
 slots_unstored d (classes.Based locator) e = refl
 
-pub statics_unstored : (d : Description) (class : StorageClass) → is_stored 31 d ≡ false
+pub globals_unstored : (d : Description) (class : StorageClass) → is_stored 31 d ≡ false
     → one_if (is_static 31 class d) ≡ 0
-statics_unstored d classes.Automatic e = refl
-statics_unstored d classes.Static e = ap one_if e
-statics_unstored d (classes.Parameter slot) e = refl
-statics_unstored d classes.Controlled e = refl
-statics_unstored d (classes.Based locator) e = refl
+globals_unstored d classes.Automatic e = refl
+globals_unstored d classes.Static e = ap one_if e
+globals_unstored d (classes.Parameter slot) e = refl
+globals_unstored d classes.Controlled e = refl
+globals_unstored d (classes.Based locator) e = refl
 
 -- ---- one symbol further on
 
@@ -113,3 +113,23 @@ pub before_more : (f : Class) (ss : List Symbol) (n : ℕ) (d : Symbol) → n < 
 before_more f ss n d h =
     let next : n + 1 ≡ suc n = omega arith in
     ap (such_before f (map symbol_view ss)) next ∙ before_next f ss n d h
+
+-- the same of globals
+
+pub no_global_before : (ss : List plain.Symbol) → globals_before 31 ss 0 ≡ 0
+no_global_before [] = refl
+no_global_before (s ∷ ss) = refl
+
+global_next : (ss : List Symbol) (n : ℕ) (d : Symbol) → n < length ss
+    → globals_before 31 (map symbol_view ss) (suc n)
+    ≡ globals_before 31 (map symbol_view ss) n + one_global 31 (symbol_kind_view (get_or ss n d).kind)
+global_next [] n d h = absurd (omega arith)
+global_next (s ∷ ss) zero d h = omega (arith, no_global_before (map symbol_view ss))
+global_next (s ∷ ss) (suc n) d h = omega (arith, global_next ss n d (omega (arith, h)))
+
+pub global_more : (ss : List Symbol) (n : ℕ) (d : Symbol) → n < length ss
+    → globals_before 31 (map symbol_view ss) (n + 1)
+    ≡ globals_before 31 (map symbol_view ss) n + one_global 31 (symbol_kind_view (get_or ss n d).kind)
+global_more ss n d h =
+    let next : n + 1 ≡ suc n = omega arith in
+    ap (globals_before 31 (map symbol_view ss)) next ∙ global_next ss n d h

@@ -5,7 +5,7 @@ use Rattle.pli_map.specs.Description.{Description}
 use Rattle.pli_resolve.specs.ResolvedUnits.{ResolvedUnit, ResolvedBlock}
 use Rattle.pli_resolve.specs.Symbols.{SymbolKind, Variable, Procedure}
 use Rattle.pli_resolve.specs.declared.symbol.SymbolKey.{SymbolKey}
-use Rattle.pli_type.specs.NamedUnits.{gives_stored, is_internal, is_procedure, of_block}
+use Rattle.pli_type.specs.NamedUnits.{gives_stored, is_procedure, of_block}
 use Rattle.pli_type.specs.NamedUnits.{parameters_of, returned_of}
 
 -- whether it is a procedure whose value, if it gives one, a variable could hold; the block round it; what its
@@ -24,10 +24,10 @@ entry_at r number b = record {
   returned = returned_of r number;
 }
 
--- the symbol of a procedure's name, where it is one inside the external procedure
+-- the symbol of a procedure's name
 abbrev pub name_of : ResolvedUnit → (block : ℕ) → Option SymbolKey
 name_of r block =
-    of_block (λ b. if is_internal block b.kind then b.name else None) None (slice_get r.blocks block)
+    of_block (λ b. if is_procedure b.kind then b.name else None) None (slice_get r.blocks block)
 
 -- what a variable of its own is, and what a procedure gives
 abbrev pub description_of : SymbolKind → Description

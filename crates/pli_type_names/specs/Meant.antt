@@ -3,7 +3,7 @@ use Rattle.std.specs.Prelude.{◌≡◌, ℕ, Bool, true, false, List, [], ◌�
 use Rattle.pli_map.specs.views.DescriptionView.{description_view}
 use Rattle.pli_type.specs.Names as plain
 use Rattle.pli_type.specs.References.{part_of}
-use Rattle.pli_type_tree.specs.views.TypedView.{root_view}
+use Rattle.pli_type_tree.specs.views.TypedView.{callee_view, root_view}
 use Rattle.pli_type_names.specs.declared.naming.NamedAs.{NamedAs}
 use Rattle.pli_type_names.specs.declared.naming.NamedAs.TheVariants as answers
 use Rattle.pli_type_names.specs.declared.naming.NamedProcedure.{NamedProcedure}
@@ -22,9 +22,9 @@ IsVariable v w =
     × (v.is_member ≡ is_way w.path)
     × (option_map part_view v.part.now ≡ part_of w)
 
--- a procedure: its block, its parameters, and what it gives
+-- a procedure: what a call of it calls, its parameters, and what it gives
 pub record IsProcedure (p : NamedProcedure) (q : plain.NamedProcedure) : Type 0 where
-  pub block : p.block ≡ q.block
+  pub callee : callee_view p.callee ≡ q.callee
   pub parameters : map (λ d. description_view d.now) p.parameters.now ≡ q.parameters
   pub returned : option_map (λ d. description_view d.now) p.returned ≡ q.returned
 

@@ -4,7 +4,7 @@ use Rattle.pli_map.specs.Description.{Description}
 use Rattle.pli_resolve.specs.Symbols.{SymbolKind, Variable}
 use Rattle.pli_resolve.specs.declared.symbol.StorageClass.{StorageClass}
 use Rattle.pli_resolve.specs.declared.symbol.StorageClass.TheVariants as classes
-use Rattle.pli_type.specs.NamedUnits.{is_automatic, is_parameter, is_static, is_stored, such_before}
+use Rattle.pli_type.specs.NamedUnits.{globals_before, is_automatic, is_parameter, is_stored, such_before}
 use Rattle.pli_type_names.specs.BlockFacts.{BlockFacts}
 use Rattle.pli_type_names.specs.Numbered.{each_from}
 use Rattle.pli_type_names.specs.declared.place.Place.{Place}
@@ -20,8 +20,12 @@ abbrev pub begun : Option Place → Description → Option OwnVariable
 begun None description = None
 begun (Some place) description = Some (record { begins = place; whole = description })
 
+-- the number that the symbol of this number has among the globals, if it is one
+abbrev pub global_at : BlockFacts → (number : ℕ) → ℕ
+global_at f number = f.globals + globals_before 31 f.symbols number
+
 -- where a variable of a block begins: parameters have slots of their own, AUTOMATIC variables those behind
--- them, and STATIC variables the numbers behind those of the blocks before
+-- them, and STATIC variables are globals
 abbrev pub place_at : BlockFacts → (number : ℕ) → StorageClass → Description → Option Place
 place_at f number classes.Automatic d =
     if is_stored 31 d
@@ -29,8 +33,7 @@ place_at f number classes.Automatic d =
 place_at f number (classes.Parameter slot) d =
     if is_stored 31 d && is_parameter f.parameters slot number then Some (InBlock slot) else None
 place_at f number classes.Static d =
-    if is_stored 31 d
-    then Some (BeforeProgram (f.statics + such_before (is_static 31) f.symbols number)) else None
+    if is_stored 31 d then Some (BeforeProgram (global_at f number)) else None
 place_at f number class d = None
 
 -- the variable that is the symbol of this number, if it is one that is compiled; a member is none of its own
@@ -46,25 +49,25 @@ own_variables f = each_from (λ number s. own_at f number s.kind) 0 f.symbols
 -- counting
 
 -- where one of this class begins, which has this number, where so many slots and numbers are taken
-abbrev pub place_behind : (parameters : List ℕ) → (slots statics number : ℕ) → StorageClass → Option Place
-place_behind parameters slots statics number classes.Automatic = Some (InBlock slots)
-place_behind parameters slots statics number (classes.Parameter slot) =
+abbrev pub place_behind : (parameters : List ℕ) → (slots globals number : ℕ) → StorageClass → Option Place
+place_behind parameters slots globals number classes.Automatic = Some (InBlock slots)
+place_behind parameters slots globals number (classes.Parameter slot) =
     if is_parameter parameters slot number then Some (InBlock slot) else None
-place_behind parameters slots statics number classes.Static = Some (BeforeProgram statics)
-place_behind parameters slots statics number class = None
+place_behind parameters slots globals number classes.Static = Some (BeforeProgram globals)
+place_behind parameters slots globals number class = None
 
 -- the variable that a symbol is, where so many are taken
-abbrev pub own_behind : (parameters : List ℕ) → (slots statics number : ℕ) → SymbolKind → Option OwnVariable
-own_behind parameters slots statics number (Variable description class scope initial area) =
+abbrev pub own_behind : (parameters : List ℕ) → (slots globals number : ℕ) → SymbolKind → Option OwnVariable
+own_behind parameters slots globals number (Variable description class scope initial area) =
     if is_stored 31 description
-    then begun (place_behind parameters slots statics number class) description else None
-own_behind parameters slots statics number other = None
+    then begun (place_behind parameters slots globals number class) description else None
+own_behind parameters slots globals number other = None
 
 -- how many slots behind the parameters, and how many numbers, a variable of this class takes
 abbrev pub slots_of : StorageClass → ℕ
 slots_of classes.Automatic = 1
 slots_of class = 0
 
-abbrev pub statics_of : StorageClass → ℕ
-statics_of classes.Static = 1
-statics_of class = 0
+abbrev pub globals_of : StorageClass → ℕ
+globals_of classes.Static = 1
+globals_of class = 0

@@ -1,18 +1,19 @@
 -- What names mean, with the part of the variable that is named.
 use Rattle.std.specs.Prelude.{ℕ, Bool, ◌&&◌, Option, Some, None, List, [], get_or, slice_get, if◌then◌else◌}
+use Rattle.pli_map.specs.Description.{Description}
 use Rattle.pli_resolve.specs.Symbols.{SymbolKind, Variable, Member, Label, Procedure, Entry, BuiltIn}
 use Rattle.pli_resolve.specs.declared.built_in.BuiltInFunction.{BuiltInFunction}
 use Rattle.pli_type.specs.Names.{NamedAs, NamedProcedure, AVariable, AFunction, AProcedure, ALabel, Untyped}
-use Rattle.pli_type.specs.NamedUnits.{in_slot, outward_to, stands_around}
+use Rattle.pli_type.specs.NamedUnits.{gives_stored, in_slot, outward_to, stands_around}
 use Rattle.pli_type.specs.References.{StridedPart, part_of, part_on}
 use Rattle.pli_type_names.specs.BlockEntries.{BlockEntry}
 use Rattle.pli_type_names.specs.BlockFacts.{BlockFacts}
 use Rattle.pli_type_names.specs.Meant.{is_way}
 use Rattle.pli_type_names.specs.Numbered.{each_from}
-use Rattle.pli_type_names.specs.OwnVariables.{OwnVariable, own_variables}
+use Rattle.pli_type_names.specs.OwnVariables.{OwnVariable, global_at, own_variables}
 use Rattle.pli_type_names.specs.declared.place.Place.{Place}
 use Rattle.pli_type_names.specs.declared.place.Place.TheVariants.{InBlock, BeforeProgram}
-use Rattle.pli_type_tree.specs.TypedTree.{Root, OfProgram}
+use Rattle.pli_type_tree.specs.TypedTree.{OfBlock, OfEntry, Root, OfProgram}
 
 -- where a name is used
 
@@ -33,10 +34,12 @@ seen Untyped = SeenUntyped
 
 -- wherever a name is used
 
--- a variable, by where it begins in its own block; a procedure, by its block; a label; or what has no type
+-- a variable, by where it begins in its own block; a procedure, by its block; an external one, by the number of
+-- its entry; a label; or what has no type
 pub data Kept : Type 0 where
   KeptVariable : (begins : Place) (is_member : Bool) (part : Option StridedPart) → Kept
   KeptProcedure : (block : ℕ) → Kept
+  KeptEntry : (number : ℕ) (parameters : List Description) (returned : Option Description) → Kept
   KeptLabel : (statement : ℕ) → Kept
   KeptNothing : Kept
 
@@ -47,19 +50,25 @@ on_way (Some v) path =
     KeptVariable v.begins (is_way path)
     (part_on (record { offset = 0; description = v.whole; strides = [] }) path)
 
--- the symbol of this number, by the variables of their own
-abbrev pub kind_kept : List (Option OwnVariable) → (number : ℕ) → SymbolKind → Kept
-kind_kept variables number (Variable description class scope initial area) =
+-- an external procedure whose value, if it gives one, a variable could hold
+abbrev pub entry_kept : (number : ℕ) → List Description → Option Description → Kept
+entry_kept number parameters returned =
+    if gives_stored 31 returned then KeptEntry number parameters returned else KeptNothing
+
+-- the symbol of this number, by the variables of their own; an entry has this number among the globals
+abbrev pub kind_kept : List (Option OwnVariable) → (number global : ℕ) → SymbolKind → Kept
+kind_kept variables number global (Variable description class scope initial area) =
     on_way (get_or variables number None) []
-kind_kept variables number (Member root path initial area) = on_way (get_or variables root None) path
-kind_kept variables number (Label statement) = KeptLabel statement
-kind_kept variables number (Procedure block returned area) = KeptProcedure block
-kind_kept variables number (Entry parameters returned) = KeptNothing
-kind_kept variables number BuiltIn = KeptNothing
+kind_kept variables number global (Member root path initial area) = on_way (get_or variables root None) path
+kind_kept variables number global (Label statement) = KeptLabel statement
+kind_kept variables number global (Procedure block returned area) = KeptProcedure block
+kind_kept variables number global (Entry parameters returned) = entry_kept global parameters returned
+kind_kept variables number global BuiltIn = KeptNothing
 
 -- each symbol of a block
 abbrev pub kept_symbols : BlockFacts → List Kept
-kept_symbols f = each_from (λ number s. kind_kept (own_variables f) number s.kind) 0 f.symbols
+kept_symbols f =
+    each_from (λ number s. kind_kept (own_variables f) number (global_at f number) s.kind) 0 f.symbols
 
 -- from there to here
 
@@ -77,7 +86,7 @@ abbrev pub procedure_seen : (blocks : List ℕ) → Option BlockEntry → (block
 procedure_seen blocks None block = SeenUntyped
 procedure_seen blocks (Some e) block =
     if e.is_named && stands_around blocks e.outer
-    then SeenProcedure (record { block = block; parameters = e.parameters; returned = e.returned })
+    then SeenProcedure (record { callee = OfBlock block; parameters = e.parameters; returned = e.returned })
     else SeenUntyped
 
 -- a symbol of a block
@@ -86,5 +95,7 @@ kept_seen blocks entries block (KeptVariable begins is_member part) =
     variable_seen (root_from blocks block begins) is_member part
 kept_seen blocks entries block (KeptProcedure procedure) =
     procedure_seen blocks (slice_get entries procedure) procedure
+kept_seen blocks entries block (KeptEntry number parameters returned) =
+    SeenProcedure (record { callee = OfEntry number; parameters = parameters; returned = returned })
 kept_seen blocks entries block (KeptLabel statement) = SeenLabel statement
 kept_seen blocks entries block KeptNothing = SeenUntyped

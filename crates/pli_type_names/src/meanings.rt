@@ -1,13 +1,15 @@
 //! What the symbols of blocks mean, wherever their names are used.
 ghost use Rattle.std.specs.Prelude.{◌≡◌, ◌+◌, IfOk, None, length, map, option_map, get_or};
 ghost use Rattle.std.specs.List.{All};
+ghost use Rattle.pli_map.specs.views.DescriptionView.{description_view};
 ghost use Rattle.pli_resolve.specs.views.SymbolView.{symbol_view, symbol_kind_view};
-ghost use Rattle.pli_type.specs.NamedUnits.{is_static, such_before};
+ghost use Rattle.pli_type.specs.NamedUnits.{globals_before};
 ghost use Rattle.pli_type_names.specs.OnWays.{IsLevel};
-ghost use Rattle.pli_type_names.specs.Seen.{kept_symbols, kind_kept, on_way};
+ghost use Rattle.pli_type_names.specs.Seen.{entry_kept, kept_symbols, kind_kept, on_way};
 ghost use Rattle.pli_type_names.specs.views.MeaningView.{AreMeanings, meant_view};
 ghost use Rattle.pli_type_names.specs.views.VariableView.{own_view};
 
+use crate::entries::gives_stored;
 use crate::level::Level;
 use crate::levels::{part_on_way, variable_at};
 use crate::own_variable::OwnVariable;
@@ -16,6 +18,7 @@ use crate::parameters::parameter_numbers;
 use crate::part::StridedPart;
 use crate::place::Place;
 use crate::unit_symbols::symbols;
+use pli_map::Description;
 use pli_resolve::{ResolvedUnit, Symbol, SymbolKind};
 use std::alloc::{AllocError, Global};
 
@@ -31,9 +34,40 @@ pub(crate) enum Meant<'a> {
     },
     /// The procedure that is the block of this number.
     Procedure(u32),
+    /// The external procedure of the entry that has this number among the globals, with its parameters, and what it
+    /// gives if it is a function.
+    Entry {
+        number: u32,
+        parameters: Vec<&'a Description>,
+        returned: Option<&'a Description>,
+    },
     /// The label of the statement of this number.
     Label(u32),
     Untyped,
+}
+
+/// What an entry means that has this number among the globals.
+fn entry_meaning<'a>(
+    alloc: Global,
+    number: u32,
+    described: &'a [Description],
+    returned: Option<&'a Description>,
+) -> Result<Meant<'a>, AllocError>
+    ensures { IfOk result (λ meant. meant_view meant ≡ entry_kept number (map description_view described.now)
+        (option_map (λ d. description_view d.now) returned.entry)) }
+{
+    if !gives_stored(returned) {
+        return Ok(Meant::Untyped);
+    }
+    let mut parameters = Vec::new(alloc);
+    for description in described {
+        parameters.push(description)?;
+    }
+    Ok(Meant::Entry {
+        number,
+        parameters,
+        returned,
+    })
 }
 
 /// The part of a variable of its own on this way.
@@ -59,17 +93,18 @@ fn meant_on_way<'a>(
     })
 }
 
-/// What the symbol of this number means. Want of memory where it is the procedure of a block whose number is more than
+/// What the symbol of this number means; an entry has this number among the globals. Want of memory where it is the procedure of a block whose number is more than
 /// 4,294,967,295.
 fn symbol_meaning<'a>(
     alloc: Global,
     variables: &[Option<OwnVariable<'a>>],
     number: usize,
+    global: u32,
     kind: SymbolKind<'a>,
     levels: &mut Vec<Level<'a>>,
 ) -> Result<Meant<'a>, AllocError>
     requires { All (IsLevel (map (option_map own_view) variables.now)) levels.old.items }
-    ensures meaning { IfOk result (λ meant. meant_view meant ≡ kind_kept (map (option_map own_view) variables.now) number (symbol_kind_view kind.entry)) }
+    ensures meaning { IfOk result (λ meant. meant_view meant ≡ kind_kept (map (option_map own_view) variables.now) number global (symbol_kind_view kind.entry)) }
     ensures levels { IfOk result (λ _. All (IsLevel (map (option_map own_view) variables.now)) levels.new.items) }
 {
     match kind {
@@ -82,27 +117,33 @@ fn symbol_meaning<'a>(
             Ok(Meant::Procedure(block))
         }
         SymbolKind::Label { statement } => Ok(Meant::Label(statement)),
-        SymbolKind::Entry { .. } | SymbolKind::BuiltIn => Ok(Meant::Untyped),
+        SymbolKind::Entry {
+            parameters,
+            returned,
+        } => entry_meaning(alloc, global, parameters, returned),
+        SymbolKind::BuiltIn => Ok(Meant::Untyped),
     }
 }
 
-/// What each symbol of a block means, where the blocks before have so many STATIC variables.
+/// What each symbol of a block means, where the blocks before have so many globals.
 fn symbol_meanings<'a>(
     alloc: Global,
     symbols: &[Symbol<'a>],
     parameters: &[usize],
-    statics: &mut u32,
+    globals: &mut u32,
 ) -> Result<Vec<Meant<'a>>, AllocError>
     ensures meanings { IfOk result (λ meanings. map meant_view meanings.items
-        ≡ kept_symbols (record { parameters = parameters.now; statics = statics.old; symbols = map symbol_view symbols.now })) }
-    ensures counted { IfOk result (λ _. statics.new
-        ≡ statics.old + such_before (is_static 31) (map symbol_view symbols.now) (length symbols.now)) }
+        ≡ kept_symbols (record { parameters = parameters.now; globals = globals.old; symbols = map symbol_view symbols.now })) }
+    ensures counted { IfOk result (λ _. globals.new
+        ≡ globals.old + globals_before 31 (map symbol_view symbols.now) (length symbols.now)) }
 {
-    let variables = own_variables(alloc, symbols, parameters, statics)?;
+    let mut numbers = Vec::new(alloc);
+    let variables = own_variables(alloc, symbols, parameters, globals, &mut numbers)?;
     let mut levels = Vec::new(alloc);
     let mut meanings = Vec::new(alloc);
     for (number, symbol) in symbols.iter().enumerate() {
-        let meaning = symbol_meaning(alloc, &variables, number, symbol.kind, &mut levels)?;
+        let global = numbers[number];
+        let meaning = symbol_meaning(alloc, &variables, number, global, symbol.kind, &mut levels)?;
         meanings.push(meaning)?;
     }
     Ok(meanings)
@@ -119,11 +160,11 @@ pub(crate) fn unit_meanings<'r>(
         return Err(AllocError);
     };
     let mut made = Vec::new(alloc);
-    let mut statics = 0;
+    let mut globals = 0;
     for block in 0..blocks {
         let symbols = symbols(alloc, resolved, block)?;
         let parameters = parameter_numbers(resolved, block);
-        made.push(symbol_meanings(alloc, &symbols, parameters, &mut statics)?)?;
+        made.push(symbol_meanings(alloc, &symbols, parameters, &mut globals)?)?;
     }
     Ok(made)
 }

@@ -17,7 +17,7 @@ use pli_base::statement::Procedure;
 use pli_map::Description;
 use pli_resolve::{BuiltInFunction, NameMeaning, ResolvedUnit, SymbolKey};
 use pli_type::is_later_function;
-use pli_type_tree::Root;
+use pli_type_tree::{Callee, Root};
 use std::alloc::{AllocError, Global};
 use std::marker::Model;
 
@@ -38,8 +38,8 @@ pub struct NamedVariable<'n, 'a> {
 /// A procedure.
 #[derive(Clone, Copy)]
 pub struct NamedProcedure<'n, 'a> {
-    /// The number of its block.
-    pub block: u32,
+    /// What a call of it calls.
+    pub callee: Callee,
     /// What its parameters are, each under its slot.
     pub parameters: &'n [&'a Description],
     /// What it gives, if it is a function.
@@ -149,7 +149,7 @@ impl<'a> Naming<'a> {
         ensures { IsProcedure result (procedure_in self.now.unit block) }
     {
         NamedProcedure {
-            block,
+            callee: Callee::OfBlock { block },
             parameters: parameters_at(&self.entries, &self.no_parameters, block as usize),
             returned: returned_at(&self.entries, block as usize),
         }

@@ -1,10 +1,11 @@
 //! The variables of their own among the symbols of a block, and where each begins.
-ghost use Rattle.std.specs.Prelude.{◌≡◌, ◌+◌, IfOk, length, map, option_map};
+ghost use Rattle.std.specs.Prelude.{◌≡◌, ◌+◌, ◌++◌, IfOk, length, map, option_map};
 ghost use Rattle.pli_resolve.specs.views.SymbolView.{symbol_view, symbol_kind_view};
 ghost use Rattle.pli_type.specs.NamedUnits as units;
-ghost use Rattle.pli_type.specs.NamedUnits.{is_automatic, is_static, one_such, such_before};
+ghost use Rattle.pli_type.specs.NamedUnits.{globals_before, is_automatic, one_global, one_such};
+ghost use Rattle.pli_type_names.specs.Numbered.{each_from};
 ghost use Rattle.pli_type_names.specs.OwnVariables as spec;
-ghost use Rattle.pli_type_names.specs.OwnVariables.{own_behind, place_behind, slots_of, statics_of};
+ghost use Rattle.pli_type_names.specs.OwnVariables.{globals_of, own_behind, place_behind, slots_of};
 ghost use Rattle.pli_type_names.specs.views.VariableView.{own_view};
 
 use crate::descriptions::is_stored;
@@ -13,7 +14,7 @@ use crate::place::Place;
 use pli_resolve::{StorageClass, Symbol, SymbolKind};
 use std::alloc::{AllocError, Global};
 
-/// The first slot of a block's activation that is free, and the first number among STATIC variables.
+/// The first slot of a block's activation that is free, and the first number among the globals of the unit.
 #[derive(Clone, Copy)]
 struct Free {
     slot: u32,
@@ -67,7 +68,7 @@ fn place(
 ) -> Result<Option<Place>, AllocError>
     ensures begins { IfOk result (λ place. place ≡ place_behind parameters.now free.old.slot free.old.number number class) }
     ensures slots { IfOk result (λ _. free.new.slot ≡ free.old.slot + slots_of class) }
-    ensures statics { IfOk result (λ _. free.new.number ≡ free.old.number + statics_of class) }
+    ensures globals { IfOk result (λ _. free.new.number ≡ free.old.number + globals_of class) }
 {
     match class {
         StorageClass::Automatic => {
@@ -94,54 +95,64 @@ fn own_variable<'a>(
         ≡ own_behind parameters.now free.old.slot free.old.number number (symbol_kind_view kind.entry)) }
     ensures slots { IfOk result (λ _. free.new.slot
         ≡ free.old.slot + one_such (is_automatic 31) (symbol_kind_view kind.entry)) }
-    ensures statics { IfOk result (λ _. free.new.number
-        ≡ free.old.number + one_such (is_static 31) (symbol_kind_view kind.entry)) }
+    ensures globals { IfOk result (λ _. free.new.number
+        ≡ free.old.number + one_global 31 (symbol_kind_view kind.entry)) }
 {
-    let SymbolKind::Variable {
-        description,
-        class,
-        ..
-    } = kind
-    else {
-        return Ok(None);
-    };
-    if !is_stored(description) {
-        return Ok(None);
+    match kind {
+        SymbolKind::Variable {
+            description,
+            class,
+            ..
+        } => {
+            if !is_stored(description) {
+                return Ok(None);
+            }
+            let Some(begins) = place(class, number, parameters, free)? else {
+                return Ok(None);
+            };
+            Ok(Some(OwnVariable {
+                begins,
+                description,
+            }))
+        }
+        SymbolKind::Entry { .. } => {
+            take(&mut free.number)?;
+            Ok(None)
+        }
+        _ => Ok(None),
     }
-    let Some(begins) = place(class, number, parameters, free)? else {
-        return Ok(None);
-    };
-    Ok(Some(OwnVariable {
-        begins,
-        description,
-    }))
 }
 
-/// For each symbol of a block the variable that it is, if it is one of its own that is compiled. STATIC ones have the
-/// numbers behind those of the blocks before, of which there are so many.
+/// For each symbol of a block the variable that it is, if it is one of its own that is compiled. Its globals have the
+/// numbers behind those of the blocks before, of which there are so many. Puts for each symbol how many globals there
+/// are before it.
 pub(crate) fn own_variables<'a>(
     alloc: Global,
     symbols: &[Symbol<'a>],
     parameters: &[usize],
-    statics: &mut u32,
+    globals: &mut u32,
+    numbers: &mut Vec<u32>,
 ) -> Result<Vec<Option<OwnVariable<'a>>>, AllocError>
     ensures variables { IfOk result (λ variables. map (option_map own_view) variables.items
-        ≡ spec.own_variables (record { parameters = parameters.now; statics = statics.old; symbols = map symbol_view symbols.now })) }
-    ensures counted { IfOk result (λ _. statics.new
-        ≡ statics.old + such_before (is_static 31) (map symbol_view symbols.now) (length symbols.now)) }
+        ≡ spec.own_variables (record { parameters = parameters.now; globals = globals.old; symbols = map symbol_view symbols.now })) }
+    ensures counted { IfOk result (λ _. globals.new
+        ≡ globals.old + globals_before 31 (map symbol_view symbols.now) (length symbols.now)) }
+    ensures numbers { IfOk result (λ _. numbers.new.items ≡ numbers.old.items
+        ++ each_from (λ number s. globals.old + globals_before 31 (map symbol_view symbols.now) number) 0 (map symbol_view symbols.now)) }
 {
     let Ok(slot) = u32::try_from(parameters.len()) else {
         return Err(AllocError);
     };
     let mut free = Free {
         slot,
-        number: *statics,
+        number: *globals,
     };
     let mut variables = Vec::new(alloc);
     for (number, symbol) in symbols.iter().enumerate() {
+        numbers.push(free.number)?;
         let variable = own_variable(symbol.kind, number, parameters, &mut free)?;
         variables.push(variable)?;
     }
-    *statics = free.number;
+    *globals = free.number;
     Ok(variables)
 }

@@ -12,22 +12,21 @@ use pli_map::Description;
 use pli_resolve::{ResolvedBlockKind, ResolvedUnit, SymbolKey, SymbolKind};
 use std::alloc::{AllocError, Global};
 
-/// Whether a block is a procedure inside the external procedure.
-fn is_internal(number: usize, kind: ResolvedBlockKind) -> bool
-    ensures { result ≡ units.is_internal number kind }
+/// Whether a block is a procedure.
+fn is_procedure(kind: ResolvedBlockKind) -> bool
+    ensures { result ≡ units.is_procedure kind }
 {
-    number > 0 && matches!(kind, ResolvedBlockKind::Procedure)
+    matches!(kind, ResolvedBlockKind::Procedure)
 }
 
-/// The numbers of the parameters of a block among its symbols, each under its slot. The external procedure has none so
-/// far (own).
+/// The numbers of the parameters of a block among its symbols, each under its slot.
 pub(crate) fn parameter_numbers<'r>(resolved: &'r ResolvedUnit<'r>, number: usize) -> &'r [usize]
     ensures { result.now ≡ units.parameter_numbers (resolved_unit_of (unit_view resolved.now)) number }
 {
     let Some(block) = resolved.block(number) else {
         return &[];
     };
-    if !is_internal(number, block.kind) {
+    if !is_procedure(block.kind) {
         return &[];
     }
     block.parameters
@@ -88,18 +87,18 @@ fn returned_by<'r>(kind: SymbolKind<'r>) -> Option<&'r Description>
     returned
 }
 
-/// The symbol of a function's name, if a block is one inside the external procedure.
+/// The symbol of a procedure's name, if a block is one.
 fn name_of(resolved: &ResolvedUnit<'_>, number: usize) -> Option<SymbolKey>
     ensures { result ≡ spec.name_of (resolved_unit_of (unit_view resolved.now)) number }
 {
     let block = resolved.block(number)?;
-    if !is_internal(number, block.kind) {
+    if !is_procedure(block.kind) {
         return None;
     }
     block.name
 }
 
-/// What a block gives, if it is that of a function. The external procedure gives nothing so far (own).
+/// What a block gives, if it is that of a function.
 pub(crate) fn returned_of<'r>(
     resolved: &'r ResolvedUnit<'r>,
     number: usize,

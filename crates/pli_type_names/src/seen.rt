@@ -9,6 +9,7 @@ use crate::entries::BlockEntry;
 use crate::meanings::Meant;
 use crate::naming::{NamedAs, NamedProcedure, NamedVariable};
 use pli_resolve::SymbolKey;
+use pli_type_tree::Callee;
 
 /// The procedure that is the block of this number, where it may be called.
 fn procedure_seen<'n, 'a>(
@@ -26,7 +27,7 @@ fn procedure_seen<'n, 'a>(
         return NamedAs::Untyped;
     }
     NamedAs::Procedure(NamedProcedure {
-        block,
+        callee: Callee::OfBlock { block },
         parameters: &entry.parameters,
         returned: entry.returned,
     })
@@ -58,6 +59,15 @@ fn meant_seen<'n, 'a>(
             })
         }
         Meant::Procedure(procedure) => procedure_seen(around, entries, *procedure),
+        Meant::Entry {
+            number,
+            parameters,
+            returned,
+        } => NamedAs::Procedure(NamedProcedure {
+            callee: Callee::OfEntry { number: *number },
+            parameters,
+            returned: *returned,
+        }),
         Meant::Label(statement) => NamedAs::Label(*statement),
         Meant::Untyped => NamedAs::Untyped,
     }

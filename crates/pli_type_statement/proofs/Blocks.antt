@@ -99,7 +99,7 @@ group_walked old e d new ss list placed same is next templates faults procedures
       back = record {
         naming = naming;
         around = outer;
-        statics = ap (λ t. t.statics) templates' ∙ w.back.statics ∙ ap (λ t. t.statics) templates;
+        globals = ap (λ t. t.globals) templates' ∙ w.back.globals ∙ ap (λ t. t.globals) templates;
         placed = record {
           blocks = ap (λ (n : Names). n.blocks) naming ∙ placed.blocks ∙ sym (ap (λ (a : Around). numbers (blocks_of a.lists)) outer);
           templates = λ k le. ap (λ t. automatic_at t k) templates'
@@ -169,7 +169,7 @@ block_walked old e d new block begins value number ss list head placed in_it w o
         back = record {
           naming = naming;
           around = outer;
-          statics = ap (λ t. t.statics) out.templates ∙ w.back.statics ∙ in_it.statics;
+          globals = ap (λ t. t.globals) out.templates ∙ w.back.globals ∙ in_it.globals;
           placed = record {
             blocks = ap (λ (n : Names). n.blocks) naming ∙ placed.blocks ∙ sym (ap (λ (a : Around). numbers (blocks_of a.lists)) outer);
             templates = λ k le. ap (λ t. automatic_at t k) out.templates
@@ -265,7 +265,7 @@ procedure_walked old mid new number at end heading ss value head list form gives
       back = record {
         naming = ended.naming ∙ w.walked.back.naming;
         around = ap around_view ended.surroundings ∙ w.walked.back.around;
-        statics = ap (λ t. t.statics) ended.templates ∙ w.walked.back.statics;
+        globals = ap (λ t. t.globals) ended.templates ∙ w.walked.back.globals;
         placed = record {
           blocks = ap (λ (n : Names). n.blocks) ended.naming ∙ w.walked.back.placed.blocks
               ∙ sym (ap (λ s. numbers (surroundings_of (around_view s)).blocks) ended.surroundings);

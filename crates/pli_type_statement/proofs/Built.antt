@@ -21,43 +21,43 @@ pub both_false : (a b : Bool) → (a || b) ≡ false → (a ≡ false) × (b ≡
 both_false true b h = cc
 both_false false b h = (refl, h)
 
-pub statement_built : (n : Compiled) (m : Bool) (number : ℕ) (label : Option Identifier) (at : ℕ) (body : tree.Body)
-    → later_statement n m (Numbered number label at body) ≡ None
-    → (first : ℕ) × (later_body n m first body ≡ None)
-statement_built n m number label at body h = (first_of label at, h)
+pub statement_built : (n : Compiled) (number : ℕ) (label : Option Identifier) (at : ℕ) (body : tree.Body)
+    → later_statement n (Numbered number label at body) ≡ None
+    → (first : ℕ) × (later_body n first body ≡ None)
+statement_built n number label at body h = (first_of label at, h)
 
-pub list_built : (n : Compiled) (m : Bool) (first : Statement) (more : Statements) → later_statements n m (Before first more) ≡ None
-    → (later_statement n m first ≡ None) × (later_statements n m more ≡ None)
-list_built n m first more h = neither (later_statement n m first) (later_statements n m more) h
+pub list_built : (n : Compiled) (first : Statement) (more : Statements) → later_statements n (Before first more) ≡ None
+    → (later_statement n first ≡ None) × (later_statements n more ≡ None)
+list_built n first more h = neither (later_statement n first) (later_statements n more) h
 
-pub assignment_built : (n : Compiled) (m : Bool) (at : ℕ) (t : Reference) (equals : ℕ) (e : Expression)
-    → later_body n m at (tree.Assign t equals e) ≡ None
+pub assignment_built : (n : Compiled) (at : ℕ) (t : Reference) (equals : ℕ) (e : Expression)
+    → later_body n at (tree.Assign t equals e) ≡ None
     → (later_reference n t ≡ false) × (later_expression n e ≡ false)
-assignment_built n m at t equals e h =
+assignment_built n at t equals e h =
     both_false (later_reference n t) (later_expression n e) (no_token (later_reference n t || later_expression n e) at h)
 
-pub put_built : (n : Compiled) (m : Bool) (at : ℕ) (skip : Bool) (es : List Expression)
-    → later_body n m at (tree.Put skip es) ≡ None → list_any (later_expression n) es ≡ false
-put_built n m at skip es h = no_token (list_any (later_expression n) es) at h
+pub put_built : (n : Compiled) (at : ℕ) (skip : Bool) (es : List Expression)
+    → later_body n at (tree.Put skip es) ≡ None → list_any (later_expression n) es ≡ false
+put_built n at skip es h = no_token (list_any (later_expression n) es) at h
 
-pub call_built : (n : Compiled) (m : Bool) (at : ℕ) (name : Identifier) (list : Arguments)
-    → later_body n m at (tree.Call name list) ≡ None → later_arguments n list ≡ false
-call_built n m at name list h = no_token (later_arguments n list) at h
+pub call_built : (n : Compiled) (at : ℕ) (name : Identifier) (list : Arguments)
+    → later_body n at (tree.Call name list) ≡ None → later_arguments n list ≡ false
+call_built n at name list h = no_token (later_arguments n list) at h
 
-pub return_built : (n : Compiled) (m : Bool) (at : ℕ) (value : Option Expression)
-    → later_body n m at (tree.Return value) ≡ None → later_part (later_expression n) value ≡ false
-return_built n m at value h = no_token (later_part (later_expression n) value) at h
+pub return_built : (n : Compiled) (at : ℕ) (value : Option Expression)
+    → later_body n at (tree.Return value) ≡ None → later_part (later_expression n) value ≡ false
+return_built n at value h = no_token (later_part (later_expression n) value) at h
 
-pub procedure_built : (n : Compiled) (m : Bool) (at : ℕ) (heading : Heading) (ss : Statements) (end : ℕ)
-    → later_body n m at (tree.Procedure heading ss end) ≡ None → later_statements n m ss ≡ None
-procedure_built n m at heading ss end h =
-    (neither (token_if (list_any later_option heading.options) heading.name.at) (later_statements n m ss) h).1
+pub procedure_built : (n : Compiled) (at : ℕ) (heading : Heading) (ss : Statements) (end : ℕ)
+    → later_body n at (tree.Procedure heading ss end) ≡ None → later_statements n ss ≡ None
+procedure_built n at heading ss end h =
+    (neither (token_if (list_any later_option heading.options) heading.name.at) (later_statements n ss) h).1
 
-pub do_built : (n : Compiled) (m : Bool) (at : ℕ) (control : Option Control) (ss : Statements) (end : ℕ)
-    → later_body n m at (tree.Do control ss end) ≡ None
-    → (later_part (later_control n) control ≡ false) × (later_statements n m ss ≡ None)
-do_built n m at control ss end h =
-    let parts = neither (token_if (later_part (later_control n) control) at) (later_statements n m ss) h in
+pub do_built : (n : Compiled) (at : ℕ) (control : Option Control) (ss : Statements) (end : ℕ)
+    → later_body n at (tree.Do control ss end) ≡ None
+    → (later_part (later_control n) control ≡ false) × (later_statements n ss ≡ None)
+do_built n at control ss end h =
+    let parts = neither (token_if (later_part (later_control n) control) at) (later_statements n ss) h in
     (no_token (later_part (later_control n) control) at parts.0, parts.1)
 
 four_parts : (a b c d : Bool) → (a || b || c || d) ≡ false → (a ≡ false) × (b ≡ false) × (c ≡ false) × (d ≡ false)
@@ -76,14 +76,14 @@ iteration_built n v equals e r c h =
     let parts = four_parts (later_reference n v) (later_expression n e) (later_part (later_range n) r) (later_part (later_expression n) c) h in
     record { variable = parts.0; first = parts.1; range = parts.2; condition = parts.3 }
 
-pub record IsBuiltIf (n : Compiled) (m : Bool) (e : Expression) (s : Statement) (a : Alternative) : Type 0 where
+pub record IsBuiltIf (n : Compiled) (e : Expression) (s : Statement) (a : Alternative) : Type 0 where
   pub condition : later_expression n e ≡ false
-  pub consequence : later_statement n m s ≡ None
-  pub alternative : later_alternative n m a ≡ None
+  pub consequence : later_statement n s ≡ None
+  pub alternative : later_alternative n a ≡ None
 
-pub if_built : (n : Compiled) (m : Bool) (at : ℕ) (e : Expression) (s : Statement) (a : Alternative)
-    → later_body n m at (tree.If e s a) ≡ None → IsBuiltIf n m e s a
-if_built n m at e s a h =
-    let first = neither (token_if (later_expression n e) at) (or_else (later_statement n m s) (later_alternative n m a)) h in
-    let others = neither (later_statement n m s) (later_alternative n m a) first.1 in
+pub if_built : (n : Compiled) (at : ℕ) (e : Expression) (s : Statement) (a : Alternative)
+    → later_body n at (tree.If e s a) ≡ None → IsBuiltIf n e s a
+if_built n at e s a h =
+    let first = neither (token_if (later_expression n e) at) (or_else (later_statement n s) (later_alternative n a)) h in
+    let others = neither (later_statement n s) (later_alternative n a) first.1 in
     record { condition = no_token (later_expression n e) at first.0; consequence = others.0; alternative = others.1 }

@@ -56,28 +56,28 @@ greatest_is names = refl
 call_passed : (names : Names) (name : Identifier) (list : Arguments) (gs : List Argument) (q : NamedProcedure)
     → arguments_typed (naming_in names) list ≡ Ok gs → (naming_in names).meaning name.at ≡ AProcedure q
     → call_typed (naming_in names) name list
-    ≡ (arguments_passed 31 q name.at gs >>= no_function name.at q.block q.returned)
+    ≡ (arguments_passed 31 q name.at gs >>= no_function name.at q.callee q.returned)
 call_passed names name list gs q typed meant =
     ap (λ r. r >>= λ gs. call_of (naming_in names).greatest name.at ((naming_in names).meaning name.at) gs) typed
     ∙ ap (λ m. call_of (naming_in names).greatest name.at m gs) meant
-    ∙ ap (λ g. arguments_passed g q name.at gs >>= no_function name.at q.block q.returned) (greatest_is names)
+    ∙ ap (λ g. arguments_passed g q name.at gs >>= no_function name.at q.callee q.returned) (greatest_is names)
 
 pub call_fails : (names : Names) (name : Identifier) (list : Arguments) (gs : List Argument) (q : NamedProcedure) (e : TypeError) (g : ℕ) → g ≡ 31
     → arguments_typed (naming_in names) list ≡ Ok gs → (naming_in names).meaning name.at ≡ AProcedure q
     → Fails e (arguments_passed g q name.at gs) → Fails e (call_typed (naming_in names) name list)
 call_fails names name list gs q errors.OutOfMemory g is typed meant h = tt
 call_fails names name list gs q (errors.Fault f) g is typed meant h =
-    call_passed names name list gs q typed meant ∙ ap (λ g. arguments_passed g q name.at gs >>= no_function name.at q.block q.returned) (sym is)
-    ∙ ap (λ r. r >>= no_function name.at q.block q.returned) h
+    call_passed names name list gs q typed meant ∙ ap (λ g. arguments_passed g q name.at gs >>= no_function name.at q.callee q.returned) (sym is)
+    ∙ ap (λ r. r >>= no_function name.at q.callee q.returned) h
 
 pub call_done : (names : Names) (name : Identifier) (list : Arguments) (gs : List Argument) (q : NamedProcedure) (xs : TypedArguments)
-    (returned : Option Description) (block : ℕ) (g : ℕ) → g ≡ 31 → arguments_typed (naming_in names) list ≡ Ok gs
+    (returned : Option Description) (callee : typed.Callee) (g : ℕ) → g ≡ 31 → arguments_typed (naming_in names) list ≡ Ok gs
     → (naming_in names).meaning name.at ≡ AProcedure q → arguments_passed g q name.at gs ≡ Ok xs
-    → block ≡ q.block → returned ≡ q.returned
-    → call_typed (naming_in names) name list ≡ no_function name.at block returned xs
-call_done names name list gs q xs returned block g small typed meant h is gives =
-    call_passed names name list gs q typed meant ∙ ap (λ g. arguments_passed g q name.at gs >>= no_function name.at q.block q.returned) (sym small) ∙ ap (λ r. r >>= no_function name.at q.block q.returned) h
-    ∙ ap (λ b. no_function name.at b q.returned xs) (sym is) ∙ ap (λ d. no_function name.at block d xs) (sym gives)
+    → callee ≡ q.callee → returned ≡ q.returned
+    → call_typed (naming_in names) name list ≡ no_function name.at callee returned xs
+call_done names name list gs q xs returned callee g small typed meant h is gives =
+    call_passed names name list gs q typed meant ∙ ap (λ g. arguments_passed g q name.at gs >>= no_function name.at q.callee q.returned) (sym small) ∙ ap (λ r. r >>= no_function name.at q.callee q.returned) h
+    ∙ ap (λ b. no_function name.at b q.returned xs) (sym is) ∙ ap (λ d. no_function name.at callee d xs) (sym gives)
 
 -- a reference without subscripts
 bare_list : (root : typed.Root) (offset : ℕ) (d : Description) (xs : List TypedSubscript) (n : ℕ) → n ≡ length xs

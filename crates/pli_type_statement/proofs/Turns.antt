@@ -56,29 +56,29 @@ next_of block temporary = record { block = block; temporary = temporary }
 pub same_next : (x y x' y' : ℕ) → x ≡ x' → y ≡ y' → next_of (x) (y) ≡ next_of x' y'
 same_next x y x' y' e f = ap (λ b. record { block = b; temporary = y }) e ∙ ap (λ t. record { block = x'; temporary = t }) f
 
-simple_next : (n : Compiled) (m : Bool) (first : ℕ) (x : Next) (b : tree.Body) → is_compound b ≡ false
-    → later_body n m first b ≡ None → next_of (x.block) (x.temporary) ≡ behind_body x b
-simple_next n m first x (tree.Procedure heading ss end) h built = impossible _ h
-simple_next n m first x (tree.Begin ss end) h built = impossible _ h
-simple_next n m first x (tree.Do control ss end) h built = impossible _ h
-simple_next n m first x (tree.If e c a) h built = impossible _ h
-simple_next n m first x (tree.On tested unit) h built = impossible _ (ap is_some built)
-simple_next n m first x other h built = same_next _ _ _ _ (omega arith) (omega arith)
+simple_next : (n : Compiled) (first : ℕ) (x : Next) (b : tree.Body) → is_compound b ≡ false
+    → later_body n first b ≡ None → next_of (x.block) (x.temporary) ≡ behind_body x b
+simple_next n first x (tree.Procedure heading ss end) h built = impossible _ h
+simple_next n first x (tree.Begin ss end) h built = impossible _ h
+simple_next n first x (tree.Do control ss end) h built = impossible _ h
+simple_next n first x (tree.If e c a) h built = impossible _ h
+simple_next n first x (tree.On tested unit) h built = impossible _ (ap is_some built)
+simple_next n first x other h built = same_next _ _ _ _ (omega arith) (omega arith)
 
-pub simple_walked : (old new : Walk) (n : Compiled) (m : Bool) (first number at : ℕ) (b : tree.Body) (form : Option Form)
-    → is_compound b ≡ false → later_body n m first b ≡ None
+pub simple_walked : (old new : Walk) (n : Compiled) (first number at : ℕ) (b : tree.Body) (form : Option Form)
+    → is_compound b ≡ false → later_body n first b ≡ None
     → Walks Form old new (next_at old) (of_own (simple_typed (naming_at (unit_at old) (around old)) (around old) at b)) form
     → WalksBody old new number at b form
-simple_walked old new n m first number at b form h built w =
-    as_typed old new _ _ _ _ _ _ (simple_next n m first (next_at old) b h built)
+simple_walked old new n first number at b form h built w =
+    as_typed old new _ _ _ _ _ _ (simple_next n first (next_at old) b h built)
     (simple_body (unit_at old) (around old) (next_at old) number at b h) refl w
 
-pub simple_answer : {X E : Type 0} (view : X → Form) (result : Result (Option X) E) (old new : Walk) (n : Compiled) (m : Bool) (first number at : ℕ) (b : tree.Body)
-    → is_compound b ≡ false → later_body n m first b ≡ None
+pub simple_answer : {X E : Type 0} (view : X → Form) (result : Result (Option X) E) (old new : Walk) (n : Compiled) (first number at : ℕ) (b : tree.Body)
+    → is_compound b ≡ false → later_body n first b ≡ None
     → IfOk result (λ form. Walks Form old new (next_at old) (of_own (simple_typed (naming_at (unit_at old) (around old)) (around old) at b)) (option_map view form))
     → IfOk result (λ form. WalksBody old new number at b (option_map view form))
-simple_answer view (Ok form) old new n m first number at b h built w = simple_walked old new n m first number at b (option_map view form) h built w
-simple_answer view (Err e) old new n m first number at b h built w = tt
+simple_answer view (Ok form) old new n first number at b h built w = simple_walked old new n first number at b (option_map view form) h built w
+simple_answer view (Err e) old new n first number at b h built w = tt
 
 -- an IF
 
@@ -219,13 +219,13 @@ goes_on_next old now mid complete kept still nothing ts us all ss i s t is lt sa
     ∙ ap (λ b. in_front b (ts ++ listed_if nothing t) part) (sym stays) ∙ ap (λ vs. in_front still vs part) (sym puts))
     (goes new (both (put_before nothing) t part) step)
 
-pub next_built : (n : Compiled) (m : Bool) (ss : List Statement) (i : ℕ) (s : Statement) → s ≡ get_or ss i s → i < length ss
-    → later_statements n m (source.statements_view (drop i ss)) ≡ None
-    → (later_statement n m (source.statement_view s) ≡ None)
-    × (later_statements n m (source.statements_view (drop (i + 1) ss)) ≡ None)
-next_built n m ss i s is lt h =
-    list_built n m (source.statement_view s) (source.statements_view (drop (i + 1) ss))
-    (sym (front (λ ys. later_statements n m (source.statements_view ys)) ss i s is lt) ∙ h)
+pub next_built : (n : Compiled) (ss : List Statement) (i : ℕ) (s : Statement) → s ≡ get_or ss i s → i < length ss
+    → later_statements n (source.statements_view (drop i ss)) ≡ None
+    → (later_statement n (source.statement_view s) ≡ None)
+    × (later_statements n (source.statements_view (drop (i + 1) ss)) ≡ None)
+next_built n ss i s is lt h =
+    list_built n (source.statement_view s) (source.statements_view (drop (i + 1) ss))
+    (sym (front (λ ys. later_statements n (source.statements_view ys)) ss i s is lt) ∙ h)
 
 -- the end of the list
 

@@ -7,19 +7,19 @@ use Rattle.pli_base.specs.Statements as tree
 use Rattle.pli_base.specs.laws.StatementLaws.{unit_statements}
 use Rattle.pli_base.specs.views.StatementView.{statements_view, unit_view}
 use Rattle.pli_resolve.specs.ResolvedUnits.{resolved_unit_of}
-use Rattle.pli_type.specs.Checked.{checked, in_unit, first_inside, typed_as, unit_of, unless_unbuilt}
+use Rattle.pli_type.specs.Checked.{checked, in_unit, first_inside, outer_signature, typed_as, unit_of, unless_unbuilt}
 use Rattle.pli_type.specs.NamedUnits.{checked_unit}
 use Rattle.pli_type.specs.StatementTyping.{WithProcedures, statements_typed}
 use Rattle.pli_type.specs.Temporaries.{Next, temporaries_among}
-use Rattle.pli_type.specs.Unbuilt.{first_unbuilt, is_main, later_heading, later_statements, or_else}
-use Rattle.pli_type_names.specs.UnitNaming.{unit_compiled}
+use Rattle.pli_type.specs.Unbuilt.{first_unbuilt, later_heading, later_statements, or_else}
+use Rattle.pli_type_names.specs.UnitNaming.{procedure_in, unit_compiled}
 use Rattle.pli_type_tree.specs.Templates.{Template}
-use Rattle.pli_type_tree.specs.TypedTree.{TypedProcedure, TypedStatements, TypedUnit}
+use Rattle.pli_type_tree.specs.TypedTree.{Signature, Global, TypedProcedure, TypedStatements, TypedUnit}
 use Rattle.pli_type_tree.specs.declared.unit.TypedUnit as program
 use Rattle.pli_type_statement.specs.answers.Answers.{Checks}
 use Rattle.pli_type_statement.specs.declared.checking.CheckError.{CheckError}
 use Rattle.pli_type_statement.specs.declared.checking.CheckError.TheVariants as errors
-use Rattle.pli_type_statement.specs.Parts.{unit_named, main_in, given, told, Adds}
+use Rattle.pli_type_statement.specs.Parts.{unit_named, given, told, Adds}
 use Rattle.pli_type_statement.specs.Walking.{unit_with}
 
 behind_heading : (x y : Option ℕ) → or_else x y ≡ None → y ≡ None
@@ -28,14 +28,13 @@ behind_heading (Some at) y h = cc
 
 -- where nothing comes later in a unit, nothing does in its statements
 pub unit_built : (u : Procedure) → first_unbuilt (unit_compiled u) (unit_view u) ≡ None
-    → later_statements (unit_compiled u) (main_in u) (statements_view (out-Procedure u).statements.items) ≡ None
-unfolding main_in
+    → later_statements (unit_compiled u) (statements_view (out-Procedure u).statements.items) ≡ None
 unit_built u h =
-    ap (later_statements (unit_compiled u) (is_main (unit_view u))) (sym (unit_statements u))
+    ap (later_statements (unit_compiled u)) (sym (unit_statements u))
     ∙ behind_heading (later_heading (unit_view u).heading) _ h
 
 abbrev pub typed_list : Procedure → tree.Statements → Result (WithProcedures TypedStatements) (List Fault)
-typed_list u ss = statements_typed (unit_named u) (in_unit ss) first_inside ss
+typed_list u ss = statements_typed (unit_named u) (in_unit ((unit_named u).returned 0) ss) first_inside ss
 
 -- the check of a unit: a form that comes later decides, and then the statements
 opened : (u : Procedure) → checked_unit (resolved_unit_of (unit_view u))
@@ -66,39 +65,52 @@ pub faulty : (u : Procedure) (fs : List Fault) → first_unbuilt (unit_compiled 
 faulty u fs h none is =
     decided u h ∙ ap (typed_as (unit_named u)) (is_told _ none) ∙ ap Err (sym is)
 
-with_parts : (u : tree.ExternalProcedure) (s s' a a' : List Template) (t t' : ℕ) (l l' : TypedStatements) (p p' : List TypedProcedure)
-    → s ≡ s' → a ≡ a' → t ≡ t' → l ≡ l' → p ≡ p' → unit_with u s a t l p ≡ unit_with u s' a' t' l' p'
-with_parts u s s' a a' t t' l l' p p' e f g h i =
-    ap (λ x. unit_with u x a t l p) e ∙ ap (λ x. unit_with u s' x t l p) f ∙ ap (λ x. unit_with u s' a' x l p) g
-    ∙ ap (λ x. unit_with u s' a' t' x p) h ∙ ap (λ x. unit_with u s' a' t' l' x) i
+with_parts : (u : tree.ExternalProcedure) (s s' : Signature) (g g' : List Global) (a a' : List Template) (t t' : ℕ)
+    (l l' : TypedStatements) (p p' : List TypedProcedure) → s ≡ s' → g ≡ g' → a ≡ a' → t ≡ t' → l ≡ l' → p ≡ p'
+    → unit_with u s g a t l p ≡ unit_with u s' g' a' t' l' p'
+with_parts u s s' g g' a a' t t' l l' p p' c d e f h i =
+    ap (λ x. unit_with u x g a t l p) c ∙ ap (λ x. unit_with u s' x a t l p) d ∙ ap (λ x. unit_with u s' g' x t l p) e
+    ∙ ap (λ x. unit_with u s' g' a' x l p) f ∙ ap (λ x. unit_with u s' g' a' t' x p) h
+    ∙ ap (λ x. unit_with u s' g' a' t' l' x) i
 
 unit_named_with : (u : Procedure) (w : WithProcedures TypedStatements)
-    → unit_with (unit_view u) (unit_named u).statics ((unit_named u).automatic 0) (temporaries_among (unit_view u).statements) w.part w.procedures
+    → unit_with (unit_view u) (outer_signature (unit_named u)) (unit_named u).globals ((unit_named u).automatic 0) (temporaries_among (unit_view u).statements) w.part w.procedures
     ≡ unit_of (unit_named u) w
 unfolding unit_named
 unit_named_with u w = refl
 
-whole : (u : Procedure) (r : Result (WithProcedures TypedStatements) (List Fault)) (statics automatic : List Template) (temporaries : ℕ)
-    (list : TypedStatements) (procedures : List TypedProcedure)
-    → Some list ≡ given r → Adds r [] procedures → statics ≡ (unit_named u).statics → automatic ≡ (unit_named u).automatic 0
-    → temporaries ≡ temporaries_among (unit_view u).statements
-    → typed_as (unit_named u) r ≡ Ok (unit_with (unit_view u) statics automatic temporaries list procedures)
-whole u (Ok w) statics automatic temporaries list procedures is adds s a t =
-    ap Ok (sym (with_parts (unit_view u) _ _ _ _ _ _ _ _ _ _ s a t (inner _ _ is) adds ∙ unit_named_with u w))
+whole : (u : Procedure) (r : Result (WithProcedures TypedStatements) (List Fault)) (signature : Signature) (globals : List Global)
+    (automatic : List Template) (temporaries : ℕ) (list : TypedStatements) (procedures : List TypedProcedure)
+    → Some list ≡ given r → Adds r [] procedures → signature ≡ outer_signature (unit_named u) → globals ≡ (unit_named u).globals
+    → automatic ≡ (unit_named u).automatic 0 → temporaries ≡ temporaries_among (unit_view u).statements
+    → typed_as (unit_named u) r ≡ Ok (unit_with (unit_view u) signature globals automatic temporaries list procedures)
+whole u (Ok w) signature globals automatic temporaries list procedures is adds s g a t =
+    ap Ok (sym (with_parts (unit_view u) _ _ _ _ _ _ _ _ _ _ _ _ s g a t (inner _ _ is) adds ∙ unit_named_with u w))
   where
     inner : (x y : TypedStatements) → Some x ≡ Some y → x ≡ y
     inner x y e = cc
-whole u (Err fs) statics automatic temporaries list procedures is adds s a t = cc
+whole u (Err fs) signature globals automatic temporaries list procedures is adds s g a t = cc
 
-pub typed : (u : Procedure) (statics automatic : List Template) (temporaries : ℕ) (list : TypedStatements) (procedures : List TypedProcedure)
+pub typed : (u : Procedure) (signature : Signature) (globals : List Global) (automatic : List Template) (temporaries : ℕ)
+    (list : TypedStatements) (procedures : List TypedProcedure)
     → first_unbuilt (unit_compiled u) (unit_view u) ≡ None
     → Some list ≡ given (typed_list u (statements_view (out-Procedure u).statements.items))
     → Adds (typed_list u (statements_view (out-Procedure u).statements.items)) [] procedures
-    → statics ≡ (unit_named u).statics → automatic ≡ (unit_named u).automatic 0
+    → signature ≡ outer_signature (unit_named u) → globals ≡ (unit_named u).globals → automatic ≡ (unit_named u).automatic 0
     → temporaries ≡ temporaries_among (statements_view (out-Procedure u).statements.items)
-    → checked_unit (resolved_unit_of (unit_view u)) ≡ Ok (unit_with (unit_view u) statics automatic temporaries list procedures)
-typed u statics automatic temporaries list procedures h is adds s a t =
-    decided u h ∙ whole u _ statics automatic temporaries list procedures is adds s a (t ∙ ap temporaries_among (sym (unit_statements u)))
+    → checked_unit (resolved_unit_of (unit_view u)) ≡ Ok (unit_with (unit_view u) signature globals automatic temporaries list procedures)
+typed u signature globals automatic temporaries list procedures h is adds s g a t =
+    decided u h ∙ whole u _ signature globals automatic temporaries list procedures is adds s g a (t ∙ ap temporaries_among (sym (unit_statements u)))
+
+-- what the external procedure takes and gives is what its block does
+pub signature_found : (u : Procedure) → outer_signature (unit_named u)
+    ≡ record { parameters = (procedure_in u 0).parameters; result = (procedure_in u 0).returned }
+unfolding unit_named procedure_in
+signature_found u = refl
+
+pub returned_found : (u : Procedure) → (procedure_in u 0).returned ≡ (unit_named u).returned 0
+unfolding unit_named procedure_in
+returned_found u = refl
 
 -- an answer to an equal question
 pub moved_answer : (x : Result program.TypedUnit CheckError) (r s : Result TypedUnit (List Fault)) → r ≡ s → Checks x r → Checks x s

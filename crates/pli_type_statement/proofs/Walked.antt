@@ -71,7 +71,7 @@ pub back_then : (old mid new : Walk) → IsBack old mid → IsBack mid new → I
 back_then old mid new b c = record {
   naming = c.naming ∙ b.naming;
   around = c.around ∙ b.around;
-  statics = c.statics ∙ b.statics;
+  globals = c.globals ∙ b.globals;
   placed = c.placed;
 }
 
@@ -127,7 +127,7 @@ as_typed old new after last r s x y a e p w = record {
 pub nothing_walked : {A : Type 0} (w : Walk) (after : Next) (x : A) → IsPlaced w → next_at w ≡ after
     → Walks A w w after (Ok (alone x)) (Some x)
 nothing_walked w after x placed e = record {
-  back = record { naming = refl; around = refl; statics = refl; placed = placed };
+  back = record { naming = refl; around = refl; globals = refl; placed = placed };
   next = e;
   part = refl;
   faults = sym (append-nil w.faults.items);

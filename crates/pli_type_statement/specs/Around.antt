@@ -38,7 +38,7 @@ label_if true number = number ∷ []
 abbrev pub number_of : List Enclosing → ℕ
 number_of bs = block_at (record { blocks = bs; begins = 0; value = None })
 
--- in the list of an external procedure, with these labels
-abbrev pub outermost : List ℕ → Around
-outermost labels =
-    record { lists = record { block = Some 0; labels = labels } ∷ []; begins = 0; value = None }
+-- in the list of an external procedure, with these labels, which gives this if it is a function
+abbrev pub outermost : List ℕ → (value : Option Description) → Around
+outermost labels value =
+    record { lists = record { block = Some 0; labels = labels } ∷ []; begins = 0; value = value }

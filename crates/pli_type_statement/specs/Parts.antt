@@ -13,7 +13,6 @@ use Rattle.pli_type.specs.StatementTyping.{WithProcedures}
 use Rattle.pli_resolve.specs.TreeBlocks.{blocks_of, blocks_among, blocks_behind}
 use Rattle.pli_type.specs.Temporaries.{Next, temporaries_of}
 use Rattle.pli_type.specs.Temporaries.{temporaries_among, temporaries_behind}
-use Rattle.pli_type.specs.Unbuilt.{is_main}
 use Rattle.pli_type_expression.specs.declared.answer.TypeError.{TypeError}
 use Rattle.pli_type_expression.specs.declared.answer.TypeError.TheVariants as errors
 use Rattle.pli_type_tree.specs.TypedTree as typed
@@ -78,9 +77,6 @@ abbrev pub behind_other : Next → source.Alternative → Next
 behind_other x a =
     record { block = x.block + blocks_behind a; temporary = x.temporary + temporaries_behind a }
 
--- a unit as types see it, and whether it is MAIN
+-- a unit as types see it
 unfoldable pub unit_named : Procedure → NamedUnit
 unit_named u = named_unit 31 (resolved_unit_of (unit_view u))
-
-unfoldable pub main_in : Procedure → Bool
-main_in u = is_main (unit_view u)

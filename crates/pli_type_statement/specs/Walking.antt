@@ -5,17 +5,17 @@ use Rattle.pli_base.specs.Statements.{Body, ExternalProcedure, Statements}
 use Rattle.pli_base.specs.declared.token.Fault.{Fault}
 use Rattle.pli_map.specs.Description.{Description}
 use Rattle.pli_map.specs.views.DescriptionView.{description_view}
+use Rattle.pli_type.specs.Checked.{may_begin}
 use Rattle.pli_type.specs.Names.{NamedUnit}
 use Rattle.pli_type.specs.StatementTyping as spec
 use Rattle.pli_type.specs.StatementTyping.{Enclosing, Surroundings, WithProcedures, head_of}
 use Rattle.pli_resolve.specs.TreeBlocks.{blocks_among}
 use Rattle.pli_type.specs.Temporaries.{Next}
-use Rattle.pli_type.specs.Unbuilt.{is_main}
 use Rattle.pli_type_names.specs.UnitNaming.{inside, outside}
 use Rattle.pli_type_templates.specs.views.UnitView.{automatic_at}
 use Rattle.pli_type_tree.specs.Templates.{Template}
 use Rattle.pli_type_tree.specs.TypedTree as typed
-use Rattle.pli_type_tree.specs.TypedTree.{Form, TypedProcedure, TypedStatements, TypedUnit}
+use Rattle.pli_type_tree.specs.TypedTree.{Form, Signature, Global, TypedProcedure, TypedStatements, TypedUnit}
 use Rattle.pli_type_tree.specs.declared.statement.BlockHead.{BlockHead}
 use Rattle.pli_type_tree.specs.views.TemplateView.{groups_view}
 use Rattle.pli_type_tree.specs.views.TypedView.{head_view, procedure_view}
@@ -49,7 +49,7 @@ pub record IsPlaced (w : Walk) : Type 0 where
 pub record IsBack (old new : Walk) : Type 0 where
   pub naming : new.naming ≡ old.naming
   pub around : around_view new.surroundings ≡ around_view old.surroundings
-  pub statics : new.templates.statics ≡ old.templates.statics
+  pub globals : new.templates.globals ≡ old.templates.globals
   pub placed : IsPlaced new
 
 -- it has walked over a part: that part, if it has no fault; its faults behind the others; and its procedures
@@ -88,7 +88,7 @@ pub record Enters (old new : Walk) (block : OpenBlock) (inner : ℕ) (gives : Op
   pub next : next_at new ≡ record { block = suc old.next.block; temporary = 0 }
   pub templates : (k : ℕ) → (k ≡ old.next.block → ⊥)
       → automatic_at new.templates k ≡ automatic_at old.templates k
-  pub statics : new.templates.statics ≡ old.templates.statics
+  pub globals : new.templates.globals ≡ old.templates.globals
   pub faults : new.faults.items ≡ old.faults.items
   pub procedures : new.procedures.items ≡ old.procedures.items
   pub number : block.number ≡ old.next.block
@@ -156,23 +156,30 @@ pub record Finishes (old new : Walk) (end : ℕ) (head : BlockHead) (list : Opti
   pub faults : new.faults ≡ old.faults
   pub ends : Ends old end head list (finished new) form
 
+-- an external procedure of its parts
+abbrev pub external_with : ExternalProcedure → Signature → (automatic : List Template) → (temporaries : ℕ)
+    → TypedStatements → TypedProcedure
+external_with u signature automatic temporaries list = record {
+  head = record {
+    number = 0;
+    statement = u.heading.number;
+    variables = automatic;
+    temporaries = temporaries;
+  };
+  parent = None;
+  parameters = length signature.parameters;
+  function_end = spec.function_end signature.result u.end;
+  statements = list;
+}
+
 -- a unit of its parts
-abbrev pub unit_with : ExternalProcedure → (statics automatic : List Template) → (temporaries : ℕ)
-    → TypedStatements → List TypedProcedure → TypedUnit
-unit_with u statics automatic temporaries list procedures = record {
+abbrev pub unit_with : ExternalProcedure → Signature → List Global → (automatic : List Template)
+    → (temporaries : ℕ) → TypedStatements → List TypedProcedure → TypedUnit
+unit_with u signature globals automatic temporaries list procedures = record {
   name = u.heading.name.name;
-  is_main = is_main u;
-  statics = statics;
-  procedures = record {
-    head = record {
-      number = 0;
-      statement = u.heading.number;
-      variables = automatic;
-      temporaries = temporaries;
-    };
-    parent = None;
-    parameters = 0;
-    function_end = None;
-    statements = list;
-  } ∷ procedures;
+  procedure = u.heading.name.name;
+  is_main = may_begin u signature;
+  signature = signature;
+  globals = globals;
+  procedures = external_with u signature automatic temporaries list ∷ procedures;
 }

@@ -48,7 +48,7 @@ pub(crate) fn call(
     let arguments = pass(alloc, naming.greatest(), procedure, name.at, arguments)?;
     match procedure.returned {
         None => Ok(Form::Call {
-            block: procedure.block,
+            callee: procedure.callee,
             arguments,
         }),
         Some(_) => Err(fault(Code::NotCallableHere, name.at)),

@@ -1,31 +1,38 @@
 //! The check of a unit.
-ghost use Rattle.std.specs.Prelude.{◌≡◌, [], ◌∷◌, None, Err, IfOk};
+ghost use Rattle.std.specs.Prelude.{◌≡◌, [], ◌∷◌, None, length, option_map, Err, IfOk};
 ghost use Rattle.pli_base.specs.declared.code.Code.TheVariants.{NotYetBuilt};
 ghost use Rattle.pli_base.specs.views.StatementView as source;
 ghost use Rattle.pli_base.specs.views.StatementView.{unit_view};
+ghost use Rattle.pli_map.specs.views.DescriptionView.{description_view};
 ghost use Rattle.pli_resolve.specs.ResolvedUnits.{resolved_unit_of};
+ghost use Rattle.pli_type.specs.Checked.{may_begin};
 ghost use Rattle.pli_type.specs.NamedUnits.{checked_unit};
-ghost use Rattle.pli_type.specs.StatementTyping.{labels_of};
+ghost use Rattle.pli_type.specs.StatementTyping.{function_end, labels_of};
 ghost use Rattle.pli_type.specs.Unbuilt.{first_unbuilt};
 ghost use Rattle.pli_type_names.specs.UnitNaming.{compiled_in};
 ghost use Rattle.pli_type_statement.specs.Around.{outermost};
-ghost use Rattle.pli_type_statement.specs.Walking.{finished, unit_with};
+ghost use Rattle.pli_type_statement.specs.Walking.{external_with, finished, unit_with};
 ghost use Rattle.pli_type_statement.specs.answers.Answers.{Checks};
 ghost use Rattle.pli_type_statement.specs.declared.checking.CheckError.TheVariants.{OutOfMemory};
 ghost use Rattle.pli_type_statement.specs.views.AroundView.{around_view};
+ghost use Rattle.pli_type_tree.specs.views.GlobalView.{globals_view, signature_view};
 ghost use Rattle.pli_type_tree.specs.views.TemplateView.{groups_view};
 ghost use Rattle.pli_type_tree.specs.views.TypedView as typed;
 
 use crate::labels::{ListLabels, labels_of};
+use crate::outer::{outer_signature, takes_nothing};
 use crate::statement::type_statements;
 use crate::surroundings::Surroundings;
 use crate::walk::{Next, Walk};
 use pli_base::statement::{Procedure, Statement};
 use pli_base::{Code, Fault};
+use pli_map::Description;
 use pli_resolve::ResolvedUnit;
 use pli_type_names::{Naming, name_unit};
 use pli_type_templates::templates;
-use pli_type_tree::{BlockHead, TypedProcedure, TypedStatement, TypedUnit, VariableGroup};
+use pli_type_tree::{
+    BlockHead, Signature, TypedProcedure, TypedStatement, TypedUnit, VariableGroup,
+};
 use pli_type_unbuilt::{first_unbuilt, is_main};
 use std::alloc::{AllocError, AllocFailed, Global};
 
@@ -66,9 +73,14 @@ fn not_yet_built(alloc: Global, at: u32) -> Result<TypedUnit, CheckError>
     Err(CheckError::Faults(faults))
 }
 
-/// In the list of the external procedure, which is block 0.
-fn in_unit<'a>(alloc: Global, statements: &[Statement]) -> Result<Surroundings<'a>, AllocError>
-    ensures { IfOk result (λ around. around_view around ≡ outermost (labels_of (source.statements_view statements.now))) }
+/// In the list of the external procedure, which is block 0, and gives this if it is a function.
+fn in_unit<'a>(
+    alloc: Global,
+    statements: &[Statement],
+    value: Option<&'a Description>,
+) -> Result<Surroundings<'a>, AllocError>
+    ensures { IfOk result (λ around. around_view around ≡ outermost (labels_of (source.statements_view statements.now))
+        (option_map (λ d. description_view d.now) value.entry)) }
 {
     let labels = labels_of(alloc, statements)?;
     let mut lists = Vec::new(alloc);
@@ -79,22 +91,78 @@ fn in_unit<'a>(alloc: Global, statements: &[Statement]) -> Result<Surroundings<'
     Ok(Surroundings {
         lists,
         begins: 0,
-        value: None,
+        value,
     })
 }
 
-/// The typed unit of its tree, what the variables of block 0 are made from, its typed statements, and what the walk
-/// over these has found.
+/// The number of a function's END; none of what gives nothing.
+fn function_end(value: &Option<Description>, end: u32) -> Option<u32>
+    ensures { result ≡ function_end (option_map description_view value.now) end }
+{
+    match value {
+        Some(_) => Some(end),
+        None => None,
+    }
+}
+
+/// How many parameters a procedure takes.
+fn how_many(signature: &Signature) -> Result<u32, AllocError>
+    ensures { IfOk result (λ count. count ≡ length (signature_view signature.now).parameters) }
+{
+    u32::try_from(signature.parameters.len())
+        .ok()
+        .ok_or(AllocError)
+}
+
+/// Whether a program may begin with a unit, whose external procedure takes and gives this.
+fn may_begin(tree: &Procedure, signature: &Signature) -> bool
+    ensures { result ≡ may_begin (unit_view tree.now) (signature_view signature.now) }
+{
+    is_main(tree) && takes_nothing(signature)
+}
+
+/// The external procedure of a unit, which is block 0.
+#[tactic(auto, using(crate::proofs::Beginnings::unit_named_so))]
+fn external_procedure(
+    tree: &Procedure,
+    signature: &Signature,
+    variables: Vec<VariableGroup>,
+    temporaries: u32,
+    statements: Vec<TypedStatement>,
+) -> Result<TypedProcedure, AllocError>
+    ensures { IfOk result (λ made. typed.procedure_view made
+        ≡ external_with (unit_view tree.now) (signature_view signature.now) (groups_view variables.items) temporaries
+        (typed.statements_view statements.items)) }
+{
+    let parameters = how_many(signature)?;
+    let function_end = function_end(&signature.result, tree.end);
+    Ok(TypedProcedure {
+        head: BlockHead {
+            number: 0,
+            statement: tree.number,
+            variables,
+            temporaries,
+        },
+        parent: None,
+        parameters,
+        function_end,
+        statements,
+    })
+}
+
+/// The typed unit of its tree, what its external procedure takes and gives, what the variables of block 0 are made
+/// from, its typed statements, and what the walk over these has found.
 #[tactic(auto, using(crate::proofs::Beginnings::unit_named_so))]
 fn typed_unit(
     tree: &Procedure,
+    signature: Signature,
     variables: Vec<VariableGroup>,
     statements: Vec<TypedStatement>,
     walk: Walk<'_>,
 ) -> Result<TypedUnit, AllocError>
     ensures { IfOk result (λ made. typed.unit_view made
-        ≡ unit_with (unit_view tree.now) (groups_view walk.entry.templates.statics.items) (groups_view variables.items)
-        walk.entry.next.temporary (typed.statements_view statements.items) (finished walk.entry)) }
+        ≡ unit_with (unit_view tree.now) (signature_view signature) (globals_view walk.entry.templates.globals.items)
+        (groups_view variables.items) walk.entry.next.temporary (typed.statements_view statements.items) (finished walk.entry)) }
 {
     let Walk {
         next,
@@ -102,25 +170,15 @@ fn typed_unit(
         mut procedures,
         ..
     } = walk;
-    procedures.insert(
-        0,
-        TypedProcedure {
-            head: BlockHead {
-                number: 0,
-                statement: tree.number,
-                variables,
-                temporaries: next.temporary,
-            },
-            parent: None,
-            parameters: 0,
-            function_end: None,
-            statements,
-        },
-    )?;
+    let external = external_procedure(tree, &signature, variables, next.temporary, statements)?;
+    let is_main = may_begin(tree, &signature);
+    procedures.insert(0, external)?;
     Ok(TypedUnit {
         name: tree.name.name,
-        is_main: is_main(tree),
-        statics: templates.statics,
+        procedure: tree.name.name,
+        is_main,
+        signature,
+        globals: templates.globals,
         procedures,
     })
 }
@@ -141,7 +199,8 @@ fn built<'a>(
     naming.enter(0)?;
     let mut templates = templates(alloc, unit)?;
     let variables = templates.take(alloc, 0);
-    let surroundings = in_unit(alloc, statements)?;
+    let value = naming.procedure(0).returned;
+    let surroundings = in_unit(alloc, statements, value)?;
     let mut walk = Walk {
         naming,
         surroundings,
@@ -154,7 +213,10 @@ fn built<'a>(
         procedures: Vec::new(alloc),
     };
     match type_statements(alloc, &mut walk, statements)? {
-        Some(list) => Ok(typed_unit(tree, variables, list, walk)?),
+        Some(list) => {
+            let signature = outer_signature(alloc, &walk.naming)?;
+            Ok(typed_unit(tree, signature, variables, list, walk)?)
+        }
         None => {
             let Walk { faults, .. } = walk;
             Err(CheckError::Faults(faults))

@@ -11,6 +11,7 @@ mod items;
 mod iteration;
 mod jumps;
 mod labels;
+mod outer;
 mod simple;
 mod statement;
 mod surroundings;

@@ -7,7 +7,6 @@ ghost use Rattle.pli_type.specs.Unbuilt.{later_body, later_expression};
 ghost use Rattle.pli_type_expression.specs.answers.TypingAnswers.{Gives};
 ghost use Rattle.pli_type_names.specs.UnitNaming.{compiled_in, naming_in};
 ghost use Rattle.pli_type_statement.specs.Around.{surroundings_of};
-ghost use Rattle.pli_type_statement.specs.Parts.{main_in};
 ghost use Rattle.pli_type_statement.specs.Simple.{put_typed, simple_typed};
 ghost use Rattle.pli_type_statement.specs.views.AroundView.{around_view};
 ghost use Rattle.pli_type_tree.specs.views.TypedView.{form_view};
@@ -49,7 +48,7 @@ pub(crate) fn simple(
     at: u32,
     body: &Body,
 ) -> Result<Form, TypeError>
-    requires { (first : ℕ) × (later_body (compiled_in naming.now) (main_in naming.now.unit) first (source.body_view body.now) ≡ None) }
+    requires { (first : ℕ) × (later_body (compiled_in naming.now) first (source.body_view body.now) ≡ None) }
     ensures { Gives form_view result
         (simple_typed (naming_in naming.now) (surroundings_of (around_view around.now)) at (source.body_view body.now)) }
 {

@@ -9,7 +9,6 @@ ghost use Rattle.pli_type.specs.Unbuilt.{later_body, later_control, later_expres
 ghost use Rattle.pli_type_names.specs.UnitNaming.{compiled_in};
 ghost use Rattle.pli_type_statement.specs.Around.{surroundings_of};
 ghost use Rattle.pli_type_statement.specs.Headers.{Header as PlainHeader, header_typed};
-ghost use Rattle.pli_type_statement.specs.Parts.{main_in};
 ghost use Rattle.pli_type_statement.specs.Simple.{is_compound, simple_typed};
 ghost use Rattle.pli_type_statement.specs.Walking.{Finishes, IsPlaced, in_block, Walks, WalksBlock, WalksBody, WalksList, around, next_at, unit_at};
 ghost use Rattle.pli_type_statement.specs.views.HeaderView.{header_view};
@@ -55,7 +54,7 @@ fn type_simple(
     body: &Body,
 ) -> Result<Option<Form>, AllocError>
     requires placed { IsPlaced walk.old }
-    requires built { (first : ℕ) × (later_body (compiled_in walk.old.naming) (main_in walk.old.naming.unit) first (source.body_view body.now) ≡ None) }
+    requires built { (first : ℕ) × (later_body (compiled_in walk.old.naming) first (source.body_view body.now) ≡ None) }
     requires simple { is_compound (source.body_view body.now) ≡ false }
     ensures walked { IfOk result (λ form. Walks plain.Form walk.old walk.new (next_at walk.old)
         (spec.of_own (simple_typed (spec.naming_at (unit_at walk.old) (around walk.old)) (around walk.old) at (source.body_view body.now)))
@@ -153,7 +152,7 @@ fn type_statement(
     statement: &Statement,
 ) -> Result<Option<TypedStatement>, AllocError>
     requires placed { IsPlaced walk.old }
-    requires built { later_statement (compiled_in walk.old.naming) (main_in walk.old.naming.unit) (source.statement_view statement.now) ≡ None }
+    requires built { later_statement (compiled_in walk.old.naming) (source.statement_view statement.now) ≡ None }
     ensures { IfOk result (λ typed. Walks plain.TypedStatement walk.old walk.new
         (behind (next_at walk.old) (source.statement_view statement.now))
         (spec.statement_typed (unit_at walk.old) (around walk.old) (next_at walk.old) (source.statement_view statement.now))
@@ -173,7 +172,7 @@ fn type_body<'a>(
     body: &Body,
 ) -> Result<Option<Form>, AllocError>
     requires placed { IsPlaced walk.old }
-    requires built { (first : ℕ) × (later_body (compiled_in walk.old.naming) (main_in walk.old.naming.unit) first (source.body_view body.now) ≡ None) }
+    requires built { (first : ℕ) × (later_body (compiled_in walk.old.naming) first (source.body_view body.now) ≡ None) }
     ensures { IfOk result (λ form. WalksBody walk.old walk.new number at (source.body_view body.now) (option_map form_view form)) }
 {
     match body {
@@ -231,7 +230,7 @@ fn type_block<'a>(
     statements: &[Statement],
 ) -> Result<TypedBlock, AllocError>
     requires placed { IsPlaced walk.old }
-    requires built { later_statements (compiled_in walk.old.naming) (main_in walk.old.naming.unit) (source.statements_view statements.now) ≡ None }
+    requires built { later_statements (compiled_in walk.old.naming) (source.statements_view statements.now) ≡ None }
     ensures { IfOk result (λ block. WalksBlock walk.old walk.new
         (in_block walk.old begins (option_map (λ d. description_view d.now) value.entry) (source.statements_view statements.now))
         number (source.statements_view statements.now) block.head (option_map (λ list. statements_view list.items) block.list)) }
@@ -250,7 +249,7 @@ fn type_group(
     statements: &[Statement],
 ) -> Result<Option<Vec<TypedStatement>>, AllocError>
     requires placed { IsPlaced walk.old }
-    requires built { later_statements (compiled_in walk.old.naming) (main_in walk.old.naming.unit) (source.statements_view statements.now) ≡ None }
+    requires built { later_statements (compiled_in walk.old.naming) (source.statements_view statements.now) ≡ None }
     ensures { IfOk result (λ typed. WalksList walk.old walk.new
         (spec.in_group (source.statements_view statements.now) (around walk.old)) (source.statements_view statements.now)
         (option_map (λ list. statements_view list.items) typed)) }
@@ -271,7 +270,7 @@ pub(crate) fn type_statements(
     statements: &[Statement],
 ) -> Result<Option<Vec<TypedStatement>>, AllocError>
     requires placed { IsPlaced walk.old }
-    requires built { later_statements (compiled_in walk.old.naming) (main_in walk.old.naming.unit) (source.statements_view statements.now) ≡ None }
+    requires built { later_statements (compiled_in walk.old.naming) (source.statements_view statements.now) ≡ None }
     ensures { IfOk result (λ typed. WalksList walk.old walk.new (around walk.old) (source.statements_view statements.now)
         (option_map (λ list. statements_view list.items) typed)) }
 {

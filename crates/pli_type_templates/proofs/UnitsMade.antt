@@ -7,10 +7,11 @@ use Rattle.std.proofs.lemmas.List.{append-nil, length-map, take_all}
 use Rattle.std.proofs.lemmas.Option.{slice_get-map}
 use Rattle.pli_resolve.specs.ResolvedUnits.{ResolvedUnit, all_symbols}
 use Rattle.pli_resolve.specs.Symbols.{Symbol}
-use Rattle.pli_type.specs.NamedUnits.{block_symbols, is_automatic, is_static, templates_of}
+use Rattle.pli_type.specs.NamedUnits.{block_symbols, globals_of, is_automatic, templates_of}
 use Rattle.pli_type_names.proofs.Blocks.{all_counted, symbols_there}
 use Rattle.pli_type_names.proofs.Lists.{take_one_more}
 use Rattle.pli_type_tree.specs.Templates.{Template}
+use Rattle.pli_type_tree.specs.TypedTree as tree
 
 -- what the AUTOMATIC variables of all blocks are made from
 abbrev pub rows_of : ResolvedUnit → List (List Template)
@@ -36,19 +37,19 @@ all_rows r n rows h is block =
     ap (λ xs. get_or xs block []) (is ∙ take_all n (rows_of r) long)
     ∙ mapped_get (templates_of (is_automatic 31)) (all_symbols r) block refl
 
--- the STATIC variables of one block more, and of all
-pub statics_more : (r : ResolvedUnit) (n : ℕ) → n < length r.blocks + 1
-    → flat_map (templates_of (is_static 31)) (take n (all_symbols r)) ++ templates_of (is_static 31) (block_symbols r n)
-    ≡ flat_map (templates_of (is_static 31)) (take (n + 1) (all_symbols r))
-statics_more r n h =
-    let f : List Symbol → List Template = templates_of (is_static 31) in
+-- the globals of one block more, and of all
+pub globals_more : (r : ResolvedUnit) (n : ℕ) → n < length r.blocks + 1
+    → flat_map (globals_of 31) (take n (all_symbols r)) ++ globals_of 31 (block_symbols r n)
+    ≡ flat_map (globals_of 31) (take (n + 1) (all_symbols r))
+globals_more r n h =
+    let f : List Symbol → List tree.Global = globals_of 31 in
     let own = block_symbols r n in
     sym (ap (flat_map f) (take_one_more (all_symbols r) n own (symbols_there r n h))
     ∙ flat_map-append f (take n (all_symbols r)) (own ∷ [])
     ∙ ap (λ ts. flat_map f (take n (all_symbols r)) ++ ts) (append-nil (f own)))
 
-pub all_statics_are : (r : ResolvedUnit) (n : ℕ) → length r.blocks + 1 ≤ n
-    → flat_map (templates_of (is_static 31)) (take n (all_symbols r)) ≡ flat_map (templates_of (is_static 31)) (all_symbols r)
-all_statics_are r n h =
+pub all_globals_are : (r : ResolvedUnit) (n : ℕ) → length r.blocks + 1 ≤ n
+    → flat_map (globals_of 31) (take n (all_symbols r)) ≡ flat_map (globals_of 31) (all_symbols r)
+all_globals_are r n h =
     let long : length (all_symbols r) ≤ n = omega (arith, h, all_counted r) in
-    ap (flat_map (templates_of (is_static 31))) (take_all n (all_symbols r) long)
+    ap (flat_map (globals_of 31)) (take_all n (all_symbols r) long)

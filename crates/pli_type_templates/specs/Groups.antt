@@ -1,15 +1,17 @@
 -- Which variables are made, and the members of each.
 use Rattle.std.specs.Prelude.{◌≡◌, ◌<◌, ℕ, Bool, false, Option, Some}
-use Rattle.std.specs.Prelude.{None, List, [], ◌∷◌, ◌++◌, get_or, length, slice_set}
+use Rattle.std.specs.Prelude.{None, List, [], ◌∷◌, ◌++◌, get_or, length, map, slice_set}
 use Rattle.std.specs.Prelude.{if◌then◌else◌}
+use Rattle.pli_base.specs.Name.{Name}
 use Rattle.pli_base.specs.declared.declaration.InitialValue.{InitialValue}
 use Rattle.pli_map.specs.Description.{Description}
-use Rattle.pli_resolve.specs.Symbols.{Symbol, SymbolKind, Variable, Member}
+use Rattle.pli_resolve.specs.Symbols.{Symbol, SymbolKind, Variable, Member, Entry}
 use Rattle.pli_resolve.specs.declared.symbol.StorageClass.{StorageClass}
 use Rattle.pli_resolve.specs.declared.symbol.StorageClass.TheVariants as classes
 use Rattle.pli_type.specs.InitialScalars.{InitialItem, template_of}
-use Rattle.pli_type.specs.NamedUnits.{is_automatic, is_static, member_items}
+use Rattle.pli_type.specs.NamedUnits.{global_of, is_automatic, is_static, member_items}
 use Rattle.pli_type_tree.specs.Templates.{Template}
+use Rattle.pli_type_tree.specs.TypedTree.{Global, EntryPoint}
 
 -- variables of this class: of those that are AUTOMATIC or STATIC such as are made
 abbrev pub is_such : (wanted : StorageClass) → StorageClass → Description → Bool
@@ -48,6 +50,15 @@ abbrev pub templates_with : Option Made → (members : List InitialItem) → Lis
 templates_with None members = []
 templates_with (Some m) members =
     template_of m.description (record { path = []; values = m.values } ∷ members) ∷ []
+
+-- the globals that a symbol with these members is
+abbrev pub global_made : Name → SymbolKind → (members : List InitialItem) → List Global
+global_made name (Variable description class scope initial area) members =
+    map (global_of scope name)
+    (templates_with (made_in classes.Static (Variable description class scope initial area)) members)
+global_made name (Entry parameters returned) members =
+    EntryPoint name (record { parameters = parameters; result = returned }) ∷ []
+global_made name kind members = []
 
 -- under the number of each symbol its members
 pub record AreMembers (rows : List (List InitialItem)) (symbols : List Symbol) : Type 0 where

@@ -6,7 +6,7 @@ ghost use Rattle.pli_type.specs.InitialScalars.{template_of};
 ghost use Rattle.pli_type.specs.NamedUnits.{templates_of};
 ghost use Rattle.pli_type_templates.specs.Groups.{AreMembers, is_such, made_in, templates_with};
 ghost use Rattle.pli_type_templates.specs.views.ItemView.{items_view, made_view, rows_view};
-ghost use Rattle.pli_type_tree.specs.views.TemplateView.{group_view, groups_view};
+ghost use Rattle.pli_type_tree.specs.views.TemplateView.{group_view, groups_view, template_view};
 
 use crate::items::{Item, put_item};
 use crate::plan::plan_from;
@@ -36,7 +36,7 @@ fn is_such(wanted: StorageClass, class: StorageClass, description: &Description)
 }
 
 /// A variable of the wanted class that is compiled; none of anything else.
-fn made_in<'a>(wanted: StorageClass, symbol: &Symbol<'a>) -> Option<Made<'a>>
+pub(crate) fn made_in<'a>(wanted: StorageClass, symbol: &Symbol<'a>) -> Option<Made<'a>>
     ensures { option_map made_view result ≡ made_in wanted (symbol_kind_view symbol.now.kind) }
 {
     match symbol.kind {
@@ -59,13 +59,13 @@ fn made_in<'a>(wanted: StorageClass, symbol: &Symbol<'a>) -> Option<Made<'a>>
 }
 
 /// What one variable is made from, by its own INITIAL and by those of its members.
-fn variable_group(
+pub(crate) fn variable_template(
     alloc: Global,
     made: Made<'_>,
     members: &[Item<'_>],
-) -> Result<VariableGroup, AllocError>
-    ensures { IfOk result (λ group. group_view group
-        ≡ template_of (made_view made.entry).description (record { path = []; values = (made_view made.entry).values } ∷ items_view members.now) ∷ []) }
+) -> Result<Template, AllocError>
+    ensures { IfOk result (λ template. template_view template
+        ≡ template_of (made_view made.entry).description (record { path = []; values = (made_view made.entry).values } ∷ items_view members.now)) }
 {
     let planned = plan_from(alloc, made.description, 0)?;
     let mut scalars = Vec::new(alloc);
@@ -78,13 +78,17 @@ fn variable_group(
         put_item(alloc, &planned.plan, *member, &mut scalars)?;
     }
     let description = made.description.copy(alloc)?;
-    Ok(VariableGroup {
-        count: 1,
-        template: Template {
-            description,
-            initial: scalars,
-        },
+    Ok(Template {
+        description,
+        initial: scalars,
     })
+}
+
+/// One variable that is made from this.
+pub(crate) fn one_variable(template: Template) -> VariableGroup
+    ensures { group_view result ≡ template_view template ∷ [] }
+{
+    VariableGroup { count: 1, template }
 }
 
 /// Puts what a symbol is made from, if it is a variable of the wanted class that is compiled.
@@ -101,8 +105,8 @@ fn put_group(
     let Some(made) = made_in(wanted, symbol) else {
         return Ok(());
     };
-    let group = variable_group(alloc, made, members)?;
-    groups.push(group)?;
+    let template = variable_template(alloc, made, members)?;
+    groups.push(one_variable(template))?;
     Ok(())
 }
 

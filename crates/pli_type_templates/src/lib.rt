@@ -1,6 +1,7 @@
 //! What the variables of a resolved unit are made from: their descriptions, and their initial values.
 #![tactic(auto)]
 
+mod globals;
 mod groups;
 mod items;
 mod members;

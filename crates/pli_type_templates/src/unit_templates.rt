@@ -2,16 +2,18 @@
 ghost use Rattle.std.specs.Prelude.{◌≡◌, ℕ, ◌++◌, IfOk};
 ghost use Rattle.pli_base.specs.views.StatementView.{unit_view};
 ghost use Rattle.pli_resolve.specs.ResolvedUnits.{resolved_unit_of};
-ghost use Rattle.pli_type.specs.NamedUnits.{is_automatic, is_static, named_unit, templates_of};
+ghost use Rattle.pli_type.specs.NamedUnits.{globals_of, is_automatic, named_unit, templates_of};
 ghost use Rattle.pli_type_names.specs.UnitNaming.{symbols_in};
 ghost use Rattle.pli_type_templates.specs.views.UnitView.{automatic_at};
+ghost use Rattle.pli_type_tree.specs.views.GlobalView.{globals_view};
 ghost use Rattle.pli_type_tree.specs.views.TemplateView.{groups_view};
 
+use crate::globals::put_globals;
 use crate::groups::put_groups;
 use crate::members::members_by_root;
 use pli_resolve::{ResolvedUnit, StorageClass};
 use pli_type_names::symbols;
-use pli_type_tree::VariableGroup;
+use pli_type_tree::{GlobalGroup, VariableGroup};
 use std::alloc::{AllocError, Global};
 use std::mem;
 
@@ -20,8 +22,8 @@ use std::mem;
 pub struct UnitTemplates {
     /// The AUTOMATIC variables of each block, under the block's number.
     pub automatic: Vec<Vec<VariableGroup>>,
-    /// The STATIC variables of all blocks, block after block.
-    pub statics: Vec<VariableGroup>,
+    /// The globals of all blocks, block after block.
+    pub globals: Vec<GlobalGroup>,
 }
 
 impl UnitTemplates {
@@ -29,7 +31,7 @@ impl UnitTemplates {
     pub fn take(&mut self, alloc: Global, block: u32) -> Vec<VariableGroup>
         ensures taken { groups_view result.items ≡ automatic_at self.old block }
         ensures others { (k : ℕ) → (k ≡ block → ⊥) → automatic_at self.new k ≡ automatic_at self.old k }
-        ensures statics { self.new.statics ≡ self.old.statics }
+        ensures globals { self.new.globals ≡ self.old.globals }
     {
         let nothing = Vec::new(alloc);
         let block = block as usize;
@@ -40,23 +42,22 @@ impl UnitTemplates {
     }
 }
 
-/// What the AUTOMATIC variables of a block are made from. What its STATIC variables are made from goes behind those of
-/// the blocks before.
+/// What the AUTOMATIC variables of a block are made from. Its globals go behind those of the blocks before.
 #[tactic(auto, unfolding(pli_type_names::specs::UnitNaming::symbols_in))]
 fn block_templates(
     alloc: Global,
     resolved: &ResolvedUnit<'_>,
     block: usize,
-    statics: &mut Vec<VariableGroup>,
+    globals: &mut Vec<GlobalGroup>,
 ) -> Result<Vec<VariableGroup>, AllocError>
     ensures automatic { IfOk result (λ made. groups_view made.items
         ≡ templates_of (is_automatic 31) (symbols_in resolved.now block)) }
-    ensures statics { IfOk result (λ _. groups_view statics.new.items
-        ≡ groups_view statics.old.items ++ templates_of (is_static 31) (symbols_in resolved.now block)) }
+    ensures globals { IfOk result (λ _. globals_view globals.new.items
+        ≡ globals_view globals.old.items ++ globals_of 31 (symbols_in resolved.now block)) }
 {
     let symbols = symbols(alloc, resolved, block)?;
     let members = members_by_root(alloc, &symbols)?;
-    put_groups(alloc, StorageClass::Static, &symbols, &members, statics)?;
+    put_globals(alloc, &symbols, &members, globals)?;
     let mut automatic = Vec::new(alloc);
     put_groups(
         alloc,
@@ -68,22 +69,22 @@ fn block_templates(
     Ok(automatic)
 }
 
-/// What the AUTOMATIC variables of each block of a unit and its STATIC variables are made from (X3.74; the limits own):
-/// those of numbers and strings alone, of at most 1,000,000 bytes each. Initial values stand in the order of the text,
-/// fitted to their scalars. Takes time for the text and for the values that are kept.
+/// What the AUTOMATIC variables of each block of a unit are made from, and its globals (X3.74; the limits own):
+/// variables of numbers and strings alone, of at most 1,000,000 bytes each. Initial values stand in the order of the
+/// text, fitted to their scalars. Takes time for the text and for the values that are kept.
 pub fn templates(alloc: Global, resolved: &ResolvedUnit<'_>) -> Result<UnitTemplates, AllocError>
     ensures automatic { IfOk result (λ made. (block : ℕ) → automatic_at made block
         ≡ (named_unit 31 (resolved_unit_of (unit_view resolved.now))).automatic block) }
-    ensures statics { IfOk result (λ made. groups_view made.statics.items
-        ≡ (named_unit 31 (resolved_unit_of (unit_view resolved.now))).statics) }
+    ensures globals { IfOk result (λ made. globals_view made.globals.items
+        ≡ (named_unit 31 (resolved_unit_of (unit_view resolved.now))).globals) }
 {
     let Some(blocks) = resolved.block_count().checked_add(1) else {
         return Err(AllocError);
     };
     let mut automatic = Vec::new(alloc);
-    let mut statics = Vec::new(alloc);
+    let mut globals = Vec::new(alloc);
     for block in 0..blocks {
-        automatic.push(block_templates(alloc, resolved, block, &mut statics)?)?;
+        automatic.push(block_templates(alloc, resolved, block, &mut globals)?)?;
     }
-    Ok(UnitTemplates { automatic, statics })
+    Ok(UnitTemplates { automatic, globals })
 }

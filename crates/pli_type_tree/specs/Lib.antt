@@ -1,3 +1,4 @@
+pub mod Globals
 pub mod Iterations
 pub mod Templates
 pub mod TypedTree

@@ -10,10 +10,16 @@ use Rattle.pli_value.specs.Value.{Value}
 use Rattle.pli_type_tree.specs.Templates.{Template}
 
 -- where a reference begins: at a parameter or an AUTOMATIC variable, or at a variable that is made before the
--- program begins
+-- program begins, by the number of its global
 pub data Root : Type 0 where
   InSlot : (outward slot : ℕ) → Root
   OfProgram : (number : ℕ) → Root
+
+-- what is called: a procedure of the unit, by its block, or an external one, by the number of its entry among
+-- the globals
+pub data Callee : Type 0 where
+  OfBlock : (block : ℕ) → Callee
+  OfEntry : (number : ℕ) → Callee
 
 -- a subscript's bounds, and how many bytes each number over the low one leads on
 pub record Stride : Type 0 where
@@ -27,7 +33,7 @@ mutual
     Literal : (value : Value) → TypedExpression
     Held : (variable : TypedReference) → TypedExpression
     Calculated : (operation : Operation) (operands : Operands) → TypedExpression
-    Called : (block : ℕ) (arguments : TypedArguments) → TypedExpression
+    Called : (callee : Callee) (arguments : TypedArguments) → TypedExpression
 
   -- a whole variable; or a part, with its offset where all its subscripts are the lowest, its description,
   -- and the subscripts of all its levels in turn
@@ -92,7 +98,7 @@ mutual
     Group : (statements : TypedStatements) → Form
     While : (condition : TypedExpression) (statements : TypedStatements) → Form
     Iterate : (iteration : Iteration) (statements : TypedStatements) → Form
-    Call : (block : ℕ) (arguments : TypedArguments) → Form
+    Call : (callee : Callee) (arguments : TypedArguments) → Form
     Goto : (outward label : ℕ) → Form
     Return : (outward : ℕ) → Form
     ReturnValue : (outward : ℕ) (value : TypedExpression) → Form
@@ -115,9 +121,24 @@ pub record TypedProcedure : Type 0 where
   pub function_end : Option ℕ
   pub statements : TypedStatements
 
--- a unit: the variables that are made before the program begins, and its procedures, the external one first
+-- what an external procedure takes, and what it gives if it is a function
+pub record Signature : Type 0 where
+  pub parameters : List Description
+  pub result : Option Description
+
+-- what a unit names that is there for the whole program: a variable of its own, a variable that all units
+-- which declare its name share, and an external procedure
+pub data Global : Type 0 where
+  OwnVariable : (template : Template) → Global
+  ExternalVariable : (name : Name) (template : Template) → Global
+  EntryPoint : (name : Name) (signature : Signature) → Global
+
+-- a unit: the name of its external procedure, and what that takes and gives; its globals in the order of the
+-- text; and its procedures, the external one first
 pub record TypedUnit : Type 0 where
   pub name : Name
+  pub procedure : Name
   pub is_main : Bool
-  pub statics : List Template
+  pub signature : Signature
+  pub globals : List Global
   pub procedures : List TypedProcedure

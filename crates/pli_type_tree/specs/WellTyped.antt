@@ -14,8 +14,10 @@ use Rattle.pli_map.specs.Values.{holds}
 use Rattle.pli_operation.specs.Operations.{Operation}
 use Rattle.pli_store.specs.World.{Variable}
 use Rattle.pli_value.specs.Value.{Value}
+use Rattle.pli_type_tree.specs.Globals.{description_of, signature_of}
 use Rattle.pli_type_tree.specs.Templates.{variable_of}
 use Rattle.pli_type_tree.specs.TypedTree.{Root, InSlot, OfProgram, TypedExpression, Literal, Held, Calculated}
+use Rattle.pli_type_tree.specs.TypedTree.{Callee, OfBlock, OfEntry, Global}
 use Rattle.pli_type_tree.specs.TypedTree.{Called, TypedReference, Whole, Part, Operands, NoOperand}
 use Rattle.pli_type_tree.specs.TypedTree.{OperandThen}
 use Rattle.pli_type_tree.specs.TypedTree.{Subscripts, NoSubscript, SubscriptThen, TypedArguments, NoArgument}
@@ -60,17 +62,17 @@ pub record BlockAround : Type 0 where
 
 -- a procedure: the block around it and the blocks around it as its statements know them, its parameters, and
 -- its value if it is a function
-pub record Signature : Type 0 where
+pub record KnownProcedure : Type 0 where
   pub parent : Option ℕ
   pub around : List BlockAround
   pub parameters : List Description
   pub value : Option Description
 
--- what is known: the variables that are made before the program begins and the procedures of the unit, the
--- blocks around, of which so many are BEGIN blocks of the procedure, and its value if it is a function
+-- what is known: the globals and the procedures of the unit, the blocks around, of which so many are BEGIN
+-- blocks of the procedure, and its value if it is a function
 pub record TypingContext : Type 0 where
-  pub statics : List Description
-  pub procedures : (number : ℕ) → Option Signature
+  pub globals : List Global
+  pub procedures : (number : ℕ) → Option KnownProcedure
   pub blocks : List BlockAround
   pub begins : ℕ
   pub value : Option Description
@@ -83,7 +85,7 @@ slot_of (Some b) slot = slice_get b.slots slot
 
 abbrev pub root_of : TypingContext → Root → Option Description
 root_of s (InSlot outward slot) = slot_of (slice_get s.blocks outward) slot
-root_of s (OfProgram number) = slice_get s.statics number
+root_of s (OfProgram number) = description_of (slice_get s.globals number)
 
 -- the subscripts, where they are within their bounds, lead to a part of this description
 abbrev pub LeadTo : (whole : Description) → (offset : ℕ) → Subscripts → (part : Description) → Type 0
@@ -114,6 +116,16 @@ IsReached None here around = around ≡ []
 IsReached (Some parent) here around =
     (found : List BlockAround) × (blocks_from parent here ≡ Some found) × AreAround found around
 
+-- what is called takes these parameters, and gives a value of this description if it is a function: a
+-- procedure of the unit that is reached, or an external one
+abbrev pub IsCallee : List Global → (procedures : ℕ → Option KnownProcedure) → (here : List BlockAround)
+    → Callee → (parameters : List Description) → (value : Option Description) → Type 0
+IsCallee globals procedures here (OfBlock block) parameters value =
+    (p : KnownProcedure) × (procedures block ≡ Some p) × IsReached p.parent here p.around
+    × (p.parameters ≡ parameters) × (p.value ≡ value)
+IsCallee globals procedures here (OfEntry number) parameters value =
+    signature_of (slice_get globals number) ≡ Some (record { parameters = parameters; result = value })
+
 -- expressions
 abbrev mutual
   -- an expression gives values of a type
@@ -122,10 +134,10 @@ abbrev mutual
   IsTyped n s (Held r) t = (d : Description) × IsPlaced n s r d × (type_held d ≡ Some t)
   IsTyped n s (Calculated operation operands) t =
       (ts : List ValueType) × AreTyped n s operands ts × Operates n operation ts t
-  IsTyped n s (Called block arguments) t =
-      (p : Signature) × (s.procedures block ≡ Some p) × IsReached p.parent s.blocks p.around
-      × ArePassed n s arguments p.parameters
-      × ((d : Description) × (p.value ≡ Some d) × (type_held d ≡ Some t))
+  IsTyped n s (Called callee arguments) t =
+      (parameters : List Description) × (d : Description)
+      × IsCallee s.globals s.procedures s.blocks callee parameters (Some d)
+      × ArePassed n s arguments parameters × (type_held d ≡ Some t)
 
   -- a reference leads to a variable or a part of this description
   pub IsPlaced : (greatest : ℕ) → TypingContext → TypedReference → Description → Type 0
@@ -258,9 +270,9 @@ abbrev mutual
       IsString n s OfBits condition × AreTypedStatements n (in_group statements s) statements
   IsTypedForm n s (Iterate iteration statements) =
       IsIteration n s iteration × AreTypedStatements n (in_group statements s) statements
-  IsTypedForm n s (Call block arguments) =
-      (p : Signature) × (s.procedures block ≡ Some p) × IsReached p.parent s.blocks p.around
-      × ArePassed n s arguments p.parameters × (p.value ≡ None)
+  IsTypedForm n s (Call callee arguments) =
+      (parameters : List Description) × IsCallee s.globals s.procedures s.blocks callee parameters None
+      × ArePassed n s arguments parameters
   IsTypedForm n s (Goto outward label) = knows_label (slice_get s.blocks outward) label
   IsTypedForm n s (Return outward) = (outward ≡ s.begins) × (s.value ≡ None)
   IsTypedForm n s (ReturnValue outward e) =

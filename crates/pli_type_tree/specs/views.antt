@@ -1,2 +1,3 @@
 pub mod TypedView
 pub mod TemplateView
+pub mod GlobalView

@@ -9,8 +9,18 @@ pub enum Root {
     /// At a parameter or an AUTOMATIC variable of the activation so many static links outward. Slots are counted from
     /// 0, the parameters first.
     InSlot { outward: u32, slot: u32 },
-    /// At a variable that is made before the program begins. Those of a unit are counted from 0.
+    /// At a variable that is made before the program begins, by the number of its global. Those of a unit are counted
+    /// from 0.
     OfProgram { number: u32 },
+}
+
+/// What is called.
+#[derive(Clone, Copy)]
+pub enum Callee {
+    /// A procedure of the unit, by its block.
+    OfBlock { block: u32 },
+    /// An external procedure, by the number of the entry's global. Those of a unit are counted from 0.
+    OfEntry { number: u32 },
 }
 
 /// The bounds of a subscript, from -32,767 to 32,767, and how many bytes each number over the low one leads on.
@@ -71,9 +81,9 @@ pub enum TypedExpression {
         operation: Operation,
         operands: Vec<TypedExpression>,
     },
-    /// A call of the function whose block has this number.
+    /// A call of a function.
     Called {
-        block: u32,
+        callee: Callee,
         arguments: Vec<TypedArgument>,
     },
 }

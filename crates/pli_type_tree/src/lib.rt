@@ -8,9 +8,9 @@ mod template;
 mod unit;
 
 pub use expression::{
-    Root, Stride, TypedArgument, TypedExpression, TypedReference, TypedSubscript,
+    Callee, Root, Stride, TypedArgument, TypedExpression, TypedReference, TypedSubscript,
 };
 pub use iteration::{Iteration, TypedRange};
 pub use statement::{BlockHead, Form, TypedStatement};
 pub use template::{InitialScalar, Template, VariableGroup};
-pub use unit::{TypedProcedure, TypedUnit};
+pub use unit::{GlobalGroup, Signature, TypedProcedure, TypedUnit};

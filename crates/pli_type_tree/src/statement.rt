@@ -1,6 +1,6 @@
 //! Typed statements. Statements of a unit are numbered from 1 in the order in which they begin, its blocks from 0 in
 //! the order of the text (own).
-use crate::expression::{TypedArgument, TypedExpression, TypedReference};
+use crate::expression::{Callee, TypedArgument, TypedExpression, TypedReference};
 use crate::iteration::Iteration;
 use crate::template::VariableGroup;
 
@@ -63,9 +63,9 @@ pub enum Form {
         iteration: Box<Iteration>,
         statements: Vec<TypedStatement>,
     },
-    /// A call of the procedure whose block has this number.
+    /// A call of a procedure that is no function.
     Call {
-        block: u32,
+        callee: Callee,
         arguments: Vec<TypedArgument>,
     },
     /// The label is that of the statement of this number, in the block so many static links outward.

@@ -1,7 +1,8 @@
 //! Typed procedures and units.
 use crate::statement::{BlockHead, TypedStatement};
-use crate::template::VariableGroup;
+use crate::template::{Template, VariableGroup};
 use pli_base::Name;
+use pli_map::Description;
 
 /// A procedure.
 #[derive(Drop)]
@@ -15,14 +16,42 @@ pub struct TypedProcedure {
     pub statements: Vec<TypedStatement>,
 }
 
+/// What an external procedure takes, and what it gives if it is a function.
+#[derive(Drop)]
+pub struct Signature {
+    pub parameters: Vec<Description>,
+    pub result: Option<Description>,
+}
+
+/// What a unit names in a row that is there for the whole program, as the names of one item of DECLARE are.
+#[derive(Drop)]
+pub enum GlobalGroup {
+    /// Variables of the unit's own.
+    OwnVariables(VariableGroup),
+    /// Variables of these names, which all units that declare them share.
+    ExternalVariables {
+        names: Vec<Name>,
+        template: Template,
+    },
+    /// External procedures of these names.
+    EntryPoints {
+        names: Vec<Name>,
+        signature: Signature,
+    },
+}
+
 /// A unit.
 #[derive(Drop)]
 pub struct TypedUnit {
     pub name: Name,
+    /// The name of its external procedure.
+    pub procedure: Name,
     /// Whether it has OPTIONS(MAIN).
     pub is_main: bool,
-    /// The variables that are made before the program begins, in the order of the text.
-    pub statics: Vec<VariableGroup>,
+    /// What its external procedure takes and gives.
+    pub signature: Signature,
+    /// Its globals, in the order of the text.
+    pub globals: Vec<GlobalGroup>,
     /// The external procedure first.
     pub procedures: Vec<TypedProcedure>,
 }

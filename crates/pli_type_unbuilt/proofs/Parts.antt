@@ -14,7 +14,7 @@ use Rattle.pli_base.specs.views.StatementView.{body_view, control_view, option_v
 use Rattle.pli_base.specs.views.SyntaxView.{arguments_view, expression_view, expressions_view, joined_view, reference_view}
 use Rattle.pli_type.specs.Names.{Compiled}
 use Rattle.pli_type.specs.Unbuilt.{later_expression, later_reference, later_arguments, later_joined}
-use Rattle.pli_type.specs.Unbuilt.{later_list, is_main_option, is_main, is_returns, has_parameters, first_unbuilt, later_statements}
+use Rattle.pli_type.specs.Unbuilt.{later_list, is_main_option, is_main, first_unbuilt, later_statements}
 use Rattle.pli_type.specs.Unbuilt.{later_heading, later_body, later_option, later_control, later_part, or_else, token_if}
 use Rattle.pli_base.specs.Statements.{Heading}
 
@@ -43,50 +43,50 @@ pub main_unit : (u : Procedure)
 main_unit u = ap is_main (unit_out u) ∙ any_main (out-Procedure u).options.items
 
 -- a heading decides, or what stands behind it
-heading_later : (h : Heading) (rest : Option ℕ) → (has_parameters h.parameters || list_any is_returns h.options) ≡ true
+heading_later : (h : Heading) (rest : Option ℕ) → list_any later_option h.options ≡ true
     → or_else (later_heading h) rest ≡ Some h.name.at
 heading_later h rest e = ap (λ b. or_else (token_if b h.name.at) rest) e
 
-heading_built : (h : Heading) (rest : Option ℕ) → (has_parameters h.parameters || list_any is_returns h.options) ≡ false
+heading_built : (h : Heading) (rest : Option ℕ) → list_any later_option h.options ≡ false
     → or_else (later_heading h) rest ≡ rest
 heading_built h rest e = ap (λ b. or_else (token_if b h.name.at) rest) e
 
 -- a unit, by its parts
 pub later_unit : (n : Compiled) (u : Procedure)
-    → (has_parameters (out-Procedure u).parameters.items || list_any is_returns (map option_view (out-Procedure u).options.items)) ≡ true
+    → list_any later_option (map option_view (out-Procedure u).options.items) ≡ true
     → first_unbuilt n (unit_view u) ≡ Some (out-Procedure u).name.at
 later_unit n u h =
     let p = out-Procedure u in
-    ap (λ v. or_else (later_heading v.heading) (later_statements n (is_main (unit_view u)) (unit_view u).statements)) (unit_out u)
+    ap (λ v. or_else (later_heading v.heading) (later_statements n (unit_view u).statements)) (unit_out u)
     ∙ heading_later (heading_made p.name p.number p.parameters p.options) _ h
 
 pub unit_later : (n : Compiled) (u : Procedure)
-    → (has_parameters (out-Procedure u).parameters.items || list_any is_returns (map option_view (out-Procedure u).options.items)) ≡ false
-    → first_unbuilt n (unit_view u) ≡ later_statements n (is_main (unit_view u)) (statements_view (out-Procedure u).statements.items)
+    → list_any later_option (map option_view (out-Procedure u).options.items) ≡ false
+    → first_unbuilt n (unit_view u) ≡ later_statements n (statements_view (out-Procedure u).statements.items)
 unit_later n u h =
     let p = out-Procedure u in
-    ap (λ v. or_else (later_heading v.heading) (later_statements n (is_main (unit_view u)) (unit_view u).statements)) (unit_out u)
+    ap (λ v. or_else (later_heading v.heading) (later_statements n (unit_view u).statements)) (unit_out u)
     ∙ heading_built (heading_made p.name p.number p.parameters p.options) _ h
-    ∙ ap (later_statements n (is_main (unit_view u))) (unit_statements u)
+    ∙ ap (later_statements n) (unit_statements u)
 
 -- a procedure, a block and a group among statements, by their parts
-pub later_procedure : (n : Compiled) (m : Bool) (at : ℕ) (p : Procedure)
-    → later_body n m at (body_view (bodies.Procedure p))
+pub later_procedure : (n : Compiled) (at : ℕ) (p : Procedure)
+    → later_body n at (body_view (bodies.Procedure p))
     ≡ or_else (token_if (list_any later_option (map option_view (out-Procedure p).options.items)) (out-Procedure p).name.at)
-    (later_statements n m (statements_view (out-Procedure p).statements.items))
-later_procedure n m at p =
-    ap (later_body n m at) (procedure_body p)
-    ∙ ap (λ v. or_else (token_if (list_any later_option v.heading.options) v.heading.name.at) (later_statements n m v.statements)) (unit_out p)
+    (later_statements n (statements_view (out-Procedure p).statements.items))
+later_procedure n at p =
+    ap (later_body n at) (procedure_body p)
+    ∙ ap (λ v. or_else (token_if (list_any later_option v.heading.options) v.heading.name.at) (later_statements n v.statements)) (unit_out p)
 
-pub later_begin : (n : Compiled) (m : Bool) (at : ℕ) (statements : Vec Statement Global) (end : ℕ)
-    → later_body n m at (body_view (bodies.Begin statements end)) ≡ later_statements n m (statements_view statements.items)
-later_begin n m at statements end = ap (later_body n m at) (begin_made statements end)
+pub later_begin : (n : Compiled) (at : ℕ) (statements : Vec Statement Global) (end : ℕ)
+    → later_body n at (body_view (bodies.Begin statements end)) ≡ later_statements n (statements_view statements.items)
+later_begin n at statements end = ap (later_body n at) (begin_made statements end)
 
-pub later_do : (n : Compiled) (m : Bool) (at : ℕ) (control : Option Control) (statements : Vec Statement Global) (end : ℕ)
-    → later_body n m at (body_view (bodies.Do control statements end))
+pub later_do : (n : Compiled) (at : ℕ) (control : Option Control) (statements : Vec Statement Global) (end : ℕ)
+    → later_body n at (body_view (bodies.Do control statements end))
     ≡ or_else (token_if (later_part (later_control n) (option_map control_view control)) at)
-    (later_statements n m (statements_view statements.items))
-later_do n m at control statements end = ap (later_body n m at) (do_made control statements end)
+    (later_statements n (statements_view statements.items))
+later_do n at control statements end = ap (later_body n at) (do_made control statements end)
 
 -- what stands behind a specification that is compiled
 pub behind_control : (b : Bool) (at : ℕ) (rest : Option ℕ) → b ≡ false → or_else (token_if b at) rest ≡ rest

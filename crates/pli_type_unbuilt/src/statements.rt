@@ -10,7 +10,7 @@ use crate::expressions::{later_expression, later_list, later_optional, later_ref
 use crate::groups::{later_called, later_control};
 use pli_base::statement::{Body, Procedure, ProcedureOption, Statement};
 use pli_base::syntax::{Expression, Identifier};
-use pli_type::{later_heading, later_items, later_returns};
+use pli_type::{later_items, later_returns};
 use pli_type_names::Naming;
 
 /// Whether an option is OPTIONS(MAIN).
@@ -63,18 +63,18 @@ fn first_token(label: &Option<Identifier>, at: u32) -> u32
 /// The token of the first form in a statement that is not compiled yet: the statement's first, which is its label where
 /// it has one; the label of a PROCEDURE is its name.
 #[cycle(later_statement)]
-fn later_statement(naming: &Naming<'_>, main: bool, statement: &Statement) -> Option<u32>
-    ensures { result ≡ spec.later_statement (compiled_in naming.now) main (statement_view statement.now) }
+fn later_statement(naming: &Naming<'_>, statement: &Statement) -> Option<u32>
+    ensures { result ≡ spec.later_statement (compiled_in naming.now) (statement_view statement.now) }
 {
     let first = first_token(&statement.label, statement.at);
-    later_body(naming, main, first, &statement.body)
+    later_body(naming, first, &statement.body)
 }
 
 /// The same of what a statement says, whose first token is `at`.
 #[cycle(later_statement)]
 #[tactic(auto, using(crate::proofs::Parts::later_procedure, crate::proofs::Parts::later_begin, crate::proofs::Parts::later_do))]
-fn later_body(naming: &Naming<'_>, main: bool, at: u32, body: &Body) -> Option<u32>
-    ensures { result ≡ spec.later_body (compiled_in naming.now) main at (body_view body.now) }
+fn later_body(naming: &Naming<'_>, at: u32, body: &Body) -> Option<u32>
+    ensures { result ≡ spec.later_body (compiled_in naming.now) at (body_view body.now) }
 {
     match body {
         Body::Null | Body::Stop | Body::Goto(_) => None,
@@ -82,14 +82,14 @@ fn later_body(naming: &Naming<'_>, main: bool, at: u32, body: &Body) -> Option<u
             later_reference(naming, target) || later_expression(naming, value),
             at,
         ),
-        Body::Declare(items) => token_if(later_items(main, items.as_slice()), at),
+        Body::Declare(items) => token_if(later_items(items.as_slice()), at),
         Body::Procedure(procedure) => {
             if later_returns(procedure.options.as_slice()) {
                 return Some(procedure.name.at);
             }
-            later_statements(naming, main, procedure.statements.as_slice())
+            later_statements(naming, procedure.statements.as_slice())
         }
-        Body::Begin { statements, .. } => later_statements(naming, main, statements.as_slice()),
+        Body::Begin { statements, .. } => later_statements(naming, statements.as_slice()),
         Body::Do {
             control,
             statements,
@@ -98,7 +98,7 @@ fn later_body(naming: &Naming<'_>, main: bool, at: u32, body: &Body) -> Option<u
             if later_control(naming, control) {
                 return Some(at);
             }
-            later_statements(naming, main, statements.as_slice())
+            later_statements(naming, statements.as_slice())
         }
         Body::If {
             condition,
@@ -108,12 +108,12 @@ fn later_body(naming: &Naming<'_>, main: bool, at: u32, body: &Body) -> Option<u
             if later_expression(naming, condition) {
                 return Some(at);
             }
-            if let Some(first) = later_statement(naming, main, consequence) {
+            if let Some(first) = later_statement(naming, consequence) {
                 return Some(first);
             }
             match alternative {
                 None => None,
-                Some(statement) => later_statement(naming, main, statement),
+                Some(statement) => later_statement(naming, statement),
             }
         }
         Body::Call { arguments, .. } => token_if(later_called(naming, arguments), at),
@@ -126,11 +126,11 @@ fn later_body(naming: &Naming<'_>, main: bool, at: u32, body: &Body) -> Option<u
 
 /// The token of the first form among statements that is not compiled yet.
 #[cycle(later_statement)]
-fn later_statements(naming: &Naming<'_>, main: bool, statements: &[Statement]) -> Option<u32>
-    ensures { result ≡ spec.later_statements (compiled_in naming.now) main (statements_view statements.now) }
+fn later_statements(naming: &Naming<'_>, statements: &[Statement]) -> Option<u32>
+    ensures { result ≡ spec.later_statements (compiled_in naming.now) (statements_view statements.now) }
 {
     for statement in statements {
-        if let Some(at) = later_statement(naming, main, statement) {
+        if let Some(at) = later_statement(naming, statement) {
             return Some(at);
         }
     }
@@ -144,8 +144,8 @@ pub fn first_unbuilt(naming: &Naming<'_>) -> Option<u32>
     ensures { result ≡ spec.first_unbuilt (compiled_in naming.now) (unit_view naming.now.unit) }
 {
     let unit = naming.unit();
-    if later_heading(unit.parameters.as_slice(), unit.options.as_slice()) {
+    if later_returns(unit.options.as_slice()) {
         return Some(unit.name.at);
     }
-    later_statements(naming, is_main(unit), unit.statements.as_slice())
+    later_statements(naming, unit.statements.as_slice())
 }

@@ -37,22 +37,60 @@ pub struct Block {
     pub statement: u32,
 }
 
+/// What an external procedure takes, and what it gives if it is a function: the numbers of descriptions.
+#[derive(Drop)]
+pub struct CodedSignature {
+    pub parameters: Vec<u16>,
+    pub result: Option<u16>,
+}
+
+/// What a unit names that is there for the whole program.
+#[derive(Drop)]
+pub enum CodedGlobal {
+    /// A variable of the unit's own, by the number of its template.
+    OwnVariable {
+        template: u16,
+    },
+    /// A variable that all units which have one of its name share.
+    ExternalVariable {
+        name: Name,
+        template: u16,
+    },
+    /// The external procedure of a name.
+    EntryPoint {
+        name: Name,
+        signature: CodedSignature,
+    },
+}
+
 /// The code of a unit: its tables and its instructions, block after block. A table has at most 65,535 entries (own).
 #[derive(Drop)]
 pub struct Code {
+    /// What its external procedure takes and gives.
+    pub signature: CodedSignature,
     pub descriptions: Vec<Description>,
     pub templates: Vec<CodedTemplate>,
     pub values: Vec<Value>,
-    /// The templates of the variables that are made before the program begins.
-    pub globals: Vec<u16>,
+    /// In the order of the text.
+    pub globals: Vec<CodedGlobal>,
     /// Numbered from 0 in the order of the text.
     pub blocks: Vec<Block>,
     pub instructions: Vec<Instruction>,
 }
 
-/// A module: the main unit's name and its code.
+/// A unit of a module.
 #[derive(Drop)]
-pub struct Module {
+pub struct LinkedUnit {
+    /// The name of its member.
     pub unit: Name,
     pub code: Code,
+    /// For each entry among its globals, in their order: the number of the unit that has its procedure.
+    pub entries: Vec<u16>,
+}
+
+/// A module: units, and the number of the one whose external procedure is the main procedure.
+#[derive(Drop)]
+pub struct Module {
+    pub units: Vec<LinkedUnit>,
+    pub main: u16,
 }

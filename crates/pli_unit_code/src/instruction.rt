@@ -32,6 +32,11 @@ pub enum Instruction {
         block: u32,
         arguments: u16,
     },
+    /// Takes so many places and activates the external procedure of an entry.
+    CallExternal {
+        global: u32,
+        arguments: u16,
+    },
     /// Activates a BEGIN block.
     Begin {
         block: u32,

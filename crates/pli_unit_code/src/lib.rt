@@ -4,5 +4,7 @@
 mod code;
 mod instruction;
 
-pub use code::{Block, BlockKind, Code, CodedTemplate, Module};
+pub use code::{
+    Block, BlockKind, Code, CodedGlobal, CodedSignature, CodedTemplate, LinkedUnit, Module,
+};
 pub use instruction::Instruction;

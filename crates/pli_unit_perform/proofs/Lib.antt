@@ -3,12 +3,15 @@ pub mod DummyArguments
 pub mod Ends
 pub mod EnteredBlocks
 pub mod GivenPlaces
+pub mod LinkedGlobals
+pub mod LinkedUnits
 pub mod Links
 pub mod MadeVariables
 pub mod Operating
 pub mod Performed
 pub mod SlotPlaces
 pub mod States
+pub mod StaticPlaces
 pub mod StorageAnswers
 pub mod Walks
 pub mod Worlds

@@ -1,10 +1,10 @@
 //! Beginnings of activations.
 ghost use Rattle.std.specs.Prelude.{◌≡◌, ◌<◌, ℕ, List, [], ◌∷◌, map, length, replicate, None, IfOk, OnOk};
-ghost use Rattle.pli_base.specs.Name.{Name};
+ghost use Rattle.pli_unit_perform.specs.views.Image.{Image, name_at, unit_with};
 ghost use Rattle.pli_store.specs.views.StorageView.{place_view};
 ghost use Rattle.pli_machine_step.specs.Machine.{enters, fresh};
 ghost use Rattle.pli_machine_step.specs.Program.{head_of};
-ghost use Rattle.pli_unit_code.specs.CodeTables.{program_of, block_looked_up};
+ghost use Rattle.pli_unit_code.specs.CodeTables.{block_looked_up};
 ghost use Rattle.pli_unit_code.specs.views.CodeView.{code_view, block_view};
 ghost use Rattle.pli_unit_perform.specs.answers.Activated.{HasBegun};
 ghost use Rattle.pli_unit_perform.specs.views.MachineView.{Moves, activation_view, frame_view};
@@ -34,15 +34,16 @@ fn unset(alloc: Global, count: u32) -> Result<Vec<Option<Value>>, AllocError>
 /// arguments, and it owns these generations.
 pub fn activation<'m>(
     alloc: Global,
+    unit: usize,
     number: u32,
     block: &Block,
     link: u32,
     slots: Vec<Place<'m>>,
     owned: Vec<u32>,
 ) -> Result<Activation<'m>, AllocError>
-    ensures { IfOk result (λ a. (frame_view a ≡ record { unit = 0; next = block.now.entry; operands = []; locals = fresh block.now.temporaries })
-        × ((unit : Name) → activation_view unit a ≡ record {
-          unit = unit;
+    ensures { IfOk result (λ a. (frame_view a ≡ record { unit = unit; next = block.now.entry; operands = []; locals = fresh block.now.temporaries })
+        × ((image : Image) → activation_view image a ≡ record {
+          unit = name_at image.linked unit;
           block = number;
           statement = block.now.statement;
           link = link;
@@ -53,6 +54,7 @@ pub fn activation<'m>(
 {
     let temporaries = unset(alloc, block.temporaries)?;
     Ok(Activation {
+        unit,
         block: number,
         statement: block.statement,
         link,
@@ -67,44 +69,47 @@ pub fn activation<'m>(
     })
 }
 
-/// Lets the newest activation wait, with what it hands over, and begins one of a block, whose variables are not made
-/// yet.
+/// Lets the newest activation wait, with what it hands over, and begins one of a block of a unit, whose variables are
+/// not made yet.
 fn begin_block<'m>(
     alloc: Global,
     machine: &mut Machine<'m>,
+    unit: usize,
     number: u32,
     block: &Block,
     link: u32,
     places: Vec<Place<'m>>,
 ) -> Result<(), AllocError>
     requires { length machine.old.waiting.items < 1000 }
-    ensures { OnOk result ((unit : Name) (put : List ℕ) →
-        HasBegun unit put number block.now.statement block.now.entry block.now.temporaries link (map place_view places.entry.items) machine.old machine.new) }
+    ensures { OnOk result ((image : Image) (put : List ℕ) →
+        HasBegun image put unit number block.now.statement block.now.entry block.now.temporaries link (map place_view places.entry.items) machine.old machine.new) }
 {
     let (handed, others) = hand_over(alloc, &machine.here.pending, &places)?;
     machine.here.pending = others;
-    let new = activation(alloc, number, block, link, places, handed)?;
+    let new = activation(alloc, unit, number, block, link, places, handed)?;
     let before = mem::replace(&mut machine.here, new);
     machine.waiting.push(before)?;
     Ok(())
 }
 
-/// Enters a block, while the newest activation waits. There is room for one activation more.
+/// Enters a block of a unit, of which this is the code, while the newest activation waits. There is room for one
+/// activation more.
 pub fn enter<'m>(
     alloc: Global,
     code: &'m Code,
     machine: &mut Machine<'m>,
+    unit: usize,
     number: u32,
     block: &Block,
     link: u32,
     places: Vec<Place<'m>>,
 ) -> Result<Option<Stop>, AllocError>
     requires { length machine.old.waiting.items < 1000 }
-    ensures { IfOk result (λ stop. (unit : Name) → Moves unit
-        (λ here frames w. enters (head_of (program_of (code_view code.now) unit) number (block_looked_up (code_view code.now) (block_view block.now)))
-        0 (block_looked_up (code_view code.now) (block_view block.now)) link (map place_view places.entry.items) (here ∷ frames) w) machine.old machine.new stop) }
+    ensures { IfOk result (λ stop. (image : Image) (entries : List ℕ) → Moves image
+        (λ here frames w. enters (head_of (unit_with image.linked unit (code_view code.now) entries) number (block_looked_up (code_view code.now) (block_view block.now)))
+        unit (block_looked_up (code_view code.now) (block_view block.now)) link (map place_view places.entry.items) (here ∷ frames) w) machine.old machine.new stop) }
 {
-    begin_block(alloc, machine, number, block, link, places)?;
+    begin_block(alloc, machine, unit, number, block, link, places)?;
     match make_variables(alloc, code, machine, &block.variables) {
         Ok(()) => Ok(None),
         Err(fault) => Ok(Some(stop_at(fault)?)),

@@ -1,6 +1,6 @@
 //! Jumps within a block.
 ghost use Rattle.std.specs.Prelude.{◌≡◌, ℕ, List};
-ghost use Rattle.pli_base.specs.Name.{Name};
+ghost use Rattle.pli_unit_perform.specs.views.Image.{Image};
 ghost use Rattle.pli_store.specs.World.{World};
 ghost use Rattle.pli_machine_step.specs.Machine.{Frame, counted_jump, jumped, jumped_unless};
 ghost use Rattle.pli_unit_perform.specs.views.MachineView.{activation_view, frame_view, leads, after};
@@ -18,7 +18,7 @@ pub fn count_jump(here: &mut Activation, steps: u64, target: usize) -> Option<St
     ensures jumps { (frames : List Frame) (w : World) (left : ℕ) → w.steps ≡ steps →
         leads (counted_jump target (stack here.old.operands.items) (frame_view here.old) frames w) left
         ≡ after left result (frame_view here.new) frames w }
-    ensures same { (unit : Name) → activation_view unit here.new ≡ activation_view unit here.old }
+    ensures same { (image : Image) → activation_view image here.new ≡ activation_view image here.old }
 {
     let jumps = if here.stamp == steps { here.jumps } else { 0 };
     if jumps >= JUMP_LIMIT {
@@ -36,7 +36,7 @@ pub fn jump(here: &mut Activation, steps: u64, target: usize) -> Option<Stop>
     ensures jumps { (frames : List Frame) (w : World) (left : ℕ) → w.steps ≡ steps →
         leads (jumped target (stack here.old.operands.items) (frame_view here.old) frames w) left
         ≡ after left result (frame_view here.new) frames w }
-    ensures same { (unit : Name) → activation_view unit here.new ≡ activation_view unit here.old }
+    ensures same { (image : Image) → activation_view image here.new ≡ activation_view image here.old }
 {
     if target < here.next {
         return count_jump(here, steps, target);
@@ -51,7 +51,7 @@ pub fn jump_unless(here: &mut Activation, steps: u64, target: usize) -> Option<S
     ensures jumps { (frames : List Frame) (w : World) (left : ℕ) → w.steps ≡ steps →
         leads (jumped_unless target (stack here.old.operands.items) (frame_view here.old) frames w) left
         ≡ after left result (frame_view here.new) frames w }
-    ensures same { (unit : Name) → activation_view unit here.new ≡ activation_view unit here.old }
+    ensures same { (image : Image) → activation_view image here.new ≡ activation_view image here.old }
 {
     let Some(condition) = pop_truth(&mut here.operands) else {
         return Some(Stop::Fault);

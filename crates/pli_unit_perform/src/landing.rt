@@ -1,6 +1,6 @@
 //! GOTO.
 ghost use Rattle.std.specs.Prelude.{[], ◌∷◌};
-ghost use Rattle.pli_base.specs.Name.{Name};
+ghost use Rattle.pli_unit_perform.specs.views.Image.{Image};
 ghost use Rattle.pli_store.specs.World.{cleared};
 ghost use Rattle.pli_machine_step.specs.Machine.{counted_jump, lands};
 ghost use Rattle.pli_machine_step.specs.Program.{Goto};
@@ -13,8 +13,8 @@ use crate::walk::outer;
 
 /// Gives up the calls that the newest activation prepares, clears its operands and jumps there.
 fn arrive(machine: &mut Machine, target: usize) -> Option<Stop>
-    ensures { (unit : Name) →
-        Moves unit (λ here frames w. counted_jump target [] here frames (cleared w)) machine.old machine.new result }
+    ensures { (image : Image) →
+        Moves image (λ here frames w. counted_jump target [] here frames (cleared w)) machine.old machine.new result }
 {
     machine.storage.end(&machine.here.pending);
     machine.here.pending.clear();
@@ -24,8 +24,8 @@ fn arrive(machine: &mut Machine, target: usize) -> Option<Stop>
 
 /// Ends the activations inside the one of a height, and jumps there.
 fn land(machine: &mut Machine, height: usize, target: usize) -> Option<Stop>
-    ensures { (unit : Name) →
-        Moves unit (λ here frames w. lands height target (here ∷ frames) w) machine.old machine.new result }
+    ensures { (image : Image) →
+        Moves image (λ here frames w. lands height target (here ∷ frames) w) machine.old machine.new result }
 {
     while machine.waiting.len() + 1 != height {
         if !leave(machine) {

@@ -1,6 +1,6 @@
 //! Ends of activations.
 ghost use Rattle.std.specs.Prelude.{◌≡◌, ◌<◌, true, length, IfOk};
-ghost use Rattle.pli_base.specs.Name.{Name};
+ghost use Rattle.pli_unit_perform.specs.views.Image.{Image};
 ghost use Rattle.pli_value.specs.Value.{value_view};
 ghost use Rattle.pli_machine_step.specs.Machine.{returned_with};
 ghost use Rattle.pli_machine_step.specs.Program.{Return, ReturnValue};
@@ -46,8 +46,8 @@ pub fn return_from(machine: &mut Machine, outward: u32) -> Option<Stop>
 
 /// Ends the newest activation and so many more, and gives a value to the one that goes on.
 fn give_back(machine: &mut Machine, outward: u32, value: Value) -> Result<Option<Stop>, AllocError>
-    ensures { IfOk result (λ stop. (unit : Name) →
-        Moves unit (λ here frames w. returned_with outward (value_view value) frames w) machine.old machine.new stop) }
+    ensures { IfOk result (λ stop. (image : Image) →
+        Moves image (λ here frames w. returned_with outward (value_view value) frames w) machine.old machine.new stop) }
 {
     for _ended in 0..outward {
         if !leave(machine) {

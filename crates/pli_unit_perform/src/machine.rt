@@ -18,6 +18,8 @@ pub enum Stop {
 /// An activation of a block, with what its code works on.
 #[derive(Drop)]
 pub struct Activation<'m> {
+    /// The unit's number.
+    pub unit: usize,
     /// The block's number.
     pub block: u32,
     /// The statement that is being executed.
@@ -48,8 +50,6 @@ pub struct Machine<'m> {
     /// The activations that wait, the newest last.
     pub waiting: Vec<Activation<'m>>,
     pub storage: Storage<'m>,
-    /// The variables that were made before the program began.
-    pub statics: Vec<Place<'m>>,
     /// What is printed and not yet put.
     pub output: Vec<u8>,
     /// The next column, from 1 to 121.

@@ -1,9 +1,11 @@
 //! One instruction.
-ghost use Rattle.std.specs.Prelude.{IfOk};
-ghost use Rattle.pli_unit_code.specs.views.CodeView.{module_view};
+ghost use Rattle.std.specs.Prelude.{◌≡◌, IfOk};
+ghost use Rattle.pli_unit_code.specs.views.CodeView.{unit_view};
+ghost use Rattle.pli_unit_perform.specs.views.ImageView.{image_of};
 ghost use Rattle.pli_unit_perform.specs.views.MachineView.{Performs};
 
 use crate::calling::{begin, call};
+use crate::external::call_entry;
 use crate::instructions::{
     constant, copy, field, fit, from_one, from_three, from_two, jump, jump_unless, load,
     make_dummy, store, subscript, within,
@@ -15,35 +17,44 @@ use crate::machine::{Machine, Stop};
 use crate::printing::{put, skip};
 use crate::slots::{global, local};
 use crate::stepping::{line, step};
-use pli_unit_code::{Instruction, Module};
+use crate::unit::ActiveUnit;
+use pli_unit_code::Instruction;
 use pli_unit_operate::{Infix, Prefix, Ternary};
 use std::alloc::{AllocError, Global};
 
-/// Performs an instruction, and answers why the run stops there, if it does. The next instruction is known already.
+/// Performs an instruction of the newest activation's unit, and answers why the run stops there, if it does. The next
+/// instruction is known already.
 #[inline]
 pub fn perform<'m>(
     alloc: Global,
-    module: &'m Module,
+    unit: &ActiveUnit<'_, 'm>,
     instruction: Instruction,
     machine: &mut Machine<'m>,
 ) -> Result<Option<Stop>, AllocError>
-    ensures { IfOk result (Performs (module_view «module».now) instruction machine.old machine.new) }
+    requires { machine.old.here.unit ≡ unit.now.number }
+    ensures { IfOk result (Performs (image_of unit.now.loaded.now) (unit_view unit.now.linked.now) instruction machine.old machine.new) }
 {
-    let code = &module.code;
+    let module = unit.loaded.module;
+    let code = &unit.linked.code;
     match instruction {
         Instruction::Step { statement } => Ok(step(machine, statement)),
         Instruction::Line { statement } => Ok(line(machine, statement)),
         Instruction::Jump { target } => Ok(jump(machine, target)),
         Instruction::JumpUnless { target } => Ok(jump_unless(machine, target)),
         Instruction::Goto { outward, target } => Ok(go_to(machine, outward, target as usize)),
-        Instruction::Call { block, arguments } => call(alloc, code, machine, block, arguments),
-        Instruction::Begin { block } => begin(alloc, code, machine, block),
+        Instruction::Call { block, arguments } => {
+            call(alloc, module, code, machine, block, arguments)
+        }
+        Instruction::CallExternal { global, arguments } => {
+            call_entry(alloc, unit, machine, global as usize, arguments)
+        }
+        Instruction::Begin { block } => begin(alloc, module, code, machine, block),
         Instruction::Return { outward } => Ok(return_from(machine, outward)),
         Instruction::ReturnValue { outward } => return_value(alloc, machine, outward),
         Instruction::Raise(error) => Ok(Some(Stop::Raised(error))),
         Instruction::Stop => Ok(Some(Stop::Ended)),
         Instruction::Local { outward, slot } => local(machine, outward, slot as usize),
-        Instruction::Global { number } => global(machine, number as usize),
+        Instruction::Global { number } => global(unit, machine, number as usize),
         Instruction::Field {
             offset,
             description,

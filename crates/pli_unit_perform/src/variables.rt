@@ -1,6 +1,6 @@
 //! Variables of activations.
 ghost use Rattle.std.specs.Prelude.{◌≡◌, ◌<◌, ℕ, List, ◌∷◌, length, map, None, Some, slice_set, IfOk, OnOk, MatchOption};
-ghost use Rattle.pli_base.specs.Name.{Name};
+ghost use Rattle.pli_unit_perform.specs.views.Image.{Image};
 ghost use Rattle.pli_map.specs.Values.{first_values};
 ghost use Rattle.pli_map.specs.views.DescriptionView.{description_view};
 ghost use Rattle.pli_value.specs.Value.{value_view};
@@ -76,8 +76,8 @@ pub fn initial_values(
 
 /// Gives an activation the next slot, for a variable that ends with it.
 fn add_slot<'m>(here: &mut Activation<'m>, place: Place<'m>) -> Result<(), AllocError>
-    ensures slot { OnOk result ((unit : Name) →
-        activation_view unit here.new ≡ with_slot (place_view place.entry) (activation_view unit here.old)) }
+    ensures slot { OnOk result ((image : Image) →
+        activation_view image here.new ≡ with_slot (place_view place.entry) (activation_view image here.old)) }
     ensures frame { frame_view here.new ≡ frame_view here.old }
     ensures statement { here.new.statement ≡ here.old.statement }
 {
@@ -93,10 +93,10 @@ fn make_variable<'m>(
     description: &'m Description,
     values: &[Value],
 ) -> Result<(), StoreFault>
-    ensures made { (more : List Variable) (unit : Name) (put : List ℕ) → GoesOn result
+    ensures made { (more : List Variable) (image : Image) (put : List ℕ) → GoesOn result
         (made_all (record { description = description_view description.now; initial = map value_view values.now } ∷ more)
-        (world_of unit machine.old put))
-        (made_all more (world_of unit machine.new put)) (world_of unit machine.new put) }
+        (world_of image machine.old put))
+        (made_all more (world_of image machine.new put)) (world_of image machine.new put) }
     ensures same { SameFrames machine.old machine.new }
 {
     match machine
@@ -118,9 +118,9 @@ fn make_numbered<'m>(
     machine: &mut Machine<'m>,
     number: u16,
 ) -> Result<(), StoreFault>
-    ensures made { (more : List ℕ) (unit : Name) (put : List ℕ) → GoesOn result
-        (made_all (variables_at (code_view code.now) (number ∷ more)) (world_of unit machine.old put))
-        (made_all (variables_at (code_view code.now) more) (world_of unit machine.new put)) (world_of unit machine.new put) }
+    ensures made { (more : List ℕ) (image : Image) (put : List ℕ) → GoesOn result
+        (made_all (variables_at (code_view code.now) (number ∷ more)) (world_of image machine.old put))
+        (made_all (variables_at (code_view code.now) more) (world_of image machine.new put)) (world_of image machine.new put) }
     ensures same { SameFrames machine.old machine.new }
 {
     match template_of(code, number) {
@@ -139,9 +139,9 @@ pub fn make_variables<'m>(
     machine: &mut Machine<'m>,
     variables: &[u16],
 ) -> Result<(), StoreFault>
-    ensures made { (unit : Name) (put : List ℕ) → GoesOn result
-        (made_all (variables_at (code_view code.now) variables.now) (world_of unit machine.old put))
-        (Yields tt (world_of unit machine.new put)) (world_of unit machine.new put) }
+    ensures made { (image : Image) (put : List ℕ) → GoesOn result
+        (made_all (variables_at (code_view code.now) variables.now) (world_of image machine.old put))
+        (Yields tt (world_of image machine.new put)) (world_of image machine.new put) }
     ensures same { SameFrames machine.old machine.new }
 {
     for variable in variables {

@@ -10,11 +10,11 @@ use Rattle.pli_declare.specs.declared.resolving.ResolveError.{ResolveError}
 use Rattle.pli_declare.specs.declared.resolving.ResolveError.TheVariants as resolving
 use Rattle.pli_type_statement.specs.declared.checking.CheckError.{CheckError}
 use Rattle.pli_type_statement.specs.declared.checking.CheckError.TheVariants as checking
-use Rattle.pli_link.specs.Link as link
+use Rattle.pli_link.specs.Units as link
 use Rattle.pli_gen_tree.specs.declared.generating.GenerateError.{GenerateError}
 use Rattle.pli_gen_tree.specs.declared.generating.GenerateError.TheVariants as generating
-use Rattle.pli_link.specs.answers.Answers.{compiled_view}
-use Rattle.pli_link.specs.declared.linking.Compiled.{Compiled}
+use Rattle.pli_link.specs.views.UnitView.{compiled_view}
+use Rattle.pli_link.specs.declared.units.Compiled.{Compiled}
 use Rattle.pli_meaning.specs.Scratch.{Diagnostic, diagnostic_line, too_long}
 use Rattle.pli_bench.specs.declared.compile.CompileError.{CompileError}
 use Rattle.pli_bench.specs.declared.compile.CompileError.TheVariants.{Fault, Faults, OutOfMemory}

@@ -15,6 +15,7 @@ naming_view (naming.Jump target) = plain.Jump target
 naming_view (naming.JumpUnless target) = plain.JumpUnless target
 naming_view (naming.Goto outward label) = plain.Goto outward label
 naming_view (naming.Call block arguments) = plain.Call block arguments
+naming_view (naming.CallExternal global arguments) = plain.CallExternal global arguments
 naming_view (naming.Begin block) = plain.Begin block
 naming_view (naming.Return outward) = plain.Return outward
 naming_view (naming.ReturnValue outward) = plain.ReturnValue outward

@@ -1,5 +1,5 @@
 -- What the parts of the generator answer.
-use Rattle.std.specs.Prelude.{ℕ, suc, ◌≡◌, ◌+◌, ◌≤◌, nat_eq, nat_lt, Bool, true, List, [], ◌∷◌, length}
+use Rattle.std.specs.Prelude.{ℕ, suc, ◌≡◌, ◌+◌, ◌≤◌, nat_eq, nat_lt, Bool, true, None, List, [], ◌∷◌, length}
 use Rattle.std.specs.Prelude.{if◌then◌else◌}
 use Rattle.std.specs.List.{list_any, AllByRecursion}
 use Rattle.pli_map.specs.Same.{same}
@@ -28,6 +28,7 @@ abbrev pub Fits : (limit : ℕ) → Instruction → Type 0
 Fits n (op.Jump target) = target ≤ n
 Fits n (op.JumpUnless target) = target ≤ n
 Fits n (op.Call block arguments) = arguments ≤ n
+Fits n (op.CallExternal global arguments) = arguments ≤ n
 Fits n i = Unit {0}
 
 -- blocks, each with its first instruction
@@ -56,6 +57,7 @@ HaveDescriptions tables =
 -- code without anything
 abbrev pub no_code : Code
 no_code = record {
+  signature = record { parameters = []; result = None };
   descriptions = [];
   templates = [];
   values = [];

@@ -1,9 +1,9 @@
 -- Worked examples of the translation.
 use Rattle.std.specs.Prelude.{replicate, ◌≡◌, ℕ, pos, true, false, Some, None, [], ◌∷◌, codes}
 use Rattle.pli_code.specs.declared.ending.RunError.TheVariants.{NoReturnedValue}
-use Rattle.pli_map.specs.Description.{FixedBinary, Character}
+use Rattle.pli_map.specs.Description.{FixedBinary, Character, Bit}
 use Rattle.pli_operation.specs.Operations as calculate
-use Rattle.pli_value.specs.Value.{Number}
+use Rattle.pli_value.specs.Value.{Number, Characters}
 use Rattle.pli_machine_step.specs.Program.{Instruction, Step, Line, Jump, JumpUnless, Local, Field, Subscript}
 use Rattle.pli_machine_step.specs.Program.{Constant, Load, Store, Copy, MakeDummy, Operate, Skip, Raise}
 use Rattle.pli_machine_step.specs.Program.{Procedure, BeginBlock}
@@ -13,8 +13,10 @@ use Rattle.pli_type_tree.specs.TypedTree.{TypedReference, Part, NoOperand, Opera
 use Rattle.pli_type_tree.specs.TypedTree.{SubscriptThen, NoArgument, ByPlace, ByDummy, BlockHead, Statement}
 use Rattle.pli_type_tree.specs.TypedTree.{Null, Assign, AssignAggregate, Put, If, Begin, While, Call, Goto}
 use Rattle.pli_type_tree.specs.TypedTree.{Iterate, ToBy}
-use Rattle.pli_type_tree.specs.TypedTree.{Stop, Else, NoStatement, StatementThen}
-use Rattle.pli_type_tree.specs.TypedTree.{TypedUnit, TypedProcedure}
+use Rattle.pli_type_tree.specs.TypedTree.{Stop, NoElse, Else, NoStatement, StatementThen}
+use Rattle.pli_type_tree.specs.TypedTree.{OfBlock, OfEntry, TypedArguments, OwnVariable, ExternalVariable}
+use Rattle.pli_type_tree.specs.TypedTree.{EntryPoint, TypedUnit, TypedProcedure}
+use Rattle.pli_unit_code.specs.CodeTables as tables
 use Rattle.pli_unit_code.specs.declared.instruction.Instruction.TheVariants as coded
 use Rattle.pli_gen_tree.specs.Encoding.{code_of}
 use Rattle.pli_gen_tree.specs.Limits.{is_too_long}
@@ -69,7 +71,7 @@ abbrev pub ArgumentsHanded : Type 0
 ArgumentsHanded =
     statement_code
     (Statement 2
-    (Call 1
+    (Call (OfBlock 1)
     (ByPlace first
     (ByDummy (FixedBinary 15)
     (Calculated (calculate.Fit (FixedBinary 15)) (OperandThen (number 5) NoOperand)) NoArgument))))
@@ -113,7 +115,7 @@ abbrev head : (number statement : ℕ) → BlockHead
 head n s = record { number = n; statement = s; variables = []; temporaries = 0 }
 
 abbrev call_of_f : TypedExpression
-call_of_f = Called 2 NoArgument
+call_of_f = Called (OfBlock 2) NoArgument
 
 abbrev external : TypedProcedure
 external = record {
@@ -140,14 +142,16 @@ function = record {
 abbrev jumping : TypedUnit
 jumping = record {
   name = codes "M";
+  procedure = codes "M";
   is_main = true;
-  statics = [];
+  signature = record { parameters = []; result = None };
+  globals = [];
   procedures = external ∷ function ∷ [];
 }
 
 -- the GOTO of block 1 leads to place 2, where statement 7 begins
 abbrev pub JumpsAndBlocks : Type 0
-JumpsAndBlocks = (unit_code jumping).instructions ≡
+JumpsAndBlocks = (unit_code jumping []).instructions ≡
     Step 2 ∷ op.Begin 1
     ∷ Step 7 ∷ op.Call 2 0 ∷ JumpUnless 7 ∷ Step 8 ∷ Jump 9 ∷ Step 9 ∷ op.Stop
     ∷ Step 10 ∷ Line 10 ∷ op.Call 2 0 ∷ JumpUnless 16 ∷ Step 10 ∷ Step 11 ∷ Jump 10 ∷ op.Return 0
@@ -156,7 +160,7 @@ JumpsAndBlocks = (unit_code jumping).instructions ≡
 
 -- and its blocks
 abbrev pub WholeUnit : Type 0
-WholeUnit = (unit_code jumping).blocks ≡
+WholeUnit = (unit_code jumping []).blocks ≡
     record {
       kind = Procedure;
       parent = None;
@@ -211,7 +215,7 @@ printing = record {
   statements =
       StatementThen
       (Statement 3
-      (Call 1
+      (Call (OfBlock 1)
       (ByDummy (Character 2)
       (Calculated (calculate.Fit (Character 2)) (OperandThen characters_of_5 NoOperand)) NoArgument)))
       (StatementThen
@@ -234,8 +238,10 @@ called = record {
 abbrev printing_unit : TypedUnit
 printing_unit = record {
   name = codes "M";
+  procedure = codes "M";
   is_main = true;
-  statics = [];
+  signature = record { parameters = []; result = None };
+  globals = [];
   procedures = printing ∷ called ∷ [];
 }
 
@@ -255,8 +261,68 @@ InstructionsNumbered = (code_of printing_unit).instructions
     ∷ coded.Put ∷ coded.Constant 0 ∷ coded.Absolute ∷ coded.ToCharacters 5 ∷ coded.Put ∷ coded.Return 0
     ∷ coded.Return 0 ∷ []
 
+abbrev with_globals : ℕ → tables.Code
+with_globals n = record (code_of printing_unit) { globals = replicate n (tables.OwnVariable 0) }
+
 -- it is not too long; with 65,536 globals it would be
 abbrev pub LimitsKept : Type 0
 LimitsKept = (is_too_long (code_of printing_unit) ≡ false)
-    × (is_too_long (record (code_of printing_unit) { globals = replicate 65536 0 }) ≡ true)
-    × (is_too_long (record (code_of printing_unit) { globals = replicate 65535 0 }) ≡ false)
+    × (is_too_long (with_globals 65536) ≡ true) × (is_too_long (with_globals 65535) ≡ false)
+
+-- `S: PROC(P); DCL P CHAR(2), N FIXED BIN(15) STATIC EXTERNAL, F ENTRY(CHAR(2)) RETURNS(BIT(1)),` and then
+-- `V CHAR(2) STATIC; CALL G(P); IF F(P) THEN ; END S;` with `DCL G ENTRY(CHAR(2)) EXTERNAL`
+abbrev of_p : TypedArguments
+of_p = ByPlace first NoArgument
+
+abbrev calling : TypedProcedure
+calling = record {
+  head = head 0 1;
+  parent = None;
+  parameters = 1;
+  function_end = None;
+  statements =
+      StatementThen (Statement 3 (Call (OfEntry 3) of_p))
+      (StatementThen (Statement 4 (If (Called (OfEntry 1) of_p) (Statement 5 Null) NoElse)) NoStatement);
+}
+
+abbrev calling_unit : TypedUnit
+calling_unit = record {
+  name = codes "S";
+  procedure = codes "S";
+  is_main = false;
+  signature = record { parameters = Character 2 ∷ []; result = None };
+  globals =
+      ExternalVariable (codes "N") (record { description = FixedBinary 15; initial = [] })
+      ∷ EntryPoint (codes "F") (record { parameters = Character 2 ∷ []; result = Some (Bit 1) })
+      ∷ OwnVariable (record { description = Character 2; initial = [] })
+      ∷ EntryPoint (codes "G") (record { parameters = Character 2 ∷ []; result = None }) ∷ [];
+  procedures = calling ∷ [];
+}
+
+-- the parameter's description comes first; then those of the globals
+abbrev pub GlobalsNumbered : Type 0
+GlobalsNumbered =
+    ((code_of calling_unit).signature ≡ record { parameters = 0 ∷ []; result = None })
+    × ((code_of calling_unit).descriptions ≡ Character 2 ∷ FixedBinary 15 ∷ Bit 1 ∷ [])
+    × ((code_of calling_unit).templates
+    ≡ record { description = 1; initial = [] } ∷ record { description = 0; initial = [] } ∷ [])
+    × ((code_of calling_unit).globals
+    ≡ tables.ExternalVariable (codes "N") 0
+    ∷ tables.EntryPoint (codes "F") (record { parameters = 0 ∷ []; result = Some 2 })
+    ∷ tables.OwnVariable 1 ∷ tables.EntryPoint (codes "G") (record { parameters = 0 ∷ []; result = None })
+    ∷ [])
+
+-- an entry is called by its number among them
+abbrev pub EntriesCalled : Type 0
+EntriesCalled = (code_of calling_unit).instructions
+    ≡ coded.Step 3 ∷ coded.Local 0 0 ∷ coded.CallExternal 3 1
+    ∷ coded.Step 4 ∷ coded.Local 0 0 ∷ coded.CallExternal 1 1 ∷ coded.JumpUnless 8 ∷ coded.Step 5
+    ∷ coded.Return 0 ∷ []
+
+-- with the numbers of the units that have F and G
+abbrev pub EntriesLinked : Type 0
+EntriesLinked = (unit_code calling_unit (4 ∷ 2 ∷ [])).globals
+    ≡ op.ExternalVariable (codes "N") (record { description = FixedBinary 15; initial = Number (pos 0) ∷ [] })
+    ∷ op.EntryPoint 4
+    ∷ op.OwnVariable (record { description = Character 2; initial = Characters (codes "  ") ∷ [] })
+    ∷ op.EntryPoint 2 ∷ []

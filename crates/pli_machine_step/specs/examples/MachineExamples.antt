@@ -10,10 +10,13 @@ use Rattle.pli_operation.specs.Operations.{Operation, ToCharacters, Add, Compare
 use Rattle.pli_value.specs.Value.{Value, Number, Characters, Bits}
 use Rattle.pli_map.specs.Values.{first_values}
 use Rattle.pli_store.specs.World.{Variable}
-use Rattle.pli_machine_step.specs.Program.{Instruction, Step, Line, Jump, JumpUnless, Goto, Call, Begin}
-use Rattle.pli_machine_step.specs.Program.{Return, ReturnValue, Local, Global, Field, Subscript, Constant}
+use Rattle.pli_machine_step.specs.Program.{Instruction, Step, Line, Jump, JumpUnless, Goto, Call}
+use Rattle.pli_machine_step.specs.Program.{CallExternal}
+use Rattle.pli_machine_step.specs.Program.{Begin, Raise, Return, ReturnValue, Local, Global, Field, Subscript}
+use Rattle.pli_machine_step.specs.Program.{Constant}
 use Rattle.pli_machine_step.specs.Program.{Load, Store, Operate, Put, Skip}
-use Rattle.pli_machine_step.specs.Program.{BlockKind, Procedure, BeginBlock, Block, Program}
+use Rattle.pli_machine_step.specs.Program.{BlockKind, Procedure, BeginBlock, Block, GlobalCode, OwnVariable}
+use Rattle.pli_machine_step.specs.Program.{ExternalVariable, EntryPoint, UnitCode, Program}
 use Rattle.pli_machine_step.specs.Machine.{State, At, Over, iterate}
 use Rattle.pli_machine_step.specs.Runs.{Outcome, outcome_of, start, ProgramRunsTo}
 
@@ -47,7 +50,7 @@ program inner instructions = record {
   units =
       record {
         name = codes "M";
-        statics = [];
+        globals = [];
         blocks = block Procedure None 0 1 ∷ inner;
         instructions = instructions;
       } ∷ [];
@@ -153,7 +156,7 @@ shared = record {
   units =
       record {
         name = codes "M";
-        statics = [];
+        globals = [];
         blocks =
             record (block Procedure None 0 1) {
               variables = record { description = FixedBinary 15; initial = Number (pos 0) ∷ [] } ∷ [];
@@ -199,7 +202,7 @@ with_variable v instructions = record {
   units =
       record {
         name = codes "M";
-        statics = [];
+        globals = [];
         blocks = record (block Procedure None 0 1) { variables = v ∷ [] } ∷ [];
         instructions = instructions;
       } ∷ [];
@@ -275,12 +278,15 @@ SkipEndsLine =
     ≡ Some (gives (codes "A " ++ 10 ∷ codes "B ") Ended 3)
 
 -- two activations of a procedure each add 1 to a variable that is made once
+abbrev pub five : Variable
+five = record { description = FixedBinary 15; initial = Number (pos 5) ∷ [] }
+
 abbrev pub twice : Program
 twice = record {
   units =
       record {
         name = codes "M";
-        statics = record { description = FixedBinary 15; initial = Number (pos 5) ∷ [] } ∷ [];
+        globals = OwnVariable five ∷ [];
         blocks = block Procedure None 0 1 ∷ block Procedure (Some 0) 7 4 ∷ [];
         instructions =
             Call 1 0 ∷ Call 1 0 ∷ Global 0 ∷ Load ∷ Operate (ToCharacters 1) ∷ Put ∷ Return 0 ∷ Global 0
@@ -292,3 +298,41 @@ twice = record {
 
 abbrev pub StaticIsShared : Type 0
 StaticIsShared = after twice 3 21 ≡ Some (gives (codes "7 ") Ended 3)
+
+-- programs of two units, each with one procedure; the first one, M, calls the procedure of the other, N
+abbrev pub unit : (name : List ℕ) → List GlobalCode → List Instruction → UnitCode
+unit name globals instructions = record {
+  name = name;
+  globals = globals;
+  blocks = block Procedure None 0 1 ∷ [];
+  instructions = instructions;
+}
+
+abbrev pub units : (entry : ℕ) → List Instruction → Program
+units entry other = record {
+  units =
+      unit (codes "M") (EntryPoint entry ∷ ExternalVariable (codes "X") five ∷ [])
+      (CallExternal 0 0 ∷ Global 1 ∷ Load ∷ Operate (ToCharacters 1) ∷ Put ∷ Return 0 ∷ [])
+      ∷ unit (codes "N") (ExternalVariable (codes "X") five ∷ []) other ∷ [];
+  main = 0;
+  greatest = 31;
+}
+
+-- the other one stores 7 in a variable that both have; the call is a step
+abbrev pub storing : List Instruction
+storing = Global 0 ∷ number 7 ∷ Store ∷ Return 0 ∷ []
+
+abbrev pub UnitsShare : Type 0
+UnitsShare = after (units 1 storing) 2 10 ≡ Some (gives (codes "7 ") Ended 3)
+
+abbrev pub UnitsStop : Type 0
+UnitsStop = after (units 1 storing) 1 1 ≡ Some (gives [] OutOfSteps 1)
+
+-- an error in the other one names its unit
+abbrev pub UnitFails : Type 0
+UnitFails =
+    after (units 1 (Raise SubscriptRange ∷ [])) 2 2 ≡ Some (gives [] (Error SubscriptRange (codes "N") 1) 1)
+
+-- where there is no such unit it is a fault
+abbrev pub NoUnitFaults : Type 0
+NoUnitFaults = after (units 2 storing) 2 1 ≡ Some (gives [] MachineFault 1)

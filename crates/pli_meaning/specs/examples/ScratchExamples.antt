@@ -7,6 +7,7 @@ use Rattle.pli_members.specs.Members.{Member}
 use Rattle.pli_members.specs.declared.kind.MemberKind.TheVariants.{Source}
 use Rattle.pli_code.specs.declared.ending.Ending.TheVariants.{Ended, OutOfSteps}
 use Rattle.pli_machine_step.specs.Program.{Procedure}
+use Rattle.pli_unit_code.specs.CodeTables.{Code}
 use Rattle.pli_unit_code.specs.Modules.{Module, RunsTo}
 use Rattle.pli_unit_code.specs.declared.instruction.Instruction.TheVariants as op
 use Rattle.pli_value.specs.Value.{Number}
@@ -24,29 +25,30 @@ first_members =
     ∷ codes "END M;" ∷ [])
 
 -- its module
-abbrev pub first_module : Module
-first_module = record {
-  unit = codes "M";
-  code =
-      record {
-        descriptions = FixedBinary 31 ∷ [];
-        templates = record { description = 0; initial = [] } ∷ [];
-        values = Number (pos 2) ∷ Number (pos 3) ∷ [];
-        globals = [];
-        blocks = record {
-          kind = Procedure;
-          parent = None;
-          parameters = 0;
-          variables = 0 ∷ [];
-          temporaries = 0;
-          entry = 0;
-          statement = 1;
-        } ∷ [];
-        instructions =
-            op.Step 3 ∷ op.Local 0 0 ∷ op.Constant 0 ∷ op.Constant 1 ∷ op.Add ∷ op.Fit 0 ∷ op.Store
-            ∷ op.Step 4 ∷ op.Local 0 0 ∷ op.Load ∷ op.ToCharacters 14 ∷ op.Put ∷ op.Return 0 ∷ [];
-      };
+abbrev pub first_code : Code
+first_code = record {
+  signature = record { parameters = []; result = None };
+  descriptions = FixedBinary 31 ∷ [];
+  templates = record { description = 0; initial = [] } ∷ [];
+  values = Number (pos 2) ∷ Number (pos 3) ∷ [];
+  globals = [];
+  blocks = record {
+    kind = Procedure;
+    parent = None;
+    parameters = 0;
+    variables = 0 ∷ [];
+    temporaries = 0;
+    entry = 0;
+    statement = 1;
+  } ∷ [];
+  instructions =
+      op.Step 3 ∷ op.Local 0 0 ∷ op.Constant 0 ∷ op.Constant 1 ∷ op.Add ∷ op.Fit 0 ∷ op.Store ∷ op.Step 4
+      ∷ op.Local 0 0 ∷ op.Load ∷ op.ToCharacters 14 ∷ op.Put ∷ op.Return 0 ∷ [];
 }
+
+abbrev pub first_module : Module
+first_module =
+    record { units = record { unit = codes "M"; code = first_code; entries = [] } ∷ []; main = 0 }
 
 abbrev pub FirstIsMade : Type 0
 FirstIsMade = scratch first_members ≡ Made first_module

@@ -9,14 +9,16 @@ use Rattle.pli_map.specs.Description.{Description, FixedBinary, Array}
 use Rattle.pli_operation.specs.Operations.{Operation, Add, Subtract, Compare, Less, ToCharacters, Fit}
 use Rattle.pli_value.specs.Value.{Number, Characters, Bits}
 use Rattle.pli_type_tree.specs.Templates.{Template}
-use Rattle.pli_type_tree.specs.TypedTree.{InSlot, TypedExpression, Literal, Held, Calculated, Called}
+use Rattle.pli_type_tree.specs.TypedTree.{InSlot, OfProgram, OfBlock, OfEntry, TypedExpression}
+use Rattle.pli_type_tree.specs.TypedTree.{Literal, Held, Calculated, Called}
 use Rattle.pli_type_tree.specs.TypedTree.{TypedReference, Whole, Part, NoOperand, OperandThen, NoSubscript}
 use Rattle.pli_type_tree.specs.TypedTree.{SubscriptThen, NoArgument, ByPlace, ByDummy}
 use Rattle.pli_type_tree.specs.TypedTree.{TypedStatement, Statement, Form, Assign}
 use Rattle.pli_type_tree.specs.TypedTree.{AssignAggregate, Put, If, Begin, Group, While, Iterate, Call, Goto}
 use Rattle.pli_type_tree.specs.TypedTree.{Return, Null, TypedRange, Once, ToBy, ByTo, Repeated, Iteration}
 use Rattle.pli_type_tree.specs.TypedTree.{ReturnValue, Stop, NoElse, Else, TypedStatements, NoStatement}
-use Rattle.pli_type_tree.specs.TypedTree.{StatementThen, TypedProcedure}
+use Rattle.pli_type_tree.specs.TypedTree.{StatementThen, TypedProcedure, Signature, Global, ExternalVariable}
+use Rattle.pli_type_tree.specs.TypedTree.{EntryPoint, TypedUnit}
 use Rattle.pli_meaning_tree.specs.TreeMeaning.{TypedProgram, whole_run}
 
 -- variables without initial values
@@ -52,9 +54,23 @@ inner_of number statement parameters function_end variables statements =
       statements = statements;
     }
 
+-- a unit of a name, which its procedure has too
+abbrev pub unit_of : (name : List ℕ) → Signature → List Global → List TypedProcedure → TypedUnit
+unit_of name signature globals procedures = record {
+  name = name;
+  procedure = name;
+  is_main = false;
+  signature = signature;
+  globals = globals;
+  procedures = procedures;
+}
+
+abbrev pub nothing_given : Signature
+nothing_given = record { parameters = []; result = None }
+
 abbrev pub program_of : List TypedProcedure → TypedProgram
 program_of procedures = record {
-  units = record { name = codes "M"; is_main = true; statics = []; procedures = procedures } ∷ [];
+  units = unit_of (codes "M") nothing_given [] procedures ∷ [];
   main = 0;
   greatest = 31;
 }
@@ -115,7 +131,7 @@ element s n =
 
 -- a call of block 1 with a value
 abbrev pub of_one : TypedExpression → TypedExpression
-of_one e = Called 1 (ByDummy (FixedBinary 31) e NoArgument)
+of_one e = Called (OfBlock 1) (ByDummy (FixedBinary 31) e NoArgument)
 
 -- `DO WHILE(X < 2); X = X + 1; PUT LIST(X); END;`
 abbrev pub counting : List TypedProcedure
@@ -186,7 +202,8 @@ FunctionStops = Prints summing 13 [] OutOfSteps 1
 -- an argument that is handed over as a place is changed by the procedure: `P = P + 5;`
 abbrev pub ByReferenceChanges : Type 0
 ByReferenceChanges =
-    Prints (main_of (of (FixedBinary 15) ∷ []) (listed (Statement 2 (Call 1 (ByPlace (slot 0 0) NoArgument))
+    Prints (main_of (of (FixedBinary 15) ∷ [])
+    (listed (Statement 2 (Call (OfBlock 1) (ByPlace (slot 0 0) NoArgument))
     ∷ Statement 3 (prints_number (held_in 0 0)) ∷ []))
     ∷ inner_of 1 4 1 None [] (listed (Statement 5 (adds 5) ∷ [])) ∷ [])
     5 (codes "   5 ") Ended 6
@@ -194,7 +211,7 @@ ByReferenceChanges =
 -- a function that reaches its END, at statement 4, is in error there
 abbrev pub NoValueIsReturned : Type 0
 NoValueIsReturned =
-    Prints (main_of [] (listed (Statement 2 (prints_number (Called 1 NoArgument)) ∷ []))
+    Prints (main_of [] (listed (Statement 2 (prints_number (Called (OfBlock 1) NoArgument)) ∷ []))
     ∷ inner_of 1 3 0 (Some 4) [] NoStatement ∷ [])
     9 [] (Error NoReturnedValue (codes "M") 4) 1
 
@@ -229,7 +246,7 @@ GotoGroupBeginsAnew =
 -- RETURN in a BEGIN block returns from the procedure, and STOP ends the run
 abbrev pub ReturnLeavesBlock : Type 0
 ReturnLeavesBlock =
-    Prints (main_of [] (listed (Statement 2 (Call 1 NoArgument) ∷ Statement 3 Stop
+    Prints (main_of [] (listed (Statement 2 (Call (OfBlock 1) NoArgument) ∷ Statement 3 Stop
     ∷ Statement 4 (prints (codes "A")) ∷ []))
     ∷ inner_of 1 5 0 None [] (listed (Statement 6 (begins 2 6 (Statement 7 (Return 1) ∷ []))
     ∷ Statement 9 (prints (codes "B")) ∷ [])) ∷ [])
@@ -269,7 +286,7 @@ NoTurnAndOne =
 abbrev pub StartMustFit : Type 0
 StartMustFit =
     Prints (main_of (of (FixedBinary 3) ∷ []) (listed (Statement 2
-    (Iterate (from_number 3 9 (ToBy (Called 1 NoArgument) None)) NoStatement) ∷ []))
+    (Iterate (from_number 3 9 (ToBy (Called (OfBlock 1) NoArgument) None)) NoStatement) ∷ []))
     ∷ inner_of 1 3 0 (Some 6) []
     (listed (Statement 4 (prints (codes "G")) ∷ Statement 5 (ReturnValue 0 (number 3)) ∷ [])) ∷ [])
     9 (codes "G ") (Error FixedOverflow (codes "M") 2) 3
@@ -304,3 +321,48 @@ RepeatGoesOn =
       temporary = 0;
     }) (listed (Statement 3 (prints_number (held_in 0 0)) ∷ []))) ∷ []))
     8 (codes "   1                       2                       4 ") Ended 54
+
+-- a program of two units, which share a number X: `PUT LIST(N(3), X);` in M, and N is a function of a number
+-- A
+abbrev pub numeric : Signature
+numeric = record { parameters = FixedBinary 31 ∷ []; result = Some (FixedBinary 31) }
+
+abbrev pub shared : TypedReference
+shared = Whole (OfProgram 0)
+
+abbrev pub two_units : (statements : List TypedStatement) → TypedProgram
+two_units statements = record {
+  units =
+      unit_of (codes "M") nothing_given
+      (ExternalVariable (codes "X") (of (FixedBinary 31)) ∷ EntryPoint (codes "N") numeric ∷ [])
+      (main_of [] (listed (Statement 2 (Put false
+      (shown (Called (OfEntry 1) (ByDummy (FixedBinary 31) (number 3) NoArgument)) ∷ shown (Held shared)
+      ∷ [])) ∷ [])) ∷ [])
+      ∷ unit_of (codes "N") numeric (ExternalVariable (codes "X") (of (FixedBinary 31)) ∷ [])
+      (record {
+        head = record { number = 0; statement = 1; variables = []; temporaries = 0 };
+        parent = None;
+        parameters = 1;
+        function_end = Some 5;
+        statements = listed statements;
+      } ∷ []) ∷ [];
+  main = 0;
+  greatest = 31;
+}
+
+-- `X = A; RETURN(A + A);`: the activations, PUT, and two statements
+abbrev pub UnitsShare : Type 0
+UnitsShare =
+    whole_run (two_units (Statement 2 (Assign shared (held_in 0 0))
+    ∷ Statement 3 (ReturnValue 0 (with_two Add (held_in 0 0) (held_in 0 0))) ∷ [])) 5
+    ≡ Some (record {
+      output = codes "   6 " ++ codes "                   " ++ codes "   3 ";
+      ending = Ended;
+      column = 30;
+    })
+
+-- an error in N names it
+abbrev pub UnitFails : Type 0
+UnitFails =
+    whole_run (two_units (Statement 2 (Assign shared (with_two Add (number 2147483647) (number 1))) ∷ [])) 9
+    ≡ Some (record { output = []; ending = Error FixedOverflow (codes "N") 2; column = 1 })

@@ -1,16 +1,19 @@
 -- Worked examples of well-typed programs.
-use Rattle.std.specs.Prelude.{ℕ, nat_eq, true, false, pos, Option, Some, None, [], ◌∷◌, if◌then◌else◌}
+use Rattle.std.specs.Prelude.{ℕ, nat_eq, true, false, pos, Option, Some, None, [], ◌∷◌, codes, if◌then◌else◌}
 use Rattle.pli_map.specs.Description.{Description, FixedBinary}
 use Rattle.pli_operation.specs.Operations.{Add, Fit, Compare, Less, ToCharacters}
 use Rattle.pli_value.specs.Value.{Number}
-use Rattle.pli_type_tree.specs.TypedTree.{InSlot, TypedExpression, Literal, Held, Calculated, Called}
+use Rattle.pli_type_tree.specs.Templates.{Template}
+use Rattle.pli_type_tree.specs.TypedTree.{InSlot, OfProgram, OfBlock, OfEntry, Signature, Global}
+use Rattle.pli_type_tree.specs.TypedTree.{ExternalVariable, EntryPoint, TypedUnit, TypedExpression, Literal}
+use Rattle.pli_type_tree.specs.TypedTree.{Held, Calculated, Called}
 use Rattle.pli_type_tree.specs.TypedTree.{TypedReference}
 use Rattle.pli_type_tree.specs.TypedTree.{Whole, NoOperand, OperandThen, NoArgument, ByPlace, BlockHead}
 use Rattle.pli_type_tree.specs.TypedTree.{Statement}
 use Rattle.pli_type_tree.specs.TypedTree.{Assign, Put, If, Goto, ReturnValue, NoElse, TypedStatements}
 use Rattle.pli_type_tree.specs.TypedTree.{Form, Iterate, TypedRange, ByTo, Repeated}
 use Rattle.pli_type_tree.specs.TypedTree.{NoStatement, StatementThen, TypedProcedure}
-use Rattle.pli_type_tree.specs.WellTyped.{Signature, block_of, IsTypedForm}
+use Rattle.pli_type_tree.specs.WellTyped.{KnownProcedure, block_of, IsTypedForm}
 use Rattle.pli_meaning_tree.specs.TreeMeaning.{TypedProgram}
 use Rattle.pli_meaning_typed.specs.TypedPrograms.{WellTyped, context_in}
 
@@ -36,7 +39,7 @@ few =
 
 abbrev pub counting : TypedStatements
 counting =
-    StatementThen (Statement 2 (Assign counter (Called 1 (ByPlace counter NoArgument))))
+    StatementThen (Statement 2 (Assign counter (Called (OfBlock 1) (ByPlace counter NoArgument))))
     (StatementThen
     (Statement 3 (Put false (Calculated (ToCharacters 14) (OperandThen (Held counter) NoOperand) ∷ [])))
     (StatementThen (Statement 4 (If few (Statement 5 (Goto 0 2)) NoElse)) NoStatement))
@@ -69,16 +72,24 @@ successor = record {
 
 abbrev pub example : TypedProgram
 example = record {
-  units = record { name = 80 ∷ []; is_main = true; statics = []; procedures = caller ∷ successor ∷ [] } ∷ [];
+  units =
+      record {
+        name = 80 ∷ [];
+        procedure = 80 ∷ [];
+        is_main = true;
+        signature = record { parameters = []; result = None };
+        globals = [];
+        procedures = caller ∷ successor ∷ [];
+      } ∷ [];
   main = 0;
   greatest = 31;
 }
 
 -- what its procedures take and give
-abbrev pub of_caller : Signature
+abbrev pub of_caller : KnownProcedure
 of_caller = record { parent = None; around = []; parameters = []; value = None }
 
-abbrev pub of_successor : Signature
+abbrev pub of_successor : KnownProcedure
 of_successor = record {
   parent = Some 0;
   around = block_of outer [] counting ∷ [];
@@ -86,7 +97,7 @@ of_successor = record {
   value = Some number;
 }
 
-abbrev pub signatures : (number : ℕ) → Option Signature
+abbrev pub signatures : (number : ℕ) → Option KnownProcedure
 signatures n = if nat_eq n 0 then Some of_caller else if nat_eq n 1 then Some of_successor else None
 
 abbrev pub ExampleIsWellTyped : Type 0
@@ -112,3 +123,72 @@ abbrev pub GroupsAreWellTyped : Type 0
 GroupsAreWellTyped =
     IsTypedForm 31 (context_in [] signatures of_caller caller) (turning by_two)
     × IsTypedForm 31 (context_in [] signatures of_caller caller) (turning (Repeated one_more))
+
+-- M: PROCEDURE; DECLARE X FIXED BINARY(31) EXTERNAL, N ENTRY(FIXED BINARY(31)) RETURNS(FIXED BINARY(31));
+--   X = N(X); END;
+-- N: PROCEDURE(A) RETURNS(FIXED BINARY(31)); DECLARE A FIXED BINARY(31), X FIXED BINARY(31) EXTERNAL;
+--   RETURN(X); END;
+abbrev pub plain : Template
+plain = record { description = number; initial = [] }
+
+abbrev pub shared : Global
+shared = ExternalVariable (codes "X") plain
+
+abbrev pub numeric : Signature
+numeric = record { parameters = number ∷ []; result = Some number }
+
+abbrev pub shared_number : TypedReference
+shared_number = Whole (OfProgram 0)
+
+abbrev pub asking : TypedStatements
+asking =
+    StatementThen
+    (Statement 2 (Assign shared_number (Called (OfEntry 1) (ByPlace shared_number NoArgument)))) NoStatement
+
+abbrev pub answering : TypedStatements
+answering = StatementThen (Statement 2 (ReturnValue 0 (Held shared_number))) NoStatement
+
+abbrev pub external_head : BlockHead
+external_head = record { number = 0; statement = 1; variables = []; temporaries = 0 }
+
+abbrev pub asker : TypedProcedure
+asker = record {
+  head = external_head;
+  parent = None;
+  parameters = 0;
+  function_end = None;
+  statements = asking;
+}
+
+abbrev pub answerer : TypedProcedure
+answerer = record {
+  head = external_head;
+  parent = None;
+  parameters = 1;
+  function_end = Some 3;
+  statements = answering;
+}
+
+abbrev pub asking_unit : TypedUnit
+asking_unit = record {
+  name = codes "M";
+  procedure = codes "M";
+  is_main = true;
+  signature = record { parameters = []; result = None };
+  globals = shared ∷ EntryPoint (codes "N") numeric ∷ [];
+  procedures = asker ∷ [];
+}
+
+abbrev pub answering_unit : TypedUnit
+answering_unit = record {
+  name = codes "N";
+  procedure = codes "N";
+  is_main = false;
+  signature = numeric;
+  globals = shared ∷ [];
+  procedures = answerer ∷ [];
+}
+
+abbrev pub UnitsAreWellTyped : Type 0
+UnitsAreWellTyped =
+    WellTyped (record { units = asking_unit ∷ answering_unit ∷ []; main = 0; greatest = 31 })

@@ -9,6 +9,7 @@ use Rattle.pli_code.specs.declared.ending.RunError.TheVariants.{DeadLocator, Sub
 use Rattle.pli_store.specs.Storage.{Automatic, Place, whole, field_of}
 use Rattle.pli_map.specs.Values.{first_values}
 use Rattle.pli_store.specs.World.{World, nothing, Answer, Yields, Raises, Wrong, further, Variable, Head}
+use Rattle.pli_store.specs.World.{GlobalVariable}
 use Rattle.pli_store.specs.World.{made_of, entered, left_by, cleared, dummy_of, parts_held, held, slot_place}
 use Rattle.pli_store.specs.World.{stored, copied, subscripted, static_place, statics_made}
 
@@ -134,13 +135,16 @@ abbrev pub NoPart : Type 0
 NoPart = with_aggregate (λ p w. held (field_of 3 (Character 1) p) w) ≡ Wrong
 
 -- a variable that is made once is there in each activation of its unit, and keeps what it holds
-abbrev pub once : List Variable
-once = record { description = FixedBinary 15; initial = Number (pos 3) ∷ [] } ∷ []
+abbrev pub once : Variable
+once = record { description = FixedBinary 15; initial = Number (pos 3) ∷ [] }
+
+abbrev pub own : List (Option GlobalVariable)
+own = Some (record { external = None; variable = once }) ∷ []
 
 abbrev pub StaticStays : Type 0
 StaticStays =
     result_of
-    (further (statics_made (codes "M") 0 once nothing)
+    (further (statics_made (codes "M") 0 own nothing)
     (λ _ w. further (entered inner 0 [] w)
     (λ _ w. further (static_place 0 w)
     (λ p w. further (stored p (Number (pos 8)) w)
@@ -151,5 +155,25 @@ StaticStays =
 -- that of another unit is not
 abbrev pub StaticOfOther : Type 0
 StaticOfOther =
-    further (statics_made (codes "N") 0 once nothing)
+    further (statics_made (codes "N") 0 own nothing)
     (λ _ w. further (entered inner 0 [] w) (λ _ w. static_place 0 w)) ≡ Wrong
+
+-- a variable that two units declare under one name is one: what one unit puts there the other one finds; the
+-- numbers are those among all globals of the unit, of which an entry is one too
+abbrev pub shared : GlobalVariable
+shared = record { external = Some (codes "X"); variable = once }
+
+abbrev pub other : Head
+other = record { unit = codes "N"; block = 0; statement = 1; variables = [] }
+
+abbrev pub ExternalIsShared : Type 0
+ExternalIsShared =
+    result_of
+    (further (statics_made (codes "M") 0 (None ∷ Some shared ∷ []) nothing)
+    (λ _ w. further (statics_made (codes "N") 0 (Some shared ∷ []) w)
+    (λ _ w. further (entered inner 0 [] w)
+    (λ _ w. further (static_place 1 w)
+    (λ p w. further (stored p (Number (pos 8)) w)
+    (λ _ w. further (entered other 0 [] w)
+    (λ _ w. further (static_place 0 w) held)))))))
+    ≡ Some (Number (pos 8))

@@ -19,7 +19,8 @@ use Rattle.pli_store.specs.World.{made_of, unless_dead, living, parts_held, part
 use Rattle.pli_store.specs.World.{stored}
 use Rattle.pli_store.specs.World.{copied, made_all, in_newest, with_slot, begun_in}
 use Rattle.pli_store.specs.World.{without_handed, entered, left_by, cleared, at_statement, stepped, height_of}
-use Rattle.pli_store.specs.World.{slot_in, slot_place, newest_unit, static_in, static_place, statics_made}
+use Rattle.pli_store.specs.World.{slot_in, slot_place, newest_unit, static_in, static_place, made_before}
+use Rattle.pli_store.specs.World.{made_once, with_static, statics_made}
 use Rattle.pli_store.specs.World.{dummy_of, printed, line_ended}
 use Rattle.pli_store.specs.laws.Operations.{IsPrefix, Follows, AnswerFollows, MakingKeeps, LoadingKeeps}
 use Rattle.pli_store.specs.laws.Operations.{StoringKeeps, PartsHeldKeep, PartsStoredKeep, CopyingKeeps}
@@ -258,16 +259,22 @@ static_keeps number w =
     (known_follows (newest_unit w.activations) w) refl
     (λ unit v f. behind (height w) w v _ f (known_follows (static_in v.statics unit number) v))
 
+once_keeps : (v : Variable) (before : Option Place) (w : World)
+    → AnswerFollows (height w) w (made_once v before w)
+once_keeps v (Some p) w = follows_same w
+once_keeps v None w = making_keeps v.description AsStatic v.initial w
+
 pub statics_keep : StaticsKeep
 statics_keep unit number [] w = follows_same w
-statics_keep unit number (x ∷ xs) w =
-    further_follows (height w) (height w) w (made_of x.description AsStatic x.initial w) _
-    (making_keeps x.description AsStatic x.initial w) refl
+statics_keep unit number (None ∷ gs) w = statics_keep unit (suc number) gs w
+statics_keep unit number (Some g ∷ gs) w =
+    further_follows (height w) (height w) w (made_once g.variable (made_before g.external w.statics) w) _
+    (once_keeps g.variable (made_before g.external w.statics) w) refl
     (λ p v f.
-    let new = record v { statics = v.statics ++ record { unit = unit; number = number; place = p } ∷ [] } in
-    behind (height w) w new (statics_made unit (suc number) xs new)
+    let new = with_static unit number g.external p v in
+    behind (height w) w new (statics_made unit (suc number) gs new)
     (record { steps = f.steps; heights = f.heights; output = f.output })
-    (statics_keep unit (suc number) xs new))
+    (statics_keep unit (suc number) gs new))
 
 -- output
 

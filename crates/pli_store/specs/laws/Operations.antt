@@ -1,12 +1,12 @@
 -- What every operation on the world keeps: it takes no step, adds to the output, and leaves as many
 -- activations as it should.
-use Rattle.std.specs.Prelude.{◌≡◌, ℕ, suc, ◌-◌, ℤ, List, ◌++◌}
+use Rattle.std.specs.Prelude.{◌≡◌, ℕ, suc, ◌-◌, ℤ, Option, List, ◌++◌}
 use Rattle.pli_base.specs.Name.{Name}
 use Rattle.pli_map.specs.Description.{Description}
 use Rattle.pli_value.specs.Value.{Value}
 use Rattle.pli_operation.specs.Operations.{Calculation}
 use Rattle.pli_store.specs.Storage.{Made, Place}
-use Rattle.pli_store.specs.World.{World, Answer, Yields, Raises, Wrong, Variable, Head, height, made_of}
+use Rattle.pli_store.specs.World.{World, Answer, Yields, Raises, Wrong, GlobalVariable, Head, height, made_of}
 use Rattle.pli_store.specs.World.{parts_held, parts_stored, held, stored, copied, subscripted, calculation}
 use Rattle.pli_store.specs.World.{entered, left_by, cleared, at_statement, stepped, height_of, slot_place}
 use Rattle.pli_store.specs.World.{static_place, statics_made, dummy_of, printed, line_ended}
@@ -72,7 +72,8 @@ abbrev pub StaticKeeps : Type 0
 StaticKeeps = (number : ℕ) → Keeps (static_place number)
 
 abbrev pub StaticsKeep : Type 0
-StaticsKeep = (unit : Name) (number : ℕ) (vs : List Variable) → Keeps (statics_made unit number vs)
+StaticsKeep =
+    (unit : Name) (number : ℕ) (gs : List (Option GlobalVariable)) → Keeps (statics_made unit number gs)
 
 -- entering a block adds an activation, also where there is no room for its variables
 abbrev pub EnteringAdds : Type 0

@@ -18,7 +18,7 @@ use Rattle.pli_type.specs.examples.ExampleTrees.{faults, one, form_of, called, a
 use Rattle.pli_type.specs.examples.ExampleTrees.{decimal, of_bits, null, a_number, held, no_tree, unit_of}
 use Rattle.pli_type.specs.examples.ExampleTrees.{x, n, i, a}
 use Rattle.pli_type_tree.specs.TypedTree as typed
-use Rattle.pli_type_tree.specs.TypedTree.{InSlot, Whole, BlockHead, TypedProcedure, NoArgument, ByPlace}
+use Rattle.pli_type_tree.specs.TypedTree.{InSlot, OfBlock, Whole, BlockHead, TypedProcedure, NoArgument, ByPlace}
 use Rattle.pli_type_tree.specs.TypedTree.{ByDummy, NoStatement, StatementThen}
 
 -- `DO V = .. range; ; END;`, whose variable stands at token 1 and its `=` at 2
@@ -61,10 +61,10 @@ ControlVariables =
 
 -- S: PROC(P); DCL P FIXED BIN(31); and F, which RETURNS(FIXED BIN(31)) and has no parameter
 abbrev pub s : NamedAs
-s = AProcedure (record { block = 1; parameters = FixedBinary 31 ∷ []; returned = None })
+s = AProcedure (record { callee = OfBlock 1; parameters = FixedBinary 31 ∷ []; returned = None })
 
 abbrev pub f : NamedAs
-f = AProcedure (record { block = 2; parameters = []; returned = Some (FixedBinary 31) })
+f = AProcedure (record { callee = OfBlock 2; parameters = []; returned = Some (FixedBinary 31) })
 
 abbrev pub call : List Expression → Statement
 call given = Numbered 1 None 0 (Call (called (codes "S") 1) (Given (all_given given)))
@@ -78,13 +78,13 @@ abbrev pub CallsAreTyped : Type 0
 CallsAreTyped =
     -- CALL S(I);
     (form_of ((1, s) ∷ (3, i) ∷ []) (call (named (codes "I") 3 ∷ []))
-    ≡ Some (typed.Call 1 (ByPlace (Whole (InSlot 0 2)) NoArgument)))
+    ≡ Some (typed.Call (OfBlock 1) (ByPlace (Whole (InSlot 0 2)) NoArgument)))
     -- CALL S((I));
     × (form_of ((1, s) ∷ (4, i) ∷ []) (call (Parenthesized 3 (named (codes "I") 4) ∷ []))
-    ≡ Some (typed.Call 1 (ByDummy (FixedBinary 31) (with_one (Fit (FixedBinary 31)) (held 2)) NoArgument)))
+    ≡ Some (typed.Call (OfBlock 1) (ByDummy (FixedBinary 31) (with_one (Fit (FixedBinary 31)) (held 2)) NoArgument)))
     -- CALL S(N);
     × (form_of ((1, s) ∷ (3, n) ∷ []) (call (named (codes "N") 3 ∷ []))
-    ≡ Some (typed.Call 1 (ByDummy (FixedBinary 31) (with_one (Fit (FixedBinary 31)) (held 1)) NoArgument)))
+    ≡ Some (typed.Call (OfBlock 1) (ByDummy (FixedBinary 31) (with_one (Fit (FixedBinary 31)) (held 1)) NoArgument)))
     -- CALL S; with F in its place; CALL S('A'); CALL S(A); CALL F(1); CALL X;
     × (faults ((1, s) ∷ []) (call []) ≡ one WrongNumberOfArguments 1)
     × (faults ((1, f) ∷ []) (call []) ≡ one NotCallableHere 1)
@@ -118,7 +118,7 @@ head number statement temporaries =
 
 abbrev pub BlocksAreTyped : Type 0
 BlocksAreTyped =
-    (statements_typed (unit_of no_tree ((6, i) ∷ (11, ALabel 2) ∷ [])) (in_unit blocks) first_inside blocks
+    (statements_typed (unit_of no_tree ((6, i) ∷ (11, ALabel 2) ∷ [])) (in_unit None blocks) first_inside blocks
     ≡ Ok (record {
       part = StatementThen (typed.Statement 2 (typed.Begin (head 1 2 1)
           (StatementThen (typed.Statement 3 (typed.Iterate (record {

@@ -28,7 +28,7 @@ use Rattle.pli_type.specs.StatementTyping.{WithProcedures, statement_typed}
 use Rattle.pli_type.specs.Typing.{value_of, referred}
 use Rattle.pli_type.specs.Unbuilt.{is_later_function}
 use Rattle.pli_type_tree.specs.TypedTree.{InSlot, TypedExpression, Literal, Held, TypedReference, Whole}
-use Rattle.pli_type_tree.specs.TypedTree.{Stride}
+use Rattle.pli_type_tree.specs.TypedTree.{OfBlock, Stride}
 use Rattle.pli_type_tree.specs.TypedTree.{TypedStatement, Form}
 use Rattle.pli_type_tree.specs.TypedTree as typed
 use Rattle.pli_value.specs.Value as values
@@ -109,7 +109,7 @@ abbrev pub label : NamedAs
 label = ALabel 7
 
 abbrev pub procedure : NamedAs
-procedure = AProcedure (record { block = 0; parameters = []; returned = None })
+procedure = AProcedure (record { callee = OfBlock 0; parameters = []; returned = None })
 
 abbrev pub abs : NamedAs
 abs = AFunction functions.Abs
@@ -172,7 +172,7 @@ unit_of tree meanings = record {
   parameters = λ block. [];
   returned = λ block. None;
   automatic = λ block. [];
-  statics = [];
+  globals = [];
 }
 
 abbrev pub no_tree : ExternalProcedure
@@ -186,7 +186,7 @@ no_tree = record {
 abbrev pub typed_statement : List (ℕ × NamedAs) → Statement
     → Result (WithProcedures TypedStatement) (List Fault)
 typed_statement meanings statement =
-    statement_typed (unit_of no_tree meanings) (in_unit Ended) first_inside statement
+    statement_typed (unit_of no_tree meanings) (in_unit None Ended) first_inside statement
 
 -- parts of trees
 

@@ -1,9 +1,9 @@
 -- Worked examples of names: a resolved unit as types see it.
 --
 --     M: PROC OPTIONS(MAIN);
---     DCL 1 S STATIC, 2 A BIT, 2 B BIT INIT('1'B), X BIT, Y FIXED BIN(15) INIT(3);
+--     DCL 1 S STATIC, 2 A BIT, 2 B BIT INIT('1'B), X BIT, Y FIXED BIN(15) INIT(3), E ENTRY(BIT), Z BIT EXT;
 --
--- where B, Y, the built-in function ABS and M are used at tokens 50, 52, 54 and 56.
+-- where B, Y, the built-in function ABS, M, E and Z are used at tokens 50, 52, 54, 56, 58 and 60.
 use Rattle.std.specs.Prelude.{◌≡◌, ℕ, nat_eq, true, false, pos, Option, Some, None, List, [], ◌∷◌, codes}
 use Rattle.std.specs.Prelude.{if◌then◌else◌}
 use Rattle.pli_base.specs.Name.{Name}
@@ -13,7 +13,7 @@ use Rattle.pli_base.specs.declared.declaration.InitialValue.TheVariants as initi
 use Rattle.pli_declare_attributes.specs.declared.completed.Scope.TheVariants as scopes
 use Rattle.pli_map.specs.Description.{Description, FixedBinary, Bit, Structure, NoMembers, MemberThen}
 use Rattle.pli_resolve.specs.ResolvedUnits.{ResolvedUnit}
-use Rattle.pli_resolve.specs.Symbols.{Symbol, SymbolKind, Variable, Member, Procedure}
+use Rattle.pli_resolve.specs.Symbols.{Symbol, SymbolKind, Variable, Member, Procedure, Entry}
 use Rattle.pli_resolve.specs.declared.block_numbers.ResolvedBlockKind.TheVariants as kinds
 use Rattle.pli_resolve.specs.declared.built_in.BuiltInFunction.TheVariants as functions
 use Rattle.pli_resolve.specs.declared.symbol.NameMeaning.{NameMeaning}
@@ -23,6 +23,7 @@ use Rattle.pli_resolve.specs.declared.symbol.StorageClass.TheVariants as classes
 use Rattle.pli_type.specs.NamedUnits.{named_as, named_unit}
 use Rattle.pli_type.specs.Names.{NamedAs, AVariable, AFunction, AProcedure}
 use Rattle.pli_type.specs.examples.ExampleTrees.{called}
+use Rattle.pli_type_tree.specs.TypedTree.{OwnVariable, ExternalVariable, EntryPoint, OfBlock, OfEntry}
 use Rattle.pli_type_tree.specs.TypedTree.{InSlot, OfProgram}
 use Rattle.pli_value.specs.Value.{Number, Bits}
 
@@ -43,7 +44,9 @@ declared =
     ∷ symbol (codes "X") (own (Bit 1) classes.Automatic [])
     ∷ symbol (codes "Y")
     (own (FixedBinary 15) classes.Automatic
-    (initial.Integer None (record { negative = false; value = 3 }) ∷ [])) ∷ []
+    (initial.Integer None (record { negative = false; value = 3 }) ∷ []))
+    ∷ symbol (codes "E") (Entry (Bit 1 ∷ []) None)
+    ∷ symbol (codes "Z") (Variable (Bit 1) classes.Static scopes.External [] None) ∷ []
 
 abbrev pub used : (at : ℕ) → Option NameMeaning
 used at =
@@ -51,6 +54,8 @@ used at =
     else if nat_eq at 52 then Some (meanings.Symbol (record { block = 0; number = 4 }))
     else if nat_eq at 54 then Some (meanings.BuiltIn functions.Abs)
     else if nat_eq at 56 then Some (meanings.Symbol (record { block = 1; number = 0 }))
+    else if nat_eq at 58 then Some (meanings.Symbol (record { block = 0; number = 5 }))
+    else if nat_eq at 60 then Some (meanings.Symbol (record { block = 0; number = 6 }))
     else None
 
 abbrev pub resolved : ResolvedUnit
@@ -81,14 +86,18 @@ NamesOfUnit =
     (meant_at 50 ≡ AVariable (record { root = OfProgram 0; whole = pair; path = 1 ∷ [] }))
     × (meant_at 52 ≡ AVariable (record { root = InSlot 0 1; whole = FixedBinary 15; path = [] }))
     × (meant_at 54 ≡ AFunction functions.Abs)
-    × (meant_at 56 ≡ AProcedure (record { block = 0; parameters = []; returned = None }))
+    × (meant_at 56 ≡ AProcedure (record { callee = OfBlock 0; parameters = []; returned = None }))
+    × (meant_at 58 ≡ AProcedure (record { callee = OfEntry 1; parameters = Bit 1 ∷ []; returned = None }))
+    × (meant_at 60 ≡ AVariable (record { root = OfProgram 2; whole = Bit 1; path = [] }))
 
--- AUTOMATIC: X without initial values, Y with 3; STATIC: S, whose second scalar is B
+-- AUTOMATIC: X without initial values, Y with 3; globals: S, whose second scalar is B, E and Z
 abbrev pub VariablesOfUnit : Type 0
 VariablesOfUnit =
     ((named_unit 31 resolved).automatic 0
     ≡ record { description = Bit 1; initial = [] }
     ∷ record { description = FixedBinary 15; initial = record { scalar = 0; value = Number (pos 3) } ∷ [] }
     ∷ [])
-    × ((named_unit 31 resolved).statics
-    ≡ record { description = pair; initial = record { scalar = 1; value = Bits (true ∷ []) } ∷ [] } ∷ [])
+    × ((named_unit 31 resolved).globals
+    ≡ OwnVariable (record { description = pair; initial = record { scalar = 1; value = Bits (true ∷ []) } ∷ [] })
+    ∷ EntryPoint (codes "E") (record { parameters = Bit 1 ∷ []; result = None })
+    ∷ ExternalVariable (codes "Z") (record { description = Bit 1; initial = [] }) ∷ [])

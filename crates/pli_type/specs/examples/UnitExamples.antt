@@ -1,7 +1,8 @@
 -- Worked examples of whole units: Z1, initial values, and a typed unit.
 use Rattle.std.specs.Prelude.{◌+◌, Bool, map, ◌≡◌, ℕ, true, false, pos, Some, None, Ok, Err, List, [], ◌∷◌}
 use Rattle.std.specs.Prelude.{codes}
-use Rattle.pli_base.specs.Declarations.{Attribute, Simple, SimpleAttribute, Bit, Pointer, Static, Builtin}
+use Rattle.pli_base.specs.Declarations.{Attribute, Simple, Entry, SimpleAttribute, Bit, Pointer, Static}
+use Rattle.pli_base.specs.Declarations.{External, Builtin, Plain}
 use Rattle.pli_base.specs.Statements.{ProcedureOption, Main, Returns, Statement, Numbered, Statements, Ended}
 use Rattle.pli_base.specs.Statements.{Before}
 use Rattle.pli_base.specs.Statements.{Declare, Stop, Begin, Signal, Free, If, NoElse, ExternalProcedure}
@@ -42,35 +43,42 @@ abbrev pub main : List Statement → ExternalProcedure
 main statements = unit (Main ∷ []) statements
 
 -- `DCL X ..;` at token 8
-abbrev pub declare : List SimpleAttribute → Statement
-declare attributes =
+abbrev pub declare_as : List Attribute → Statement
+declare_as attributes =
     Numbered 2 None 8
     (Declare (record {
       level = None;
       names = called (codes "X") 9 ∷ [];
       dimensions = [];
-      attributes = simple attributes;
+      attributes = attributes;
     } ∷ []))
-  where
-    simple : List SimpleAttribute → List Attribute
-    simple [] = []
-    simple (attribute ∷ more) = Simple attribute ∷ simple more
+
+abbrev pub declare : List SimpleAttribute → Statement
+declare attributes = declare_as (map Simple attributes)
+
+-- `ENTRY(..)` of one parameter
+abbrev pub entry_of : SimpleAttribute → Attribute
+entry_of attribute = Entry (Some (record { dimensions = []; attributes = Plain attribute ∷ [] } ∷ []))
 
 abbrev pub no_names : List (ℕ × NamedAs)
 no_names = []
 
 -- DCL X BIT; null statements
 -- DCL X POINTER; Z1 at DCL
--- DCL X BIT STATIC; only in a unit that is MAIN
--- a labelled SIGNAL, at its label; FREE behind THEN, at FREE; none in `BEGIN; STOP; END;`; RETURNS, at the
--- procedure's name
+-- DCL X BIT STATIC; in a unit that is not MAIN, and EXTERNAL
+-- DCL X ENTRY; DCL X ENTRY(BIT); and DCL X ENTRY(POINTER); with Z1
+-- a labelled SIGNAL, at its label; FREE behind THEN, at FREE; none in `BEGIN; STOP; END;`; RETURNS(POINTER), at
+-- the procedure's name
 -- ALLOCATION, where the name means the function, at the statement
 abbrev pub FirstUnbuilt : Type 0
 FirstUnbuilt =
     (first_unbuilt (compiled no_names) (main (declare (Bit None ∷ []) ∷ null 3 12 ∷ [])) ≡ None)
     × (first_unbuilt (compiled no_names) (main (declare (Pointer ∷ []) ∷ null 3 12 ∷ [])) ≡ Some 8)
-    × (first_unbuilt (compiled no_names) (main (declare (Bit None ∷ Static ∷ []) ∷ [])) ≡ None)
-    × (first_unbuilt (compiled no_names) (unit [] (declare (Bit None ∷ Static ∷ []) ∷ [])) ≡ Some 8)
+    × (first_unbuilt (compiled no_names) (unit [] (declare (Bit None ∷ Static ∷ []) ∷ [])) ≡ None)
+    × (first_unbuilt (compiled no_names) (unit [] (declare (Bit None ∷ External ∷ []) ∷ [])) ≡ None)
+    × (first_unbuilt (compiled no_names) (main (declare_as (Entry None ∷ []) ∷ [])) ≡ None)
+    × (first_unbuilt (compiled no_names) (main (declare_as (entry_of (Bit None) ∷ []) ∷ [])) ≡ None)
+    × (first_unbuilt (compiled no_names) (main (declare_as (entry_of Pointer ∷ []) ∷ [])) ≡ Some 8)
     × (first_unbuilt (compiled no_names) (main (declare (Builtin ∷ []) ∷ [])) ≡ None)
     × (first_unbuilt (compiled no_names)
     (main (null 2 8 ∷ Numbered 3 (Some (called (codes "L") 9)) 11 (Signal AreaCondition) ∷ [])) ≡ Some 9)
@@ -79,7 +87,8 @@ FirstUnbuilt =
     ≡ Some 11)
     × (first_unbuilt (compiled no_names)
     (main (Numbered 2 None 8 (Begin (Before (Numbered 3 None 10 Stop) Ended) 4) ∷ [])) ≡ None)
-    × (first_unbuilt (compiled no_names) (unit (Returns [] ∷ []) []) ≡ Some 0)
+    × (first_unbuilt (compiled no_names) (unit (Returns (Plain (Bit None) ∷ []) ∷ []) []) ≡ None)
+    × (first_unbuilt (compiled no_names) (unit (Returns (Plain Pointer ∷ []) ∷ []) []) ≡ Some 0)
     × (first_unbuilt (compiled ((8, x) ∷ (10, AFunction functions.Allocation) ∷ []))
     (main (assign 2 8 (alone_named (codes "X") 8) 9 (named (codes "ALLOCATION") 10) ∷ [])) ≡ Some 8)
 
@@ -135,7 +144,7 @@ with_x tokens statements = record {
   parameters = λ block. [];
   returned = λ block. None;
   automatic = λ block. template_of (described.Bit 1) [] ∷ [];
-  statics = [];
+  globals = [];
 }
 
 -- `X = 'A';` from this token on
@@ -149,8 +158,10 @@ good_assignment number at =
 abbrev pub typed_unit : TypedUnit
 typed_unit = record {
   name = codes "M";
+  procedure = codes "M";
   is_main = true;
-  statics = [];
+  signature = record { parameters = []; result = None };
+  globals = [];
   procedures = record {
     head = record {
       number = 0;

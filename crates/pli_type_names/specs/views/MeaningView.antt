@@ -8,18 +8,19 @@ use Rattle.pli_resolve.specs.ResolvedUnits.{resolved_unit_of}
 use Rattle.pli_type.specs.Names as plain
 use Rattle.pli_type_names.specs.BlockFacts.{facts_of}
 use Rattle.pli_type_names.specs.Seen.{Seen, SeenVariable, SeenFunction, SeenProcedure, SeenLabel, SeenUntyped}
-use Rattle.pli_type_names.specs.Seen.{Kept, KeptVariable, KeptProcedure, KeptLabel, KeptNothing, kept_symbols}
+use Rattle.pli_type_names.specs.Seen.{Kept, KeptVariable, KeptProcedure, KeptEntry, KeptLabel, KeptNothing}
+use Rattle.pli_type_names.specs.Seen.{kept_symbols}
 use Rattle.pli_type_names.specs.declared.meanings.Meant.{Meant}
 use Rattle.pli_type_names.specs.declared.meanings.Meant.TheVariants as meanings
 use Rattle.pli_type_names.specs.declared.naming.NamedAs.{NamedAs}
 use Rattle.pli_type_names.specs.declared.naming.NamedAs.TheVariants as answers
 use Rattle.pli_type_names.specs.declared.naming.NamedProcedure.{NamedProcedure}
 use Rattle.pli_type_names.specs.views.NameView.{part_view}
-use Rattle.pli_type_tree.specs.views.TypedView.{root_view}
+use Rattle.pli_type_tree.specs.views.TypedView.{callee_view, root_view}
 
 abbrev pub procedure_view : NamedProcedure → plain.NamedProcedure
 procedure_view p = record {
-  block = p.block;
+  callee = callee_view p.callee;
   parameters = map (λ d. description_view d.now) p.parameters.now;
   returned = option_map (λ d. description_view d.now) p.returned;
 }
@@ -36,6 +37,9 @@ abbrev pub meant_view : Meant → Kept
 meant_view (meanings.Variable begins is_member part) =
     KeptVariable begins is_member (option_map part_view part)
 meant_view (meanings.Procedure block) = KeptProcedure block
+meant_view (meanings.Entry number parameters returned) =
+    KeptEntry number (map (λ d. description_view d.now) parameters.items)
+    (option_map (λ d. description_view d.now) returned)
 meant_view (meanings.Label statement) = KeptLabel statement
 meant_view meanings.Untyped = KeptNothing
 

@@ -5,12 +5,14 @@ use Rattle.pli_map.specs.views.DescriptionView.{description_view}
 use Rattle.pli_operation.specs.declared.operation.Operation.{Operation}
 use Rattle.pli_operation.specs.views.OperationView.{operation_view}
 use Rattle.pli_type_tree.specs.TypedTree as plain
-use Rattle.pli_type_tree.specs.views.TypedView.{root_view, stride_view, expression_view, reference_view}
+use Rattle.pli_type_tree.specs.views.TypedView.{root_view, callee_view, stride_view, expression_view}
+use Rattle.pli_type_tree.specs.views.TypedView.{reference_view}
 use Rattle.pli_type_tree.specs.views.TypedView.{operand_row, subscript_row, argument_row, argument_before}
 use Rattle.pli_type_tree.specs.views.TypedView.{operands_view, subscripts_view, arguments_view, head_view}
 use Rattle.pli_type_tree.specs.views.TypedView.{iteration_view, form_view, statement_row}
 use Rattle.pli_type_tree.specs.views.TypedView.{statement_view, statements_view}
 use Rattle.pli_type_tree.specs.declared.expression.Root.{Root}
+use Rattle.pli_type_tree.specs.declared.expression.Callee.{Callee}
 use Rattle.pli_type_tree.specs.declared.expression.TypedExpression.{TypedExpression, Calculated, Called}
 use Rattle.pli_type_tree.specs.declared.expression.TypedReference.{Part}
 use Rattle.pli_type_tree.specs.declared.expression.TypedSubscript.{TypedSubscript}
@@ -49,10 +51,11 @@ calculated_made operation operands =
     ∙ ap operands_view (block.items_hidden-the_row-TypedExpression-0 operands))
 
 -- a call of a function
-pub called_made : (number : ℕ) (arguments : Vec TypedArgument Global)
-    → expression_view (Called number arguments) ≡ plain.Called number (arguments_view arguments.items)
-called_made number arguments =
-    ap (plain.Called number)
+pub called_made : (callee : Callee) (arguments : Vec TypedArgument Global)
+    → expression_view (Called callee arguments)
+    ≡ plain.Called (callee_view callee) (arguments_view arguments.items)
+called_made callee arguments =
+    ap (plain.Called (callee_view callee))
     (arguments_row _ (block.hidden-the_row-TypedArgument-1 arguments)
     ∙ ap arguments_view (block.items_hidden-the_row-TypedArgument-1 arguments))
 

@@ -5,6 +5,9 @@ use Rattle.pli_operation.specs.views.OperationView.{operation_view}
 use Rattle.pli_value.specs.Value.{value_view}
 use Rattle.pli_type_tree.specs.TypedTree as plain
 use Rattle.pli_type_tree.specs.views.TemplateView.{groups_view}
+use Rattle.pli_type_tree.specs.views.GlobalView.{signature_view, globals_view}
+use Rattle.pli_type_tree.specs.declared.expression.Callee.{Callee}
+use Rattle.pli_type_tree.specs.declared.expression.Callee.TheVariants as callees
 use Rattle.pli_type_tree.specs.declared.expression.Root.{Root}
 use Rattle.pli_type_tree.specs.declared.expression.Root.TheVariants as roots
 use Rattle.pli_type_tree.specs.declared.expression.Stride.{Stride}
@@ -39,6 +42,10 @@ abbrev pub root_view : Root → plain.Root
 root_view (roots.InSlot outward slot) = plain.InSlot outward slot
 root_view (roots.OfProgram number) = plain.OfProgram number
 
+abbrev pub callee_view : Callee → plain.Callee
+callee_view (callees.OfBlock block) = plain.OfBlock block
+callee_view (callees.OfEntry number) = plain.OfEntry number
+
 abbrev pub stride_view : Stride → plain.Stride
 stride_view s = record { low = s.low; high = s.high; multiplier = s.multiplier }
 
@@ -48,7 +55,8 @@ abbrev mutual
   expression_view (Held variable) = plain.Held (reference_view variable)
   expression_view (Calculated' operation shape operands) =
       plain.Calculated (operation_view operation) (operand_row operands)
-  expression_view (Called' block shape arguments) = plain.Called block (argument_row arguments)
+  expression_view (Called' callee shape arguments) =
+      plain.Called (callee_view callee) (argument_row arguments)
 
   pub reference_view : TypedReference → plain.TypedReference
   reference_view (Whole root) = plain.Whole (root_view root)
@@ -128,7 +136,7 @@ abbrev mutual
       plain.While (expression_view condition) (statement_row statements)
   form_view (Iterate' iteration shape statements) =
       plain.Iterate (iteration_view iteration.value) (statement_row statements)
-  form_view (Call block arguments) = plain.Call block (arguments_view arguments.items)
+  form_view (Call callee arguments) = plain.Call (callee_view callee) (arguments_view arguments.items)
   form_view (Goto outward label) = plain.Goto outward label
   form_view (Return outward) = plain.Return outward
   form_view (ReturnValue outward value) = plain.ReturnValue outward (expression_view value)
@@ -164,7 +172,9 @@ abbrev pub unit_view : TypedUnit → plain.TypedUnit
 unit_view u =
     record {
       name = u.name;
+      procedure = u.procedure;
       is_main = u.is_main;
-      statics = groups_view u.statics.items;
+      signature = signature_view u.signature;
+      globals = globals_view u.globals.items;
       procedures = map procedure_view u.procedures.items;
     }

@@ -1,6 +1,6 @@
 use Rattle.std.specs.Prelude.{◌≡◌, ◌++◌, map, drop}
 use Rattle.pli_meaning.specs.Scratch.{all_text, all_units}
-use Rattle.pli_link.specs.answers.Answers.{compiled_view}
+use Rattle.pli_link.specs.views.UnitView.{compiled_view}
 use Rattle.pli_bench.proofs.build.compile_all.Given as goal
 
 -- the units and the text so far, and those of the members that are left, are those of all

@@ -1,9 +1,8 @@
-use Rattle.std.specs.Prelude.{◌≡◌, ◌++◌, map, drop}
+use Rattle.std.specs.Prelude.{◌≡◌, ◌++◌, drop}
 use Rattle.std.specs.List.{flat_map}
 use Rattle.pli_meaning.specs.Scratch.{link_line}
-use Rattle.pli_link.specs.answers.Answers.{fault_view}
 use Rattle.pli_bench.proofs.build.link_text.Given as goal
 
 -- the lines so far, and those of the faults that are left, are those of all
 abbrev pub invariant-loop-fault : goal.invariant-loop-fault
-invariant-loop-fault l = l.text.items ++ flat_map link_line (map fault_view (drop l.fault-index l.faults)) ≡ flat_map link_line (map fault_view l.faults)
+invariant-loop-fault l = l.text.items ++ flat_map link_line (drop l.fault-index l.faults) ≡ flat_map link_line l.faults

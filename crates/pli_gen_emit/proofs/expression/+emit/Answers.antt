@@ -3,8 +3,8 @@ use Rattle.pli_machine_step.specs.Program as op
 use Rattle.pli_map.specs.views.DescriptionView.{description_view}
 use Rattle.pli_operation.specs.views.OperationView.{operation_view}
 use Rattle.pli_type_tree.specs.TypedTree.{NoArgument}
-use Rattle.pli_type_tree.specs.views.TypedView.{root_view, argument_before, expression_view, reference_view, operands_view, arguments_view, subscripts_view}
-use Rattle.pli_gen_emit.specs.TreeTranslation.{root_code, arguments_code, operands_code, subscripts_code, value_code, place_code}
+use Rattle.pli_type_tree.specs.views.TypedView.{root_view, callee_view, argument_before, expression_view, reference_view, operands_view, arguments_view, subscripts_view}
+use Rattle.pli_gen_emit.specs.TreeTranslation.{root_code, call_instruction, arguments_code, operands_code, subscripts_code, value_code, place_code}
 use Rattle.pli_gen_emit.proofs.EmitLemmas.{emits_as, emits_both, then_emits, amid_next}
 use Rattle.pli_gen_emit.proofs.TreeCode.{argument_first, operation_code_made, call_code_made, part_code_made}
 use Rattle.pli_gen_emit.proofs.expression.+emit.Goals as goal
@@ -27,8 +27,9 @@ pub emit_value-returns-in-Called : goal.emit_value-returns-in-Called
 emit_value-returns-in-Called t c =
     let b = c.in-Called in
     then_emits c.args.code.now c.emit_arguments.new.code c.emit-in-Called.new.self _ _ _ c.emit_arguments.ensures c.emit-in-Called.ensures
-    (ap (λ xs. arguments_code (arguments_view xs) ++ op.Call b.block (length xs) ∷ []) c.as_slice-arguments.ensures.value
-    ∙ sym (ap (λ e. value_code (expression_view e)) b.is ∙ call_code_made b.block b.arguments))
+    (ap (λ i. arguments_code (arguments_view c.as_slice-arguments.result.now) ++ i ∷ []) c.call_instruction.ensures
+    ∙ ap (λ xs. arguments_code (arguments_view xs) ++ call_instruction (callee_view b.callee) (length xs) ∷ []) c.as_slice-arguments.ensures.value
+    ∙ sym (ap (λ e. value_code (expression_view e)) b.is ∙ call_code_made b.callee b.arguments))
 
 pub emit_place-returns-in-Part : goal.emit_place-returns-in-Part
 emit_place-returns-in-Part t c =

@@ -1,7 +1,6 @@
 use Rattle.std.proofs.Common.{◌++◌, ◌∷◌, [], length, ap, ◌∙◌, sym}
-use Rattle.pli_machine_step.specs.Program as op
-use Rattle.pli_type_tree.specs.views.TypedView.{arguments_view, form_view}
-use Rattle.pli_gen_emit.specs.TreeTranslation.{arguments_code}
+use Rattle.pli_type_tree.specs.views.TypedView.{callee_view, arguments_view, form_view}
+use Rattle.pli_gen_emit.specs.TreeTranslation.{arguments_code, call_instruction}
 use Rattle.pli_gen_emit.specs.answers.Pieces.{simple_code}
 use Rattle.pli_gen_emit.proofs.EmitLemmas.{then_emits}
 use Rattle.pli_gen_emit.proofs.TreeCode.{arguments_counted}
@@ -11,6 +10,7 @@ pub returns-in-Call : goal.returns-in-Call
 returns-in-Call c =
     let b = c.in-Call in
     then_emits c.args.code.now c.emit_arguments.new.code c.emit-in-Call.new.self _ _ _ c.emit_arguments.ensures c.emit-in-Call.ensures
-    (ap (λ xs. arguments_code (arguments_view xs) ++ op.Call b.block (length xs) ∷ []) c.as_slice-arguments.ensures.value
-    ∙ ap (λ n. arguments_code (arguments_view b.arguments.items) ++ op.Call b.block n ∷ []) (sym (arguments_counted b.arguments.items))
+    (ap (λ i. arguments_code (arguments_view c.as_slice-arguments.result.now) ++ i ∷ []) c.call_instruction.ensures
+    ∙ ap (λ xs. arguments_code (arguments_view xs) ++ call_instruction (callee_view b.callee) (length xs) ∷ []) c.as_slice-arguments.ensures.value
+    ∙ ap (λ n. arguments_code (arguments_view b.arguments.items) ++ call_instruction (callee_view b.callee) n ∷ []) (sym (arguments_counted b.arguments.items))
     ∙ sym (ap (λ f. simple_code (form_view f)) b.is))

@@ -2,14 +2,10 @@ use Rattle.std.proofs.Common.{◌≡◌, ◌∙◌, true, not, ap, map, sym}
 use Rattle.std.specs.Result.{is_ok}
 use Rattle.pli_map.specs.views.DescriptionView.{description_view}
 use Rattle.pli_value.specs.Value.{value_view}
-use Rattle.pli_unit_code.specs.views.CodeView.{coded_template_view, block_view}
-use Rattle.pli_type_tree.specs.views.TemplateView.{groups_view}
+use Rattle.pli_unit_code.specs.views.CodeView.{coded_template_view, global_view, block_view}
 use Rattle.pli_type_tree.specs.views.TypedView.{unit_view}
-use Rattle.pli_gen_emit.specs.TreeTranslation.{instructions_of}
 use Rattle.pli_gen_emit.specs.views.BlockView.{block_trees}
 use Rattle.pli_gen_emit.specs.views.NamingView.{naming_code}
-use Rattle.pli_gen_tree.specs.Encoding.{coded_unit}
-use Rattle.pli_gen_tree.specs.Limits.{is_too_long}
 use Rattle.pli_gen_tree.specs.views.TableView.{tables_view}
 use Rattle.pli_gen_tree.proofs.KeyLemmas.{at_ok}
 use Rattle.pli_gen_tree.proofs.UnitLemmas.{nothing_coded, have_descriptions, unit_is, limits_are}
@@ -28,7 +24,6 @@ returns-then-is_too_long c =
     let code = naming_code e.code.items in
     let t = tables_view c.args.tables.now in
     sym (limits_are u bs code t c.requires.emitted.blocks c.requires.emitted.code (c.requires.tables c.if-tables.false))
-    ∙ ap (λ gs. is_too_long (coded_unit t (groups_view gs) bs code)) (sym c.as_slice-statics.ensures.value)
     ∙ sym c.is_too_long.ensures ∙ c.if-is_too_long.true
 
 pub encode_unit-requires-clause-short : goal.encode_unit-requires-clause-short
@@ -36,8 +31,8 @@ encode_unit-requires-clause-short c = sym c.is_too_long.ensures ∙ c.if-is_too_
 
 pub encode_unit-requires-clause-empty : goal.encode_unit-requires-clause-empty
 encode_unit-requires-clause-empty c =
-    nothing_coded _ _ _ _ _ _ (ap (map description_view) c.new.ensures.items) (ap (map coded_template_view) c.new-2.ensures.items) (ap (map value_view) c.new-3.ensures.items)
-    c.new-4.ensures.items (ap (map block_view) c.new-5.ensures.items) c.new-6.ensures.items
+    nothing_coded _ _ _ _ _ _ _ c.new.ensures.items (ap (map description_view) c.new-2.ensures.items) (ap (map coded_template_view) c.new-3.ensures.items)
+    (ap (map value_view) c.new-4.ensures.items) (ap (map global_view) c.new-5.ensures.items) (ap (map block_view) c.new-6.ensures.items) c.new-7.ensures.items
 
 pub returns : goal.returns
 returns c =
@@ -49,9 +44,8 @@ returns c =
     let numbers = c.requires.tables c.if-tables.false in
     let ok : is_ok c.encode_unit.result ≡ true = c.is_err.ensures.negation ∙ ap not c.if-is_err.false in
     let within = sym (limits_are u bs code t c.requires.emitted.blocks c.requires.emitted.code numbers)
-    ∙ ap (λ gs. is_too_long (coded_unit t (groups_view gs) bs code)) (sym c.as_slice-statics.ensures.value)
     ∙ sym c.is_too_long.ensures ∙ c.if-is_too_long.false in (
       within,
-      at_ok _ c.encode_unit.result c.encode_unit.ensures ok ∙ ap (λ gs. coded_unit t (groups_view gs) bs (instructions_of bs)) c.as_slice-statics.ensures.value
+      at_ok _ c.encode_unit.result c.encode_unit.ensures ok
           ∙ unit_is u bs code t c.requires.emitted.blocks c.requires.emitted.code numbers,
     )

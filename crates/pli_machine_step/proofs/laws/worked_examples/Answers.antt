@@ -90,3 +90,15 @@ returns-clause-skip_ends_line c = run.skip_ends_line
 
 pub returns-clause-static_is_shared : goal.returns-clause-static_is_shared
 returns-clause-static_is_shared c = run.static_is_shared
+
+pub returns-clause-units_share : goal.returns-clause-units_share
+returns-clause-units_share c = run.units_share
+
+pub returns-clause-units_stop : goal.returns-clause-units_stop
+returns-clause-units_stop c = run.units_stop
+
+pub returns-clause-unit_fails : goal.returns-clause-unit_fails
+returns-clause-unit_fails c = run.unit_fails
+
+pub returns-clause-no_unit_faults : goal.returns-clause-no_unit_faults
+returns-clause-no_unit_faults c = run.no_unit_faults

@@ -66,3 +66,9 @@ returns-clause-variable_is_looked_at_anew c = holds.variable_is_looked_at_anew
 
 pub returns-clause-repeat_goes_on : goal.returns-clause-repeat_goes_on
 returns-clause-repeat_goes_on c = holds.repeat_goes_on
+
+pub returns-clause-units_share : goal.returns-clause-units_share
+returns-clause-units_share c = holds.units_share
+
+pub returns-clause-unit_fails : goal.returns-clause-unit_fails
+returns-clause-unit_fails c = holds.unit_fails

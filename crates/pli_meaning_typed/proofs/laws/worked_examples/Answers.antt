@@ -6,3 +6,6 @@ returns-clause-program c = law.example_is
 
 pub returns-clause-groups : goal.returns-clause-groups
 returns-clause-groups c = law.groups_are
+
+pub returns-clause-units : goal.returns-clause-units
+returns-clause-units c = law.units_are

@@ -1,4 +1,4 @@
-use Rattle.pli_store.proofs.StorageExamplesHold.{outer_variable, dummy_number, dummy_ends, too_long, dummy_dead, part_stored, part_held, element_copied, aggregate_held, no_element, no_part, static_stays, static_of_other}
+use Rattle.pli_store.proofs.StorageExamplesHold.{outer_variable, dummy_number, dummy_ends, too_long, dummy_dead, part_stored, part_held, element_copied, aggregate_held, no_element, no_part, static_stays, static_of_other, external_is_shared}
 use Rattle.pli_store.proofs.laws.worked_examples.Goals as goal
 
 pub returns-clause-outer_variable : goal.returns-clause-outer_variable
@@ -39,3 +39,6 @@ returns-clause-static_stays c = static_stays
 
 pub returns-clause-static_of_other : goal.returns-clause-static_of_other
 returns-clause-static_of_other c = static_of_other
+
+pub returns-clause-external_is_shared : goal.returns-clause-external_is_shared
+returns-clause-external_is_shared c = external_is_shared

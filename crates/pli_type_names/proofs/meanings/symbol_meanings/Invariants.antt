@@ -4,7 +4,7 @@ use Rattle.pli_resolve.specs.views.SymbolView.{symbol_view}
 use Rattle.pli_type_names.specs.BlockFacts.{BlockFacts}
 use Rattle.pli_type_names.specs.Numbered.{each_from}
 use Rattle.pli_type_names.specs.OnWays.{IsLevel}
-use Rattle.pli_type_names.specs.OwnVariables.{own_variables}
+use Rattle.pli_type_names.specs.OwnVariables.{global_at, own_variables}
 use Rattle.pli_type_names.specs.Seen.{kept_symbols, kind_kept}
 use Rattle.pli_type_names.specs.views.MeaningView.{meant_view}
 use Rattle.pli_type_names.specs.views.VariableView.{own_view}
@@ -13,10 +13,10 @@ use Rattle.pli_type_names.proofs.meanings.symbol_meanings.Given as goal
 -- the meanings so far, with those of the symbols that are left; and structures to which ways lead
 abbrev pub invariant-loop-number : goal.invariant-loop-number
 invariant-loop-number l =
-    let f : BlockFacts = record { parameters = l.parameters; statics = l.fn.statics; symbols = map symbol_view l.symbols } in
+    let f : BlockFacts = record { parameters = l.parameters; globals = l.fn.globals; symbols = map symbol_view l.symbols } in
     record {
       meanings : map meant_view l.meanings.items
-          ++ each_from (λ number s. kind_kept (own_variables f) number s.kind) l.number (map symbol_view (drop l.number l.symbols))
+          ++ each_from (λ number s. kind_kept (own_variables f) number (global_at f number) s.kind) l.number (map symbol_view (drop l.number l.symbols))
           ≡ kept_symbols f;
       levels : All (IsLevel (map (option_map own_view) l.variables.items)) l.levels.items;
     }

@@ -4,12 +4,12 @@ use Rattle.pli_base.specs.views.StatementView.{unit_view}
 use Rattle.pli_resolve.specs.ResolvedUnits.{all_symbols, resolved_unit_of}
 use Rattle.pli_resolve.specs.Symbols.{Symbol}
 use Rattle.pli_resolve.specs.views.SymbolView.{symbol_view}
-use Rattle.pli_type.specs.NamedUnits.{block_symbols, is_static, parameter_numbers, such_before, such_in}
+use Rattle.pli_type.specs.NamedUnits.{block_symbols, globals_before, globals_in, parameter_numbers}
 use Rattle.pli_type_names.specs.BlockFacts.{facts_of}
 use Rattle.pli_type_names.specs.Seen.{Kept, kept_symbols}
 use Rattle.pli_type_names.specs.UnitNaming.{symbols_in}
 use Rattle.pli_type_names.specs.views.MeaningView.{row_view}
-use Rattle.pli_type_names.proofs.Blocks.{rows_of, row_there, symbols_there, all_rows, such_more}
+use Rattle.pli_type_names.proofs.Blocks.{rows_of, row_there, symbols_there, all_rows, globals_more}
 use Rattle.pli_type_names.proofs.Lists.{made_more}
 use Rattle.pli_type_names.proofs.meanings.unit_meanings.Goals as goal
 
@@ -24,22 +24,22 @@ loop-block-preserved c =
     let ss = c.deref.result.now in
     let ps = c.parameter_numbers-parameters.result.now in
     let same : map symbol_view ss ≡ block_symbols r n = ap (map symbol_view) c.deref.ensures.value ∙ c.in_ok-symbols.ensures in
-    let kept : List ℕ → ℕ → List Symbol → List Kept = λ p k xs. kept_symbols (record { parameters = p; statics = k; symbols = xs }) in
+    let kept : List ℕ → ℕ → List Symbol → List Kept = λ p k xs. kept_symbols (record { parameters = p; globals = k; symbols = xs }) in
     let row : row_view made ≡ kept_symbols (facts_of r n) =
     c.in_ok-symbol_meanings.ensures.meanings
-    ∙ ap (λ p. kept p l.statics (map symbol_view ss)) c.parameter_numbers-parameters.ensures
-    ∙ ap (λ k. kept (parameter_numbers r n) k (map symbol_view ss)) l.invariant.statics
-    ∙ ap (λ xs. kept (parameter_numbers r n) (such_in (is_static 31) (take n (all_symbols r))) xs) same in
-    let count : List Symbol → ℕ → ℕ = such_before (is_static 31) in
-    let counted : c.symbol_meanings.new.statics ≡ l.statics + count (block_symbols r n) (length (block_symbols r n)) =
+    ∙ ap (λ p. kept p l.globals (map symbol_view ss)) c.parameter_numbers-parameters.ensures
+    ∙ ap (λ k. kept (parameter_numbers r n) k (map symbol_view ss)) l.invariant.globals
+    ∙ ap (λ xs. kept (parameter_numbers r n) (globals_in 31 (take n (all_symbols r))) xs) same in
+    let count : List Symbol → ℕ → ℕ = globals_before 31 in
+    let counted : c.symbol_meanings.new.globals ≡ l.globals + count (block_symbols r n) (length (block_symbols r n)) =
     c.in_ok-symbol_meanings.ensures.counted
-    ∙ ap (λ k. l.statics + count (map symbol_view ss) k) (sym (length-map ss symbol_view))
-    ∙ ap (λ xs. l.statics + count xs (length xs)) same in
-    let more = such_more (is_static 31) (all_symbols r) n (block_symbols r n) (symbols_there r n within) in
+    ∙ ap (λ k. l.globals + count (map symbol_view ss) k) (sym (length-map ss symbol_view))
+    ∙ ap (λ xs. l.globals + count xs (length xs)) same in
+    let more = globals_more (all_symbols r) n (block_symbols r n) (symbols_there r n within) in
     record {
       rows = ap (map row_view) c.in_ok-push.ensures.items
           ∙ made_more row_view (rows_of r) n l.made.items made l.invariant.rows (row_there r n within ∙ ap Some (sym row));
-      statics = omega (arith, counted, more, l.invariant.statics);
+      globals = omega (arith, counted, more, l.invariant.globals);
     }
 
 pub returns : goal.returns

@@ -1,6 +1,6 @@
 use Rattle.std.proofs.Common.{◌≡◌, ◌+◌, ◌++◌, drop, length, map, option_map}
 use Rattle.pli_resolve.specs.views.SymbolView.{symbol_view}
-use Rattle.pli_type.specs.NamedUnits.{is_automatic, is_static, such_before}
+use Rattle.pli_type.specs.NamedUnits.{globals_before, is_automatic, such_before}
 use Rattle.pli_type_names.specs.Numbered.{each_from}
 use Rattle.pli_type_names.specs.OwnVariables as spec
 use Rattle.pli_type_names.specs.views.VariableView.{own_view}
@@ -10,9 +10,13 @@ use Rattle.pli_type_names.proofs.own_variables.own_variables.Given as goal
 abbrev pub invariant-loop-number : goal.invariant-loop-number
 invariant-loop-number l = record {
   slots : l.free.slot ≡ length l.parameters + such_before (is_automatic 31) (map symbol_view l.symbols) l.number;
-  statics : l.free.number ≡ l.fn.statics + such_before (is_static 31) (map symbol_view l.symbols) l.number;
+  globals : l.free.number ≡ l.fn.globals + globals_before 31 (map symbol_view l.symbols) l.number;
+  numbers : l.numbers.items
+      ++ each_from (λ number s. l.fn.globals + globals_before 31 (map symbol_view l.symbols) number) l.number (map symbol_view (drop l.number l.symbols))
+      ≡ l.fn.numbers.items
+      ++ each_from (λ number s. l.fn.globals + globals_before 31 (map symbol_view l.symbols) number) 0 (map symbol_view l.symbols);
   variables : map (option_map own_view) l.variables.items
-      ++ each_from (λ number s. spec.own_at (record { parameters = l.parameters; statics = l.fn.statics; symbols = map symbol_view l.symbols }) number s.kind) l.number
+      ++ each_from (λ number s. spec.own_at (record { parameters = l.parameters; globals = l.fn.globals; symbols = map symbol_view l.symbols }) number s.kind) l.number
       (map symbol_view (drop l.number l.symbols))
-      ≡ spec.own_variables (record { parameters = l.parameters; statics = l.fn.statics; symbols = map symbol_view l.symbols });
+      ≡ spec.own_variables (record { parameters = l.parameters; globals = l.fn.globals; symbols = map symbol_view l.symbols });
 }

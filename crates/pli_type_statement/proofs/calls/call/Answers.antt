@@ -7,7 +7,7 @@ use Rattle.pli_type_expression.specs.answers.TypingAnswers.{Fails}
 use Rattle.pli_type_expression.specs.views.TypingView.{argument_view}
 use Rattle.pli_type_names.specs.Meant.{IsMeantAs}
 use Rattle.pli_type_names.specs.UnitNaming.{naming_in}
-use Rattle.pli_type_tree.specs.views.TypedView.{arguments_view}
+use Rattle.pli_type_tree.specs.views.TypedView.{arguments_view, callee_view}
 use Rattle.pli_type_statement.proofs.Called.{meant_procedure, call_fails, call_done}
 use Rattle.pli_type_statement.proofs.calls.call.Goals as goal
 
@@ -25,8 +25,8 @@ returns-in-None c =
     let names = c.args.naming.now in
     let m = meant_procedure c.in-Procedure.procedure ((naming_in names).meaning c.args.name.at) (subst (λ a. IsMeantAs a ((naming_in names).meaning c.args.name.at)) c.in-Procedure.is c.meaning.ensures) in
     call_done names c.args.name (syntax.arguments_view c.args.list.now) (map argument_view c.in_ok-arguments.arguments.items) m.0
-    (arguments_view c.in_ok-arguments-2.arguments.items) None c.in-Procedure.procedure.block c.greatest.result c.greatest.ensures c.in_ok-arguments.ensures m.1
-    (c.in_ok-arguments-2.ensures m.0 m.2) m.2.block (sym (ap (option_map (λ d. description_view d.now)) c.in-None.is) ∙ m.2.returned)
+    (arguments_view c.in_ok-arguments-2.arguments.items) None (callee_view c.in-Procedure.procedure.callee) c.greatest.result c.greatest.ensures c.in_ok-arguments.ensures m.1
+    (c.in_ok-arguments-2.ensures m.0 m.2) m.2.callee (sym (ap (option_map (λ d. description_view d.now)) c.in-None.is) ∙ m.2.returned)
 
 pub returns-in-Some : goal.returns-in-Some
 returns-in-Some c =
@@ -34,5 +34,5 @@ returns-in-Some c =
     let m = meant_procedure c.in-Procedure.procedure ((naming_in names).meaning c.args.name.at) (subst (λ a. IsMeantAs a ((naming_in names).meaning c.args.name.at)) c.in-Procedure.is c.meaning.ensures) in
     subst (λ e. Fails e (spec.call_typed (naming_in names) c.args.name (syntax.arguments_view c.args.list.now))) (sym c.fault-in-Some.ensures)
     (call_done names c.args.name (syntax.arguments_view c.args.list.now) (map argument_view c.in_ok-arguments.arguments.items) m.0
-    (arguments_view c.in_ok-arguments-2.arguments.items) (Some (description_view c.in-Some.field-0.now)) c.in-Procedure.procedure.block c.greatest.result c.greatest.ensures c.in_ok-arguments.ensures m.1
-    (c.in_ok-arguments-2.ensures m.0 m.2) m.2.block (sym (ap (option_map (λ d. description_view d.now)) c.in-Some.is) ∙ m.2.returned))
+    (arguments_view c.in_ok-arguments-2.arguments.items) (Some (description_view c.in-Some.field-0.now)) (callee_view c.in-Procedure.procedure.callee) c.greatest.result c.greatest.ensures c.in_ok-arguments.ensures m.1
+    (c.in_ok-arguments-2.ensures m.0 m.2) m.2.callee (sym (ap (option_map (λ d. description_view d.now)) c.in-Some.is) ∙ m.2.returned))

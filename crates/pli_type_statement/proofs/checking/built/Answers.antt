@@ -3,16 +3,18 @@ use Rattle.pli_base.specs.declared.statement.Procedure.{out-Procedure}
 use Rattle.pli_base.specs.views.StatementView.{unit_view}
 use Rattle.pli_type.specs.Temporaries.{Next}
 use Rattle.pli_type.specs.Unbuilt.{first_unbuilt}
-use Rattle.pli_type_names.specs.UnitNaming.{Names, compiled_in}
+use Rattle.pli_type_names.specs.UnitNaming.{Names, compiled_in, procedure_in}
 use Rattle.pli_type_tree.specs.declared.statement.TypedStatement.{TypedStatement}
-use Rattle.pli_type_tree.specs.declared.template.VariableGroup.{VariableGroup}
+use Rattle.pli_type_tree.specs.declared.unit.GlobalGroup.{GlobalGroup}
+use Rattle.pli_type_tree.specs.views.GlobalView.{globals_view, signature_view}
 use Rattle.pli_type_tree.specs.views.TemplateView.{groups_view}
 use Rattle.pli_type_tree.specs.views.TypedView.{procedure_view, statements_view}
-use Rattle.pli_type_statement.specs.Parts.{told, Adds}
+use Rattle.pli_type.specs.Checked.{outer_signature}
+use Rattle.pli_type_statement.specs.Parts.{told, Adds, unit_named}
 use Rattle.pli_type_statement.specs.Walking.{finished, unit_with}
 use Rattle.pli_type_statement.proofs.Beginnings.{all_of, built_first, first_entered, placed_first}
-use Rattle.pli_type_statement.proofs.Beginnings.{statics_first, templates_first, whole_walked}
-use Rattle.pli_type_statement.proofs.Units.{faulty, typed, typed_list}
+use Rattle.pli_type_statement.proofs.Beginnings.{globals_first, templates_first, whole_walked}
+use Rattle.pli_type_statement.proofs.Units.{faulty, returned_found, typed, typed_list}
 use Rattle.pli_type_statement.proofs.checking.built.Goals as goal
 
 pub type_statements-requires : goal.type_statements-requires
@@ -26,7 +28,7 @@ type_statements-requires c =
     ap (λ (n : Names). first_unbuilt (compiled_in n) (unit_view u)) (sym c.requires.same) ∙ c.requires.built in
     record {
       placed =
-          placed_first u _ _ c.in_ok-templates.templates named c.in_ok-surroundings.ensures refl
+          placed_first u _ _ _ c.in_ok-templates.templates named c.in_ok-surroundings.ensures refl
           c.in_ok-templates.ensures.automatic c.take-variables.ensures.others;
       built = built_first u c.enter.new.self c.as_slice-statements.result.now named same built;
     }
@@ -40,24 +42,30 @@ returns-in_ok-typed_unit-in-Some c =
     c.as_slice-statements.ensures.value ∙ ap (λ p. (out-Procedure p).statements.items) c.unit-tree.ensures in
     let built =
     ap (λ (n : Names). first_unbuilt (compiled_in n) (unit_view u)) (sym c.requires.same) ∙ c.requires.built in
+    let gives =
+    c.procedure.ensures.returned
+    ∙ ap (λ (n : Names). (procedure_in n.unit 0).returned) named ∙ returned_found u in
     let new = c.type_statements.new.walk in
     let w =
-    whole_walked u _ new c.as_slice-statements.result.now _ named c.in_ok-surroundings.ensures refl same
+    whole_walked u _ new c.as_slice-statements.result.now _ _ named c.in_ok-surroundings.ensures gives refl same
     c.in_ok-list.ensures in
-    let statics = groups_view new.templates.statics.items in
+    let signature = signature_view c.in_ok-signature-in-Some.signature in
+    let globals = globals_view new.templates.globals.items in
     let variables = groups_view c.take-variables.result.items in
     let list = statements_view c.in-Some.list.items in
-    typed u statics variables new.next.temporary list (finished new) built
+    typed u signature globals variables new.next.temporary list (finished new) built
     (ap (option_map (λ (list : Vec TypedStatement Global). statements_view list.items)) (sym c.in-Some.is)
     ∙ w.part)
     (subst (λ ps. Adds (typed_list u (all_of u)) (map procedure_view ps) (finished new)) c.new-2.ensures.items
     w.procedures)
-    (statics_first u _ (ap (λ (groups : Vec VariableGroup Global). groups_view groups.items)
-    (w.back.statics ∙ c.take-variables.ensures.statics) ∙ c.in_ok-templates.ensures.statics))
+    (c.in_ok-signature-in-Some.ensures
+    ∙ ap (λ (n : Names). outer_signature (unit_named n.unit)) (w.back.naming ∙ named))
+    (globals_first u _ (ap (λ (groups : Vec GlobalGroup Global). globals_view groups.items)
+    (w.back.globals ∙ c.take-variables.ensures.globals) ∙ c.in_ok-templates.ensures.globals))
     (c.take-variables.ensures.taken
     ∙ templates_first u c.in_ok-templates.templates c.in_ok-templates.ensures.automatic 0)
     (ap (λ (n : Next). n.temporary) w.next ∙ omega arith)
-    ∙ ap (λ p. Ok (unit_with (unit_view p) statics variables new.next.temporary list (finished new)))
+    ∙ ap (λ p. Ok (unit_with (unit_view p) signature globals variables new.next.temporary list (finished new)))
     (sym c.unit-tree.ensures)
     ∙ ap Ok (sym c.in_ok-typed_unit-in-Some.ensures)
 
@@ -70,9 +78,12 @@ returns-in-None c =
     c.as_slice-statements.ensures.value ∙ ap (λ p. (out-Procedure p).statements.items) c.unit-tree.ensures in
     let built =
     ap (λ (n : Names). first_unbuilt (compiled_in n) (unit_view u)) (sym c.requires.same) ∙ c.requires.built in
+    let gives =
+    c.procedure.ensures.returned
+    ∙ ap (λ (n : Names). (procedure_in n.unit 0).returned) named ∙ returned_found u in
     let new = c.type_statements.new.walk in
     let w =
-    whole_walked u _ new c.as_slice-statements.result.now _ named c.in_ok-surroundings.ensures refl same
+    whole_walked u _ new c.as_slice-statements.result.now _ _ named c.in_ok-surroundings.ensures gives refl same
     c.in_ok-list.ensures in
     faulty u new.faults.items built
     (ap (option_map (λ (list : Vec TypedStatement Global). statements_view list.items)) (sym c.in-None.is)

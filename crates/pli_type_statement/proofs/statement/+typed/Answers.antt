@@ -13,7 +13,6 @@ use Rattle.pli_type_names.specs.UnitNaming.{Names, compiled_in, procedure_in}
 use Rattle.pli_type_tree.specs.TypedTree as plain
 use Rattle.pli_type_tree.specs.declared.statement.TypedStatement.{TypedStatement}
 use Rattle.pli_type_tree.specs.views.TypedView.{expression_view, form_view, head_view, statement_view, statements_view}
-use Rattle.pli_type_statement.specs.Parts.{main_in}
 use Rattle.pli_type_statement.specs.Walking.{WalksBody, WalksList, around, next_at, unit_at}
 use Rattle.pli_type_statement.specs.views.AroundView.{around_view}
 use Rattle.pli_type_statement.specs.views.HeaderView.{header_view}
@@ -34,7 +33,7 @@ type_statement-type_body-requires t c =
       omega (arith, c.decreases),
       (
         c.requires.placed,
-        statement_built (compiled_in n) (main_in n.unit) s.number s.label s.at (source.body_view s.body) c.requires.built,
+        statement_built (compiled_in n) s.number s.label s.at (source.body_view s.body) c.requires.built,
       ),
     )
 
@@ -51,7 +50,7 @@ type_block-type_statements-requires t c =
       omega (arith, c.decreases),
       (
         block_placed c.args.walk.now _ c.in_ok-block.block _ _ _ c.requires.placed c.in_ok-block.ensures,
-        subst (λ (n : Names). later_statements (compiled_in n) (main_in n.unit) ss ≡ None) (sym c.in_ok-block.ensures.naming) c.requires.built,
+        subst (λ (n : Names). later_statements (compiled_in n) ss ≡ None) (sym c.in_ok-block.ensures.naming) c.requires.built,
       ),
     )
 
@@ -73,7 +72,7 @@ type_body-type_block-requires t c =
       omega (arith, c.decreases, ap body_size is),
       (
         c.requires.placed,
-        procedure_built (compiled_in n) (main_in n.unit) c.requires.built.0 h ss end (ap (later_body (compiled_in n) (main_in n.unit) c.requires.built.0) (sym is) ∙ c.requires.built.1),
+        procedure_built (compiled_in n) c.requires.built.0 h ss end (ap (later_body (compiled_in n) c.requires.built.0) (sym is) ∙ c.requires.built.1),
       ),
     )
 
@@ -101,7 +100,7 @@ type_body-type_block-requires-in-Begin t c =
       omega (arith, c.decreases, ap body_size is),
       (
         c.requires.placed,
-        ap (later_body (compiled_in n) (main_in n.unit) c.requires.built.0) (sym is) ∙ c.requires.built.1,
+        ap (later_body (compiled_in n) c.requires.built.0) (sym is) ∙ c.requires.built.1,
       ),
     )
 
@@ -127,8 +126,8 @@ type_body-type_header-requires-clause-built t c =
     let n = c.args.walk.now.naming in
     let b = c.in-Do in
     let is = ap source.body_view b.is ∙ laws.do_made b.control b.statements b.end in
-    (do_built (compiled_in n) (main_in n.unit) c.requires.built.0 (option_map source.control_view b.control) (source.statements_view b.statements.items) b.end
-    (ap (later_body (compiled_in n) (main_in n.unit) c.requires.built.0) (sym is) ∙ c.requires.built.1)).0
+    (do_built (compiled_in n) c.requires.built.0 (option_map source.control_view b.control) (source.statements_view b.statements.items) b.end
+    (ap (later_body (compiled_in n) c.requires.built.0) (sym is) ∙ c.requires.built.1)).0
 
 pub type_body-type_group-requires : goal.type_body-type_group-requires
 type_body-type_group-requires t c =
@@ -138,12 +137,12 @@ type_body-type_group-requires t c =
     let is : source.body_view c.args.body.now ≡ tree.Do (option_map source.control_view b.control) ss b.end =
     ap source.body_view b.is ∙ laws.do_made b.control b.statements b.end
     ∙ ap (λ xs. tree.Do (option_map source.control_view b.control) (source.statements_view xs) b.end) (sym c.as_slice-in-Do.ensures.value) in
-    let built = (do_built (compiled_in n) (main_in n.unit) c.requires.built.0 (option_map source.control_view b.control) ss b.end
-    (ap (later_body (compiled_in n) (main_in n.unit) c.requires.built.0) (sym is) ∙ c.requires.built.1)).1 in (
+    let built = (do_built (compiled_in n) c.requires.built.0 (option_map source.control_view b.control) ss b.end
+    (ap (later_body (compiled_in n) c.requires.built.0) (sym is) ∙ c.requires.built.1)).1 in (
       omega (arith, c.decreases, ap body_size is),
       (
         c.in_ok-header-in-Do.ensures.back.placed,
-        subst (λ (n : Names). later_statements (compiled_in n) (main_in n.unit) ss ≡ None) (sym c.in_ok-header-in-Do.ensures.back.naming) built,
+        subst (λ (n : Names). later_statements (compiled_in n) ss ≡ None) (sym c.in_ok-header-in-Do.ensures.back.naming) built,
       ),
     )
 
@@ -188,21 +187,21 @@ type_body-type_condition-requires-clause-built t c =
     let n = c.args.walk.now.naming in
     let b = c.in-If in
     let is = ap source.body_view b.is ∙ laws.if_made b.condition b.consequence b.alternative in
-    (if_built (compiled_in n) (main_in n.unit) c.requires.built.0 (syntax.expression_view b.condition) (source.statement_view b.consequence.value) (laws.boxed_view b.alternative)
-    (ap (later_body (compiled_in n) (main_in n.unit) c.requires.built.0) (sym is) ∙ c.requires.built.1)).condition
+    (if_built (compiled_in n) c.requires.built.0 (syntax.expression_view b.condition) (source.statement_view b.consequence.value) (laws.boxed_view b.alternative)
+    (ap (later_body (compiled_in n) c.requires.built.0) (sym is) ∙ c.requires.built.1)).condition
 
 pub type_body-type_statement-requires : goal.type_body-type_statement-requires
 type_body-type_statement-requires t c =
     let n = c.args.walk.now.naming in
     let b = c.in-If in
     let is = ap source.body_view b.is ∙ laws.if_made b.condition b.consequence b.alternative in
-    let parts = if_built (compiled_in n) (main_in n.unit) c.requires.built.0 (syntax.expression_view b.condition) (source.statement_view b.consequence.value) (laws.boxed_view b.alternative)
-    (ap (later_body (compiled_in n) (main_in n.unit) c.requires.built.0) (sym is) ∙ c.requires.built.1) in
+    let parts = if_built (compiled_in n) c.requires.built.0 (syntax.expression_view b.condition) (source.statement_view b.consequence.value) (laws.boxed_view b.alternative)
+    (ap (later_body (compiled_in n) c.requires.built.0) (sym is) ∙ c.requires.built.1) in
     let back = c.in_ok-tested-in-If.ensures.back in (
       omega (arith, c.decreases, ap body_size is, ap (λ s. statement_size (source.statement_view s)) c.deref.ensures),
       (
         back.placed,
-        ap (λ (n : Names). later_statement (compiled_in n) (main_in n.unit) (source.statement_view c.deref.result.now)) back.naming ∙ ap (λ s. later_statement (compiled_in n) (main_in n.unit) (source.statement_view s)) c.deref.ensures ∙ parts.consequence,
+        ap (λ (n : Names). later_statement (compiled_in n) (source.statement_view c.deref.result.now)) back.naming ∙ ap (λ s. later_statement (compiled_in n) (source.statement_view s)) c.deref.ensures ∙ parts.consequence,
       ),
     )
 
@@ -211,13 +210,13 @@ type_body-type_statement-requires-in-Some t c =
     let n = c.args.walk.now.naming in
     let b = c.in-If in
     let is = ap source.body_view b.is ∙ laws.if_made b.condition b.consequence b.alternative in
-    let parts = if_built (compiled_in n) (main_in n.unit) c.requires.built.0 (syntax.expression_view b.condition) (source.statement_view b.consequence.value) (laws.boxed_view b.alternative)
-    (ap (later_body (compiled_in n) (main_in n.unit) c.requires.built.0) (sym is) ∙ c.requires.built.1) in
+    let parts = if_built (compiled_in n) c.requires.built.0 (syntax.expression_view b.condition) (source.statement_view b.consequence.value) (laws.boxed_view b.alternative)
+    (ap (later_body (compiled_in n) c.requires.built.0) (sym is) ∙ c.requires.built.1) in
     let naming = c.in_ok-typed-in-If.ensures.back.naming ∙ c.in_ok-tested-in-If.ensures.back.naming in (
       omega (arith, c.decreases, ap body_size is, ap (λ a. alternative_size (laws.boxed_view a)) c.in-Some.is, ap (λ s. statement_size (source.statement_view s)) c.deref-in-Some.ensures),
       (
         c.in_ok-typed-in-If.ensures.back.placed,
-        ap (λ (n : Names). later_statement (compiled_in n) (main_in n.unit) (source.statement_view c.deref-in-Some.result.now)) naming ∙ ap (λ s. later_statement (compiled_in n) (main_in n.unit) (source.statement_view s)) c.deref-in-Some.ensures ∙ ap (λ a. later_alternative (compiled_in n) (main_in n.unit) (laws.boxed_view a)) (sym c.in-Some.is) ∙ parts.alternative,
+        ap (λ (n : Names). later_statement (compiled_in n) (source.statement_view c.deref-in-Some.result.now)) naming ∙ ap (λ s. later_statement (compiled_in n) (source.statement_view s)) c.deref-in-Some.ensures ∙ ap (λ a. later_alternative (compiled_in n) (laws.boxed_view a)) (sym c.in-Some.is) ∙ parts.alternative,
       ),
     )
 
@@ -226,7 +225,7 @@ type_body-type_statement-requires-in-Some t c =
 pub type_body-returns-in_default : goal.type_body-returns-in_default
 type_body-returns-in_default t c =
     let n = c.args.walk.now.naming in
-    simple_answer form_view c.type_simple.result c.args.walk.now _ (compiled_in n) (main_in n.unit) c.requires.built.0 c.args.number c.args.at
+    simple_answer form_view c.type_simple.result c.args.walk.now _ (compiled_in n) c.requires.built.0 c.args.number c.args.at
     (source.body_view c.args.body.now) c.type_simple.ensures.simple c.requires.built.1 c.type_simple.ensures.walked
 
 -- lists
@@ -234,7 +233,7 @@ type_body-returns-in_default t c =
 pub type_statements-loop-statement-init : goal.type_statements-loop-statement-init
 type_statements-loop-statement-init t c =
     record {
-      back = record { naming = refl; around = refl; statics = refl; placed = c.requires.placed };
+      back = record { naming = refl; around = refl; globals = refl; placed = c.requires.placed };
       goes = λ new part w. subst (λ ts. WalksList c.args.walk.now new (around c.args.walk.now) (source.statements_view c.args.statements.now) (in_front true (map statement_view ts) part))
           (sym c.new-typed.ensures.items) (goes_on_first c.args.walk.now (source.statements_view c.args.statements.now) new part w);
       built = c.requires.built;
@@ -246,11 +245,11 @@ type_statements-type_statement-requires t c =
     let ss = c.args.statements.now in
     let l = c.loop-statement in
     let inside : l.statement-index < length ss = omega arith in
-    let built = (next_built (compiled_in n) (main_in n.unit) ss l.statement-index c.statement-item.result c.statement-item.is inside l.invariant.built).0 in (
+    let built = (next_built (compiled_in n) ss l.statement-index c.statement-item.result c.statement-item.is inside l.invariant.built).0 in (
       omega (arith, c.decreases, item_size ss l.statement-index c.statement-item.result inside c.statement-item.is),
       (
         l.invariant.back.placed,
-        ap (λ (n : Names). later_statement (compiled_in n) (main_in n.unit) (source.statement_view c.statement-item.result)) l.invariant.back.naming ∙ built,
+        ap (λ (n : Names). later_statement (compiled_in n) (source.statement_view c.statement-item.result)) l.invariant.back.naming ∙ built,
       ),
     )
 
@@ -271,7 +270,7 @@ type_statements-loop-statement-preserved t c =
           (map statement_view c.keep.new.statements.items) (source.statements_view ss) ss i s (option_map statement_view c.in_ok-kept.kept)
           c.statement-item.is inside c.leaves_nothing-leaves_nothing.ensures c.in_ok-is_kept.ensures.kept both c.in_ok-is_kept.ensures.statements
           c.in_ok-kept.ensures l.invariant.goes;
-      built = (next_built (compiled_in n) (main_in n.unit) ss i s c.statement-item.is inside l.invariant.built).1;
+      built = (next_built (compiled_in n) ss i s c.statement-item.is inside l.invariant.built).1;
     }
 
 pub type_statements-returns : goal.type_statements-returns

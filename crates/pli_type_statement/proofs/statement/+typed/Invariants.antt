@@ -3,7 +3,6 @@ use Rattle.pli_base.specs.views.StatementView as source
 use Rattle.pli_type.specs.Unbuilt.{later_statements}
 use Rattle.pli_type_names.specs.UnitNaming.{compiled_in}
 use Rattle.pli_type_tree.specs.views.TypedView.{statement_view}
-use Rattle.pli_type_statement.specs.Parts.{main_in}
 use Rattle.pli_type_statement.specs.Walking.{IsBack}
 use Rattle.pli_type_statement.proofs.Sizes.{statement_size, body_size, list_size}
 use Rattle.pli_type_statement.proofs.Turns.{GoesOn}
@@ -15,7 +14,7 @@ invariant-type_statements-loop-statement l = record {
   back : IsBack l.initial.walk l.walk;
   goes : GoesOn l.initial.walk l.walk l.complete (map statement_view l.typed.items) (source.statements_view l.statements)
       (source.statements_view (drop l.statement-index l.statements));
-  built : later_statements (compiled_in l.initial.walk.naming) (main_in l.initial.walk.naming.unit) (source.statements_view (drop l.statement-index l.statements)) ≡ None;
+  built : later_statements (compiled_in l.initial.walk.naming) (source.statements_view (drop l.statement-index l.statements)) ≡ None;
 }
 
 abbrev pub decreases-type_statement : goal.decreases-type_statement

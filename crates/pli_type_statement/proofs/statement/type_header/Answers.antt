@@ -13,5 +13,5 @@ returns c =
     let w = c.args.walk.now in
     own_walked w _ header_view (λ n. header_typed n w.next.temporary (option_map source.control_view c.args.control.now)) c.specified-header.result c.noted.result _
     c.requires.placed c.specified-header.ensures c.noted.ensures.part c.noted.ensures.faults c.noted.ensures.known
-    (record { naming = refl; around = refl; statics = refl; placed = record { blocks = c.requires.placed.blocks; templates = c.requires.placed.templates } })
+    (record { naming = refl; around = refl; globals = refl; placed = record { blocks = c.requires.placed.blocks; templates = c.requires.placed.templates } })
     refl (ap (λ t. record { block = w.next.block; temporary = t }) (c.in_ok-further.ensures ∙ ap (λ k. w.next.temporary + k) c.kept_by.ensures))

@@ -1,11 +1,11 @@
 use Rattle.std.proofs.Common.{◌+◌, ◌<◌, ◌≤◌, ◌++◌, Some, length, map, ap, sym, ◌∙◌, arith}
 use Rattle.pli_base.specs.views.StatementView.{unit_view}
 use Rattle.pli_resolve.specs.ResolvedUnits.{resolved_unit_of}
-use Rattle.pli_type.specs.NamedUnits.{block_symbols, is_static, templates_of}
+use Rattle.pli_type.specs.NamedUnits.{block_symbols, globals_of}
 use Rattle.pli_type_names.specs.UnitNaming.{symbols_in}
 use Rattle.pli_type_names.proofs.Lists.{made_more}
 use Rattle.pli_type_templates.specs.views.UnitView.{row_view}
-use Rattle.pli_type_templates.proofs.UnitsMade.{rows_of, row_there, all_rows, statics_more, all_statics_are}
+use Rattle.pli_type_templates.proofs.UnitsMade.{rows_of, row_there, all_rows, globals_more, all_globals_are}
 use Rattle.pli_type_templates.proofs.unit_templates.templates.Goals as goal
 
 pub loop-block-preserved : goal.loop-block-preserved
@@ -19,9 +19,9 @@ loop-block-preserved c =
       rows = ap (map row_view) c.in_ok-push.ensures.items
           ∙ made_more row_view (rows_of r) n l.automatic.items c.in_ok-block_templates.field-0 l.invariant.rows
           (row_there r n within ∙ ap Some (sym c.in_ok-block_templates.ensures.automatic));
-      statics = c.in_ok-block_templates.ensures.statics
-          ∙ ap (λ ts. ts ++ templates_of (is_static 31) (block_symbols r n)) l.invariant.statics
-          ∙ statics_more r n within;
+      globals = c.in_ok-block_templates.ensures.globals
+          ∙ ap (λ ts. ts ++ globals_of 31 (block_symbols r n)) l.invariant.globals
+          ∙ globals_more r n within;
     }
 
 pub returns : goal.returns
@@ -31,5 +31,5 @@ returns c =
     let beyond : length r.blocks + 1 ≤ l.block = omega (arith, c.in-Some.ensures, c.block_count.ensures, c.loop-block-test.false) in
     record {
       automatic = all_rows r l.block (map row_view l.automatic.items) beyond l.invariant.rows;
-      statics = l.invariant.statics ∙ all_statics_are r l.block beyond;
+      globals = l.invariant.globals ∙ all_globals_are r l.block beyond;
     }

@@ -7,5 +7,5 @@ use Rattle.pli_type_unbuilt.proofs.statements.+later_statement.Given as goal
 -- the first form is that of the statements that are left
 abbrev pub invariant-later_statements-loop-statement : goal.invariant-later_statements-loop-statement
 invariant-later_statements-loop-statement l =
-    later_statements (compiled_in l.naming) l.main (statements_view (drop l.statement-index l.statements))
-    ≡ later_statements (compiled_in l.naming) l.main (statements_view l.statements)
+    later_statements (compiled_in l.naming) (statements_view (drop l.statement-index l.statements))
+    ≡ later_statements (compiled_in l.naming) (statements_view l.statements)

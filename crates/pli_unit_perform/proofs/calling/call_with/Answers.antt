@@ -1,31 +1,46 @@
-use Rattle.std.proofs.Common.{Some, map, refl, sym, ◌∙◌}
+use Rattle.std.proofs.Common.{Some, map, sym, ◌∙◌}
 use Rattle.std.proofs.lemmas.Result.{IfOk-weaker}
 use Rattle.pli_store.specs.views.StorageView.{place_view}
-use Rattle.pli_unit_code.specs.CodeTables.{program_of, block_looked_up}
-use Rattle.pli_unit_code.specs.views.CodeView.{code_view, block_view}
+use Rattle.pli_unit_code.specs.CodeTables.{block_looked_up}
+use Rattle.pli_unit_code.specs.views.CodeView.{code_view, block_view, module_view}
+use Rattle.pli_unit_perform.specs.views.Image.{unit_with, image_with}
 use Rattle.pli_unit_perform.specs.views.MachineView.{frame_view, frames_of, world_of, left_of}
 use Rattle.pli_unit_operate.specs.views.OperandView.{stack}
-use Rattle.pli_unit_perform.proofs.EnteredBlocks.{called_calls, called_other}
+use Rattle.pli_unit_perform.proofs.EnteredBlocks.{called_calls, called_unlinked, called_other}
 use Rattle.pli_unit_perform.proofs.calling.call_with.Goals as goal
 
-pub returns-then-is_callable : goal.returns-then-is_callable
-returns-then-is_callable c =
+pub returns-then-not-is_callable : goal.returns-then-not-is_callable
+returns-then-not-is_callable c = λ statics entries put.
     let m = c.args.machine.now in
     let code = code_view c.args.code.now in
+    let md = module_view c.args.«module».now in
+    let b = block_looked_up code (block_view c.args.block.now) in
+    let off = rw c.in-Some.is at c.in_ok-places.ensures in
+    called_other m.here.unit (unit_with md m.here.unit code entries) c.args.number b c.args.arguments (frame_view m.here) (frames_of m.waiting.items) (world_of (image_with md statics) m put) (left_of m)
+    _ (map place_view c.in-Some.places.items) (stack c.pop_places.new.operands.items) off (sym c.is_callable.ensures ∙ c.if-not-is_callable.true)
+
+pub returns-in_default-link_of : goal.returns-in_default-link_of
+returns-in_default-link_of c = λ statics entries put.
+    let m = c.args.machine.now in
+    let code = code_view c.args.code.now in
+    let md = module_view c.args.«module».now in
+    let b = block_looked_up code (block_view c.args.block.now) in
+    let off = rw c.in-Some.is at c.in_ok-places.ensures in
+    called_unlinked m.here.unit (unit_with md m.here.unit code entries) c.args.number b c.args.arguments (frame_view m.here) (frames_of m.waiting.items) (world_of (image_with md statics) m put) (left_of m)
+    _ (map place_view c.in-Some.places.items) (stack c.pop_places.new.operands.items) off (sym c.is_callable.ensures ∙ c.if-not-is_callable.false)
+    (c.link_of.ensures statics code entries put ∙ c.in_default-link_of.is)
+
+pub returns : goal.returns
+returns c =
+    let m = c.args.machine.now in
+    let code = code_view c.args.code.now in
+    let md = module_view c.args.«module».now in
     let b = block_looked_up code (block_view c.args.block.now) in
     let off = rw c.in-Some.is at c.in_ok-places.ensures in
     IfOk-weaker c.call_block.result _ _
-    (λ stop moves unit put.
-    called_calls (program_of code unit) c.args.number c.args.arguments (frame_view m.here) (frames_of m.waiting.items) (world_of unit m put) (left_of m)
-    (Some b) b (map place_view c.in-Some.places.items) (stack c.pop_places.new.operands.items) refl off (sym c.is_callable.ensures ∙ c.if-is_callable.true)
-    ∙ moves unit put)
+    (λ stop moves statics entries put.
+    called_calls m.here.unit (unit_with md m.here.unit code entries) c.args.number b c.args.arguments (frame_view m.here) (frames_of m.waiting.items) (world_of (image_with md statics) m put) (left_of m)
+    _ (map place_view c.in-Some.places.items) (stack c.pop_places.new.operands.items) off c.in-Some-link_of.link (sym c.is_callable.ensures ∙ c.if-not-is_callable.false)
+    (c.link_of.ensures statics code entries put ∙ c.in-Some-link_of.is)
+    ∙ moves (image_with md statics) entries put)
     c.call_block.ensures
-
-pub returns : goal.returns
-returns c = λ unit put.
-    let m = c.args.machine.now in
-    let code = code_view c.args.code.now in
-    let b = block_looked_up code (block_view c.args.block.now) in
-    let off = rw c.in-Some.is at c.in_ok-places.ensures in
-    called_other (program_of code unit) c.args.number c.args.arguments (frame_view m.here) (frames_of m.waiting.items) (world_of unit m put) (left_of m)
-    (Some b) b (map place_view c.in-Some.places.items) (stack c.pop_places.new.operands.items) refl off (sym c.is_callable.ensures ∙ c.if-is_callable.false)

@@ -1,6 +1,6 @@
 use Rattle.std.proofs.Common.{ℕ, Option, List, [], map, ap, ◌∙◌}
 use Rattle.std.specs.Prelude.{option_map}
-use Rattle.pli_base.specs.Name.{Name}
+use Rattle.pli_unit_perform.specs.views.Image.{Image, name_at}
 use Rattle.pli_value.specs.Value.{value_view}
 use Rattle.pli_value.specs.Value as plain
 use Rattle.pli_store.specs.Activations as pli
@@ -13,10 +13,10 @@ use Rattle.pli_unit_perform.proofs.entering.activation.Goals as goal
 pub returns : goal.returns
 returns c =
     let frame : List Operand → List (Option plain.Value) → Frame =
-    λ ops ts. record { unit = 0; next = c.args.block.now.entry; operands = ops; locals = record { temporaries = ts; jumps = 0; stamp = 0 } } in
-    let made : Name → List ℕ → pli.Activation =
-    λ unit ns. record {
-      unit = unit;
+    λ ops ts. record { unit = c.args.unit; next = c.args.block.now.entry; operands = ops; locals = record { temporaries = ts; jumps = 0; stamp = 0 } } in
+    let made : Image → List ℕ → pli.Activation =
+    λ image ns. record {
+      unit = name_at image.linked c.args.unit;
       block = c.args.number;
       statement = c.args.block.now.statement;
       link = c.args.link;
@@ -26,5 +26,5 @@ returns c =
     } in (
       ap (λ ops. frame (stack ops) (map (option_map value_view) c.in_ok-temporaries.temporaries.items)) c.new-2.ensures.items
           ∙ ap (frame []) (ap (map (option_map value_view)) c.in_ok-temporaries.ensures ∙ none_set c.args.block.now.temporaries),
-      λ unit. ap (made unit) c.new.ensures.items,
+      λ image. ap (made image) c.new.ensures.items,
     )

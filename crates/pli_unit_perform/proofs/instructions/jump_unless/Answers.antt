@@ -3,8 +3,8 @@ use Rattle.pli_unit_perform.specs.views.MachineView.{after, activations_of, fram
 use Rattle.pli_unit_perform.proofs.instructions.jump_unless.Goals as goal
 
 pub returns : goal.returns
-returns c = λ u unit put.
+returns c = λ u image put.
     let m = c.args.machine.now in
-    c.jump_unless.ensures.jumps (frames_of m.waiting.items) (world_of unit m put) (left_of m) refl
-    ∙ ap (λ a. after (left_of m) c.jump_unless.result (frame_view c.jump_unless.new.here) (frames_of m.waiting.items) (record (world_of unit m put) { activations = a ∷ activations_of unit m.waiting.items }))
-    (sym (c.jump_unless.ensures.same unit))
+    c.jump_unless.ensures.jumps (frames_of m.waiting.items) (world_of image m put) (left_of m) refl
+    ∙ ap (λ a. after (left_of m) c.jump_unless.result (frame_view c.jump_unless.new.here) (frames_of m.waiting.items) (record (world_of image m put) { activations = a ∷ activations_of image m.waiting.items }))
+    (sym (c.jump_unless.ensures.same image))

@@ -5,4 +5,4 @@ use Rattle.pli_unit_perform.proofs.instructions.store.Goals as goal
 pub returns : goal.returns
 returns c =
     let m = c.args.machine.now in
-    IfOk-weaker c.store.result _ _ (λ s works u unit put. works (frame_view m.here) (frames_of m.waiting.items) (world_of unit m put) (left_of m)) c.store.ensures
+    IfOk-weaker c.store.result _ _ (λ s works u image put. works (frame_view m.here) (frames_of m.waiting.items) (world_of image m put) (left_of m)) c.store.ensures

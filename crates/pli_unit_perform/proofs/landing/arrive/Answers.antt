@@ -10,16 +10,16 @@ use Rattle.pli_unit_perform.proofs.landing.arrive.Goals as goal
 
 pub returns : goal.returns
 unfolding cleared
-returns c = λ unit put.
+returns c = λ image put.
     let m = c.args.machine.now in
-    let w = cleared (world_of unit m put) in
+    let w = cleared (world_of image m put) in
     let frames = frames_of m.waiting.items in
     let left = left_of m in
     ap (λ ops. leads (counted_jump c.args.target (stack ops) (frame_view m.here) frames w) left) (sym c.clear-2.ensures.items)
     ∙ c.count_jump.ensures.jumps frames w left refl
     ∙ ap (λ v. after left c.count_jump.result (frame_view c.count_jump.new.here) frames v)
-    (same_world (world_of unit m put) _ _ _ _ _ _
+    (same_world (world_of image m put) _ _ _ _ _ _
     (sym (c.end.ensures.storage ∙ ap (λ ns. without ns (storage_view m.storage)) c.deref.ensures.value))
     (sym c.end.ensures.made)
-    (ap (λ ns. record (activation_view unit m.here) { pending = ns } ∷ activations_of unit m.waiting.items) (sym c.clear.ensures.items)
-    ∙ ap (λ a. a ∷ activations_of unit m.waiting.items) (sym (c.count_jump.ensures.same unit))))
+    (ap (λ ns. record (activation_view image m.here) { pending = ns } ∷ activations_of image m.waiting.items) (sym c.clear.ensures.items)
+    ∙ ap (λ a. a ∷ activations_of image m.waiting.items) (sym (c.count_jump.ensures.same image))))

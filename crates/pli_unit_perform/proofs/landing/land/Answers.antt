@@ -6,11 +6,11 @@ use Rattle.pli_unit_perform.proofs.SlotPlaces.{how_many}
 use Rattle.pli_unit_perform.proofs.landing.land.Goals as goal
 
 pub returns-then-not-leave : goal.returns-then-not-leave
-returns-then-not-leave c = λ unit put.
+returns-then-not-leave c = λ image put.
     let m = c.loop-machine.machine in
-    let none = c.if-not-leave.ensures.leaves unit put in
-    c.loop-machine.invariant unit put
-    ∙ lands_fails c.args.height c.args.target (frame_view m.here) (frames_of m.waiting.items) (world_of unit m put) _ (left_of m)
-    (ne_eqb c.args.height (suc (length (activations_of unit c.loop-machine.machine.waiting.items)))
-    (λ e. omega (arith, e, c.loop-machine-test.true, how_many unit c.loop-machine.machine.waiting.items)))
+    let none = c.if-not-leave.ensures.leaves image put in
+    c.loop-machine.invariant image put
+    ∙ lands_fails c.args.height c.args.target (frame_view m.here) (frames_of m.waiting.items) (world_of image m put) _ (left_of m)
+    (ne_eqb c.args.height (suc (length (activations_of image c.loop-machine.machine.waiting.items)))
+    (λ e. omega (arith, e, c.loop-machine-test.true, how_many image c.loop-machine.machine.waiting.items)))
     none.frames none.world

@@ -7,30 +7,30 @@ use Rattle.pli_unit_perform.proofs.Ends.{valued_more, valued_fails, valued_goes,
 use Rattle.pli_unit_perform.proofs.leaving.give_back.Goals as goal
 
 pub returns-then-not-leave : goal.returns-then-not-leave
-returns-then-not-leave c = λ unit put.
-    let none = c.if-not-leave.ensures.leaves unit put in
-    c.loop-ended.invariant.way unit put
+returns-then-not-leave c = λ image put.
+    let none = c.if-not-leave.ensures.leaves image put in
+    c.loop-ended.invariant.way image put
     ∙ valued_fails (value_view c.args.value) (c.args.outward - c.loop-ended._ended) (c.args.outward - (c.loop-ended._ended + 1)) _ _ _ _ (omega arith) none.frames none.world
 
 pub loop-ended-preserved : goal.loop-ended-preserved
 loop-ended-preserved c = record {
-  way = λ unit put.
-      let left = c.if-not-leave.ensures.leaves unit put in
-      c.loop-ended.invariant.way unit put
+  way = λ image put.
+      let left = c.if-not-leave.ensures.leaves image put in
+      c.loop-ended.invariant.way image put
       ∙ valued_more (value_view c.args.value) (c.args.outward - c.loop-ended._ended) (c.args.outward - (c.loop-ended._ended + 1)) _ _ _ _ _ _ _ (omega arith) left.frames left.world left.left;
   same = c.loop-ended.invariant.same;
 }
 
 pub returns-then-not-leave-2 : goal.returns-then-not-leave-2
-returns-then-not-leave-2 c = λ unit put.
-    let none = c.if-not-leave-2.ensures.leaves unit put in
-    c.loop-ended.invariant.way unit put
+returns-then-not-leave-2 c = λ image put.
+    let none = c.if-not-leave-2.ensures.leaves image put in
+    c.loop-ended.invariant.way image put
     ∙ valued_ends (value_view c.args.value) (c.args.outward - c.loop-ended._ended) _ _ _ _ (omega arith) none.frames none.world
 
 pub returns : goal.returns
-returns c = λ unit put.
-    let left = c.if-not-leave-2.ensures.leaves unit put in
+returns c = λ image put.
+    let left = c.if-not-leave-2.ensures.leaves image put in
     let m = c.leave-2.new.machine in
-    c.loop-ended.invariant.way unit put
+    c.loop-ended.invariant.way image put
     ∙ valued_goes (value_view c.args.value) (c.args.outward - c.loop-ended._ended) _ _ _ _ _ _ _ (omega arith) left.frames left.world left.left
-    ∙ ap (λ ops. Running (At (with_operands ops (frame_view m.here)) (frames_of m.waiting.items) (world_of unit m put) (left_of m))) (sym (c.in_ok-push.ensures ∙ ap (λ v. OfValue v ∷ stack m.here.operands.items) c.loop-ended.invariant.same))
+    ∙ ap (λ ops. Running (At (with_operands ops (frame_view m.here)) (frames_of m.waiting.items) (world_of image m put) (left_of m))) (sym (c.in_ok-push.ensures ∙ ap (λ v. OfValue v ∷ stack m.here.operands.items) c.loop-ended.invariant.same))

@@ -9,18 +9,18 @@ use Rattle.pli_unit_perform.proofs.leaving.leave.Goals as goal
 
 pub returns-in-Some-clause-leaves : goal.returns-in-Some-clause-leaves
 unfolding left_by
-returns-in-Some-clause-leaves c = λ unit put.
+returns-in-Some-clause-leaves c = λ image put.
     let here = c.args.machine.now.here in
     let storage = storage_view c.args.machine.now.storage in
     record {
       frames = ap (λ xs. reverse (map frame_view xs)) c.in-Some.ensures.items ∙ newest_first frame_view c.pop.new.self.items c.in-Some.next;
       world =
-          same_world (world_of unit c.args.machine.now put) _ _ _ _ _ _
+          same_world (world_of image c.args.machine.now put) _ _ _ _ _ _
           (c.end-in-Some.ensures.storage
           ∙ ap (λ ns. without ns (storage_view c.end.new.self)) c.deref-in-Some.ensures.value
           ∙ ap (without here.owned.items) (c.end.ensures.storage ∙ ap (λ ns. without ns storage) c.deref.ensures.value)
           ∙ sym (without_append here.pending.items here.owned.items storage))
           (c.end-in-Some.ensures.made ∙ c.end.ensures.made)
-          (sym (ap (λ xs. reverse (map (activation_view unit) xs)) c.in-Some.ensures.items ∙ newest_first (activation_view unit) c.pop.new.self.items c.in-Some.next));
+          (sym (ap (λ xs. reverse (map (activation_view image) xs)) c.in-Some.ensures.items ∙ newest_first (activation_view image) c.pop.new.self.items c.in-Some.next));
       left = refl;
     }

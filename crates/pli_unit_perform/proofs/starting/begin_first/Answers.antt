@@ -2,44 +2,43 @@ use Rattle.std.proofs.Common.{None, Some, sym, ap, ◌∙◌}
 use Rattle.std.proofs.lemmas.Result.{IfOk-weaker}
 use Rattle.pli_machine_step.specs.Machine.{resume}
 use Rattle.pli_machine_step.specs.Runs.{main_block}
-use Rattle.pli_unit_code.specs.CodeTables.{program_of, block_looked_up}
+use Rattle.pli_unit_code.specs.CodeTables.{block_looked_up}
 use Rattle.pli_unit_code.specs.views.CodeView.{code_view, block_view}
 use Rattle.pli_unit_perform.specs.answers.Making.{first_world}
+use Rattle.pli_unit_perform.specs.views.Image.{unit_with}
 use Rattle.pli_unit_perform.specs.views.MachineView.{shown}
 use Rattle.pli_unit_perform.proofs.Beginnings.{begins_as, not_main}
 use Rattle.pli_unit_perform.proofs.EnteredBlocks.{block_there}
 use Rattle.pli_unit_perform.proofs.starting.begin_first.Goals as goal
 
 pub begin_main-requires : goal.begin_main-requires
-begin_main-requires c = sym (c.is_main.ensures (code_view c.args.«module».now.code)) ∙ c.if-is_main.true
+begin_main-requires c = sym (c.is_main.ensures (code_view c.args.unit.now.code)) ∙ c.if-is_main.true
 
 pub returns-then-is_main : goal.returns-then-is_main
 returns-then-is_main c =
-    let code = code_view c.args.«module».now.code in
-    let unit = c.args.«module».now.unit in
+    let code = code_view c.args.unit.now.code in
     let there = rw c.in-Some.is at c.block_at.ensures in
     IfOk-weaker c.begin_main.result _ _
-    (λ beginning begins.
-    begins_as unit _ _ beginning
-    (ap (λ o. resume (main_block 0 (program_of code unit) o (first_world unit c.args.storage c.args.statics.items)) c.args.limit)
-    (block_there code unit 0 (Some (block_view c.in-Some.block.now)) there))
-    begins)
+    (λ beginning begins image entries named.
+    begins_as image _ _ beginning
+    (ap (λ o. resume (main_block c.args.number (unit_with image.linked c.args.number code entries) o (first_world c.args.storage image.statics)) c.args.limit)
+    (block_there code 0 (Some (block_view c.in-Some.block.now)) there))
+    (begins image entries named))
     c.begin_main.ensures
 
 pub returns-in-Some : goal.returns-in-Some
-returns-in-Some c =
-    let code = code_view c.args.«module».now.code in
-    let unit = c.args.«module».now.unit in
+returns-in-Some c = λ image entries named.
+    let code = code_view c.args.unit.now.code in
+    let u = unit_with image.linked c.args.number code entries in
     let there = rw c.in-Some.is at c.block_at.ensures in
-    ap (λ o. shown (resume (main_block 0 (program_of code unit) o (first_world unit c.args.storage c.args.statics.items)) c.args.limit))
-    (block_there code unit 0 (Some (block_view c.in-Some.block.now)) there)
-    ∙ not_main unit (program_of code unit) (block_looked_up code (block_view c.in-Some.block.now)) c.args.storage c.args.statics.items c.args.limit
+    ap (λ o. shown (resume (main_block c.args.number u o (first_world c.args.storage image.statics)) c.args.limit))
+    (block_there code 0 (Some (block_view c.in-Some.block.now)) there)
+    ∙ not_main c.args.number u (block_looked_up code (block_view c.in-Some.block.now)) c.args.storage image.statics c.args.limit
     (sym (c.is_main.ensures code) ∙ c.if-is_main.false)
 
 pub returns : goal.returns
-returns c =
-    let code = code_view c.args.«module».now.code in
-    let unit = c.args.«module».now.unit in
+returns c = λ image entries named.
+    let code = code_view c.args.unit.now.code in
     let there = rw c.in-None.is at c.block_at.ensures in
-    ap (λ o. shown (resume (main_block 0 (program_of code unit) o (first_world unit c.args.storage c.args.statics.items)) c.args.limit))
-    (block_there code unit 0 None there)
+    ap (λ o. shown (resume (main_block c.args.number (unit_with image.linked c.args.number code entries) o (first_world c.args.storage image.statics)) c.args.limit))
+    (block_there code 0 None there)

@@ -9,17 +9,17 @@ use Rattle.pli_unit_perform.proofs.MadeVariables.{answer_ends, never_wrong, same
 use Rattle.pli_unit_perform.proofs.variables.make_variable.Goals as goal
 
 pub returns-in_ok-add_slot-in-Ok-clause-made : goal.returns-in_ok-add_slot-in-Ok-clause-made
-returns-in_ok-add_slot-in-Ok-clause-made c = λ more unit put.
+returns-in_ok-add_slot-in-Ok-clause-made c = λ more image put.
     let m = c.args.machine.now in
-    let w = world_of unit m put in
-    ap (λ a. further a (λ p w. made_all more (in_newest (with_slot p) w))) (c.in-Ok.ensures.answer (world_of unit m put))
-    ∙ ap (λ a. made_all more (record (with_storage c.make.new.self (world_of unit m put)) { activations = a ∷ activations_of unit m.waiting.items }))
-    (sym (c.in_ok-add_slot-in-Ok.ensures.slot unit))
+    let w = world_of image m put in
+    ap (λ a. further a (λ p w. made_all more (in_newest (with_slot p) w))) (c.in-Ok.ensures.answer (world_of image m put))
+    ∙ ap (λ a. made_all more (record (with_storage c.make.new.self (world_of image m put)) { activations = a ∷ activations_of image m.waiting.items }))
+    (sym (c.in_ok-add_slot-in-Ok.ensures.slot image))
 
 pub returns-in-Err-clause-made : goal.returns-in-Err-clause-made
-returns-in-Err-clause-made c = λ more unit put.
+returns-in-Err-clause-made c = λ more image put.
     let m = c.args.machine.now in
-    let w = world_of unit m put in
+    let w = world_of image m put in
     answer_ends place_view c.in-Err.fault
     (made_of (description_view c.args.description.now) Automatic (map value_view c.args.values.now) w)
     (λ p w. made_all more (in_newest (with_slot p) w)) w _ _

@@ -1,5 +1,5 @@
 use Rattle.std.proofs.Common.{◌≡◌, ℕ, List, drop}
-use Rattle.pli_base.specs.Name.{Name}
+use Rattle.pli_unit_perform.specs.views.Image.{Image}
 use Rattle.pli_store.specs.World.{made_all}
 use Rattle.pli_unit_code.specs.CodeTables.{variables_at}
 use Rattle.pli_unit_code.specs.views.CodeView.{code_view}
@@ -10,7 +10,7 @@ use Rattle.pli_unit_perform.proofs.variables.make_variables.Given as goal
 -- the variables that are left are made in the world as it is now
 abbrev pub invariant-loop-variable : goal.invariant-loop-variable
 invariant-loop-variable l = record {
-  made : (unit : Name) (put : List ℕ) → made_all (variables_at (code_view l.code) l.variables) (world_of unit l.initial.machine put)
-      ≡ made_all (variables_at (code_view l.code) (drop l.variable-index l.variables)) (world_of unit l.machine put);
+  made : (image : Image) (put : List ℕ) → made_all (variables_at (code_view l.code) l.variables) (world_of image l.initial.machine put)
+      ≡ made_all (variables_at (code_view l.code) (drop l.variable-index l.variables)) (world_of image l.machine put);
   same : SameFrames l.initial.machine l.machine;
 }

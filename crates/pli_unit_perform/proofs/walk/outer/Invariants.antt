@@ -1,5 +1,5 @@
 use Rattle.std.proofs.Common.{◌≡◌, ◌-◌, ◌≤◌, length, map}
-use Rattle.pli_base.specs.Name.{Name}
+use Rattle.pli_unit_perform.specs.views.Image.{Image}
 use Rattle.pli_store.specs.Activations.{outward_from}
 use Rattle.pli_unit_perform.specs.views.MachineView.{activation_view, activations_of}
 use Rattle.pli_unit_perform.proofs.Walks.{first_of}
@@ -9,6 +9,6 @@ use Rattle.pli_unit_perform.proofs.walk.outer.Given as goal
 abbrev pub invariant-loop-passed : goal.invariant-loop-passed
 invariant-loop-passed l = record {
   within : l.count ≤ length l.waiting;
-  way : (unit : Name) → outward_from (activations_of unit l.waiting) l.link l.outward
-      ≡ outward_from (first_of (map (activation_view unit) l.waiting) l.count) l.height (l.outward - l._passed);
+  way : (image : Image) → outward_from (activations_of image l.waiting) l.link l.outward
+      ≡ outward_from (first_of (map (activation_view image) l.waiting) l.count) l.height (l.outward - l._passed);
 }

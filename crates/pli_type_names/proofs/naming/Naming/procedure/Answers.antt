@@ -17,7 +17,7 @@ returns c =
     let found = c.self.invariant.1.found b in
     let o = slice_get (map entry_view c.self.inside.entries.items) b in
     record {
-      block = refl;
+      callee = refl;
       parameters = c.parameters_at.ensures
           ∙ ap (λ es. parameters_in (slice_get (map entry_view es) b)) c.deref.ensures.value
           ∙ parameters_found r b o found

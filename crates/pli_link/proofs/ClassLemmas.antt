@@ -1,0 +1,268 @@
+-- Classes of templates: what is known stays known, and templates of one class are equal.
+use Rattle.std.proofs.Common.{◌≡◌, ℕ, zero, suc, ◌+◌, ◌<◌, ◌≤◌, Bool, true, false, not, ◌||◌, cond, if◌then◌else◌, Option, Some, None, option_map, List, [], ◌∷◌, ◌++◌, map, length, get_or, slice_get, refl, sym, ap, ◌∙◌, subst, arith, true≢false}
+use Rattle.std.specs.List.{list_any, position_or_len}
+use Rattle.std.specs.Map.{keys_of, lookup}
+use Rattle.std.specs.Option.{option_copied, option_eq}
+use Rattle.std.specs.Ordering.{on}
+use Rattle.std.specs.Prelude.{nat_eq, nat_lt}
+use Rattle.std.proofs.lemmas.Bool.Decides.{Decides-eqb, nat_tests}
+use Rattle.std.proofs.lemmas.List.{map-append}
+use Rattle.std.proofs.lemmas.Option.{slice_get-map, slice_get-get_or}
+use Rattle.indexmap.specs.IndexSet.{insert_key}
+use denote.Ref.{Bor}
+use Rattle.pli_base.specs.Name.{Name}
+use Rattle.pli_base.specs.Words.{same_name, is_among}
+use Rattle.pli_type_tree.specs.Templates.{Template}
+use Rattle.pli_unit_code.specs.CodeTables.{Code, template_at, with_description}
+use Rattle.pli_unit_code.specs.declared.code.CodedTemplate.{CodedTemplate}
+use Rattle.pli_unit_code.specs.views.CodeView.{coded_template_view}
+use Rattle.pli_link.specs.Alike.{same_template}
+use Rattle.pli_link.specs.Mismatches.{is_like_first}
+use Rattle.pli_link.specs.answers.Classes.{place_of, IsClass, known_in, Grows, class_in, class_at, AreClasses, AreClassed, IsFirstClassed}
+use Rattle.pli_link.specs.laws.AlikeLaws.{template_decides, option_decides}
+use Rattle.pli_link.specs.views.TemplateView.{found_view}
+use Rattle.pli_link.specs.declared.alike.FoundTemplate.{FoundTemplate}
+use Rattle.pli_link.specs.declared.names.External.{External}
+
+same_itself : (t : Template) → same_template t t ≡ true
+same_itself t = (template_decides t t).1 refl
+
+some_is : {A : Type 0} (x y : A) → Some x ≡ Some y → x ≡ y
+some_is x y e = cc
+
+-- a template that was put in stands at its place
+class_now : (t : Template) (known : List Template)
+    → place_of t (if list_any (same_template t) known then known else known ++ t ∷ []) ≡ Some (position_or_len (same_template t) known)
+class_now t [] = ap (λ b. if b then Some 0 else option_map suc (place_of t [])) (same_itself t)
+class_now t (k ∷ known) = by (same_template t k) refl (class_now t known)
+  where
+    either : (b : Bool) → place_of t (if b then known else known ++ t ∷ []) ≡ Some (position_or_len (same_template t) known) → same_template t k ≡ false
+        → place_of t (if b then k ∷ known else k ∷ (known ++ t ∷ [])) ≡ Some (1 + position_or_len (same_template t) known)
+    either true h is =
+        ap (λ b. if b then Some 0 else option_map suc (place_of t known)) is ∙ ap (option_map suc) h ∙ ap Some (omega arith)
+    either false h is =
+        ap (λ b. if b then Some 0 else option_map suc (place_of t (known ++ t ∷ []))) is ∙ ap (option_map suc) h ∙ ap Some (omega arith)
+
+    by : (b : Bool) → same_template t k ≡ b → place_of t (if list_any (same_template t) known then known else known ++ t ∷ []) ≡ Some (position_or_len (same_template t) known)
+        → place_of t (if b || list_any (same_template t) known then k ∷ known else k ∷ (known ++ t ∷ [])) ≡ Some (cond (not b) (1 + position_or_len (same_template t) known) 0)
+    by true is h = ap (λ b. if b then Some 0 else option_map suc (place_of t known)) is
+    by false is h = either (list_any (same_template t) known) h is
+
+any_seen : (v : FoundTemplate) (ks : List FoundTemplate) → list_any (on found_view same_template v) ks ≡ list_any (same_template (found_view v)) (known_in ks)
+any_seen v [] = refl
+any_seen v (k ∷ ks) = ap (λ b. same_template (found_view v) (found_view k) || b) (any_seen v ks)
+
+place_seen : (v : FoundTemplate) (ks : List FoundTemplate) → position_or_len (on found_view same_template v) ks ≡ position_or_len (same_template (found_view v)) (known_in ks)
+place_seen v [] = refl
+place_seen v (k ∷ ks) = ap (λ n. cond (not (same_template (found_view v) (found_view k))) (1 + n) 0) (place_seen v ks)
+
+known_put : (v : FoundTemplate) (ks : List FoundTemplate) → known_in (insert_key (on found_view same_template) ks v)
+    ≡ (if list_any (same_template (found_view v)) (known_in ks) then known_in ks else known_in ks ++ found_view v ∷ [])
+known_put v ks = by (list_any (on found_view same_template v) ks) ∙ ap (λ b. if b then known_in ks else known_in ks ++ found_view v ∷ []) (any_seen v ks)
+  where
+    by : (b : Bool) → known_in (if b then ks else ks ++ v ∷ []) ≡ (if b then known_in ks else known_in ks ++ found_view v ∷ [])
+    by true = refl
+    by false = map-append found_view ks (v ∷ [])
+
+pub class_put : (v : FoundTemplate) (ks new : List FoundTemplate) (number : ℕ) → new ≡ insert_key (on found_view same_template) ks v
+    → number ≡ position_or_len (on found_view same_template v) ks → IsClass (known_in new) (Some (found_view v)) (Some number)
+class_put v ks new number is at =
+    ap (λ l. place_of (found_view v) (known_in l)) is ∙ ap (place_of (found_view v)) (known_put v ks) ∙ class_now (found_view v) (known_in ks)
+    ∙ ap Some (sym (at ∙ place_seen v ks))
+
+-- what was known stays where it was
+
+pub grows_not : (ks : List FoundTemplate) → Grows ks ks
+grows_not ks = record { more = []; is = none ks }
+  where
+    none : (xs : List FoundTemplate) → xs ≡ xs ++ []
+    none [] = refl
+    none (x ∷ xs) = ap (λ l. x ∷ l) (none xs)
+
+pub grows_put : (v : FoundTemplate) (ks new : List FoundTemplate) → new ≡ insert_key (on found_view same_template) ks v → Grows ks new
+grows_put v ks new is = subst (Grows ks) (sym is) (by (list_any (on found_view same_template v) ks))
+  where
+    by : (b : Bool) → Grows ks (if b then ks else ks ++ v ∷ [])
+    by true = grows_not ks
+    by false = record { more = v ∷ []; is = refl }
+
+joined : (xs ys zs : List FoundTemplate) → (xs ++ ys) ++ zs ≡ xs ++ (ys ++ zs)
+joined [] ys zs = refl
+joined (x ∷ xs) ys zs = ap (λ l. x ∷ l) (joined xs ys zs)
+
+pub grows_on : (a b c : List FoundTemplate) → Grows a b → Grows b c → Grows a c
+grows_on a b c g h = record { more = g.more ++ h.more; is = h.is ∙ ap (λ l. l ++ h.more) g.is ∙ joined a g.more h.more }
+
+place_stays : (t : Template) (known more : List Template) (n : ℕ) → place_of t known ≡ Some n → place_of t (known ++ more) ≡ Some n
+place_stays t [] more n e = let bad : ⊥ = cc in absurd bad
+place_stays t (k ∷ known) more n e = by (same_template t k) e (λ m. place_stays t known more m)
+  where
+    shifted : (o : Option ℕ) → option_map suc o ≡ Some n → ((m : ℕ) → o ≡ Some m → place_of t (known ++ more) ≡ Some m) → option_map suc (place_of t (known ++ more)) ≡ Some n
+    shifted None h rest = let bad : ⊥ = cc in absurd bad
+    shifted (Some m) h rest = ap (option_map suc) (rest m refl) ∙ h
+
+    by : (b : Bool) → (if b then Some 0 else option_map suc (place_of t known)) ≡ Some n → ((m : ℕ) → place_of t known ≡ Some m → place_of t (known ++ more) ≡ Some m)
+        → (if b then Some 0 else option_map suc (place_of t (known ++ more))) ≡ Some n
+    by true h rest = h
+    by false h rest = shifted (place_of t known) h rest
+
+pub class_stays : (old new : List FoundTemplate) → Grows old new → (t : Option Template) (class : Option ℕ) → IsClass (known_in old) t class → IsClass (known_in new) t class
+class_stays old new g None None h = tt
+class_stays old new g None (Some k) h = absurd h
+class_stays old new g (Some t) None h = absurd h
+class_stays old new g (Some t) (Some k) h = ap (place_of t) (ap known_in g.is ∙ map-append found_view old g.more) ∙ place_stays t (known_in old) (known_in g.more) k h
+
+pub classes_stay : (old new : List FoundTemplate) (code : Code) (classes : List (Option ℕ)) → Grows old new → AreClasses (known_in old) code classes → AreClasses (known_in new) code classes
+classes_stay old new code classes g all = λ number. class_stays old new g (template_at code number) (class_at classes number) (all number)
+
+pub classed_stay : (old new : List FoundTemplate) (es : List (Name × External)) → Grows old new → AreClassed (known_in old) es → AreClassed (known_in new) es
+classed_stay old new [] g all = tt
+classed_stay old new (e ∷ es) g all = (class_stays old new g (option_map found_view e.1.template) e.1.class all.0, classed_stay old new es g all.1)
+
+-- templates of one class are equal, and equal ones are of one class
+
+same_place : (a b : Template) (known : List Template) (n : ℕ) → place_of a known ≡ Some n → place_of b known ≡ Some n → a ≡ b
+same_place a b [] n e f = let bad : ⊥ = cc in absurd bad
+same_place a b (k ∷ known) n e f = by (same_template a k) (same_template b k) refl refl e f (same_place a b known)
+  where
+    shifted : (o p : Option ℕ) → option_map suc o ≡ Some n → option_map suc p ≡ Some n → ((m : ℕ) → o ≡ Some m → p ≡ Some m → a ≡ b) → a ≡ b
+    shifted None p g h rest = let bad : ⊥ = cc in absurd bad
+    shifted (Some m) None g h rest = let bad : ⊥ = cc in absurd bad
+    shifted (Some m) (Some l) g h rest =
+        let one : m ≡ l = suc_is m l (some_is (suc m) (suc l) (g ∙ sym h)) in
+        rest m refl (ap Some (sym one))
+      where
+        suc_is : (x y : ℕ) → suc x ≡ suc y → x ≡ y
+        suc_is x y e = omega (arith, e)
+
+    zero_not : (o : Option ℕ) → option_map suc o ≡ Some 0 → ⊥
+    zero_not None h = cc
+    zero_not (Some m) h = let bad : suc m ≡ 0 = some_is (suc m) 0 h in omega (arith, bad)
+
+    by : (c d : Bool) → same_template a k ≡ c → same_template b k ≡ d → (if c then Some 0 else option_map suc (place_of a known)) ≡ Some n
+        → (if d then Some 0 else option_map suc (place_of b known)) ≡ Some n → ((m : ℕ) → place_of a known ≡ Some m → place_of b known ≡ Some m → a ≡ b) → a ≡ b
+    by true true x y g h rest = (template_decides a k).0 x ∙ sym ((template_decides b k).0 y)
+    by true false x y g h rest = absurd (zero_not (place_of b known) (h ∙ sym g))
+    by false true x y g h rest = absurd (zero_not (place_of a known) (g ∙ sym h))
+    by false false x y g h rest = shifted (place_of a known) (place_of b known) g h rest
+
+both_ways : (a b : Bool) → (a ≡ true → b ≡ true) → (b ≡ true → a ≡ true) → a ≡ b
+both_ways true b f g = sym (f refl)
+both_ways false true f g = g refl
+both_ways false false f g = refl
+
+class_is_one : (known : List Template) (a b : Option Template) (k m : Option ℕ) → IsClass known a k → IsClass known b m → k ≡ m → a ≡ b
+class_is_one known None None k m h i e = refl
+class_is_one known None (Some b) None None h i e = absurd i
+class_is_one known None (Some b) None (Some m) h i e = let bad : ⊥ = cc in absurd bad
+class_is_one known None (Some b) (Some k) m h i e = absurd h
+class_is_one known (Some a) None None m h i e = absurd h
+class_is_one known (Some a) None (Some k) None h i e = let bad : ⊥ = cc in absurd bad
+class_is_one known (Some a) None (Some k) (Some m) h i e = absurd i
+class_is_one known (Some a) (Some b) None m h i e = absurd h
+class_is_one known (Some a) (Some b) (Some k) None h i e = absurd i
+class_is_one known (Some a) (Some b) (Some k) (Some m) h i e = ap Some (same_place a b known k h (i ∙ sym e))
+
+one_class : (known : List Template) (a : Option Template) (k m : Option ℕ) → IsClass known a k → IsClass known a m → k ≡ m
+one_class known None None None h i = refl
+one_class known None None (Some m) h i = absurd i
+one_class known None (Some k) m h i = absurd h
+one_class known (Some a) None m h i = absurd h
+one_class known (Some a) (Some k) None h i = absurd i
+one_class known (Some a) (Some k) (Some m) h i = sym h ∙ i
+
+pub same_class : (known : List Template) (a b : Option Template) (k m : Option ℕ) → IsClass known a k → IsClass known b m → option_eq nat_eq k m ≡ option_eq same_template a b
+same_class known a b k m h i =
+    both_ways _ _
+    (λ e. (option_decides same_template template_decides a b).1 (class_is_one known a b k m h i ((option_decides nat_eq Decides-eqb k m).0 e)))
+    (λ e. (option_decides nat_eq Decides-eqb k m).1 (one_class known a k m h (subst (λ o. IsClass known o m) (sym ((option_decides same_template template_decides a b).0 e)) i)))
+
+-- classes of a unit, one more
+
+class_behind : (classes : List (Option ℕ)) (class : Option ℕ) (number : ℕ) → number < length classes → class_at (classes ++ class ∷ []) number ≡ class_at classes number
+class_behind [] class number lt = absurd (omega (arith, lt))
+class_behind (c ∷ classes) class zero lt = refl
+class_behind (c ∷ classes) class (suc number) lt = class_behind classes class number (omega (arith, lt))
+
+class_last : (classes : List (Option ℕ)) (class : Option ℕ) → class_at (classes ++ class ∷ []) (length classes) ≡ class
+class_last [] class = refl
+class_last (c ∷ classes) class = class_last classes class
+
+-- a bound on a number that is raised by one: it is the last, or one before
+abbrev ClassesUpTo : (known : List Template) → Code → List (Option ℕ) → (bound : ℕ) → Type 0
+ClassesUpTo known code classes bound = (number : ℕ) → number < bound → IsClass known (template_at code number) (class_at classes number)
+
+pub one_more_class : (known : List Template) (code : Code) (classes : List (Option ℕ)) (class : Option ℕ) (n : ℕ) → length classes ≡ n
+    → ((number : ℕ) → number < n → IsClass known (template_at code number) (class_at classes number)) → IsClass known (template_at code n) class
+    → (number : ℕ) → number < n + 1 → IsClass known (template_at code number) (class_at (classes ++ class ∷ []) number)
+one_more_class known code classes class n long all last number lt = by (nat_lt number n) refl
+  where
+    by : (b : Bool) → nat_lt number n ≡ b → IsClass known (template_at code number) (class_at (classes ++ class ∷ []) number)
+    by true e =
+        let before : number < n = grind (arith, nat_tests) in
+        subst (IsClass known (template_at code number)) (sym (class_behind classes class number (omega (arith, before, long)))) (all number before)
+    by false e =
+        let same : number ≡ n = grind (arith, nat_tests) in
+        let end : number ≡ length classes = omega (arith, same, long) in
+        subst (λ k. IsClass known (template_at code k) (class_at (classes ++ class ∷ []) k)) (sym same)
+        (subst (IsClass known (template_at code n)) (sym (ap (class_at (classes ++ class ∷ [])) (sym long) ∙ class_last classes class)) last)
+
+-- behind the last template there is none, and no class
+none_behind : {A : Type 0} (xs : List A) (number : ℕ) → length xs ≤ number → slice_get xs number ≡ None
+none_behind [] number le = refl
+none_behind (x ∷ xs) zero le = absurd (omega (arith, le))
+none_behind (x ∷ xs) (suc number) le = none_behind xs number (omega (arith, le))
+
+pub all_classes : (known : List Template) (code : Code) (classes : List (Option ℕ)) → length classes ≡ length code.templates
+    → ((number : ℕ) → number < length code.templates → IsClass known (template_at code number) (class_at classes number)) → AreClasses known code classes
+all_classes known code classes long all number = by (nat_lt number (length code.templates)) refl
+  where
+    by : (b : Bool) → nat_lt number (length code.templates) ≡ b → IsClass known (template_at code number) (class_at classes number)
+    by true e = all number (grind (arith, nat_tests))
+    by false e =
+        let past : length code.templates ≤ number = grind (arith, nat_tests) in
+        subst (IsClass known (template_at code number)) (sym (ap class_in (none_behind classes number (omega (arith, past, long)))))
+        (subst (λ o. IsClass known (with_description code o) None) (sym (none_behind code.templates number past)) tt)
+
+-- a table of external variables with one more
+
+pub classed_put : (known : List Template) (es : List (Name × External)) (n : Name) (x : External) → is_among n (keys_of es) ≡ false → AreClassed known es
+    → IsClass known (option_map found_view x.template) x.class → AreClassed known (es ++ (n, x) ∷ [])
+classed_put known [] n x new all one = (one, tt)
+classed_put known (e ∷ es) n x new all one = (all.0, by (same_name n e.0) new (λ h. classed_put known es n x h all.1 one))
+  where
+    by : (b : Bool) → b || is_among n (keys_of es) ≡ false → (is_among n (keys_of es) ≡ false → AreClassed known (es ++ (n, x) ∷ [])) → AreClassed known (es ++ (n, x) ∷ [])
+    by true h rest = absurd (true≢false h)
+    by false h rest = rest h
+
+-- what is looked up in it has its class
+
+pub classed_found : (known : List Template) (test : Name → Bool) (es : List (Name × External)) (g : Option (Bor External)) → AreClassed known es
+    → option_copied g ≡ lookup test es → IsFirstClassed known g
+classed_found known test es None all e = tt
+classed_found known test [] (Some x) all e = let bad : ⊥ = cc in absurd bad
+classed_found known test (y ∷ es) (Some x) all e = by (test y.0) e (classed_found known test es (Some x) all.1)
+  where
+    by : (b : Bool) → Some x.now ≡ cond b (Some y.1) (lookup test es) → (Some x.now ≡ lookup test es → IsClass known (option_map found_view x.now.template) x.now.class)
+        → IsClass known (option_map found_view x.now.template) x.now.class
+    by true h rest = subst (λ (z : External). IsClass known (option_map found_view z.template) z.class) (sym (some_is x.now y.1 h)) all.0
+    by false h rest = rest h
+
+-- an external variable is unlike the first one where it is of another class
+
+pub unlike_by_class : (known : List Template) (t : Option Template) (class : Option ℕ) (e : Bor External) → IsClass known t class → IsFirstClassed known (Some e)
+    → not (option_eq nat_eq e.now.class class) ≡ not (is_like_first t (Some (option_map found_view e.now.template)))
+unlike_by_class known t class e h i = ap not (same_class known (option_map found_view e.now.template) t e.now.class class i h)
+
+-- steps of loops
+
+pub one_longer : {A : Type 0} (xs : List A) (x : A) → length (xs ++ x ∷ []) ≡ length xs + 1
+one_longer [] x = omega arith
+one_longer (y ∷ ys) x = omega (arith, one_longer ys x)
+
+pub one_found : (xs ys : List CodedTemplate) (i : ℕ) (x : CodedTemplate) → xs ≡ ys → i < length xs → x ≡ get_or xs i x
+    → slice_get (map coded_template_view ys) i ≡ Some (coded_template_view x)
+one_found xs ys i x same within is =
+    ap (λ l. slice_get (map coded_template_view l) i) (sym same)
+    ∙ slice_get-map coded_template_view xs i
+    ∙ ap (option_map coded_template_view) (slice_get-get_or xs i x within ∙ ap Some (sym is))

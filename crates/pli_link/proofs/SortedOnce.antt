@@ -1,0 +1,82 @@
+-- Two lists that are sorted, and in which those that tie stand alike, are one.
+use Rattle.std.proofs.Common.{◌≡◌, ℕ, suc, ◌+◌, ◌<◌, Bool, true, false, not, cond, ◌&&◌, List, [], ◌∷◌, length, get_or, filter, refl, sym, ap, ◌∙◌, arith, IsSortedByKey}
+use Rattle.std.proofs.Common.{Ordering, Less, Equal, Greater, is_lt}
+use Rattle.std.specs.Ordering.{nat_cmp, ordering_reverse}
+use Rattle.std.specs.Cmp.Lexicographic.{slice_cmp}
+use Rattle.std.proofs.lemmas.Cmp.{nat_list_cmp_total}
+use Rattle.std.proofs.lemmas.List.Sorted.{sorted_far, ranks_by}
+use Rattle.pli_link.specs.laws.Sorting.{name_alone}
+use Rattle.pli_link.specs.declared.units.LinkedName.{LinkedName}
+use Rattle.pli_link.proofs.NamesSorted.{by_name, below, tied, equal_from_tie}
+
+-- none of these is below one
+abbrev NoneBelow : LinkedName → List LinkedName → Type 0
+NoneBelow x [] = Unit {0}
+NoneBelow x (y ∷ ys) = (below y x ≡ false) × NoneBelow x ys
+
+abbrev Sorted : List LinkedName → Type 0
+Sorted [] = Unit {0}
+Sorted (x ∷ xs) = NoneBelow x xs × Sorted xs
+
+none_below : (x : LinkedName) (ys : List LinkedName) → ((k : ℕ) (d : LinkedName) → k < length ys → below (get_or ys k d) x ≡ false) → NoneBelow x ys
+none_below x [] h = tt
+none_below x (y ∷ ys) h = (h 0 y (omega arith), none_below x ys (λ k d lt. h (suc k) d (omega arith)))
+
+pub sorted_from_key : (xs : List LinkedName) → IsSortedByKey name_alone (slice_cmp nat_cmp) xs → Sorted xs
+sorted_from_key [] up = tt
+sorted_from_key (x ∷ xs) up = (
+  none_below x xs (λ k d lt. sorted_far below (ranks_by nat_list_cmp_total name_alone) (x ∷ xs) up 0 (suc k) d (omega arith) (omega arith)),
+  sorted_from_key xs (λ k d low high. let e : suc (k + 1) ≡ suc k + 1 = omega arith in ap (λ n. below (get_or (x ∷ xs) n d) (get_or xs k d)) e ∙ up (suc k) d (omega arith) (omega arith)),
+)
+
+equal_to_itself : (o : Ordering) → o ≡ ordering_reverse o → o ≡ Equal
+equal_to_itself Less e = cc
+equal_to_itself Equal e = refl
+equal_to_itself Greater e = cc
+
+alike : (x : LinkedName) → by_name x x ≡ Equal
+alike x = equal_to_itself (by_name x x) (nat_list_cmp_total.antisymm x.name x.name)
+
+ties_itself : (x : LinkedName) → tied x x ≡ true
+ties_itself x = ap (λ o. not (is_lt o) && not (is_lt o)) (alike x)
+
+not_below_itself : (x : LinkedName) → below x x ≡ false
+not_below_itself x = ap is_lt (alike x)
+
+-- what ties with one of those that are not below another is not below that
+not_before : (x y : LinkedName) (zs : List LinkedName) → NoneBelow y zs → (filter (tied x) zs ≡ [] → ⊥) → below x y ≡ false
+not_before x y [] none some = absurd (some refl)
+not_before x y (z ∷ zs) none some = by (tied x z) refl (λ e. not_before x y zs none.1 (λ f. some (ap (λ b. cond b (z ∷ filter (tied x) zs) (filter (tied x) zs)) e ∙ f)))
+  where
+    by : (b : Bool) → tied x z ≡ b → (tied x z ≡ false → below x y ≡ false) → below x y ≡ false
+    by true e later = ap is_lt (nat_list_cmp_total.congr x.name z.name y.name (equal_from_tie x z e)) ∙ none.0
+    by false e later = later e
+
+-- one that ties stands first among those that tie
+kept_first : (x : LinkedName) (y : LinkedName) (ys : List LinkedName) → tied x y ≡ true → filter (tied x) (y ∷ ys) ≡ y ∷ filter (tied x) ys
+kept_first x y ys e = ap (λ b. cond b (y ∷ filter (tied x) ys) (filter (tied x) ys)) e
+
+some_kept : (x : LinkedName) (xs ys : List LinkedName) → filter (tied x) (x ∷ xs) ≡ filter (tied x) ys → filter (tied x) ys ≡ [] → ⊥
+some_kept x xs ys same none =
+    let e : x ∷ filter (tied x) xs ≡ [] = sym (kept_first x x xs (ties_itself x)) ∙ same ∙ none in
+    cc
+
+first_is : (x y : LinkedName) (xs ys : List LinkedName) → x ∷ xs ≡ y ∷ ys → x ≡ y
+first_is x y xs ys e = cc
+
+rest_is : (b : Bool) (x y : LinkedName) (xs ys : List LinkedName) → x ≡ y → cond b (x ∷ xs) xs ≡ cond b (y ∷ ys) ys → xs ≡ ys
+rest_is true x y xs ys e f = cc
+rest_is false x y xs ys e f = f
+
+pub sorted_once : (xs ys : List LinkedName) → Sorted xs → Sorted ys → ((z : LinkedName) → filter (tied z) xs ≡ filter (tied z) ys) → xs ≡ ys
+sorted_once [] [] up upper same = refl
+sorted_once [] (y ∷ ys) up upper same = absurd (some_kept y ys [] (sym (same y)) refl)
+sorted_once (x ∷ xs) [] up upper same = absurd (some_kept x xs [] (same x) refl)
+sorted_once (x ∷ xs) (y ∷ ys) up upper same =
+    let ahead : below x y ≡ false = not_before x y (y ∷ ys) (not_below_itself y, upper.0) (some_kept x xs (y ∷ ys) (same x)) in
+    let behind : below y x ≡ false = not_before y x (x ∷ xs) (not_below_itself x, up.0) (some_kept y ys (x ∷ xs) (sym (same y))) in
+    let tie : tied x y ≡ true = ap (λ b. not b && not (below y x)) ahead ∙ ap (λ b. not b) behind in
+    let first : x ≡ y = first_is x y _ _ (sym (kept_first x x xs (ties_itself x)) ∙ same x ∙ kept_first x y ys tie) in
+    let rest : (z : LinkedName) → filter (tied z) xs ≡ filter (tied z) ys =
+    λ z. rest_is (tied z x) x y (filter (tied z) xs) (filter (tied z) ys) first (same z ∙ ap (λ (w : LinkedName). cond (tied z w) (y ∷ filter (tied z) ys) (filter (tied z) ys)) (sym first)) in
+    ap (λ l. x ∷ l) (sorted_once xs ys up.1 upper.1 rest) ∙ ap (λ (w : LinkedName). w ∷ ys) first

@@ -1,0 +1,22 @@
+use Rattle.std.proofs.Common.{◌∙◌, ap, sym, subst, arith, map}
+use Rattle.pli_link.specs.Mismatches.{each_once, faulty_names, linked_in}
+use Rattle.pli_link.specs.answers.Classes.{AreClasses, known_in}
+use Rattle.pli_link.specs.answers.Tables.{HaveClasses, units_in}
+use Rattle.pli_unit_code.specs.views.CodeView.{code_view, global_view}
+use Rattle.pli_link.proofs.ClassLemmas.{classed_stay, grows_on}
+use Rattle.pli_link.proofs.MismatchLemmas.{one_unit}
+use Rattle.pli_link.proofs.mismatches.faulty_names.Goals as goal
+
+pub loop-unit-preserved : goal.loop-unit-preserved
+loop-unit-preserved c =
+    let cs = units_in c.args.names.now in
+    let unit = c.unit-item.result in
+    let known = c.classes_of.new.known.keys in
+    let grown = grows_on c.args.known.now.keys c.loop-unit.known.keys known c.loop-unit.invariant.1 c.in_ok-classes.ensures.grows in
+    let have : HaveClasses known c.args.names.now = classed_stay c.args.known.now.keys known c.args.names.now.externals.now.entries grown c.requires.classes in
+    let classes = subst (AreClasses (known_in known) (code_view unit.code)) (sym c.deref.ensures.value) c.in_ok-classes.ensures.classes in
+    let told = c.in_ok-found.ensures known have classes ∙ ap (λ gs. each_once _ (faulty_names cs c.args.fault (code_view unit.code) (map global_view gs))) c.deref-in-loop-unit.ensures.value in (
+      one_unit cs c.args.fault c.args.units.now c.loop-unit.unit-index unit c.loop-unit.linked.items c.add_linked.new.linked.items (linked_in unit.unit c.in_ok-found.found.keys) _
+          (omega (arith, c.loop-unit-test.true)) c.unit-item.is c.in_ok-add_linked.ensures (ap (linked_in unit.unit) told) c.loop-unit.invariant.0,
+      grown,
+    )

@@ -1,0 +1,43 @@
+-- How large a module may be (own).
+use Rattle.std.specs.Prelude.{nat_lt, Bool, ◌||◌, List, [], ◌++◌, length, map}
+use Rattle.std.specs.List.{flat_map, list_any, sum_by}
+use Rattle.std.specs.Map.{values_of}
+use Rattle.pli_map.specs.Description.{Description}
+use Rattle.pli_map.specs.Sizes.{size_of}
+use Rattle.pli_store.specs.Storage.{byte_limit}
+use Rattle.pli_type_tree.specs.Templates.{Template}
+use Rattle.pli_unit_code.specs.CodeTables.{Code, CodedGlobal, OwnVariable, ExternalVariable, EntryPoint}
+use Rattle.pli_unit_code.specs.CodeTables.{there, template_at}
+use Rattle.pli_link.specs.Names.{externals}
+use Rattle.pli_link.specs.Units.{Compiled}
+
+-- the variables that a unit has for itself
+abbrev pub own_in : Code → CodedGlobal → List Template
+own_in code (OwnVariable t) = there (template_at code t)
+own_in code (ExternalVariable name t) = []
+own_in code (EntryPoint name signature) = []
+
+abbrev pub own_of : Code → List CodedGlobal → List Template
+own_of code gs = flat_map (own_in code) gs
+
+abbrev pub all_own : List Compiled → List Template
+all_own cs = flat_map (λ c. own_of c.code c.code.globals) cs
+
+-- the variables that are made before a program begins: each unit's own, and each external one once
+abbrev pub variables_made : List Compiled → List Template
+variables_made cs = all_own cs ++ flat_map there (values_of (externals cs))
+
+-- one that has more bytes than a variable may have
+abbrev pub is_oversized : Description → Bool
+is_oversized d = nat_lt 1000000 (size_of d)
+
+-- one of these variables has, or all together have more bytes than may live
+abbrev pub are_too_large : List Description → Bool
+are_too_large ds = list_any is_oversized ds || nat_lt byte_limit (sum_by size_of ds)
+
+-- the variables are too large; or there are more than 65,535 external ones, 1,000,000 instructions or 65,535
+-- units
+abbrev pub is_too_large : List Compiled → Bool
+is_too_large cs =
+    are_too_large (map (λ t. t.description) (variables_made cs)) || nat_lt 65535 (length (externals cs))
+    || nat_lt 1000000 (sum_by (λ c. length c.code.instructions) cs) || nat_lt 65535 (length cs)

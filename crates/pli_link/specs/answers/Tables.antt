@@ -1,0 +1,29 @@
+-- What the tables of names hold.
+use Rattle.std.specs.Prelude.{◌≡◌, ℕ, ◌≤◌, List, map}
+use Rattle.std.specs.List.{AllByRecursion}
+use Rattle.pli_base.specs.Name.{Name}
+use Rattle.pli_link.specs.Names.{procedures, externals}
+use Rattle.pli_link.specs.Units as plain
+use Rattle.pli_link.specs.views.NameView.{externals_view}
+use Rattle.pli_link.specs.views.UnitView.{compiled_view}
+use Rattle.pli_link.specs.answers.Classes.{AreClassed, known_in}
+use Rattle.pli_link.specs.declared.alike.FoundTemplate.{FoundTemplate}
+use Rattle.pli_link.specs.declared.names.Names.{Names}
+
+-- the units whose names they are
+abbrev pub units_in : Names → List plain.Compiled
+units_in n = map compiled_view n.units.now
+
+-- numbers of units that a module has room for
+abbrev pub AreSmall : List (Name × ℕ) → Type 0
+AreSmall procedures = AllByRecursion (λ p. p.1 ≤ 65535) procedures
+
+-- the procedures and the external variables of these units
+abbrev pub AreNames : Names → Type 0
+AreNames n =
+    (n.procedures.now.entries ≡ procedures (units_in n))
+    × (externals_view n.externals.now.entries ≡ externals (units_in n))
+
+-- and the external variables have the classes of their templates
+abbrev pub HaveClasses : List FoundTemplate → Names → Type 0
+HaveClasses known n = AreClassed (known_in known) n.externals.now.entries

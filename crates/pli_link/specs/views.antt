@@ -1,0 +1,3 @@
+pub mod NameView
+pub mod TemplateView
+pub mod UnitView

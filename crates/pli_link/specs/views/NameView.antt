@@ -1,0 +1,9 @@
+-- What a table of external variables says, apart from where its templates lie in memory.
+use Rattle.std.specs.Prelude.{Option, option_map, List, map}
+use Rattle.pli_base.specs.Name.{Name}
+use Rattle.pli_type_tree.specs.Templates.{Template}
+use Rattle.pli_link.specs.declared.names.External.{External}
+use Rattle.pli_link.specs.views.TemplateView.{found_view}
+
+abbrev pub externals_view : List (Name × External) → List (Name × Option Template)
+externals_view es = map (λ e. (e.0, option_map found_view e.1.template)) es

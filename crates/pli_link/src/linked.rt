@@ -1,0 +1,83 @@
+//! Modules from units without faults.
+ghost use Rattle.std.specs.Prelude.{◌≡◌, map, position, IfOk};
+ghost use Rattle.pli_link.specs.Link as link;
+ghost use Rattle.pli_link.specs.answers.Tables.{AreSmall};
+ghost use Rattle.pli_link.specs.views.UnitView.{compiled_view};
+ghost use Rattle.pli_unit_code.specs.CodeTables.{there};
+ghost use Rattle.pli_unit_code.specs.views.CodeView.{global_view, unit_view};
+
+use crate::units::Compiled;
+use indexmap::IndexMap;
+use pli_base::Name;
+use pli_unit_code::{CodedGlobal, LinkedUnit};
+use std::alloc::{AllocError, Global};
+
+/// Where the first main procedure stands.
+pub(crate) fn main_at(units: &[Compiled]) -> Option<usize>
+    ensures { result ≡ position (λ u. u.is_main) units.now }
+{
+    units.iter().position(|unit| unit.is_main)
+}
+
+/// The unit of an entry, if a global is one whose procedure is there.
+fn entry_in(procedures: &IndexMap<Name, usize>, global: &CodedGlobal) -> Option<u16>
+    requires { AreSmall procedures.now.entries }
+    ensures { there result ≡ link.entry_in procedures.now.entries (global_view global.now) }
+{
+    match global {
+        CodedGlobal::EntryPoint { name, .. } => Some(*procedures.get(name)? as u16),
+        _ => None,
+    }
+}
+
+/// The units of the entries among globals, in their order.
+fn entries_of(
+    alloc: Global,
+    procedures: &IndexMap<Name, usize>,
+    globals: &[CodedGlobal],
+) -> Result<Vec<u16>, AllocError>
+    requires { AreSmall procedures.now.entries }
+    ensures { IfOk result (λ entries. entries.items ≡ link.entries_of procedures.now.entries (map global_view globals.now)) }
+{
+    let mut entries = Vec::new(alloc);
+    for global in globals {
+        if let Some(number) = entry_in(procedures, global) {
+            entries.push(number)?;
+        }
+    }
+    Ok(entries)
+}
+
+/// A unit with the units of its entries.
+fn linked_unit(
+    alloc: Global,
+    procedures: &IndexMap<Name, usize>,
+    compiled: Compiled,
+) -> Result<LinkedUnit, AllocError>
+    requires { AreSmall procedures.now.entries }
+    ensures { IfOk result (λ linked. unit_view linked ≡ link.linked_unit procedures.now.entries (compiled_view compiled)) }
+{
+    let Compiled { unit, code, .. } = compiled;
+    let entries = entries_of(alloc, procedures, &code.globals)?;
+    Ok(LinkedUnit {
+        unit,
+        code,
+        entries,
+    })
+}
+
+/// The units with the units of their entries.
+pub(crate) fn linked_units(
+    alloc: Global,
+    procedures: &IndexMap<Name, usize>,
+    units: Vec<Compiled>,
+) -> Result<Vec<LinkedUnit>, AllocError>
+    requires { AreSmall procedures.now.entries }
+    ensures { IfOk result (λ linked. map unit_view linked.items ≡ map (link.linked_unit procedures.now.entries) (map compiled_view units.items)) }
+{
+    let mut linked = Vec::new(alloc);
+    for unit in units {
+        linked.push(linked_unit(alloc, procedures, unit)?)?;
+    }
+    Ok(linked)
+}

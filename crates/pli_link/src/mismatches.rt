@@ -1,0 +1,185 @@
+//! Globals that fit no procedure, or not the procedure or the variable of their name.
+ghost use Rattle.std.specs.Prelude.{◌≡◌, ◌++◌, List, [], Option, map, option_map, IfOk, OnOk};
+ghost use Rattle.pli_type_tree.specs.Templates.{Template};
+ghost use Rattle.pli_link.specs.Mismatches as spec;
+ghost use Rattle.pli_link.specs.Alike.{signature_at};
+ghost use Rattle.pli_link.specs.Names as meaning;
+ghost use Rattle.pli_link.specs.answers.Classes.{AreClasses, Grows, IsClass, IsFirstClassed, known_in};
+ghost use Rattle.pli_link.specs.answers.Tables.{AreNames, HaveClasses, units_in};
+ghost use Rattle.pli_link.specs.declared.alike.FoundTemplate.{FoundTemplate};
+ghost use Rattle.pli_link.specs.views.UnitView.{compiled_view};
+ghost use Rattle.pli_link.specs.views.TemplateView.{found_view};
+ghost use Rattle.pli_unit_code.specs.CodeTables.{there};
+ghost use Rattle.pli_unit_code.specs.views.CodeView.{code_view, global_view, signature_view};
+
+use crate::alike::{FoundTemplate, is_same_signature};
+use crate::classes::{class_at, classes_of};
+use crate::global_fault::GlobalFault;
+use crate::names::{External, Names};
+use crate::units::{Compiled, LinkedName};
+use indexmap::IndexSet;
+use pli_base::Name;
+use pli_unit_code::{Code, CodedGlobal, CodedSignature};
+use std::alloc::{AllocError, Global};
+
+/// The first unit whose external procedure has this name.
+fn unit_named<'a>(names: &Names<'a, '_>, name: &Name) -> Option<&'a Compiled>
+    requires { AreNames names.now }
+    ensures { option_map (λ u. compiled_view u.now) result ≡ meaning.unit_named (units_in names.now) name.now }
+{
+    let number = names.procedures.get(name)?;
+    names.units.get(*number)
+}
+
+/// Whether an entry of this signature is unlike the procedure of its name.
+fn is_unlike_procedure(
+    code: &Code,
+    signature: &CodedSignature,
+    procedure: Option<&Compiled>,
+) -> bool
+    ensures { result ≡ spec.is_unlike_procedure (signature_at (code_view code.now) (signature_view signature.now)) (option_map (λ u. compiled_view u.now) procedure.entry) }
+{
+    match procedure {
+        None => false,
+        Some(unit) => !is_same_signature(&unit.code, &unit.code.signature, code, signature),
+    }
+}
+
+/// Whether an external variable of this class is unlike the first one of its name, or has a procedure's name.
+fn is_unlike(
+    class: Option<usize>,
+    procedure: Option<&Compiled>,
+    first: Option<&External<'_>>,
+) -> bool
+    ensures { (known : List Template) (t : Option Template) → IsClass known t class → IsFirstClassed known first.entry
+        → result ≡ spec.is_unlike t (option_map (λ u. compiled_view u.now) procedure.entry) (option_map (λ e. option_map found_view e.now.template) first.entry) }
+{
+    match (procedure, first) {
+        (Some(_), _) | (None, None) => true,
+        (None, Some(first)) => first.class != class,
+    }
+}
+
+/// Whether a global of a unit, whose templates have these classes, has a fault.
+fn has_fault(
+    names: &Names<'_, '_>,
+    fault: GlobalFault,
+    classes: &[Option<usize>],
+    code: &Code,
+    global: &CodedGlobal,
+) -> bool
+    requires { AreNames names.now }
+    ensures { (known : List FoundTemplate) → HaveClasses known names.now → AreClasses (known_in known) (code_view code.now) classes.now
+        → result ≡ spec.has_fault (units_in names.now) fault (code_view code.now) (global_view global.now) }
+{
+    match (fault, global) {
+        (GlobalFault::Unresolved, CodedGlobal::EntryPoint { name, .. }) => {
+            !names.procedures.contains_key(name)
+        }
+        (GlobalFault::Mismatch, CodedGlobal::EntryPoint { name, signature }) => {
+            is_unlike_procedure(code, signature, unit_named(names, name))
+        }
+        (GlobalFault::Mismatch, CodedGlobal::ExternalVariable { name, template }) => is_unlike(
+            class_at(classes, *template),
+            unit_named(names, name),
+            names.externals.get(name),
+        ),
+        _ => false,
+    }
+}
+
+/// The name of a global, if it has one.
+fn name_of(global: &CodedGlobal) -> Option<Name>
+    ensures { there result ≡ spec.name_of (global_view global.now) }
+{
+    match global {
+        CodedGlobal::OwnVariable { .. } => None,
+        CodedGlobal::ExternalVariable { name, .. } | CodedGlobal::EntryPoint { name, .. } => {
+            Some(*name)
+        }
+    }
+}
+
+/// The name of a global that has a fault.
+fn faulty_name(
+    names: &Names<'_, '_>,
+    fault: GlobalFault,
+    classes: &[Option<usize>],
+    code: &Code,
+    global: &CodedGlobal,
+) -> Option<Name>
+    requires { AreNames names.now }
+    ensures { (known : List FoundTemplate) → HaveClasses known names.now → AreClasses (known_in known) (code_view code.now) classes.now
+        → there result ≡ spec.faulty_in (units_in names.now) fault (code_view code.now) (global_view global.now) }
+{
+    if has_fault(names, fault, classes, code, global) {
+        name_of(global)
+    } else {
+        None
+    }
+}
+
+/// The names of the globals of a unit that have a fault, each once.
+fn names_with_fault(
+    alloc: Global,
+    names: &Names<'_, '_>,
+    fault: GlobalFault,
+    classes: &[Option<usize>],
+    code: &Code,
+    globals: &[CodedGlobal],
+) -> Result<IndexSet<Name>, AllocError>
+    requires { AreNames names.now }
+    ensures { IfOk result (λ found. (known : List FoundTemplate) → HaveClasses known names.now → AreClasses (known_in known) (code_view code.now) classes.now
+        → found.keys ≡ spec.each_once [] (spec.faulty_names (units_in names.now) fault (code_view code.now) (map global_view globals.now))) }
+{
+    let mut found = IndexSet::new(alloc);
+    for global in globals {
+        if let Some(name) = faulty_name(names, fault, classes, code, global) {
+            found.insert(name)?;
+        }
+    }
+    Ok(found)
+}
+
+/// Appends names with their unit.
+fn add_linked(
+    linked: &mut Vec<LinkedName>,
+    unit: Name,
+    names: &IndexSet<Name>,
+) -> Result<(), AllocError>
+    ensures { OnOk result (linked.new.items ≡ linked.old.items ++ spec.linked_in unit names.now.keys) }
+{
+    for name in names {
+        linked.push(LinkedName { name: *name, unit })?;
+    }
+    Ok(())
+}
+
+/// The names of globals that have a fault, with their units, in the order of the units.
+pub(crate) fn faulty_names<'a>(
+    alloc: Global,
+    known: &mut IndexSet<FoundTemplate<'a>>,
+    names: &Names<'a, '_>,
+    fault: GlobalFault,
+    units: &'a [Compiled],
+) -> Result<Vec<LinkedName>, AllocError>
+    requires names { AreNames names.now }
+    requires classes { HaveClasses known.old.keys names.now }
+    ensures linked { IfOk result (λ linked. linked.items ≡ spec.faulty_linked (units_in names.now) fault (map compiled_view units.now)) }
+    ensures grows { Grows known.old.keys known.new.keys }
+{
+    let mut linked = Vec::new(alloc);
+    for unit in units {
+        let classes = classes_of(alloc, known, &unit.code)?;
+        let found = names_with_fault(
+            alloc,
+            names,
+            fault,
+            &classes,
+            &unit.code,
+            &unit.code.globals,
+        )?;
+        add_linked(&mut linked, unit.unit, &found)?;
+    }
+    Ok(linked)
+}

@@ -1,0 +1,120 @@
+//! What names mean to all units of a module.
+ghost use Rattle.std.specs.Prelude.{◌≡◌, List, map, IfOk, OnOk, option_map};
+ghost use Rattle.pli_type_tree.specs.Templates.{Template};
+ghost use Rattle.pli_link.specs.answers.Classes.{AreClassed, AreClasses, IsClass, known_in};
+ghost use Rattle.pli_link.specs.Names as spec;
+ghost use Rattle.pli_link.specs.views.UnitView.{compiled_view};
+ghost use Rattle.pli_link.specs.views.NameView.{externals_view};
+ghost use Rattle.pli_link.specs.views.TemplateView.{found_view};
+ghost use Rattle.pli_unit_code.specs.views.CodeView.{code_view, global_view};
+
+use crate::alike::{FoundTemplate, template_at};
+use crate::classes::{class_at, classes_of};
+use crate::units::Compiled;
+use indexmap::{IndexMap, IndexSet};
+use pli_base::Name;
+use pli_unit_code::{Code, CodedGlobal};
+use std::alloc::{AllocError, Global};
+
+/// An external variable: the template of its first declaration, if the unit's tables have it, and its class among the
+/// templates that are known.
+#[derive(Clone, Copy)]
+pub(crate) struct External<'a> {
+    pub template: Option<FoundTemplate<'a>>,
+    pub class: Option<usize>,
+}
+
+/// What names mean to all units of a module.
+#[derive(Clone, Copy)]
+pub(crate) struct Names<'a, 'b> {
+    pub units: &'a [Compiled],
+    /// External procedures, by the numbers of the first units that have one of their names.
+    pub procedures: &'b IndexMap<Name, usize>,
+    pub externals: &'b IndexMap<Name, External<'a>>,
+}
+
+/// Notes the number of a unit for the name of its procedure, unless one before has the name.
+fn note_procedure(
+    procedures: &mut IndexMap<Name, usize>,
+    name: Name,
+    number: usize,
+) -> Result<(), AllocError>
+    ensures { OnOk result (procedures.new.entries ≡ spec.with_first procedures.old.entries (name, number)) }
+{
+    if procedures.contains_key(&name) {
+        return Ok(());
+    }
+    procedures.insert(name, number)?;
+    Ok(())
+}
+
+/// The external procedures, by the numbers of their units.
+pub(crate) fn procedures(
+    alloc: Global,
+    units: &[Compiled],
+) -> Result<IndexMap<Name, usize>, AllocError>
+    ensures { IfOk result (λ found. found.entries ≡ spec.procedures (map compiled_view units.now)) }
+{
+    let mut found = IndexMap::new(alloc);
+    for (number, unit) in units.iter().enumerate() {
+        note_procedure(&mut found, unit.procedure, number)?;
+    }
+    Ok(found)
+}
+
+/// Notes a declaration for its name, unless one before has the name.
+fn note_external<'a>(
+    externals: &mut IndexMap<Name, External<'a>>,
+    name: Name,
+    external: External<'a>,
+) -> Result<(), AllocError>
+    ensures first { OnOk result (externals_view externals.new.entries ≡ spec.with_first (externals_view externals.old.entries) (name, option_map found_view external.entry.template)) }
+    ensures classed { OnOk result ((known : List Template) → AreClassed known externals.old.entries → IsClass known (option_map found_view external.entry.template) external.entry.class → AreClassed known externals.new.entries) }
+{
+    if externals.contains_key(&name) {
+        return Ok(());
+    }
+    if externals.insert(name, external).is_err() {
+        return Err(AllocError);
+    }
+    Ok(())
+}
+
+/// Notes the external variables of a unit whose templates have these classes.
+fn note_shared<'a>(
+    externals: &mut IndexMap<Name, External<'a>>,
+    code: &'a Code,
+    classes: &[Option<usize>],
+    globals: &'a [CodedGlobal],
+) -> Result<(), AllocError>
+    ensures first { OnOk result (externals_view externals.new.entries ≡ spec.firsts (externals_view externals.old.entries) (spec.shared_by (code_view code.now) (map global_view globals.now))) }
+    ensures classed { OnOk result ((known : List Template) → AreClasses known (code_view code.now) classes.now → AreClassed known externals.old.entries → AreClassed known externals.new.entries) }
+{
+    for global in globals {
+        if let CodedGlobal::ExternalVariable { name, template } = global {
+            let external = External {
+                template: template_at(code, *template),
+                class: class_at(classes, *template),
+            };
+            note_external(externals, *name, external)?;
+        }
+    }
+    Ok(())
+}
+
+/// The external variables, each with the template of its first declaration; the templates of all units become known.
+pub(crate) fn externals<'a>(
+    alloc: Global,
+    known: &mut IndexSet<FoundTemplate<'a>>,
+    units: &'a [Compiled],
+) -> Result<IndexMap<Name, External<'a>>, AllocError>
+    ensures first { IfOk result (λ found. externals_view found.entries ≡ spec.externals (map compiled_view units.now)) }
+    ensures classed { IfOk result (λ found. AreClassed (known_in known.new.keys) found.entries) }
+{
+    let mut found = IndexMap::new(alloc);
+    for unit in units {
+        let classes = classes_of(alloc, known, &unit.code)?;
+        note_shared(&mut found, &unit.code, &classes, &unit.code.globals)?;
+    }
+    Ok(found)
+}

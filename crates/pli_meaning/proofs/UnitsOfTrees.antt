@@ -1,0 +1,194 @@
+-- Where members have no diagnostics, each source member has a tree, which is typed and numbered well and takes nothing
+-- where it is MAIN, and its unit is the code of that tree.
+use Rattle.std.specs.Prelude.{◌≡◌, Bool, true, false, Some, Result, Ok, Err, List, [], ◌∷◌, ◌++◌, map, refl, if◌then◌else◌}
+use Rattle.std.specs.List.{flat_map}
+use Rattle.std.proofs.Common.{◌∙◌, ap}
+use Rattle.pli_base.specs.Name.{Name}
+use Rattle.pli_base.specs.declared.token.Fault.{Fault}
+use Rattle.pli_base.specs.declared.token.Origin.{Origin}
+use Rattle.pli_include.specs.Expanded.{outcome_of}
+use Rattle.pli_include.specs.Expansion.{Outcome}
+use Rattle.pli_members.specs.Members.{Member}
+use Rattle.pli_members.specs.declared.kind.MemberKind.{MemberKind}
+use Rattle.pli_members.specs.declared.kind.MemberKind.TheVariants.{Source, Include}
+use Rattle.pli_link.specs.Units.{Compiled}
+use Rattle.pli_gen_tree.specs.Encoding.{code_of}
+use Rattle.pli_gen_tree.specs.Limits.{is_too_long}
+use Rattle.pli_gen_tree.specs.WellNumbered.{IsWellNumbered}
+use Rattle.pli_gen_stands.specs.Laws.{AreWellNumbered}
+use Rattle.pli_meaning_typed.specs.TypedPrograms.{AreTypedUnits, IsTypedUnit}
+use Rattle.pli_resolve.specs.ResolvedUnits.{ResolvedUnit, resolved_unit_of}
+use Rattle.pli_type.specs.NamedUnits.{named_unit, checked_unit}
+use Rattle.pli_type.specs.laws.Laws.{IsToldOfTypes}
+use Rattle.pli_type.proofs.FaultCodes.{faults_are_of_types}
+use Rattle.pli_type_laws.specs.TypedUnits.{MainTakesNothing}
+use Rattle.pli_type_laws.proofs.CheckedUnits.{checked_is_typed}
+use Rattle.pli_type_tree.specs.TypedTree.{TypedUnit}
+use Rattle.pli_parse_statement.specs.StatementReading.{unit_of}
+use Rattle.pli_base.specs.Statements.{ExternalProcedure}
+use Rattle.pli_base.specs.Words.{Tokens}
+use Rattle.pli_declare.specs.Resolution.{resolution_faults}
+use Rattle.pli_meaning.specs.Programs.{of_member}
+use Rattle.pli_meaning.specs.Scratch.{Diagnostic, typed_unless, program_from, program_of, units_of, located, all_located, parsed_from, parsed_of, too_long, coded_from, compiled_from, compiled_of, diagnostics_in, diagnostic_line, all_text, all_units, text_in, units_in, sources, source_in, with_tree, trees_of}
+
+-- a list with an element is not empty
+filled : {A : Type 0} (xs ys : List A) (y : A) → xs ++ y ∷ ys ≡ [] → ⊥
+filled [] ys y e = cc
+filled (x ∷ xs) ys y e = cc
+
+-- the parts of an empty list are empty
+pub front_empty : {A : Type 0} (xs ys : List A) → xs ++ ys ≡ [] → xs ≡ []
+front_empty [] ys e = refl
+front_empty (x ∷ xs) ys e = cc
+
+pub back_empty : {A : Type 0} (xs ys : List A) → xs ++ ys ≡ [] → ys ≡ []
+back_empty [] ys e = e
+back_empty (x ∷ xs) ys e = cc
+
+-- where there are diagnostics there is a text
+text_filled : (name : Name) (d : Diagnostic) (ds : List Diagnostic) → flat_map (diagnostic_line name) (d ∷ ds) ≡ [] → ⊥
+text_filled name d ds e = filled _ [] 10 (front_empty (diagnostic_line name d) _ e)
+
+-- a tree is typed and numbered well, and takes nothing where it is MAIN
+abbrev IsGood : TypedUnit → Type 0
+IsGood u = IsTypedUnit 31 u × IsWellNumbered u × MainTakesNothing u
+
+-- what the passes give: such a tree, or a fault at least
+abbrev IsRead : Result TypedUnit (List Fault) → Type 0
+IsRead (Ok u) = IsGood u
+IsRead (Err []) = ⊥
+IsRead (Err (fault ∷ faults)) = Unit {0}
+
+told_read : (r : Result TypedUnit (List Fault)) → IsToldOfTypes r → ((u : TypedUnit) → r ≡ Ok u → IsGood u) → IsRead r
+told_read (Ok u) told good = good u refl
+told_read (Err []) told good = told.0
+told_read (Err (fault ∷ faults)) told good = tt
+
+checked_told : (r : ResolvedUnit) → IsToldOfTypes (checked_unit r)
+unfolding checked_unit
+checked_told r = faults_are_of_types (named_unit 31 r)
+
+typed_read : (texts : Tokens) (unit : ExternalProcedure) → unit_of texts ≡ Ok unit → (faults : List Fault) → IsRead (typed_unless faults unit)
+typed_read texts unit read [] = told_read (checked_unit (resolved_unit_of unit)) (checked_told (resolved_unit_of unit)) (checked_is_typed texts unit read)
+typed_read texts unit read (fault ∷ faults) = tt
+
+program_read : (texts : Tokens) → IsRead (program_of texts)
+program_read texts = by (unit_of texts) refl
+  where
+    by : (r : Result ExternalProcedure Fault) → unit_of texts ≡ r → IsRead (program_from r)
+    by (Ok unit) read = typed_read texts unit read (resolution_faults unit)
+    by (Err fault) read = tt
+
+-- the unit of a tree, with the name of a member
+abbrev unit_code : Name → TypedUnit → Compiled
+unit_code name u = record { unit = name; procedure = u.procedure; is_main = u.is_main; code = code_of u }
+
+-- a unit without diagnostics: its tree is typed and numbered well, and this is its code, which is not too long
+record IsClean (name : Name) (r : Result TypedUnit (List Diagnostic)) (c : Result Compiled (List Diagnostic)) : Type 0 where
+  tree : TypedUnit
+  spelled : r ≡ Ok tree
+  good : IsGood tree
+  fits : is_too_long (code_of tree) ≡ false
+  code : c ≡ Ok (unit_code name tree)
+
+chosen_clean : (name : Name) (origins : List Origin) (u : TypedUnit) (b : Bool) → is_too_long (code_of u) ≡ b → IsGood u
+    → diagnostics_in name (all_located name origins (if b then Err (too_long ∷ []) else Ok (unit_code name u))) ≡ []
+    → IsClean name (Ok u) (all_located name origins (if b then Err (too_long ∷ []) else Ok (unit_code name u)))
+chosen_clean name origins u true is good e = absurd (text_filled name (located name origins too_long) [] e)
+chosen_clean name origins u false is good e = record { tree = u; spelled = refl; good = good; fits = is; code = refl }
+
+read_clean : (name : Name) (origins : List Origin) (r : Result TypedUnit (List Fault)) → IsRead r
+    → diagnostics_in name (all_located name origins (coded_from name r)) ≡ [] → IsClean name (all_located name origins r) (all_located name origins (coded_from name r))
+read_clean name origins (Ok u) h e = chosen_clean name origins u (is_too_long (code_of u)) refl h e
+read_clean name origins (Err []) h e = absurd h
+read_clean name origins (Err (fault ∷ faults)) h e = absurd (text_filled name (located name origins fault) (map (located name origins) faults) e)
+
+compiled_clean : (name : Name) (o : Outcome) → diagnostics_in name (compiled_from name o) ≡ [] → IsClean name (parsed_from name o) (compiled_from name o)
+compiled_clean name (Err stop) e = absurd (text_filled name (record { origin = stop.fault.origin; code = stop.fault.code }) [] e)
+compiled_clean name (Ok p) e = read_clean name p.origins (program_of p.texts) (program_read p.texts) e
+
+-- a unit without diagnostics
+unit_clean : (entries : List (Name × Member)) (name : Name) → diagnostics_in name (compiled_of entries name) ≡ []
+    → IsClean name (parsed_of entries name) (compiled_of entries name)
+unfolding compiled_of parsed_of
+unit_clean entries name e = compiled_clean name (outcome_of entries name) e
+
+-- the unit of a tree that has the name of a member
+abbrev pub coded_tree : TypedUnit → Compiled
+coded_tree u = unit_code u.name u
+
+-- a tree of a member: it is typed and numbered well, takes nothing where it is MAIN, and its code is not too long
+pub record IsOfMember (entries : List (Name × Member)) (u : TypedUnit) : Type 0 where
+  pub tree : TypedUnit
+  pub spelled : parsed_of entries u.name ≡ Ok tree
+  pub is : u ≡ of_member u.name tree
+  pub typed : IsTypedUnit 31 u
+  pub numbered : IsWellNumbered u
+  pub main : MainTakesNothing u
+  pub fits : is_too_long (code_of u) ≡ false
+
+abbrev pub AreOfMembers : List (Name × Member) → List TypedUnit → Type 0
+AreOfMembers entries [] = Unit {0}
+AreOfMembers entries (u ∷ us) = IsOfMember entries u × AreOfMembers entries us
+
+named_typed : (name : Name) (u : TypedUnit) → IsTypedUnit 31 u → IsTypedUnit 31 (of_member name u)
+named_typed name u h = record { procedures = h.procedures; outer = h.outer; made = h.made; typed = h.typed }
+
+named_numbered : (name : Name) (u : TypedUnit) → IsWellNumbered u → IsWellNumbered (of_member name u)
+named_numbered name u h =
+    record { blocks = h.blocks; statements = h.statements; loops = h.loops; temporaries = h.temporaries }
+
+-- the trees of members, of which the units are the code
+pub record AreCoded (entries some : List (Name × Member)) (cs : List Compiled) : Type 0 where
+  pub trees : List TypedUnit
+  pub spelled : trees_of entries (sources some) ≡ Some trees
+  pub coded : cs ≡ map coded_tree trees
+  pub good : AreOfMembers entries trees
+
+module _ (entries : List (Name × Member)) where
+  coded_in : (name : Name) (kind : MemberKind) (some : List (Name × Member)) (cs : List Compiled) (member : Member) → member.kind ≡ kind
+      → text_in entries name kind ≡ [] → AreCoded entries some cs → AreCoded entries ((name, member) ∷ some) (units_in entries name kind ++ cs)
+  coded_in name Source some cs member kind h more =
+      let clean = unit_clean entries name h in
+      record {
+        trees = of_member name clean.tree ∷ more.trees;
+        spelled =
+            ap (λ k. trees_of entries (source_in name k ++ sources some)) kind
+            ∙ ap (λ r. with_tree name r (trees_of entries (sources some))) clean.spelled
+            ∙ ap (with_tree name (Ok clean.tree)) more.spelled;
+        coded = ap (λ r. units_of r ++ cs) clean.code ∙ ap (λ ds. unit_code name clean.tree ∷ ds) more.coded;
+        good = (
+          record {
+            tree = clean.tree;
+            spelled = clean.spelled;
+            is = refl;
+            typed = named_typed name clean.tree clean.good.0;
+            numbered = named_numbered name clean.tree clean.good.1;
+            main = clean.good.2;
+            fits = clean.fits;
+          },
+          more.good,
+        );
+      }
+  coded_in name Include some cs member kind h more =
+      record {
+        trees = more.trees;
+        spelled = ap (λ k. trees_of entries (source_in name k ++ sources some)) kind ∙ more.spelled;
+        coded = more.coded;
+        good = more.good;
+      }
+
+  -- where there is no diagnostic, each unit is the code of a member's tree
+  pub all_coded : (some : List (Name × Member)) → all_text entries some ≡ [] → AreCoded entries some (all_units entries some)
+  all_coded [] h = record { trees = []; spelled = refl; coded = refl; good = tt }
+  all_coded (x ∷ xs) h =
+      coded_in x.0 x.1.kind xs (all_units entries xs) x.1 refl (front_empty _ _ h) (all_coded xs (back_empty (text_in entries x.0 x.1.kind) _ h))
+
+-- so all are typed and numbered well
+pub all_typed : (entries : List (Name × Member)) (us : List TypedUnit) → AreOfMembers entries us → AreTypedUnits 31 us
+all_typed entries [] all = tt
+all_typed entries (u ∷ us) all = (all.0.typed, all_typed entries us all.1)
+
+pub all_numbered : (entries : List (Name × Member)) (us : List TypedUnit) → AreOfMembers entries us → AreWellNumbered us
+all_numbered entries [] all = tt
+all_numbered entries (u ∷ us) all = (all.0.numbered, all_numbered entries us all.1)

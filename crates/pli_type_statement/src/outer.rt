@@ -1,0 +1,56 @@
+//! What the external procedure takes and gives.
+ghost use Rattle.std.specs.Prelude.{◌≡◌, IfOk, map, option_map};
+ghost use Rattle.pli_map.specs.views.DescriptionView.{description_view};
+ghost use Rattle.pli_type.specs.Checked.{outer_signature, takes_nothing};
+ghost use Rattle.pli_type_statement.specs.Parts.{unit_named};
+ghost use Rattle.pli_type_tree.specs.views.GlobalView.{signature_view};
+
+use pli_map::Description;
+use pli_type_names::Naming;
+use pli_type_tree::Signature;
+use std::alloc::{AllocError, Global};
+
+/// Copies of descriptions.
+fn copies(alloc: Global, descriptions: &[&Description]) -> Result<Vec<Description>, AllocError>
+    ensures { IfOk result (λ made. map description_view made.items ≡ map (λ d. description_view d.now) descriptions.now) }
+{
+    let mut made = Vec::new(alloc);
+    for description in descriptions {
+        made.push(description.copy(alloc)?)?;
+    }
+    Ok(made)
+}
+
+/// A copy of a description, if there is one.
+fn copy_of(
+    alloc: Global,
+    description: Option<&Description>,
+) -> Result<Option<Description>, AllocError>
+    ensures { IfOk result (λ made. option_map description_view made ≡ option_map (λ d. description_view d.now) description.entry) }
+{
+    match description {
+        Some(description) => Ok(Some(description.copy(alloc)?)),
+        None => Ok(None),
+    }
+}
+
+/// What the external procedure of a unit takes, and what it gives if it is a function.
+#[tactic(auto, using(crate::proofs::Units::signature_found))]
+pub(crate) fn outer_signature(alloc: Global, naming: &Naming<'_>) -> Result<Signature, AllocError>
+    ensures { IfOk result (λ made. signature_view made ≡ outer_signature (unit_named naming.now.unit)) }
+{
+    let outer = naming.procedure(0);
+    let parameters = copies(alloc, outer.parameters)?;
+    let result = copy_of(alloc, outer.returned)?;
+    Ok(Signature { parameters, result })
+}
+
+/// Whether a procedure takes nothing and gives nothing.
+pub(crate) fn takes_nothing(signature: &Signature) -> bool
+    ensures { result ≡ takes_nothing (signature_view signature.now) }
+{
+    match signature.parameters.as_slice() {
+        [] => signature.result.is_none(),
+        _ => false,
+    }
+}

@@ -1,0 +1,41 @@
+use Rattle.std.proofs.Common.{◌≡◌, ◌+◌, ◌<◌, ◌++◌, ◌∷◌, [], List, Vec, drop, length, map, ap, sym, ◌∙◌, arith}
+use Rattle.std.specs.Global.{Global}
+use Rattle.std.proofs.lemmas.List.{append_assoc, append-nil, drop_all, drop_more, get_or-map, length-map}
+use Rattle.pli_resolve.specs.views.SymbolView.{symbol_view}
+use Rattle.pli_type.specs.InitialScalars.{InitialItem}
+use Rattle.pli_type.specs.NamedUnits.{member_items, globals_from}
+use Rattle.pli_type_tree.specs.views.GlobalView.{globals_view}
+use Rattle.pli_type_templates.specs.declared.items.Item.{Item}
+use Rattle.pli_type_templates.specs.views.ItemView.{items_view}
+use Rattle.pli_type_templates.proofs.GroupsMade.{one_global}
+use Rattle.pli_type_templates.proofs.globals.put_globals.Goals as goal
+
+pub loop-number-preserved : goal.loop-number-preserved
+loop-number-preserved c =
+    let l = c.loop-number in
+    let s = c.index-symbols-number.result in
+    let v = c.index-members-number.result in
+    let all = map symbol_view c.args.symbols.now in
+    let others = drop (l.number + 1) c.args.symbols.now in
+    let items : Vec Item Global → List InitialItem = λ v. items_view v.items in
+    let step = drop_more c.args.symbols.now l.number s c.loop-number-test.true ∙ ap (λ x. x ∷ others) (sym c.index-symbols-number.is) in
+    let within : l.number < length all = omega (arith, c.loop-number-test.true, length-map c.args.symbols.now symbol_view) in
+    let owned : l.number < length c.args.members.now = omega (arith, within, c.requires.sized, length-map c.args.members.now items) in
+    let members : items_view c.deref.result.now ≡ member_items l.number all =
+    ap items_view c.deref.ensures.value ∙ ap items c.index-members-number.is
+    ∙ sym (get_or-map items c.args.members.now l.number v [] owned) ∙ c.requires.owned l.number within in
+    let so_far = globals_view l.globals.items in
+    let rest = globals_from 31 all (l.number + 1) (map symbol_view others) in
+    ap (λ ts. ts ++ rest) c.in_ok-put_global.ensures
+    ∙ append_assoc so_far _ rest
+    ∙ ap (λ ts. so_far ++ ts) (sym (one_global all l.number (symbol_view s) (map symbol_view others) _ members))
+    ∙ ap (λ left. so_far ++ globals_from 31 all l.number (map symbol_view left)) (sym step)
+    ∙ l.invariant
+
+pub returns : goal.returns
+returns c =
+    let l = c.loop-number in
+    let all = map symbol_view c.args.symbols.now in
+    let none = drop_all l.number c.args.symbols.now c.loop-number-test.false in
+    let nothing = ap (λ left. globals_from 31 all l.number (map symbol_view left)) none in
+    sym (append-nil (globals_view l.globals.items)) ∙ ap (λ ts. globals_view l.globals.items ++ ts) (sym nothing) ∙ l.invariant

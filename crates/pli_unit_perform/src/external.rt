@@ -1,0 +1,53 @@
+//! Calls of other units.
+ghost use Rattle.std.specs.Prelude.{List, slice_get, IfOk};
+ghost use Rattle.pli_machine_step.specs.Machine.{called_entry, called_unit};
+ghost use Rattle.pli_store.specs.World.{Static};
+ghost use Rattle.pli_unit_code.specs.Modules.{unit_of, program_of};
+ghost use Rattle.pli_unit_code.specs.views.CodeView.{module_view, unit_view};
+ghost use Rattle.pli_unit_perform.specs.views.Image.{image_with};
+ghost use Rattle.pli_unit_perform.specs.views.ImageView.{image_of};
+ghost use Rattle.pli_unit_perform.specs.views.MachineView.{Moves};
+
+use crate::calling::call_external;
+use crate::globals::entry_at;
+use crate::machine::{Machine, Stop};
+use crate::numbered::linked_at;
+use crate::unit::ActiveUnit;
+use pli_unit_code::Module;
+use std::alloc::{AllocError, Global};
+
+/// Takes so many places and activates the external procedure of the unit of a number with them.
+fn call_unit<'m>(
+    alloc: Global,
+    module: &'m Module,
+    machine: &mut Machine<'m>,
+    number: u16,
+    arguments: u16,
+) -> Result<Option<Stop>, AllocError>
+    ensures { IfOk result (λ stop. (statics : List Static) → Moves (image_with (module_view «module».now) statics)
+        (λ here frames w. called_unit number (slice_get (program_of (module_view «module».now)).units number) arguments here frames w)
+        machine.old machine.new stop) }
+{
+    match linked_at(module, number as usize) {
+        Some(linked) => call_external(alloc, &linked.code, machine, number as usize, arguments),
+        None => Ok(Some(Stop::Fault)),
+    }
+}
+
+/// Takes so many places and activates the procedure of an entry among the globals of a unit with them.
+pub fn call_entry<'m>(
+    alloc: Global,
+    unit: &ActiveUnit<'_, 'm>,
+    machine: &mut Machine<'m>,
+    global: usize,
+    arguments: u16,
+) -> Result<Option<Stop>, AllocError>
+    ensures { IfOk result (Moves (image_of unit.now.loaded.now)
+        (λ here frames w. called_entry (program_of (image_of unit.now.loaded.now).linked).units arguments
+        (slice_get (unit_of (unit_view unit.now.linked.now)).globals global) here frames w) machine.old machine.new) }
+{
+    match entry_at(unit, global) {
+        Some(number) => call_unit(alloc, unit.loaded.module, machine, number, arguments),
+        None => Ok(Some(Stop::Fault)),
+    }
+}

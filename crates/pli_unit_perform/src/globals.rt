@@ -1,0 +1,100 @@
+//! What the globals of a unit lead to.
+ghost use Rattle.std.specs.Prelude.{◌≡◌, None, option_map, map, slice_get, MatchOption};
+ghost use Rattle.pli_base.specs.Name.{Name};
+ghost use Rattle.pli_store.specs.World.{static_in};
+ghost use Rattle.pli_store.specs.views.StorageView.{place_view};
+ghost use Rattle.pli_unit_code.specs.Modules.{unit_of};
+ghost use Rattle.pli_unit_code.specs.views.CodeView.{unit_view};
+ghost use Rattle.pli_unit_perform.specs.views.ImageView.{image_of};
+ghost use Rattle.pli_unit_perform.specs.views.TableView.{place_of, place_in, entry_at, entry_found};
+
+use crate::linked::LinkedGlobal;
+use crate::loaded::Loaded;
+use crate::numbered::table_at;
+use crate::unit::ActiveUnit;
+use pli_base::Name;
+use pli_store::Place;
+
+/// The unit of a number.
+#[inline]
+pub fn unit_at<'l, 'm>(loaded: &'l Loaded<'m>, number: usize) -> Option<ActiveUnit<'l, 'm>>
+    ensures { MatchOption result (slice_get (image_of loaded.now).linked.units number ≡ None)
+        (λ u. (u.number ≡ number) × (u.loaded.now ≡ loaded.now)) }
+{
+    let linked = loaded.module.units.get(number)?;
+    let globals = loaded.globals.get(number)?;
+    Some(ActiveUnit {
+        loaded,
+        number,
+        linked,
+        globals,
+    })
+}
+
+/// The place of the variable of a number.
+#[inline]
+fn place_at<'m>(globals: &[LinkedGlobal<'m>], number: usize) -> Option<Place<'m>>
+    ensures { option_map place_view result ≡ place_of (slice_get globals.now number) }
+{
+    match globals.get(number) {
+        Some(LinkedGlobal::OwnVariable(place)) => Some(*place),
+        Some(LinkedGlobal::ExternalVariable { place, .. }) => Some(*place),
+        Some(LinkedGlobal::EntryPoint(_)) => None,
+        None => None,
+    }
+}
+
+/// The place of the variable of a number of a unit.
+fn place_in<'m>(loaded: &Loaded<'m>, unit: usize, number: usize) -> Option<Place<'m>>
+    ensures { option_map place_view result
+        ≡ place_in (slice_get (map (λ t. t.items) loaded.now.globals.items) unit) number }
+{
+    match table_at(loaded, unit) {
+        Some(globals) => place_at(globals, number),
+        None => None,
+    }
+}
+
+/// The place of the variable of a number of the first unit of a name that has one.
+fn first_place<'m>(loaded: &Loaded<'m>, name: &Name, number: usize) -> Option<Place<'m>>
+    ensures { static_in (image_of loaded.now).statics name.now number ≡ option_map place_view result }
+{
+    for (unit, linked) in loaded.module.units.iter().enumerate() {
+        if linked.unit == *name {
+            if let Some(place) = place_in(loaded, unit, number) {
+                return Some(place);
+            }
+        }
+    }
+    None
+}
+
+/// The place of the variable of a number among the globals of a unit.
+#[inline]
+pub fn static_place<'m>(unit: &ActiveUnit<'_, 'm>, number: usize) -> Option<Place<'m>>
+    ensures { static_in (image_of unit.now.loaded.now).statics unit.now.linked.now.unit number ≡ option_map place_view result }
+{
+    if unit.loaded.distinct {
+        return place_at(unit.globals, number);
+    }
+    first_place(unit.loaded, &unit.linked.unit, number)
+}
+
+/// The unit of the entry of a number.
+fn entry_in(globals: &[LinkedGlobal<'_>], number: usize) -> Option<u16>
+    ensures { entry_found (slice_get globals.now number) ≡ result }
+{
+    match globals.get(number) {
+        Some(LinkedGlobal::EntryPoint(other)) => Some(*other),
+        Some(LinkedGlobal::OwnVariable(_)) => None,
+        Some(LinkedGlobal::ExternalVariable { .. }) => None,
+        None => None,
+    }
+}
+
+/// The unit of the entry of a number among the globals of a unit.
+pub fn entry_at(unit: &ActiveUnit<'_, '_>, number: usize) -> Option<u16>
+    ensures { entry_at (slice_get (unit_of (unit_view unit.now.linked.now)).globals number) ≡ result }
+{
+    entry_in(unit.globals, number)
+}

@@ -1,0 +1,19 @@
+//! Modules whose programs may begin.
+ghost use Rattle.std.specs.Prelude.{◌≡◌, true, map};
+ghost use Rattle.pli_unit_code.specs.views.CodeView.{module_view};
+ghost use Rattle.pli_unit_perform.specs.views.TableView.{AreLinked, Differ};
+
+use crate::linked::LinkedGlobal;
+use pli_unit_code::Module;
+
+/// A module whose variables are made that are made before its program begins.
+#[derive(Drop)]
+pub struct Loaded<'m> {
+    pub module: &'m Module,
+    /// For each unit, its globals by number.
+    pub globals: Vec<Vec<LinkedGlobal<'m>>>,
+    /// Whether no two units have one name.
+    pub distinct: bool,
+    ghost linked: { AreLinked (module_view «module».now).units (map (λ t. t.items) globals.items) },
+    ghost differ: { distinct ≡ true → Differ (map (λ u. u.unit) (module_view «module».now).units) },
+}

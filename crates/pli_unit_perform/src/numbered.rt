@@ -1,0 +1,25 @@
+//! Units of a module and their globals, by number.
+ghost use Rattle.std.specs.Prelude.{◌≡◌, None, Some, map, slice_get, MatchOption};
+
+use crate::linked::LinkedGlobal;
+use crate::loaded::Loaded;
+use pli_unit_code::{LinkedUnit, Module};
+
+/// The unit of a number.
+pub fn linked_at(module: &Module, number: usize) -> Option<&LinkedUnit>
+    ensures { MatchOption result (slice_get «module».now.units.items number ≡ None)
+        (λ u. slice_get «module».now.units.items number ≡ Some u.now) }
+{
+    module.units.get(number)
+}
+
+/// The globals of the unit of a number.
+pub fn table_at<'l, 'm>(loaded: &'l Loaded<'m>, number: usize) -> Option<&'l [LinkedGlobal<'m>]>
+    ensures { MatchOption result (slice_get (map (λ t. t.items) loaded.now.globals.items) number ≡ None)
+        (λ t. slice_get (map (λ t. t.items) loaded.now.globals.items) number ≡ Some t.now) }
+{
+    match loaded.globals.get(number) {
+        Some(table) => Some(table),
+        None => None,
+    }
+}
