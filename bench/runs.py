@@ -2,33 +2,25 @@
 """runs.py [PROGRAM [ARGUMENT..]]: compares the workbench with meaning.py, which is written from the rules of types and runs alone.
 
 It prints how many units agreed, and of those that did not the ten shortest, each with what was expected and what was answered:
-  the answers to each session of the examples (crates/pli_sessions), as they stand beside it, with those of meaning.py;
+  the answers to each session of the examples and of several units (crates/pli_sessions), as they stand beside it, with those of meaning.py;
   300 programs grown at random, at each number of steps from 0 to 40, and at 5,000;
   3,000 units whose expressions have operands, arguments and targets of wrong types now and then: all their diagnostics.
 Each token of a unit is typed on a line of its own, so that the line of a diagnostic tells the token. All is the same every time.
 Without PROGRAM meaning.py is run alone.
 """
-import re
-import subprocess
 import sys
-from collections import Counter
 from pathlib import Path
 
-import declarations
-import meaning
+import answers
 import mutations
+from compared import compare
 
 PROGRAMS = 300
 FAULTY = 3000
 SEED = 19741130
 FEW_STEPS, MANY_STEPS = 40, 5000
-SHOWN = 10
-TEXTS = """
-    T1 NOT A VARIABLE, T2 AGGREGATE NOT ALLOWED HERE, T3 WRONG NUMBER OF SUBSCRIPTS, T4 WRONG OPERAND TYPE, T5 CANNOT ASSIGN,
-    T6 WRONG NUMBER OF ARGUMENTS, T7 WRONG ARGUMENT, T8 NOT CALLABLE HERE, T9 WRONG RETURN, T10 LOCATOR MISSING OR NOT ALLOWED,
-    T11 CANNOT ALLOCATE OR FREE, T12 BAD CONTROL VARIABLE, T13 WRONG BUILT-IN ARGUMENT, T14 CANNOT PRINT
-"""
-TEXT_OF = declarations.TEXT_OF | dict(text.split(maxsplit=1) for text in " ".join(TEXTS.split()).split(", "))
+SESSIONS = Path(__file__).resolve().parent.parent / "crates" / "pli_sessions" / "data"
+FOLDERS = ["examples", "units"]
 
 # The variables that each program has, with their kinds: a number, characters or bits, and how one is written.
 VARIABLES = """
@@ -189,8 +181,11 @@ class Grower:
         if self.slips and self.below(20) == 0:
             forms = [self.returned]
         if self.below(40) == 0:
-            forms = [lambda: [self.chosen("STOP", "RETURN"), ";"]]
+            forms = [self.ending]
         return self.chosen(*forms)()
+
+    def ending(self):
+        return [self.chosen("STOP", "RETURN"), ";"]
 
     def null(self):
         return [";"]
@@ -273,185 +268,39 @@ class Grower:
         return [*"M : PROC OPTIONS ( MAIN ) ;".split(), *VARIABLES, *self.list(6), *"AWAY : PUT LIST ( 'AWAY' , N , I , V ) ;".split(), *ROUTINES, *"END M ;".split()]
 
 
-def session(units, steps):
-    for words in units:
-        yield "ADD M SOURCE"
-        for number, word in enumerate(words):
-            yield f"INSERT M {number} {word}"
-        yield "BUILD"
-        for many in steps:
-            yield f"RUN {many}"
-        yield "DELETE M"
+def as_program(words):
+    return [("M", words)]
 
 
-def answered(program, units, steps):
-    """What the program answers to each unit: its diagnostics, or what each run answers."""
-    given = "".join(command + "\n" for command in session(units, steps)).encode()
-    ended = subprocess.run(program, input=given, stdout=subprocess.PIPE, check=True)
-    answers = iter(ended.stdout.decode().split("\n"))
-    for words in units:
-        mutations.expect_ok(answers, 1 + len(words))
-        diagnostics, runs = [], []
-        while (line := next(answers)) not in ("BUILT", "NOT BUILT"):
-            diagnostics.append(line)
-        for _ in steps:
-            printed = []
-            while not re.match(r"ENDED$|OUT OF STEPS$|ERROR E|MACHINE FAULT$|B2 NOT BUILT$|NO MEMORY$", line := next(answers)):
-                printed.append(line)
-            runs.append("\n".join([*printed, line]))
-        mutations.expect_ok(answers, 1)
-        yield diagnostics or runs
+def shown(program):
+    """What is not the same in all programs."""
+    words = program[0][1]
+    return " ".join(words[len(VARIABLES) + 7 : -len(ROUTINES) - 3] if len(words) > len(VARIABLES) else words)
 
 
-def expected(words, steps):
-    unit = meaning.Unit(words)
-    if unit.faults():
-        return [f"M M:{at + 1} {code} {TEXT_OF[code]}" for at, code in unit.faults()]
-    return [printed + line for printed, line in (unit.run(many) for many in steps)]
-
-
-def compare(title, program, units, steps):
-    wanted = [expected(words, steps) for words in units]
-    last = Counter(lines[-1].split("\n")[-1].split(" M ")[0] for lines in wanted)
-    codes = Counter(line.split()[2] for lines in wanted for line in lines if line.startswith("M M:"))
-    print(f"{title}: {len(units)}; last lines {dict(last.most_common(12))}; codes {dict(sorted(codes.items()))}", flush=True)
-    if not program:
-        return True
-    got = list(answered(program, units, steps))
-    wrong = sorted(((words, want, found) for words, want, found in zip(units, wanted, got, strict=True) if want != found), key=lambda one: len(one[0]))
-    print(f"{title}: {len(units) - len(wrong)} of {len(units)} agree", flush=True)
-    for words, want, found in wrong[:SHOWN]:
-        print("  " + " ".join(words[len(VARIABLES) + 7 : -len(ROUTINES) - 3] if len(words) > len(VARIABLES) else words))
-        if len(want) != len(found):
-            print(f"    expected {want}\n    answered {found}")
-        for place, (one, other) in enumerate(zip(want, found)):
-            if one != other:
-                print(f"    {place}: expected {one!r}\n    {place}: answered {other!r}")
-                break
-    return not wrong
-
-
-class Unknown(Exception):
-    """A session asks for what is not known here."""
-
-
-class Workbench:
-    """The commands of a session, answered by meaning.py."""
-
-    def __init__(self):
-        self.members, self.module = {}, None
-
-    def lines(self, name):
-        return self.members[name][1]
-
-    def answer(self, command):
-        """The answer to a command: its lines."""
-        word, *words = command.split(" ", 1)
-        word = word.upper()
-        edits = {"ADD": self.add, "DELETE": self.delete, "INSERT": self.insert, "REPLACE": self.replace, "REMOVE": self.remove}
-        if word in edits:
-            refused = edits[word](*words)
-            self.module = self.module if refused else None
-            return [refused or "OK"]
-        if word == "BUILD":
-            return self.build()
-        if word == "RUN":
-            return self.run(int(*words) if words else 1_000_000)
-        if word == "LIST":
-            return [*(f"{at + 1} {line}" for at, line in enumerate(self.lines(*words))), "OK"]
-        if word == "QUIT":
-            return ["OK"]
-        raise Unknown(command)
-
-    def add(self, words):
-        name, kind = words.upper().split(" ")
-        if kind != "SOURCE":
-            raise Unknown(words)
-        if name in self.members:
-            return "M1 NAME TAKEN"
-        self.members[name] = kind, []
-
-    def delete(self, name):
-        if self.members.pop(name.upper(), None) is None:
-            return "M2 NO SUCH MEMBER"
-
-    def placed(self, words):
-        name, number, *text = words.split(" ", 2)
-        return self.lines(name.upper()), int(number), text[0] if text else ""
-
-    def insert(self, words):
-        lines, number, text = self.placed(words)
-        if number > len(lines):
-            return "M3 NO SUCH LINE"
-        lines.insert(number, text)
-
-    def replace(self, words):
-        lines, number, text = self.placed(words)
-        if not 1 <= number <= len(lines):
-            return "M3 NO SUCH LINE"
-        lines[number - 1] = text
-
-    def remove(self, words):
-        name, first, last = words.split(" ")
-        del self.lines(name.upper())[int(first) - 1 : int(last)]
-
-    def build(self):
-        units = []
-        try:
-            units = [meaning.Unit([self.written(line) for line in lines], name) for name, (_, lines) in sorted(self.members.items())]
-        except (ValueError, KeyError) as fault:
-            raise Unknown("a unit") from fault
-        told = [f"{unit.member} {unit.member}:{self.line(unit, at)} {code} {TEXT_OF[code]}" for unit in units for at, code in unit.faults()]
-        if told:
-            return [*told, "NOT BUILT"]
-        mains = [unit for unit in units if ("OPTIONS", "MAIN") in unit.tree[2]]
-        names = [unit.name for unit in units]
-        if len(mains) != 1 or len(set(names)) < len(names):
-            raise Unknown("several units")
-        self.module = mains[0]
-        return ["BUILT"]
-
-    @staticmethod
-    def written(line):
-        """A line in capitals outside of character constants."""
-        parts = line.split("'")
-        return "'".join(part if at % 2 else part.upper() for at, part in enumerate(parts))
-
-    @staticmethod
-    def line(unit, at):
-        return unit.tokens[at].line if unit.tokens else 1
-
-    def run(self, steps):
-        if not self.module:
-            return ["B2 NOT BUILT"]
-        printed, line = self.module.run(steps)
-        return (printed + line).split("\n")
-
-
-def compare_examples():
-    """The answers that stand beside the sessions of examples/."""
+def compare_sessions():
+    """The answers that stand beside the sessions of some folders."""
     known, wrong = 0, []
-    for path in sorted((Path(__file__).resolve().parent.parent / "crates" / "pli_sessions" / "data" / "examples").glob("*.session")):
-        bench = Workbench()
+    for path in sorted(path for folder in FOLDERS for path in (SESSIONS / folder).glob("*.session")):
         try:
-            answers = [line for command in path.read_text().splitlines() for line in bench.answer(command)]
-        except Unknown as unknown:
+            found = answers.answers_to(path)
+        except answers.Unknown as unknown:
             print(f"  {path.name} asks for {unknown}, which is not known here")
             continue
         known += 1
-        if answers != path.with_suffix(".answers").read_text().split("\n")[:-1]:
+        if found != path.with_suffix(".answers").read_text().split("\n")[:-1]:
             wrong.append(path.name)
-    print(f"answers to sessions of examples/: {known - len(wrong)} of {known} agree {' '.join(wrong)}", flush=True)
+    print(f"answers to sessions of {' and '.join(FOLDERS)}: {known - len(wrong)} of {known} agree {' '.join(wrong)}", flush=True)
     return not wrong
 
 
 def main():
-    program, agree = sys.argv[1:], True
+    workbench, agree = sys.argv[1:], True
     steps = [*range(FEW_STEPS + 1), MANY_STEPS]
-    agree &= compare_examples()
+    agree &= compare_sessions()
     sound, faulty = Grower(mutations.Numbers(SEED), False), Grower(mutations.Numbers(SEED + 1), True)
-    agree &= compare("programs grown", program, [sound.unit() for _ in range(PROGRAMS)], steps)
-    agree &= compare("units with wrong types", program, [faulty.unit() for _ in range(FAULTY)], steps[:3] + [MANY_STEPS])
+    agree &= compare("programs grown", workbench, [as_program(sound.unit()) for _ in range(PROGRAMS)], steps, shown)
+    agree &= compare("units with wrong types", workbench, [as_program(faulty.unit()) for _ in range(FAULTY)], steps[:3] + [MANY_STEPS], shown)
     sys.exit(not agree)
 
 

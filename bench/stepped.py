@@ -14,10 +14,10 @@ import sys
 from math import ceil
 from pathlib import Path
 
+import compared
 import meaning
 import nested
 import reader
-import runs
 import typed
 
 HERE = Path(__file__).resolve().parent
@@ -76,8 +76,9 @@ def broken(text):
 
 def each_run(unit):
     """The numbers of steps with which a program is run, and what each answers."""
+    program = meaning.Program([unit])
     for steps in [*range(MOST_STEPS + 1), MANY]:
-        printed, line = unit.run(steps)
+        printed, line = program.run(steps)
         yield steps, printed + line
         if line != "OUT OF STEPS":
             return
@@ -136,7 +137,7 @@ def programs_of_expressions():
         program = " ".join([*declared, *(f"PUT SKIP LIST({expression});" for _, expression in rows), *routines])
         unit = meaning.Unit(["M: PROC OPTIONS(MAIN);", *broken(program), "END M;"])
         items = [dict(tree[1:])["LIST"][0] for tree in unit.tree[3:] if tree[0] == "put"]
-        for (written, expression), item, line in zip(rows, items, unit.run(MANY)[0].split("\n")[1:-1], strict=True):
+        for (written, expression), item, line in zip(rows, items, meaning.Program([unit]).run(MANY)[0].split("\n")[1:-1], strict=True):
             if not is_as_written(written, unit.types.types[id(item)], line):
                 sys.exit(f"expressions.txt: {written} : {expression} is printed as '{line}'")
         yield program
@@ -165,7 +166,7 @@ def session_of_types():
         if one != other:
             sys.exit(f"types.txt: {other} is written, {one} found")
     commands = ["ADD U SOURCE", *(f"INSERT U {at} {line}" for at, line in enumerate(lines)), "BUILD"]
-    diagnostics = [f"U U:{line} {code} {runs.TEXT_OF[code]}" for line, code in wanted]
+    diagnostics = [f"U U:{line} {code} {compared.TEXT_OF[code]}" for line, code in wanted]
     return "\n".join([*commands, ""]), "\n".join([*["OK"] * (1 + len(lines)), *diagnostics, "NOT BUILT", ""])
 
 

@@ -112,9 +112,44 @@ def element_of(item):
     return described(item.description)
 
 
+def with_bounds(bounds, element):
+    return ("array", tuple(bounds), element) if bounds else element
+
+
 def whole_of(item):
-    bounds = tuple(item.description.bounds)
-    return ("array", bounds, element_of(item)) if bounds else element_of(item)
+    return with_bounds(item.description.bounds, element_of(item))
+
+
+# signatures: the descriptions of the parameters, and that of the result or None
+
+
+def result_of(block, attributes):
+    return described(faults.Description(block, [], attributes))
+
+
+def signature_of_procedure(block):
+    """That of a procedure's block."""
+    result = result_of(block.outer, block.results[0]) if block.results else None
+    return [whole_of(block.own(name)) for name in block.parameters], result
+
+
+def signature_of_entry(description):
+    """That of the attributes of an ENTRY."""
+    parts = [faults.Description(description.block, *faults.dimensions_of(part)) for _, *part in description.given.get("ENTRY", ())[1:]]
+    result = result_of(description.block, description.given["RETURNS"]) if "RETURNS" in description.given else None
+    return [with_bounds(part.bounds, described(part)) for part in parts], result
+
+
+def is_variable(meant):
+    """Whether a name means a variable."""
+    return isinstance(meant, faults.Item) and "ENTRY" not in meant.description.has
+
+
+def is_procedure(meant):
+    """Whether a name means what is called: a procedure, or an entry."""
+    if isinstance(meant, faults.Item):
+        return "ENTRY" in meant.description.has
+    return isinstance(meant, faults.Named) and meant.tree is not None and meant.tree[0] == "procedure"
 
 
 def is_scalar(description):
@@ -248,7 +283,7 @@ class Types:
     # names
 
     def meaning(self, reference, block):
-        """What the names mean: an item, a label or procedure (Named), or a built-in function's name."""
+        """What the names mean: an item (a variable, member or entry), a label or procedure (Named), or a built-in function's name."""
         meant = faults.found(block, reference.names)
         if not meant:
             return str(reference.names[0])
@@ -280,7 +315,7 @@ class Types:
             tree = reference.locator[0] if len(reference.locator) == 1 else ("reference", *reference.locator)
             self.argument(tree, block)
         item = self.meaning(reference, block)
-        if not isinstance(item, faults.Item):
+        if not is_variable(item):
             self.arguments_of_no_variable(reference, block)
             raise Fault(1, reference.at)
         written = self.subscripts(reference, block)
@@ -355,9 +390,8 @@ class Types:
         arguments = reference.parts[0].arguments
         if isinstance(item, str) and len(reference.parts) == 1 and arguments is not None:
             return self.function(item, reference, arguments, block)
-        if isinstance(item, faults.Named) and not isinstance(item, faults.Item) and arguments is not None:
-            if item.tree is not None and item.tree[0] == "procedure":
-                return self.call(item, reference.parts[0], tree, block, True)
+        if is_procedure(item) and arguments is not None:
+            return self.call(item, reference.parts[0], tree, block, True)
         return Value(self.variable(reference, block, aggregates=False)[2])
 
     def argument(self, tree, block):
@@ -365,7 +399,7 @@ class Types:
         if is_reference(tree):
             reference = Reference(tree)
             item = self.meaning(reference, block) if reference.locator is None else None
-            if isinstance(item, faults.Item) or reference.locator is not None:
+            if is_variable(item) or reference.locator is not None:
                 found = Value(self.variable(reference, block)[2])
                 self.types[id(tree)] = found
                 return found
@@ -374,22 +408,26 @@ class Types:
     def call(self, called, part, tree, block, is_value):
         """The faults of the arguments in order, then the least of T6, T7 and T8."""
         given = [self.argument(argument, block) for argument in part.arguments or []]
-        is_procedure = isinstance(called, faults.Named) and called.tree is not None and called.tree[0] == "procedure"
-        if not is_procedure:
+        if not is_procedure(called):
             raise Fault(8, part.name.at)
-        inner = self.unit.blocks[id(called.tree)]
+        parameters, result = self.signature(called)
         codes = set()
-        parameters = [whole_of(inner.own(name)) for name in inner.parameters]
         if len(given) != len(parameters):
             codes.add(6)
         elif not all(self.is_good(a, p) for a, p in zip(given, parameters)):
             codes.add(7)
-        if bool(inner.results) != is_value:
+        if bool(result) != is_value:
             codes.add(8)
         if codes:
             raise Fault(min(codes), part.name.at)
         self.calls[id(tree)] = called
-        return Value(self.result(inner)) if is_value else None
+        return Value(result) if is_value else None
+
+    def signature(self, called):
+        """That of a procedure or an entry."""
+        if isinstance(called, faults.Item):
+            return signature_of_entry(called.description)
+        return signature_of_procedure(self.unit.blocks[id(called.tree)])
 
     @staticmethod
     def is_good(given, parameter):
@@ -399,7 +437,7 @@ class Types:
 
     @staticmethod
     def result(block):
-        return described(faults.Description(block.outer, [], block.results[0]))
+        return result_of(block.outer, block.results[0])
 
     def function(self, name, reference, arguments, block):
         at, many = reference.at, FUNCTIONS[name]
@@ -452,7 +490,7 @@ class Types:
         reference = Reference(tree)
         if reference.locator is not None or reference.parts[0].arguments is None:
             return False
-        return not isinstance(self.meaning(reference, block), faults.Item)
+        return not is_variable(self.meaning(reference, block))
 
     # statements
 
