@@ -1,3 +1,5 @@
 pub mod FaultCodes
 pub mod Lists
+pub mod TextNumbers
+pub mod TextSorted
 pub mod TypedTrees

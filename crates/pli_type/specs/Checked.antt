@@ -1,6 +1,7 @@
 -- The typed unit, or all its faults of types: one for each statement, in the order of the text. A unit with a
 -- form that is not compiled yet has Z1 in their place.
-use Rattle.std.specs.Prelude.{ℕ, Bool, true, false, ◌&&◌, Option, Some, None, List, [], ◌∷◌, length, Result, Ok, Err}
+use Rattle.std.specs.Prelude.{ℕ, Bool, true, false, ◌&&◌, Option, Some, None, List, [], ◌∷◌, length}
+use Rattle.std.specs.Prelude.{Result, Ok, Err}
 use Rattle.pli_base.specs.Statements.{ExternalProcedure, Statements}
 use Rattle.pli_base.specs.declared.code.Code.TheVariants.{NotYetBuilt}
 use Rattle.pli_base.specs.declared.token.Fault.{Fault}
@@ -72,4 +73,5 @@ unless_unbuilt (Some at) typed = Err (record { code = NotYetBuilt; at = at } ∷
 unfoldable pub checked : NamedUnit → Result TypedUnit (List Fault)
 checked u =
     unless_unbuilt (first_unbuilt u.compiled u.tree)
-    (typed_as u (statements_typed u (in_unit (u.returned 0) u.tree.statements) first_inside u.tree.statements))
+    (typed_as u
+    (statements_typed u (in_unit (u.returned 0) u.tree.statements) first_inside u.tree.statements))

@@ -9,6 +9,7 @@ pub mod References
 pub mod StatementTyping
 pub mod Typing
 pub mod Temporaries
+pub mod TextOrder
 pub mod Unbuilt
 pub mod examples
 pub mod laws

@@ -3,7 +3,7 @@
 -- outward a variable is.
 use Rattle.std.specs.Prelude.{ℕ, zero, suc, ◌+◌, nat_eq, nat_lt, nat_le, Bool, true, false, ◌&&◌, map, length}
 use Rattle.std.specs.Prelude.{unsigned_abs, Option, Some, None, option_map, option_and_then, List, [], ◌∷◌}
-use Rattle.std.specs.Prelude.{◌++◌, get_or, take, slice_get, Result, if◌then◌else◌}
+use Rattle.std.specs.Prelude.{◌++◌, get_or, replicate, take, slice_get, Result, if◌then◌else◌}
 use Rattle.std.specs.List.{flat_map}
 use Rattle.pli_base.specs.Name.{Name}
 use Rattle.pli_base.specs.declared.token.Fault.{Fault}
@@ -27,6 +27,7 @@ use Rattle.pli_type.specs.Checked.{checked}
 use Rattle.pli_type.specs.InitialScalars.{InitialItem, template_of}
 use Rattle.pli_type.specs.Names.{NamedAs, AVariable, AFunction, AProcedure, ALabel, Untyped, NamedProcedure}
 use Rattle.pli_type.specs.Names.{Naming, Compiled, NamedUnit}
+use Rattle.pli_type.specs.TextOrder.{in_order, text_places}
 use Rattle.pli_type.specs.Unbuilt.{is_later_function}
 use Rattle.pli_type_tree.specs.Templates.{Template}
 use Rattle.pli_type_tree.specs.TypedTree.{OfBlock, OfEntry, Global, OwnVariable, ExternalVariable, EntryPoint}
@@ -151,11 +152,25 @@ abbrev pub globals_in : (greatest : ℕ) → List (List Symbol) → ℕ
 globals_in greatest [] = 0
 globals_in greatest (ss ∷ more) = globals_before greatest ss (length ss) + globals_in greatest more
 
--- the number of a symbol among all globals
-abbrev pub global_number : (greatest : ℕ) → ResolvedUnit → SymbolKey → ℕ
-global_number greatest r key =
+-- the number of a symbol among all globals, block after block
+abbrev pub number_in_blocks : (greatest : ℕ) → ResolvedUnit → SymbolKey → ℕ
+number_in_blocks greatest r key =
     globals_in greatest (take key.block (all_symbols r))
     + globals_before greatest (block_symbols r key.block) key.number
+
+-- the tokens of the names of globals, symbol after symbol and block after block
+abbrev pub global_tokens : (greatest : ℕ) → List Symbol → List ℕ
+global_tokens greatest [] = []
+global_tokens greatest (s ∷ ss) =
+    replicate (one_global greatest s.kind) s.identifier.at ++ global_tokens greatest ss
+
+abbrev pub all_tokens : (greatest : ℕ) → List (List Symbol) → List ℕ
+all_tokens greatest blocks = flat_map (global_tokens greatest) blocks
+
+-- the number of a symbol among all globals, in the order of their names in the text
+abbrev pub global_number : (greatest : ℕ) → ResolvedUnit → SymbolKey → ℕ
+global_number greatest r key =
+    get_or (text_places (all_tokens greatest (all_symbols r))) (number_in_blocks greatest r key) 0
 
 -- how many static links outward a block is, if it stands around
 abbrev pub outward_to : (blocks : List ℕ) → (block : ℕ) → Option ℕ
@@ -174,11 +189,11 @@ is_parameter numbers slot number = is_number (slice_get numbers slot)
     is_number None = false
     is_number (Some n) = nat_eq n number
 
--- Parameters stand in slots, each in its own, and AUTOMATIC variables behind them; STATIC variables are
--- globals, which stand block after block. Each kind stands in the order of the text. Other variables begin
--- nowhere yet
-abbrev pub root_of : (greatest : ℕ) → ResolvedUnit → (blocks : List ℕ) → SymbolKey → StorageClass → Description
-    → Option Root
+-- Parameters stand in slots, each in its own, and the AUTOMATIC variables of the block behind them, in the
+-- order of the text; STATIC variables are globals, which stand in the order of the text of the whole unit.
+-- Other variables begin nowhere yet
+abbrev pub root_of : (greatest : ℕ) → ResolvedUnit → (blocks : List ℕ) → SymbolKey → StorageClass
+    → Description → Option Root
 root_of greatest r blocks key classes.Automatic d =
     if is_stored greatest d
     then in_slot (outward_to blocks key.block)
@@ -329,21 +344,36 @@ global_with greatest all number name (Entry parameters returned) =
     EntryPoint name (record { parameters = parameters; result = returned }) ∷ []
 global_with greatest all number name kind = []
 
-abbrev pub global_at : (greatest : ℕ) → (all : List Symbol) → (number : ℕ) → Symbol → List Global
-global_at greatest all number s = global_with greatest all number s.identifier.name s.kind
+-- with the token of its name
+pub record PlacedGlobal : Type 0 where
+  pub at : ℕ
+  pub global : Global
+
+abbrev pub placed : (at : ℕ) → Global → PlacedGlobal
+placed at global = record { at = at; global = global }
+
+abbrev pub global_at : (greatest : ℕ) → (all : List Symbol) → (number : ℕ) → Symbol → List PlacedGlobal
+global_at greatest all number s =
+    map (placed s.identifier.at) (global_with greatest all number s.identifier.name s.kind)
 
 -- those among symbols, the first of which has this number
-abbrev pub globals_from : (greatest : ℕ) → (all : List Symbol) → (number : ℕ) → List Symbol → List Global
+abbrev pub globals_from : (greatest : ℕ) → (all : List Symbol) → (number : ℕ) → List Symbol
+    → List PlacedGlobal
 globals_from greatest all number [] = []
 globals_from greatest all number (s ∷ ss) =
     global_at greatest all number s ++ globals_from greatest all (suc number) ss
 
-abbrev pub globals_of : (greatest : ℕ) → List Symbol → List Global
+abbrev pub globals_of : (greatest : ℕ) → List Symbol → List PlacedGlobal
 globals_of greatest symbols = globals_from greatest symbols 0 symbols
 
--- the globals of blocks, block after block
+-- those of blocks, block after block
+abbrev pub block_globals : (greatest : ℕ) → List (List Symbol) → List PlacedGlobal
+block_globals greatest blocks = flat_map (globals_of greatest) blocks
+
+-- the globals of blocks, in the order of their names in the text
 abbrev pub all_globals : (greatest : ℕ) → List (List Symbol) → List Global
-all_globals greatest blocks = flat_map (globals_of greatest) blocks
+all_globals greatest blocks =
+    map (λ p. p.global) (in_order (λ p. p.at) (block_globals greatest blocks))
 
 abbrev pub named_unit : (greatest : ℕ) → ResolvedUnit → NamedUnit
 named_unit greatest r = record {

@@ -1,5 +1,5 @@
--- Calls of procedures: how arguments are handed over, and what a function gives (X3.74; the order of faults is
--- own).
+-- Calls of procedures: how arguments are handed over, and what a function gives (X3.74; the order of faults
+-- is own).
 use Rattle.std.specs.Prelude.{ℕ, nat_eq, Option, Some, None, List, [], ◌∷◌, length, Result, Ok}
 use Rattle.std.specs.Prelude.{if◌then◌else◌}
 use Rattle.pli_base.specs.Reading.{at_fault}

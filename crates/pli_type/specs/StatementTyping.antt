@@ -25,7 +25,8 @@ use Rattle.pli_type.specs.References.{AsArgument, AsLocator, AsTarget, Referent}
 use Rattle.pli_type.specs.Temporaries.{Next, behind, temporaries_among, limits_kept}
 use Rattle.pli_type.specs.Typing.{first_token, or_fault, meant, referred, value_of, all_arguments}
 use Rattle.pli_type_tree.specs.TypedTree as typed
-use Rattle.pli_type_tree.specs.TypedTree.{Callee, TypedExpression, Held, TypedReference, Whole, Part, Subscripts}
+use Rattle.pli_type_tree.specs.TypedTree.{Callee, TypedExpression, Held, TypedReference, Whole, Part}
+use Rattle.pli_type_tree.specs.TypedTree.{Subscripts}
 use Rattle.pli_type_tree.specs.TypedTree.{NoSubscript, SubscriptThen, BlockHead, TypedRange, Iteration, Form}
 use Rattle.pli_type_tree.specs.TypedTree.{TypedArguments, TypedStatement, TypedStatements, NoStatement}
 use Rattle.pli_type_tree.specs.TypedTree.{StatementThen, OtherWise, NoElse, Else, TypedProcedure}

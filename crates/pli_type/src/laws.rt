@@ -1,11 +1,13 @@
 //! Laws and worked examples of types and of their faults.
 ghost use Rattle.pli_type.specs.laws.Laws.{FaultsAreOfTypes};
+ghost use Rattle.pli_type.specs.laws.TextSorting.{TokensAreSorted};
 ghost use Rattle.pli_type.specs.examples.FaultExamples.{OneFaultToAStatement, OperatorsTakeTheirTypes, AssignmentsConvert, AggregatesStandAlone, SubscriptsAreCounted, LocatorsAreNotAllowed, NamesOfNoVariable, FunctionsConvertNothing, BareConstants};
 ghost use Rattle.pli_type.specs.examples.ControlExamples.{ControlVariables, CallsAreTyped, BlocksAreTyped};
 ghost use Rattle.pli_type.specs.examples.TypeExamples.{ConstantsAreDecimal, PrecisionsOfOperations, PrecisionsOfFunctions, KindsOfStrings, ColumnsOfNumbers};
 ghost use Rattle.pli_type.specs.examples.TypedExamples.{ConversionsStand, SubscriptsHaveStrides};
 ghost use Rattle.pli_type.specs.examples.UnitExamples.{FirstUnbuilt, InitialValues, CheckedUnits};
 ghost use Rattle.pli_type.specs.examples.NameExamples.{NamesOfUnit, VariablesOfUnit};
+ghost use Rattle.pli_type.specs.examples.OrderExamples.{GlobalsOfUnit, TokensInOrder};
 
 /// Worked examples of faults.
 pub fn fault_examples()
@@ -56,8 +58,16 @@ pub fn faults_are_of_types()
     ensures { FaultsAreOfTypes }
 {}
 
-/// Worked examples of what names of a resolved unit mean, and of what its variables are made from.
+/// A law: the order of the text has each number of a token once, by its token, and those of one token as they stood.
+pub fn tokens_are_sorted()
+    ensures { TokensAreSorted }
+{}
+
+/// Worked examples of what names of a resolved unit mean, of what its variables are made from, and of globals in the
+/// order of the text.
 pub fn name_examples()
     ensures names { NamesOfUnit }
     ensures variables { VariablesOfUnit }
+    ensures globals { GlobalsOfUnit }
+    ensures tokens { TokensInOrder }
 {}

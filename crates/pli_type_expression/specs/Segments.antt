@@ -11,8 +11,8 @@ use Rattle.pli_type.specs.ExpressionTypes.{TypedValue}
 use Rattle.pli_type.specs.FunctionCalls.{roles_of, function_called}
 use Rattle.pli_type.specs.Names.{Naming}
 use Rattle.pli_type.specs.References.{AsLocator}
-use Rattle.pli_type.specs.Typing.{Segment, subscripts_in, with_more, ended, begun, all_arguments, roles_or_none}
-use Rattle.pli_type.specs.Typing.{how_many}
+use Rattle.pli_type.specs.Typing.{Segment, subscripts_in, with_more, ended, begun, all_arguments}
+use Rattle.pli_type.specs.Typing.{roles_or_none, how_many}
 
 -- the segment behind a part that is joined to one
 abbrev pub next_segment : Naming → Segment → Joining → Identifier → Arguments → Result Segment Fault

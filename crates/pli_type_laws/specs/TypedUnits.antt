@@ -18,8 +18,8 @@ use Rattle.pli_type_name_laws.specs.Numbering.{AreNumbered}
 use Rattle.pli_type_tree.specs.Templates.{Template}
 use Rattle.pli_type_tree.specs.TypedTree.{Global, TypedUnit}
 
--- A unit whose statements are numbered in the order of the text, from any number on, and nest within the limit,
--- gives a typed unit that is numbered well.
+-- A unit whose statements are numbered in the order of the text, from any number on, and nest within the
+-- limit, gives a typed unit that is numbered well.
 abbrev pub TypedUnitsAreNumbered : Type 0
 TypedUnitsAreNumbered =
     (u : NamedUnit) (t : TypedUnit) (from : ℕ) → AreNumbered from u.tree.statements
@@ -39,8 +39,8 @@ unit_with tree is_later meaning parameters returned automatic globals = record {
   globals = globals;
 }
 
--- A unit whose names mean variables and procedures that are there, whose variables begin with values that they
--- hold, and whose procedures stand directly in blocks, gives a typed unit that is well typed.
+-- A unit whose names mean variables and procedures that are there, whose variables begin with values that
+-- they hold, and whose procedures stand directly in blocks, gives a typed unit that is well typed.
 abbrev pub TypedUnitsAreTyped : Type 0
 TypedUnitsAreTyped =
     (tree : ExternalProcedure) (is_later : ℕ → Bool) (meaning : (blocks : List ℕ) → ℕ → NamedAs)

@@ -2,9 +2,12 @@
 use Rattle.std.specs.Prelude.{◌≡◌, ℕ, zero, suc, ◌+◌, ◌-◌, ◌*◌, ◌^◌, ◌≤◌, Bool, true, false, IsTrue, ℤ, pos}
 use Rattle.std.specs.Prelude.{Some, List, [], ◌∷◌, ◌++◌, length, map, take, replicate, slice_get, slice_set, if◌then◌else◌, refl}
 use Rattle.std.specs.List.{flat_map, AllByRecursion}
+use Rattle.std.specs.List.Sorted.{IsPermutation}
 use Rattle.std.proofs.Common.{sym, ◌∙◌, ap, subst, arith, pow_pos, append_assoc, append-nil, length-append, length-take, eq-eqb, le-leb}
 use Rattle.std.proofs.lemmas.Bool.{and_parts, lt-ltb}
-use Rattle.std.proofs.lemmas.List.{length-replicate}
+use Rattle.std.proofs.lemmas.List.{length-replicate, map-append}
+use Rattle.std.proofs.lemmas.List.Elements.{All-from_recursion, recursion_from_All}
+use Rattle.std.proofs.lemmas.List.Sorted.{All-permutation, IsPermutation-map}
 use Rattle.std.proofs.lemmas.Option.{same_Some, none-some}
 use Rattle.pli_base.specs.Name.{Name}
 use Rattle.pli_declare_attributes.specs.declared.completed.Scope.{Scope}
@@ -18,6 +21,9 @@ use Rattle.pli_resolve.specs.declared.symbol.StorageClass.{StorageClass}
 use Rattle.pli_type.specs.InitialScalars.{NumberedScalar, counted_from, scalars_on, scalars_in_member, as_held, each_with, values_written, InitialItem, initial_scalars, template_of}
 use Rattle.pli_type.specs.NamedUnits.{is_plain, all_plain, is_static, member_items, template_at, templates_from}
 use Rattle.pli_type.specs.NamedUnits.{global_of, global_with, globals_from, globals_of, all_globals}
+use Rattle.pli_type.specs.NamedUnits.{PlacedGlobal, placed, block_globals}
+use Rattle.pli_type.specs.TextOrder.{in_order}
+use Rattle.pli_type.proofs.TextSorted.{same_items}
 use Rattle.pli_type_tree.specs.Globals.{templates_in}
 use Rattle.pli_type_tree.specs.Templates.{InitialScalar, Template, with_initial, variable_of}
 use Rattle.pli_type_tree.specs.TypedTree.{Global, OwnVariable, ExternalVariable, EntryPoint}
@@ -258,6 +264,32 @@ both_made (OwnVariable t ∷ xs) ys h g = (h.0, both_made xs ys h.1 g)
 both_made (ExternalVariable name t ∷ xs) ys h g = (h.0, both_made xs ys h.1 g)
 both_made (EntryPoint name signature ∷ xs) ys h g = both_made xs ys h g
 
+abbrev GlobalsMade : List Global → Type 0
+GlobalsMade gs = AreMade (map variable_of (templates_in gs))
+
+abbrev IsGlobalMade : Global → Type 0
+IsGlobalMade g = GlobalsMade (g ∷ [])
+
+each_made : (gs : List Global) → GlobalsMade gs → AllByRecursion IsGlobalMade gs
+each_made [] h = tt
+each_made (OwnVariable t ∷ gs) h = ((h.0, tt), each_made gs h.1)
+each_made (ExternalVariable name t ∷ gs) h = ((h.0, tt), each_made gs h.1)
+each_made (EntryPoint name signature ∷ gs) h = (tt, each_made gs h)
+
+made_again : (gs : List Global) → AllByRecursion IsGlobalMade gs → GlobalsMade gs
+made_again [] h = tt
+made_again (OwnVariable t ∷ gs) h = (h.0.0, made_again gs h.1)
+made_again (ExternalVariable name t ∷ gs) h = (h.0.0, made_again gs h.1)
+made_again (EntryPoint name signature ∷ gs) h = made_again gs h.1
+
+-- without the tokens of their names
+abbrev alone : List PlacedGlobal → List Global
+alone ps = map (λ (p : PlacedGlobal). p.global) ps
+
+alone_placed : (at : ℕ) (gs : List Global) → alone (map (placed at) gs) ≡ gs
+alone_placed at [] = refl
+alone_placed at (g ∷ gs) = ap (λ others. g ∷ others) (alone_placed at gs)
+
 module _ (n : ℕ) (plain : (class : StorageClass) (d : Description) → is_static n class d ≡ true → is_plain n d ≡ true) where
   global_made : (all : List Symbol) (number : ℕ) (name : Name) (kind : SymbolKind) (rest : List Global)
       → AreMade (map variable_of (templates_in rest)) → AreMade (map variable_of (templates_in (global_with n all number name kind ++ rest)))
@@ -272,12 +304,32 @@ module _ (n : ℕ) (plain : (class : StorageClass) (d : Description) → is_stat
   global_made all number name (Entry parameters returned) rest h = h
   global_made all number name BuiltIn rest h = h
 
-  globals_made : (all : List Symbol) (number : ℕ) (ss : List Symbol) → AreMade (map variable_of (templates_in (globals_from n all number ss)))
+  globals_made : (all : List Symbol) (number : ℕ) (ss : List Symbol) → GlobalsMade (alone (globals_from n all number ss))
   globals_made all number [] = tt
-  globals_made all number (s ∷ ss) = global_made all number s.identifier.name s.kind (globals_from n all (suc number) ss) (globals_made all (suc number) ss)
+  globals_made all number (s ∷ ss) =
+      let own : List Global = global_with n all number s.identifier.name s.kind in
+      let more : List PlacedGlobal = globals_from n all (suc number) ss in
+      let joined : alone (map (placed s.identifier.at) own ++ more) ≡ own ++ alone more =
+      map-append (λ (p : PlacedGlobal). p.global) (map (placed s.identifier.at) own) more
+      ∙ ap (λ gs. gs ++ alone more) (alone_placed s.identifier.at own) in
+      subst GlobalsMade (sym joined)
+      (global_made all number s.identifier.name s.kind (alone more) (globals_made all (suc number) ss))
 
   -- of several blocks
+  behind : (blocks : List (List Symbol)) → GlobalsMade (alone (block_globals n blocks))
+  behind [] = tt
+  behind (ss ∷ more) =
+      subst GlobalsMade (sym (map-append (λ (p : PlacedGlobal). p.global) (globals_of n ss) (block_globals n more)))
+      (both_made (alone (globals_of n ss)) (alone (block_globals n more)) (globals_made ss 0 ss) (behind more))
+
+  -- and in the order of the text
   pub globals_behind : (blocks : List (List Symbol)) → AreMade (map variable_of (templates_in (all_globals n blocks)))
-  globals_behind [] = tt
-  globals_behind (ss ∷ more) =
-      both_made (globals_of n ss) (all_globals n more) (globals_made ss 0 ss) (globals_behind more)
+  globals_behind blocks =
+      let ps : List PlacedGlobal = block_globals n blocks in
+      let qs : List PlacedGlobal = in_order (λ (p : PlacedGlobal). p.at) ps in
+      let moved : IsPermutation (alone ps) (alone qs) =
+      IsPermutation-map (λ (p : PlacedGlobal). p.global) ps qs (same_items (λ (p : PlacedGlobal). p.at) ps) in
+      made_again (alone qs)
+      (recursion_from_All IsGlobalMade (alone qs)
+      (All-permutation IsGlobalMade (alone ps) (alone qs) moved
+      (All-from_recursion IsGlobalMade (alone ps) (each_made (alone ps) (behind blocks)))))

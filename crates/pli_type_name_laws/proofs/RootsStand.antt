@@ -1,8 +1,9 @@
 -- A variable's root leads to its description: a block's slots are its parameters and then what its AUTOMATIC
--- variables are made from, in the order of the symbols; globals stand block after block.
+-- variables are made from, in the order of the symbols; globals stand in the order of the text.
 use Rattle.std.specs.Prelude.{◌≡◌, ℕ, zero, suc, ◌+◌, Bool, true, false, ◌&&◌, nat_eq, Option, Some, None, List, [], ◌∷◌, ◌++◌}
-use Rattle.std.specs.Prelude.{length, map, take, get_or, slice_get, if◌then◌else◌, refl}
+use Rattle.std.specs.Prelude.{length, map, replicate, take, get_or, slice_get, if◌then◌else◌, refl}
 use Rattle.std.proofs.Common.{sym, ◌∙◌, ap, subst, arith, length-append}
+use Rattle.std.proofs.lemmas.List.{map-append}
 use Rattle.std.proofs.lemmas.Bool.{and_parts, eqb-true}
 use Rattle.std.proofs.lemmas.Option.{same_Some, none-some}
 use Rattle.pli_base.specs.Name.{Name}
@@ -18,7 +19,10 @@ use Rattle.pli_type.specs.InitialScalars.{template_of}
 use Rattle.pli_type.specs.NamedUnits.{is_stored, is_automatic, is_static, one_such, such_before, one_global, globals_before, globals_in}
 use Rattle.pli_type.specs.NamedUnits.{parameter_numbers, description_in, parameters_of, outward_to, in_slot, is_parameter}
 use Rattle.pli_type.specs.NamedUnits.{root_of, member_items, template_at, templates_from, templates_of}
-use Rattle.pli_type.specs.NamedUnits.{block_symbols, global_number, global_of, global_with, global_at, globals_from, globals_of, all_globals}
+use Rattle.pli_type.specs.NamedUnits.{block_symbols, global_number, global_of, global_with, globals_from, globals_of, all_globals}
+use Rattle.pli_type.specs.NamedUnits.{PlacedGlobal, placed, global_at, global_tokens, all_tokens, block_globals}
+use Rattle.pli_type.specs.TextOrder.{in_order, text_places}
+use Rattle.pli_type.proofs.TextNumbers.{stands_in_text}
 use Rattle.pli_type_tree.specs.Templates.{Template}
 use Rattle.pli_type_tree.specs.Globals.{description_of, signature_of}
 use Rattle.pli_type_tree.specs.TypedTree.{Global, EntryPoint, Root, InSlot, OfProgram}
@@ -121,6 +125,11 @@ global_counted n all number name (Label statement) = refl
 global_counted n all number name (Procedure block returned area) = refl
 global_counted n all number name BuiltIn = refl
 
+placed_counted : (n : ℕ) (all : List Symbol) (number : ℕ) (s : Symbol) → length (global_at n all number s) ≡ one_global n s.kind
+placed_counted n all number s =
+    length_mapped (placed s.identifier.at) (global_with n all number s.identifier.name s.kind)
+    ∙ global_counted n all number s.identifier.name s.kind
+
 module _ (n : ℕ) (all : List Symbol) where
   globals_counted : (number : ℕ) (ss : List Symbol) → length (globals_from n all number ss) ≡ globals_before n ss (length ss)
   globals_counted number [] = refl
@@ -128,12 +137,12 @@ module _ (n : ℕ) (all : List Symbol) where
       omega (
         arith,
         length-append (global_at n all number s) (globals_from n all (suc number) ss),
-        global_counted n all number s.identifier.name s.kind,
+        placed_counted n all number s,
         globals_counted (suc number) ss,
       )
 
   -- the global that a symbol is stands where it is counted
-  global_found : (ss : List Symbol) (from k number : ℕ) (s : Symbol) (g : Global) → from + k ≡ number → slice_get ss k ≡ Some s
+  global_found : (ss : List Symbol) (from k number : ℕ) (s : Symbol) (g : PlacedGlobal) → from + k ≡ number → slice_get ss k ≡ Some s
       → global_at n all number s ≡ g ∷ [] → slice_get (globals_from n all from ss) (globals_before n ss k) ≡ Some g
   global_found [] from k number s g e at is = absurd (none-some s at)
   global_found (t ∷ ss) from zero number s g e at is =
@@ -142,22 +151,66 @@ module _ (n : ℕ) (all : List Symbol) where
       (ap (λ k. global_at n all k t) here ∙ ap (global_at n all number) (same_Some t s at) ∙ is)
   global_found (t ∷ ss) from (suc k) number s g e at is =
       behind_front (global_at n all from t) (globals_from n all (suc from) ss) (globals_before n ss k) _
-      (omega (arith, global_counted n all from t.identifier.name t.kind))
+      (omega (arith, placed_counted n all from t))
       ∙ global_found ss (suc from) k number s g (omega (arith, e)) at is
 
 module _ (n : ℕ) where
-  pub found_in_blocks : (all : List (List Symbol)) (k number : ℕ) (s : Symbol) (g : Global)
+  found_in_blocks : (all : List (List Symbol)) (k number : ℕ) (s : Symbol) (g : PlacedGlobal)
       → slice_get (get_or all k []) number ≡ Some s → global_at n (get_or all k []) number s ≡ g ∷ []
-      → slice_get (all_globals n all) (globals_in n (take k all) + globals_before n (get_or all k []) number) ≡ Some g
+      → slice_get (block_globals n all) (globals_in n (take k all) + globals_before n (get_or all k []) number) ≡ Some g
   found_in_blocks [] k number s g e is = absurd (none-some s e)
   found_in_blocks (ss ∷ more) zero number s g e is =
-      in_front (globals_of n ss) (all_globals n more) (0 + globals_before n ss number) g
+      in_front (globals_of n ss) (block_globals n more) (0 + globals_before n ss number) g
       (none_passed (globals_of n ss) (globals_before n ss number)
       ∙ global_found n ss ss 0 number number s g (omega arith) e is)
   found_in_blocks (ss ∷ more) (suc k) number s g e is =
       let before : ℕ = globals_in n (take k more) + globals_before n (get_or more k []) number in
-      behind_front (globals_of n ss) (all_globals n more) before _ (omega (arith, globals_counted n ss 0 ss))
+      behind_front (globals_of n ss) (block_globals n more) before _ (omega (arith, globals_counted n ss 0 ss))
       ∙ found_in_blocks more k number s g e is
+
+-- ---- globals in the order of the text
+
+abbrev token : PlacedGlobal → ℕ
+token p = p.at
+
+same_tokens : (at : ℕ) (gs : List Global) → replicate (length gs) at ≡ map token (map (placed at) gs)
+same_tokens at [] = refl
+same_tokens at (g ∷ gs) = ap (λ ts. at ∷ ts) (same_tokens at gs)
+
+module _ (n : ℕ) where
+  tokens_from : (all : List Symbol) (number : ℕ) (ss : List Symbol) → global_tokens n ss ≡ map token (globals_from n all number ss)
+  tokens_from all number [] = refl
+  tokens_from all number (s ∷ ss) =
+      let at : ℕ = s.identifier.at in
+      let own : List Global = global_with n all number s.identifier.name s.kind in
+      ap (λ k. replicate k at ++ global_tokens n ss) (sym (global_counted n all number s.identifier.name s.kind))
+      ∙ ap (λ ts. ts ++ global_tokens n ss) (same_tokens at own)
+      ∙ ap (λ ts. map token (map (placed at) own) ++ ts) (tokens_from all (suc number) ss)
+      ∙ sym (map-append token (map (placed at) own) (globals_from n all (suc number) ss))
+
+  tokens_in_blocks : (all : List (List Symbol)) → all_tokens n all ≡ map token (block_globals n all)
+  tokens_in_blocks [] = refl
+  tokens_in_blocks (ss ∷ more) =
+      ap (λ ts. ts ++ all_tokens n more) (tokens_from ss 0 ss)
+      ∙ ap (λ ts. map token (globals_of n ss) ++ ts) (tokens_in_blocks more)
+      ∙ sym (map-append token (globals_of n ss) (block_globals n more))
+
+  -- the global that a symbol is stands at its place in the order of the text
+  pub found_in_text : (all : List (List Symbol)) (k number : ℕ) (s : Symbol) (g : Global)
+      → slice_get (get_or all k []) number ≡ Some s
+      → global_with n (get_or all k []) number s.identifier.name s.kind ≡ g ∷ []
+      → slice_get (all_globals n all)
+      (get_or (text_places (all_tokens n all)) (globals_in n (take k all) + globals_before n (get_or all k []) number) 0)
+      ≡ Some g
+  found_in_text all k number s g e is =
+      let inner : ℕ = globals_in n (take k all) + globals_before n (get_or all k []) number in
+      let p : PlacedGlobal = placed s.identifier.at g in
+      let found : slice_get (block_globals n all) inner ≡ Some p =
+      found_in_blocks n all k number s p e (ap (map (placed s.identifier.at)) is) in
+      mapped (λ (q : PlacedGlobal). q.global) (in_order token (block_globals n all))
+      (get_or (text_places (all_tokens n all)) inner 0) p
+      (ap (λ ts. slice_get (in_order token (block_globals n all)) (get_or (text_places ts) inner 0)) (tokens_in_blocks all)
+      ∙ stands_in_text token (block_globals n all) inner p found)
 
 -- a variable, by its scope
 global_described : (scope : Scope) (name : Name) (t : Template) → description_of (Some (global_of scope name t)) ≡ Some t.description
@@ -283,7 +336,7 @@ module _ (n : ℕ) (r : ResolvedUnit) (blocks : List ℕ) where
         let is : IsGlobal n (block_symbols r key.block) key.number s.identifier.name s.kind d =
         static_global n (block_symbols r key.block) key.number s.identifier.name d s.kind of stored in (
           subst (λ q. Standing q d) (same_Some (OfProgram (global_number n r key)) root e)
-              (ap description_of (found_in_blocks n (all_symbols r) key.block key.number s is.0 there is.1) ∙ is.2),
+              (ap description_of (found_in_text n (all_symbols r) key.block key.number s is.0 there is.1) ∙ is.2),
           stored,
         )
     static_begins of false stored e = absurd (none-some root e)
@@ -318,6 +371,6 @@ pub entry_stands : (n : ℕ) (r : ResolvedUnit) (key : SymbolKey) (s : Symbol) (
     ≡ Some (record { parameters = parameters; result = returned })
 entry_stands n r key s parameters returned there is =
     ap signature_of
-    (found_in_blocks n (all_symbols r) key.block key.number s
+    (found_in_text n (all_symbols r) key.block key.number s
     (EntryPoint s.identifier.name (record { parameters = parameters; result = returned })) there
     (entry_global n (block_symbols r key.block) key.number s.identifier.name parameters returned s.kind is))

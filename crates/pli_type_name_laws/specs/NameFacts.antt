@@ -1,5 +1,5 @@
--- Facts about the names of a unit: where its variables begin, which parts of them references lead to, and which
--- procedures are called.
+-- Facts about the names of a unit: where its variables begin, which parts of them references lead to, and
+-- which procedures are called.
 use Rattle.std.specs.Prelude.{◌≡◌, ℕ, IsTrue, Option, Some, None, List, [], ◌∷◌, length, map, slice_get}
 use Rattle.pli_map.specs.Description.{Description}
 use Rattle.pli_resolve.specs.declared.block_numbers.ResolvedBlockKind.TheVariants as kinds

@@ -4,8 +4,8 @@ use Rattle.pli_base.specs.Statements.{Statement, Numbered, Body, Procedure, Begi
 use Rattle.pli_base.specs.Statements.{Ended, Before, Alternative, NoElse, Else}
 use Rattle.pli_parse_expression.specs.Expressions.{Deeper}
 
--- PROCEDURE, BEGIN, DO, IF and ON open one of so many levels each; a procedure stands directly in the list of a
--- block
+-- PROCEDURE, BEGIN, DO, IF and ON open one of so many levels each; a procedure stands directly in the list of
+-- a block
 abbrev mutual
   pub NestsWithin : (direct : Bool) → (levels : ℕ) → Statement → Type 0
   NestsWithin direct n (Numbered number label at body) = BodyNests direct n body

@@ -1,8 +1,10 @@
 -- What is found block by block.
 use Rattle.std.proofs.Common.{◌≡◌, ℕ, ◌+◌, ◌<◌, ◌≤◌, Option, Some, None, List, [], ◌∷◌, ◌++◌, take, length, map, option_map, slice_get, get_or}
 use Rattle.std.proofs.Common.{refl, ap, sym, ◌∙◌, arith}
+use Rattle.std.specs.List.{flat_map}
 use Rattle.std.specs.Option.{unwrap_or}
-use Rattle.std.proofs.lemmas.List.{length-append, length-map, take_all}
+use Rattle.std.proofs.lemmas.Grind.{flat_map-append}
+use Rattle.std.proofs.lemmas.List.{append-nil, length-append, length-map, take_all}
 use Rattle.std.proofs.lemmas.Option.{slice_get-get_or, unwrap_or-slice_get}
 use Rattle.pli_resolve.specs.ResolvedUnits.{ResolvedUnit, ResolvedBlock, all_symbols}
 use Rattle.pli_resolve.specs.Symbols.{Symbol}
@@ -58,7 +60,7 @@ no_rows : (r : ResolvedUnit) (n : ℕ) (o : Option (List Symbol)) → slice_get 
 no_rows r n None e =
     let none : block_symbols r n ≡ [] = sym (unwrap_or-slice_get (all_symbols r) n []) ∙ ap (λ o. unwrap_or o []) e in
     let f = facts_of r n in
-    ap (λ ss. kept_symbols (record { parameters = f.parameters; globals = f.globals; symbols = ss })) (sym none)
+    ap (λ ss. kept_symbols (record { parameters = f.parameters; places = f.places; globals = f.globals; symbols = ss })) (sym none)
 no_rows r n (Some ss) e = refl
 
 pub all_rows : (r : ResolvedUnit) (n : ℕ) (rows : List (List Kept)) → length r.blocks + 1 ≤ n → rows ≡ take n (rows_of r)
@@ -79,3 +81,18 @@ globals_behind (ys ∷ xss) xs = omega (arith, globals_behind xss xs)
 pub globals_more : (xss : List (List Symbol)) (n : ℕ) (xs : List Symbol) → slice_get xss n ≡ Some xs
     → globals_in 31 (take (n + 1) xss) ≡ globals_in 31 (take n xss) + globals_before 31 xs (length xs)
 globals_more xss n xs e = ap (globals_in 31) (take_one_more xss n xs e) ∙ globals_behind (take n xss) xs
+
+-- what is gathered from one block more, and from all
+pub gathered_more : {A : Type 0} (f : List Symbol → List A) (r : ResolvedUnit) (n : ℕ) → n < length r.blocks + 1
+    → flat_map f (take n (all_symbols r)) ++ f (block_symbols r n) ≡ flat_map f (take (n + 1) (all_symbols r))
+gathered_more f r n h =
+    let own = block_symbols r n in
+    sym (ap (flat_map f) (take_one_more (all_symbols r) n own (symbols_there r n h))
+    ∙ flat_map-append f (take n (all_symbols r)) (own ∷ [])
+    ∙ ap (λ ts. flat_map f (take n (all_symbols r)) ++ ts) (append-nil (f own)))
+
+pub all_gathered : {A : Type 0} (f : List Symbol → List A) (r : ResolvedUnit) (n : ℕ) → length r.blocks + 1 ≤ n
+    → flat_map f (take n (all_symbols r)) ≡ flat_map f (all_symbols r)
+all_gathered f r n h =
+    let long : length (all_symbols r) ≤ n = omega (arith, h, all_counted r) in
+    ap (flat_map f) (take_all n (all_symbols r) long)

@@ -4,6 +4,7 @@ pub mod LevelsLead
 pub mod Lists
 pub mod MembersPassed
 pub mod Names
+pub mod Ordered
 pub mod Outward
 pub mod Owns
 pub mod Plain

@@ -2,18 +2,21 @@
 use Rattle.std.specs.Prelude.{ℕ, List, take}
 use Rattle.pli_resolve.specs.ResolvedUnits.{ResolvedUnit, all_symbols}
 use Rattle.pli_resolve.specs.Symbols.{Symbol}
-use Rattle.pli_type.specs.NamedUnits.{block_symbols, globals_in, parameter_numbers}
+use Rattle.pli_type.specs.NamedUnits.{all_tokens, block_symbols, globals_in, parameter_numbers}
+use Rattle.pli_type.specs.TextOrder.{text_places}
 
--- the numbers of its parameters among its symbols, each under its slot; how many globals the blocks before it
--- have; and its symbols
+-- the numbers of its parameters among its symbols, each under its slot; for each global of the unit, block
+-- after block, its number in the order of the text; how many globals the blocks before it have; and its symbols
 pub record BlockFacts : Type 0 where
   pub parameters : List ℕ
+  pub places : List ℕ
   pub globals : ℕ
   pub symbols : List Symbol
 
 abbrev pub facts_of : ResolvedUnit → (block : ℕ) → BlockFacts
 facts_of r block = record {
   parameters = parameter_numbers r block;
+  places = text_places (all_tokens 31 (all_symbols r));
   globals = globals_in 31 (take block (all_symbols r));
   symbols = block_symbols r block;
 }

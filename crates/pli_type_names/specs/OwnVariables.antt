@@ -1,5 +1,5 @@
 -- The variables of their own among the symbols of a block: where each begins.
-use Rattle.std.specs.Prelude.{ℕ, ◌+◌, ◌&&◌, Option, Some, None, List, length, if◌then◌else◌}
+use Rattle.std.specs.Prelude.{ℕ, ◌+◌, ◌&&◌, Option, Some, None, List, get_or, length, if◌then◌else◌}
 use Rattle.pli_map.specs.Description.{Description}
 use Rattle.pli_resolve.specs.Symbols.{SymbolKind, Variable}
 use Rattle.pli_resolve.specs.declared.symbol.StorageClass.{StorageClass}
@@ -20,9 +20,9 @@ abbrev pub begun : Option Place → Description → Option OwnVariable
 begun None description = None
 begun (Some place) description = Some (record { begins = place; whole = description })
 
--- the number that the symbol of this number has among the globals, if it is one
+-- the number that the symbol of this number has among the globals of the unit, if it is one
 abbrev pub global_at : BlockFacts → (number : ℕ) → ℕ
-global_at f number = f.globals + globals_before 31 f.symbols number
+global_at f number = get_or f.places (f.globals + globals_before 31 f.symbols number) 0
 
 -- where a variable of a block begins: parameters have slots of their own, AUTOMATIC variables those behind
 -- them, and STATIC variables are globals
@@ -48,22 +48,23 @@ own_variables f = each_from (λ number s. own_at f number s.kind) 0 f.symbols
 
 -- counting
 
--- where one of this class begins, which has this number, where so many slots and numbers are taken
-abbrev pub place_behind : (parameters : List ℕ) → (slots globals number : ℕ) → StorageClass → Option Place
-place_behind parameters slots globals number classes.Automatic = Some (InBlock slots)
-place_behind parameters slots globals number (classes.Parameter slot) =
+-- where one of this class begins, which has this number, where so many slots are taken and the next global
+-- has this number
+abbrev pub place_behind : (parameters : List ℕ) → (slots global number : ℕ) → StorageClass → Option Place
+place_behind parameters slots global number classes.Automatic = Some (InBlock slots)
+place_behind parameters slots global number (classes.Parameter slot) =
     if is_parameter parameters slot number then Some (InBlock slot) else None
-place_behind parameters slots globals number classes.Static = Some (BeforeProgram globals)
-place_behind parameters slots globals number class = None
+place_behind parameters slots global number classes.Static = Some (BeforeProgram global)
+place_behind parameters slots global number class = None
 
--- the variable that a symbol is, where so many are taken
-abbrev pub own_behind : (parameters : List ℕ) → (slots globals number : ℕ) → SymbolKind → Option OwnVariable
-own_behind parameters slots globals number (Variable description class scope initial area) =
+-- the variable that a symbol is, there
+abbrev pub own_behind : (parameters : List ℕ) → (slots global number : ℕ) → SymbolKind → Option OwnVariable
+own_behind parameters slots global number (Variable description class scope initial area) =
     if is_stored 31 description
-    then begun (place_behind parameters slots globals number class) description else None
-own_behind parameters slots globals number other = None
+    then begun (place_behind parameters slots global number class) description else None
+own_behind parameters slots global number other = None
 
--- how many slots behind the parameters, and how many numbers, a variable of this class takes
+-- how many slots behind the parameters a variable of this class takes, and how many globals it is
 abbrev pub slots_of : StorageClass → ℕ
 slots_of classes.Automatic = 1
 slots_of class = 0

@@ -34,8 +34,8 @@ seen Untyped = SeenUntyped
 
 -- wherever a name is used
 
--- a variable, by where it begins in its own block; a procedure, by its block; an external one, by the number of
--- its entry; a label; or what has no type
+-- a variable, by where it begins in its own block; a procedure, by its block; an external one, by the number
+-- of its entry; a label; or what has no type
 pub data Kept : Type 0 where
   KeptVariable : (begins : Place) (is_member : Bool) (part : Option StridedPart) → Kept
   KeptProcedure : (block : ℕ) → Kept

@@ -8,6 +8,7 @@ mod level;
 mod levels;
 mod meanings;
 mod naming;
+mod order;
 mod own_variable;
 mod own_variables;
 mod parameters;

@@ -12,6 +12,7 @@ ghost use Rattle.pli_type_names.specs.views.VariableView.{own_view};
 use crate::entries::gives_stored;
 use crate::level::Level;
 use crate::levels::{part_on_way, variable_at};
+use crate::order::global_places;
 use crate::own_variable::OwnVariable;
 use crate::own_variables::own_variables;
 use crate::parameters::parameter_numbers;
@@ -93,8 +94,8 @@ fn meant_on_way<'a>(
     })
 }
 
-/// What the symbol of this number means; an entry has this number among the globals. Want of memory where it is the procedure of a block whose number is more than
-/// 4,294,967,295.
+/// What the symbol of this number means; an entry has this number among the globals. Want of memory where it is the
+/// procedure of a block whose number is more than 4,294,967,295.
 fn symbol_meaning<'a>(
     alloc: Global,
     variables: &[Option<OwnVariable<'a>>],
@@ -125,20 +126,22 @@ fn symbol_meaning<'a>(
     }
 }
 
-/// What each symbol of a block means, where the blocks before have so many globals.
+/// What each symbol of a block means, where the blocks before have so many globals; each has its place in the order of
+/// the text.
 fn symbol_meanings<'a>(
     alloc: Global,
     symbols: &[Symbol<'a>],
     parameters: &[usize],
+    places: &[u32],
     globals: &mut u32,
 ) -> Result<Vec<Meant<'a>>, AllocError>
     ensures meanings { IfOk result (λ meanings. map meant_view meanings.items
-        ≡ kept_symbols (record { parameters = parameters.now; globals = globals.old; symbols = map symbol_view symbols.now })) }
+        ≡ kept_symbols (record { parameters = parameters.now; places = places.now; globals = globals.old; symbols = map symbol_view symbols.now })) }
     ensures counted { IfOk result (λ _. globals.new
         ≡ globals.old + globals_before 31 (map symbol_view symbols.now) (length symbols.now)) }
 {
     let mut numbers = Vec::new(alloc);
-    let variables = own_variables(alloc, symbols, parameters, globals, &mut numbers)?;
+    let variables = own_variables(alloc, symbols, parameters, places, globals, &mut numbers)?;
     let mut levels = Vec::new(alloc);
     let mut meanings = Vec::new(alloc);
     for (number, symbol) in symbols.iter().enumerate() {
@@ -159,12 +162,14 @@ pub(crate) fn unit_meanings<'r>(
     let Some(blocks) = resolved.block_count().checked_add(1) else {
         return Err(AllocError);
     };
+    let places = global_places(alloc, resolved)?;
     let mut made = Vec::new(alloc);
     let mut globals = 0;
     for block in 0..blocks {
         let symbols = symbols(alloc, resolved, block)?;
         let parameters = parameter_numbers(resolved, block);
-        made.push(symbol_meanings(alloc, &symbols, parameters, &mut globals)?)?;
+        let row = symbol_meanings(alloc, &symbols, parameters, &places, &mut globals)?;
+        made.push(row)?;
     }
     Ok(made)
 }

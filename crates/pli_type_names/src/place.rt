@@ -5,6 +5,6 @@
 pub(crate) enum Place {
     /// In a slot of the block's activation, counted from 0: parameters first, and then AUTOMATIC variables.
     InBlock { slot: u32 },
-    /// Under this number among the globals of the unit; it is made before the program begins.
+    /// Under this number among the globals of the unit, in the order of the text; it is made before the program begins.
     BeforeProgram { number: u32 },
 }

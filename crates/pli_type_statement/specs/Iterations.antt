@@ -14,8 +14,8 @@ use Rattle.pli_type.specs.Typing.{or_fault}
 use Rattle.pli_type_tree.specs.TypedTree.{Iteration, TypedExpression, TypedRange}
 
 -- a group of its parts
-abbrev pub iteration_of : (variable : Referent) → (operations : List Operation) → TypedValue → (turns : TypedRange)
-    → (condition : Option TypedExpression) → (temporary : ℕ) → Iteration
+abbrev pub iteration_of : (variable : Referent) → (operations : List Operation) → TypedValue
+    → (turns : TypedRange) → (condition : Option TypedExpression) → (temporary : ℕ) → Iteration
 iteration_of r operations v turns x temporary = record {
   control = r.reference;
   conversion = operations;

@@ -6,7 +6,7 @@ use Rattle.pli_resolve.specs.Symbols.{Symbol, SymbolKind, Variable, Member, Labe
 use Rattle.pli_resolve.specs.declared.symbol.StorageClass.{StorageClass}
 use Rattle.pli_resolve.specs.declared.symbol.StorageClass.TheVariants as classes
 use Rattle.pli_type.specs.InitialScalars.{InitialItem}
-use Rattle.pli_type.specs.NamedUnits.{member_items, template_at, templates_from, global_of, global_with, globals_from}
+use Rattle.pli_type.specs.NamedUnits.{member_items, template_at, templates_from, global_of, global_with, globals_from, PlacedGlobal, placed}
 use Rattle.pli_type_templates.specs.Groups.{Made, global_made, is_such, made_in, templates_with}
 
 if_made : (all : List Symbol) (number : ℕ) (m : Made) (b : Bool)
@@ -47,9 +47,9 @@ globals_made_at all number name BuiltIn = refl
 pub one_global : (all : List Symbol) (number : ℕ) (s : Symbol) (left : List Symbol) (members : List InitialItem)
     → members ≡ member_items number all
     → globals_from 31 all number (s ∷ left)
-    ≡ global_made s.identifier.name s.kind members ++ globals_from 31 all (number + 1) left
+    ≡ map (placed s.identifier.at) (global_made s.identifier.name s.kind members) ++ globals_from 31 all (number + 1) left
 one_global all number s left members are =
-    let own = global_made s.identifier.name s.kind in
+    let own : List InitialItem → List PlacedGlobal = λ ms. map (placed s.identifier.at) (global_made s.identifier.name s.kind ms) in
     ap (λ ts. ts ++ globals_from 31 all (suc number) left)
-    (globals_made_at all number s.identifier.name s.kind ∙ ap own (sym are))
+    (ap (map (placed s.identifier.at)) (globals_made_at all number s.identifier.name s.kind) ∙ ap own (sym are))
     ∙ ap (λ n. own members ++ globals_from 31 all n left) (sym (add-one number))

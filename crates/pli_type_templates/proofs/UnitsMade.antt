@@ -1,17 +1,15 @@
 -- The templates of blocks, one block after another.
-use Rattle.std.proofs.Common.{◌≡◌, ℕ, zero, suc, ◌+◌, ◌<◌, ◌≤◌, Some, List, [], ◌∷◌, ◌++◌, take, length, map, option_map, slice_get, get_or}
+use Rattle.std.proofs.Common.{◌≡◌, ℕ, zero, suc, ◌+◌, ◌<◌, ◌≤◌, Some, List, [], ◌∷◌, take, length, map, option_map, slice_get, get_or}
 use Rattle.std.proofs.Common.{refl, ap, sym, ◌∙◌, arith}
-use Rattle.std.specs.List.{flat_map}
-use Rattle.std.proofs.lemmas.Grind.{flat_map-append}
-use Rattle.std.proofs.lemmas.List.{append-nil, length-map, take_all}
+use Rattle.std.proofs.lemmas.List.{length-map, take_all}
 use Rattle.std.proofs.lemmas.Option.{slice_get-map}
 use Rattle.pli_resolve.specs.ResolvedUnits.{ResolvedUnit, all_symbols}
-use Rattle.pli_resolve.specs.Symbols.{Symbol}
-use Rattle.pli_type.specs.NamedUnits.{block_symbols, globals_of, is_automatic, templates_of}
+use Rattle.pli_type.specs.NamedUnits as units
+use Rattle.pli_type.specs.NamedUnits.{block_symbols, is_automatic, templates_of}
 use Rattle.pli_type_names.proofs.Blocks.{all_counted, symbols_there}
-use Rattle.pli_type_names.proofs.Lists.{take_one_more}
+use Rattle.pli_type_templates.specs.declared.placed_globals.PlacedGlobal.{PlacedGlobal}
+use Rattle.pli_type_templates.specs.views.PlacedView.{placed_view, unit_global_view}
 use Rattle.pli_type_tree.specs.Templates.{Template}
-use Rattle.pli_type_tree.specs.TypedTree as tree
 
 -- what the AUTOMATIC variables of all blocks are made from
 abbrev pub rows_of : ResolvedUnit → List (List Template)
@@ -37,19 +35,8 @@ all_rows r n rows h is block =
     ap (λ xs. get_or xs block []) (is ∙ take_all n (rows_of r) long)
     ∙ mapped_get (templates_of (is_automatic 31)) (all_symbols r) block refl
 
--- the globals of one block more, and of all
-pub globals_more : (r : ResolvedUnit) (n : ℕ) → n < length r.blocks + 1
-    → flat_map (globals_of 31) (take n (all_symbols r)) ++ globals_of 31 (block_symbols r n)
-    ≡ flat_map (globals_of 31) (take (n + 1) (all_symbols r))
-globals_more r n h =
-    let f : List Symbol → List tree.Global = globals_of 31 in
-    let own = block_symbols r n in
-    sym (ap (flat_map f) (take_one_more (all_symbols r) n own (symbols_there r n h))
-    ∙ flat_map-append f (take n (all_symbols r)) (own ∷ [])
-    ∙ ap (λ ts. flat_map f (take n (all_symbols r)) ++ ts) (append-nil (f own)))
-
-pub all_globals_are : (r : ResolvedUnit) (n : ℕ) → length r.blocks + 1 ≤ n
-    → flat_map (globals_of 31) (take n (all_symbols r)) ≡ flat_map (globals_of 31) (all_symbols r)
-all_globals_are r n h =
-    let long : length (all_symbols r) ≤ n = omega (arith, h, all_counted r) in
-    ap (flat_map (globals_of 31)) (take_all n (all_symbols r) long)
+-- globals without the tokens of their names
+pub globals_alone : (gs : List PlacedGlobal)
+    → map (λ (p : PlacedGlobal). unit_global_view p.global) gs ≡ map (λ (p : units.PlacedGlobal). p.global) (map placed_view gs)
+globals_alone [] = refl
+globals_alone (g ∷ gs) = ap (λ others. unit_global_view g.global ∷ others) (globals_alone gs)

@@ -1,3 +1,4 @@
 pub mod ItemView
+pub mod PlacedView
 pub mod PlanView
 pub mod UnitView

@@ -6,6 +6,7 @@ mod groups;
 mod items;
 mod members;
 mod numbers;
+mod placed_globals;
 mod plan;
 mod unit_templates;
 mod values;

@@ -1,9 +1,10 @@
 //! What the variables of a unit are made from.
-ghost use Rattle.std.specs.Prelude.{◌≡◌, ℕ, ◌++◌, IfOk};
+ghost use Rattle.std.specs.Prelude.{◌≡◌, ℕ, ◌++◌, IfOk, map};
 ghost use Rattle.pli_base.specs.views.StatementView.{unit_view};
 ghost use Rattle.pli_resolve.specs.ResolvedUnits.{resolved_unit_of};
 ghost use Rattle.pli_type.specs.NamedUnits.{globals_of, is_automatic, named_unit, templates_of};
 ghost use Rattle.pli_type_names.specs.UnitNaming.{symbols_in};
+ghost use Rattle.pli_type_templates.specs.views.PlacedView.{placed_view};
 ghost use Rattle.pli_type_templates.specs.views.UnitView.{automatic_at};
 ghost use Rattle.pli_type_tree.specs.views.GlobalView.{globals_view};
 ghost use Rattle.pli_type_tree.specs.views.TemplateView.{groups_view};
@@ -11,6 +12,7 @@ ghost use Rattle.pli_type_tree.specs.views.TemplateView.{groups_view};
 use crate::globals::put_globals;
 use crate::groups::put_groups;
 use crate::members::members_by_root;
+use crate::placed_globals::{PlacedGlobal, groups, sort};
 use pli_resolve::{ResolvedUnit, StorageClass};
 use pli_type_names::symbols;
 use pli_type_tree::{GlobalGroup, VariableGroup};
@@ -22,7 +24,7 @@ use std::mem;
 pub struct UnitTemplates {
     /// The AUTOMATIC variables of each block, under the block's number.
     pub automatic: Vec<Vec<VariableGroup>>,
-    /// The globals of all blocks, block after block.
+    /// The globals of all blocks, in the order of their names in the text.
     pub globals: Vec<GlobalGroup>,
 }
 
@@ -48,12 +50,12 @@ fn block_templates(
     alloc: Global,
     resolved: &ResolvedUnit<'_>,
     block: usize,
-    globals: &mut Vec<GlobalGroup>,
+    globals: &mut Vec<PlacedGlobal>,
 ) -> Result<Vec<VariableGroup>, AllocError>
     ensures automatic { IfOk result (λ made. groups_view made.items
         ≡ templates_of (is_automatic 31) (symbols_in resolved.now block)) }
-    ensures globals { IfOk result (λ _. globals_view globals.new.items
-        ≡ globals_view globals.old.items ++ globals_of 31 (symbols_in resolved.now block)) }
+    ensures globals { IfOk result (λ _. map placed_view globals.new.items
+        ≡ map placed_view globals.old.items ++ globals_of 31 (symbols_in resolved.now block)) }
 {
     let symbols = symbols(alloc, resolved, block)?;
     let members = members_by_root(alloc, &symbols)?;
@@ -71,7 +73,7 @@ fn block_templates(
 
 /// What the AUTOMATIC variables of each block of a unit are made from, and its globals (X3.74; the limits own):
 /// variables of numbers and strings alone, of at most 1,000,000 bytes each. Initial values stand in the order of the
-/// text, fitted to their scalars. Takes time for the text and for the values that are kept.
+/// text, fitted to their scalars. Takes time for the text, for the values that are kept, and for sorting the globals.
 pub fn templates(alloc: Global, resolved: &ResolvedUnit<'_>) -> Result<UnitTemplates, AllocError>
     ensures automatic { IfOk result (λ made. (block : ℕ) → automatic_at made block
         ≡ (named_unit 31 (resolved_unit_of (unit_view resolved.now))).automatic block) }
@@ -86,5 +88,7 @@ pub fn templates(alloc: Global, resolved: &ResolvedUnit<'_>) -> Result<UnitTempl
     for block in 0..blocks {
         automatic.push(block_templates(alloc, resolved, block, &mut globals)?)?;
     }
+    sort(&mut globals)?;
+    let globals = groups(alloc, globals)?;
     Ok(UnitTemplates { automatic, globals })
 }

@@ -18,8 +18,8 @@ use Rattle.pli_type.specs.examples.ExampleTrees.{faults, one, form_of, called, a
 use Rattle.pli_type.specs.examples.ExampleTrees.{decimal, of_bits, null, a_number, held, no_tree, unit_of}
 use Rattle.pli_type.specs.examples.ExampleTrees.{x, n, i, a}
 use Rattle.pli_type_tree.specs.TypedTree as typed
-use Rattle.pli_type_tree.specs.TypedTree.{InSlot, OfBlock, Whole, BlockHead, TypedProcedure, NoArgument, ByPlace}
-use Rattle.pli_type_tree.specs.TypedTree.{ByDummy, NoStatement, StatementThen}
+use Rattle.pli_type_tree.specs.TypedTree.{InSlot, OfBlock, Whole, BlockHead, TypedProcedure, NoArgument}
+use Rattle.pli_type_tree.specs.TypedTree.{ByPlace, ByDummy, NoStatement, StatementThen}
 
 -- `DO V = .. range; ; END;`, whose variable stands at token 1 and its `=` at 2
 abbrev pub group : Reference → (first : Expression) → Option Range → Statement
@@ -33,7 +33,8 @@ to e = Some (To e None)
 abbrev pub ControlVariables : Type 0
 ControlVariables =
     -- DO X = '1'B TO 'A';
-    (faults ((1, x) ∷ []) (group (alone_named (codes "X") 1) (of_bits (codes "1") 3) (to (text (codes "A") 5)))
+    (faults ((1, x) ∷ [])
+    (group (alone_named (codes "X") 1) (of_bits (codes "1") 3) (to (text (codes "A") 5)))
     ≡ one WrongOperandType 5)
     -- DO X = 1 TO 2;
     × (faults ((1, x) ∷ []) (group (alone_named (codes "X") 1) (decimal 1 1 3) (to (decimal 2 1 5)))
@@ -49,7 +50,8 @@ ControlVariables =
     (group (Named (called (codes "A") 1) (Given (Listed (decimal 1 1 3) Empty)) Alone) (of_bits (codes "1") 4)
     None) ≡ one BadControlVariable 1)
     -- DO I = 1 TO N;
-    × (form_of ((1, i) ∷ (5, n) ∷ []) (group (alone_named (codes "I") 1) (decimal 1 1 3) (to (named (codes "N") 5)))
+    × (form_of ((1, i) ∷ (5, n) ∷ [])
+    (group (alone_named (codes "I") 1) (decimal 1 1 3) (to (named (codes "N") 5)))
     ≡ Some (typed.Iterate (record {
       control = Whole (InSlot 0 2);
       conversion = Fit (FixedBinary 31) ∷ [];
@@ -81,10 +83,12 @@ CallsAreTyped =
     ≡ Some (typed.Call (OfBlock 1) (ByPlace (Whole (InSlot 0 2)) NoArgument)))
     -- CALL S((I));
     × (form_of ((1, s) ∷ (4, i) ∷ []) (call (Parenthesized 3 (named (codes "I") 4) ∷ []))
-    ≡ Some (typed.Call (OfBlock 1) (ByDummy (FixedBinary 31) (with_one (Fit (FixedBinary 31)) (held 2)) NoArgument)))
+    ≡ Some (typed.Call (OfBlock 1)
+    (ByDummy (FixedBinary 31) (with_one (Fit (FixedBinary 31)) (held 2)) NoArgument)))
     -- CALL S(N);
     × (form_of ((1, s) ∷ (3, n) ∷ []) (call (named (codes "N") 3 ∷ []))
-    ≡ Some (typed.Call (OfBlock 1) (ByDummy (FixedBinary 31) (with_one (Fit (FixedBinary 31)) (held 1)) NoArgument)))
+    ≡ Some (typed.Call (OfBlock 1)
+    (ByDummy (FixedBinary 31) (with_one (Fit (FixedBinary 31)) (held 1)) NoArgument)))
     -- CALL S; with F in its place; CALL S('A'); CALL S(A); CALL F(1); CALL X;
     × (faults ((1, s) ∷ []) (call []) ≡ one WrongNumberOfArguments 1)
     × (faults ((1, f) ∷ []) (call []) ≡ one NotCallableHere 1)
@@ -118,7 +122,8 @@ head number statement temporaries =
 
 abbrev pub BlocksAreTyped : Type 0
 BlocksAreTyped =
-    (statements_typed (unit_of no_tree ((6, i) ∷ (11, ALabel 2) ∷ [])) (in_unit None blocks) first_inside blocks
+    (statements_typed (unit_of no_tree ((6, i) ∷ (11, ALabel 2) ∷ [])) (in_unit None blocks) first_inside
+    blocks
     ≡ Ok (record {
       part = StatementThen (typed.Statement 2 (typed.Begin (head 1 2 1)
           (StatementThen (typed.Statement 3 (typed.Iterate (record {
@@ -129,7 +134,8 @@ BlocksAreTyped =
             condition = None;
             temporary = 0;
           }) (StatementThen (typed.Statement 4 (typed.Goto 1 2)) NoStatement)))
-          (StatementThen (typed.Statement 6 (typed.Begin (head 2 6 0) NoStatement)) NoStatement)))) NoStatement;
+          (StatementThen (typed.Statement 6 (typed.Begin (head 2 6 0) NoStatement)) NoStatement))))
+          NoStatement;
       procedures = record {
         head = head 3 9 0;
         parent = Some 0;

@@ -98,6 +98,7 @@ VariablesOfUnit =
     ∷ record { description = FixedBinary 15; initial = record { scalar = 0; value = Number (pos 3) } ∷ [] }
     ∷ [])
     × ((named_unit 31 resolved).globals
-    ≡ OwnVariable (record { description = pair; initial = record { scalar = 1; value = Bits (true ∷ []) } ∷ [] })
+    ≡ OwnVariable
+    (record { description = pair; initial = record { scalar = 1; value = Bits (true ∷ []) } ∷ [] })
     ∷ EntryPoint (codes "E") (record { parameters = Bit 1 ∷ []; result = None })
     ∷ ExternalVariable (codes "Z") (record { description = Bit 1; initial = [] }) ∷ [])

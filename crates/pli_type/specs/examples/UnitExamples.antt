@@ -67,8 +67,8 @@ no_names = []
 -- DCL X POINTER; Z1 at DCL
 -- DCL X BIT STATIC; in a unit that is not MAIN, and EXTERNAL
 -- DCL X ENTRY; DCL X ENTRY(BIT); and DCL X ENTRY(POINTER); with Z1
--- a labelled SIGNAL, at its label; FREE behind THEN, at FREE; none in `BEGIN; STOP; END;`; RETURNS(POINTER), at
--- the procedure's name
+-- a labelled SIGNAL, at its label; FREE behind THEN, at FREE; none in `BEGIN; STOP; END;`; RETURNS(POINTER),
+-- at the procedure's name
 -- ALLOCATION, where the name means the function, at the statement
 abbrev pub FirstUnbuilt : Type 0
 FirstUnbuilt =

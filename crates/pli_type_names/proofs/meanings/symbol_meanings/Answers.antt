@@ -1,4 +1,4 @@
-use Rattle.std.proofs.Common.{◌≡◌, ◌+◌, ◌<◌, ◌++◌, ℕ, drop, get_or, length, map, option_map, ap, ◌∙◌, arith, subst}
+use Rattle.std.proofs.Common.{◌≡◌, ◌+◌, ◌++◌, ℕ, drop, get_or, length, map, option_map, ap, ◌∙◌, arith, subst}
 use Rattle.std.specs.List.{All}
 use Rattle.std.proofs.lemmas.List.{length-map}
 use Rattle.pli_resolve.specs.Symbols as plain
@@ -18,7 +18,7 @@ index-global-requires c =
     let l = c.loop-number in
     let ss = c.args.symbols.now in
     let all = map symbol_view ss in
-    let facts : BlockFacts = record { parameters = c.args.parameters.now; globals = c.args.globals.now; symbols = all } in
+    let facts : BlockFacts = record { parameters = c.args.parameters.now; places = c.args.places.now; globals = c.args.globals.now; symbols = all } in
     let g : ℕ → plain.Symbol → ℕ = λ number x. global_at facts number in
     omega (
       arith,
@@ -33,7 +33,7 @@ loop-number-preserved c =
     let l = c.loop-number in
     let ss = c.args.symbols.now in
     let all = map symbol_view ss in
-    let facts : BlockFacts = record { parameters = c.args.parameters.now; globals = c.args.globals.now; symbols = all } in
+    let facts : BlockFacts = record { parameters = c.args.parameters.now; places = c.args.places.now; globals = c.args.globals.now; symbols = all } in
     let n = l.number in
     let s = c.index-symbols-number.result in
     let kind = symbol_kind_view s.kind in

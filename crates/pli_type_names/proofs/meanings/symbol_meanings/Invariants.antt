@@ -13,7 +13,7 @@ use Rattle.pli_type_names.proofs.meanings.symbol_meanings.Given as goal
 -- the meanings so far, with those of the symbols that are left; and structures to which ways lead
 abbrev pub invariant-loop-number : goal.invariant-loop-number
 invariant-loop-number l =
-    let f : BlockFacts = record { parameters = l.parameters; globals = l.fn.globals; symbols = map symbol_view l.symbols } in
+    let f : BlockFacts = record { parameters = l.parameters; places = l.places; globals = l.fn.globals; symbols = map symbol_view l.symbols } in
     record {
       meanings : map meant_view l.meanings.items
           ++ each_from (λ number s. kind_kept (own_variables f) number (global_at f number) s.kind) l.number (map symbol_view (drop l.number l.symbols))

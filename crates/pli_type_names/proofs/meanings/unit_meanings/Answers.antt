@@ -4,7 +4,8 @@ use Rattle.pli_base.specs.views.StatementView.{unit_view}
 use Rattle.pli_resolve.specs.ResolvedUnits.{all_symbols, resolved_unit_of}
 use Rattle.pli_resolve.specs.Symbols.{Symbol}
 use Rattle.pli_resolve.specs.views.SymbolView.{symbol_view}
-use Rattle.pli_type.specs.NamedUnits.{block_symbols, globals_before, globals_in, parameter_numbers}
+use Rattle.pli_type.specs.NamedUnits.{all_tokens, block_symbols, globals_before, globals_in, parameter_numbers}
+use Rattle.pli_type.specs.TextOrder.{text_places}
 use Rattle.pli_type_names.specs.BlockFacts.{facts_of}
 use Rattle.pli_type_names.specs.Seen.{Kept, kept_symbols}
 use Rattle.pli_type_names.specs.UnitNaming.{symbols_in}
@@ -20,19 +21,22 @@ loop-block-preserved c =
     let r = resolved_unit_of (unit_view c.args.resolved.now) in
     let n = l.block in
     let within : n < length r.blocks + 1 = omega (arith, c.in-Some.ensures, c.block_count.ensures, c.loop-block-test.true) in
-    let made = c.in_ok-symbol_meanings.field-0 in
+    let made = c.in_ok-row.row in
     let ss = c.deref.result.now in
     let ps = c.parameter_numbers-parameters.result.now in
     let same : map symbol_view ss ≡ block_symbols r n = ap (map symbol_view) c.deref.ensures.value ∙ c.in_ok-symbols.ensures in
-    let kept : List ℕ → ℕ → List Symbol → List Kept = λ p k xs. kept_symbols (record { parameters = p; globals = k; symbols = xs }) in
+    let kept : List ℕ → List ℕ → ℕ → List Symbol → List Kept = λ p q k xs. kept_symbols (record { parameters = p; places = q; globals = k; symbols = xs }) in
+    let qs = c.deref-in-loop-block.result.now in
+    let places : List ℕ = text_places (all_tokens 31 (all_symbols r)) in
     let row : row_view made ≡ kept_symbols (facts_of r n) =
-    c.in_ok-symbol_meanings.ensures.meanings
-    ∙ ap (λ p. kept p l.globals (map symbol_view ss)) c.parameter_numbers-parameters.ensures
-    ∙ ap (λ k. kept (parameter_numbers r n) k (map symbol_view ss)) l.invariant.globals
-    ∙ ap (λ xs. kept (parameter_numbers r n) (globals_in 31 (take n (all_symbols r))) xs) same in
+    c.in_ok-row.ensures.meanings
+    ∙ ap (λ p. kept p qs l.globals (map symbol_view ss)) c.parameter_numbers-parameters.ensures
+    ∙ ap (λ q. kept (parameter_numbers r n) q l.globals (map symbol_view ss)) (c.deref-in-loop-block.ensures.value ∙ c.in_ok-places.ensures)
+    ∙ ap (λ k. kept (parameter_numbers r n) places k (map symbol_view ss)) l.invariant.globals
+    ∙ ap (λ xs. kept (parameter_numbers r n) places (globals_in 31 (take n (all_symbols r))) xs) same in
     let count : List Symbol → ℕ → ℕ = globals_before 31 in
     let counted : c.symbol_meanings.new.globals ≡ l.globals + count (block_symbols r n) (length (block_symbols r n)) =
-    c.in_ok-symbol_meanings.ensures.counted
+    c.in_ok-row.ensures.counted
     ∙ ap (λ k. l.globals + count (map symbol_view ss) k) (sym (length-map ss symbol_view))
     ∙ ap (λ xs. l.globals + count xs (length xs)) same in
     let more = globals_more (all_symbols r) n (block_symbols r n) (symbols_there r n within) in

@@ -1,4 +1,4 @@
-use Rattle.std.proofs.Common.{◌≡◌, ◌+◌, ◌++◌, drop, length, map, option_map}
+use Rattle.std.proofs.Common.{◌≡◌, ◌+◌, ◌++◌, drop, get_or, length, map, option_map}
 use Rattle.pli_resolve.specs.views.SymbolView.{symbol_view}
 use Rattle.pli_type.specs.NamedUnits.{globals_before, is_automatic, such_before}
 use Rattle.pli_type_names.specs.Numbered.{each_from}
@@ -10,13 +10,13 @@ use Rattle.pli_type_names.proofs.own_variables.own_variables.Given as goal
 abbrev pub invariant-loop-number : goal.invariant-loop-number
 invariant-loop-number l = record {
   slots : l.free.slot ≡ length l.parameters + such_before (is_automatic 31) (map symbol_view l.symbols) l.number;
-  globals : l.free.number ≡ l.fn.globals + globals_before 31 (map symbol_view l.symbols) l.number;
+  globals : l.free.globals ≡ l.fn.globals + globals_before 31 (map symbol_view l.symbols) l.number;
   numbers : l.numbers.items
-      ++ each_from (λ number s. l.fn.globals + globals_before 31 (map symbol_view l.symbols) number) l.number (map symbol_view (drop l.number l.symbols))
+      ++ each_from (λ number s. get_or l.places (l.fn.globals + globals_before 31 (map symbol_view l.symbols) number) 0) l.number (map symbol_view (drop l.number l.symbols))
       ≡ l.fn.numbers.items
-      ++ each_from (λ number s. l.fn.globals + globals_before 31 (map symbol_view l.symbols) number) 0 (map symbol_view l.symbols);
+      ++ each_from (λ number s. get_or l.places (l.fn.globals + globals_before 31 (map symbol_view l.symbols) number) 0) 0 (map symbol_view l.symbols);
   variables : map (option_map own_view) l.variables.items
-      ++ each_from (λ number s. spec.own_at (record { parameters = l.parameters; globals = l.fn.globals; symbols = map symbol_view l.symbols }) number s.kind) l.number
+      ++ each_from (λ number s. spec.own_at (record { parameters = l.parameters; places = l.places; globals = l.fn.globals; symbols = map symbol_view l.symbols }) number s.kind) l.number
       (map symbol_view (drop l.number l.symbols))
-      ≡ spec.own_variables (record { parameters = l.parameters; globals = l.fn.globals; symbols = map symbol_view l.symbols });
+      ≡ spec.own_variables (record { parameters = l.parameters; places = l.places; globals = l.fn.globals; symbols = map symbol_view l.symbols });
 }

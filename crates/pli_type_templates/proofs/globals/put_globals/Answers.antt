@@ -4,9 +4,9 @@ use Rattle.std.proofs.lemmas.List.{append_assoc, append-nil, drop_all, drop_more
 use Rattle.pli_resolve.specs.views.SymbolView.{symbol_view}
 use Rattle.pli_type.specs.InitialScalars.{InitialItem}
 use Rattle.pli_type.specs.NamedUnits.{member_items, globals_from}
-use Rattle.pli_type_tree.specs.views.GlobalView.{globals_view}
 use Rattle.pli_type_templates.specs.declared.items.Item.{Item}
 use Rattle.pli_type_templates.specs.views.ItemView.{items_view}
+use Rattle.pli_type_templates.specs.views.PlacedView.{placed_view}
 use Rattle.pli_type_templates.proofs.GroupsMade.{one_global}
 use Rattle.pli_type_templates.proofs.globals.put_globals.Goals as goal
 
@@ -24,7 +24,7 @@ loop-number-preserved c =
     let members : items_view c.deref.result.now ≡ member_items l.number all =
     ap items_view c.deref.ensures.value ∙ ap items c.index-members-number.is
     ∙ sym (get_or-map items c.args.members.now l.number v [] owned) ∙ c.requires.owned l.number within in
-    let so_far = globals_view l.globals.items in
+    let so_far = map placed_view l.globals.items in
     let rest = globals_from 31 all (l.number + 1) (map symbol_view others) in
     ap (λ ts. ts ++ rest) c.in_ok-put_global.ensures
     ∙ append_assoc so_far _ rest
@@ -38,4 +38,4 @@ returns c =
     let all = map symbol_view c.args.symbols.now in
     let none = drop_all l.number c.args.symbols.now c.loop-number-test.false in
     let nothing = ap (λ left. globals_from 31 all l.number (map symbol_view left)) none in
-    sym (append-nil (globals_view l.globals.items)) ∙ ap (λ ts. globals_view l.globals.items ++ ts) (sym nothing) ∙ l.invariant
+    sym (append-nil (map placed_view l.globals.items)) ∙ ap (λ ts. map placed_view l.globals.items ++ ts) (sym nothing) ∙ l.invariant

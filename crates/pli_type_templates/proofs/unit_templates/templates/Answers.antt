@@ -1,11 +1,14 @@
 use Rattle.std.proofs.Common.{◌+◌, ◌<◌, ◌≤◌, ◌++◌, Some, length, map, ap, sym, ◌∙◌, arith}
 use Rattle.pli_base.specs.views.StatementView.{unit_view}
 use Rattle.pli_resolve.specs.ResolvedUnits.{resolved_unit_of}
+use Rattle.pli_type.specs.NamedUnits as units
 use Rattle.pli_type.specs.NamedUnits.{block_symbols, globals_of}
+use Rattle.pli_type.specs.TextOrder.{in_order}
 use Rattle.pli_type_names.specs.UnitNaming.{symbols_in}
 use Rattle.pli_type_names.proofs.Lists.{made_more}
 use Rattle.pli_type_templates.specs.views.UnitView.{row_view}
-use Rattle.pli_type_templates.proofs.UnitsMade.{rows_of, row_there, all_rows, globals_more, all_globals_are}
+use Rattle.pli_type_names.proofs.Blocks.{gathered_more, all_gathered}
+use Rattle.pli_type_templates.proofs.UnitsMade.{rows_of, row_there, all_rows, globals_alone}
 use Rattle.pli_type_templates.proofs.unit_templates.templates.Goals as goal
 
 pub loop-block-preserved : goal.loop-block-preserved
@@ -21,7 +24,7 @@ loop-block-preserved c =
           (row_there r n within ∙ ap Some (sym c.in_ok-block_templates.ensures.automatic));
       globals = c.in_ok-block_templates.ensures.globals
           ∙ ap (λ ts. ts ++ globals_of 31 (block_symbols r n)) l.invariant.globals
-          ∙ globals_more r n within;
+          ∙ gathered_more (globals_of 31) r n within;
     }
 
 pub returns : goal.returns
@@ -31,5 +34,8 @@ returns c =
     let beyond : length r.blocks + 1 ≤ l.block = omega (arith, c.in-Some.ensures, c.block_count.ensures, c.loop-block-test.false) in
     record {
       automatic = all_rows r l.block (map row_view l.automatic.items) beyond l.invariant.rows;
-      globals = l.invariant.globals ∙ all_globals_are r l.block beyond;
+      globals = c.in_ok-globals.ensures
+          ∙ globals_alone c.sort.new.globals.items
+          ∙ ap (map (λ (p : units.PlacedGlobal). p.global)) (c.in_ok-sort.ensures
+          ∙ ap (in_order (λ (p : units.PlacedGlobal). p.at)) (l.invariant.globals ∙ all_gathered (globals_of 31) r l.block beyond));
     }

@@ -1,0 +1,34 @@
+-- The order of the text: items in the order of the tokens at which they stand.
+use Rattle.std.specs.Prelude.{ℕ, zero, suc, nat_eq, nat_lt, List, [], ◌∷◌, get_or, length, map, if◌then◌else◌}
+
+-- an item put before the first that stands at a later token
+abbrev pub inserted : {A : Type 0} → (token : A → ℕ) → A → List A → List A
+inserted token x [] = x ∷ []
+inserted token x (y ∷ ys) = if nat_lt (token x) (token y) then x ∷ y ∷ ys else y ∷ inserted token x ys
+
+abbrev pub in_order_after : {A : Type 0} → (token : A → ℕ) → (sorted : List A) → List A → List A
+in_order_after token sorted [] = sorted
+in_order_after token sorted (x ∷ xs) = in_order_after token (inserted token x sorted) xs
+
+-- in the order of tokens; those at one token as they stood
+abbrev pub in_order : {A : Type 0} → (token : A → ℕ) → List A → List A
+in_order token = in_order_after token []
+
+-- so many numbers, the first of which is this one
+abbrev pub numbers_from : (from count : ℕ) → List ℕ
+numbers_from from zero = []
+numbers_from from (suc count) = from ∷ numbers_from (suc from) count
+
+-- the numbers of tokens, each counted from 0, in the order of the tokens
+abbrev pub text_order : (tokens : List ℕ) → List ℕ
+text_order tokens = in_order (λ number. get_or tokens number 0) (numbers_from 0 (length tokens))
+
+-- where a number stands among these, the first of which has this place
+abbrev pub place_from : (from number : ℕ) → List ℕ → ℕ
+place_from from number [] = 0
+place_from from number (n ∷ ns) = if nat_eq n number then from else place_from (suc from) number ns
+
+-- for each token its place in the order of the text
+abbrev pub text_places : (tokens : List ℕ) → List ℕ
+text_places tokens =
+    map (λ number. place_from 0 number (text_order tokens)) (numbers_from 0 (length tokens))

@@ -1,0 +1,132 @@
+//! The globals of a unit in the order of the text.
+ghost use Rattle.std.specs.Prelude.{◌≡◌, ◌<◌, ◌++◌, IfOk, OnOk, get_or, length, map, if◌then◌else◌};
+ghost use Rattle.std.specs.List.{All};
+ghost use Rattle.pli_base.specs.views.StatementView.{unit_view};
+ghost use Rattle.pli_map.specs.views.DescriptionView.{description_view};
+ghost use Rattle.pli_resolve.specs.ResolvedUnits.{all_symbols, resolved_unit_of};
+ghost use Rattle.pli_resolve.specs.views.SymbolView.{symbol_view, symbol_kind_view};
+ghost use Rattle.pli_type.specs.NamedUnits as units;
+ghost use Rattle.pli_type.specs.NamedUnits.{all_tokens, global_tokens, one_global};
+ghost use Rattle.pli_type.specs.TextOrder.{numbers_from, place_from, text_order, text_places};
+
+use crate::descriptions::is_stored;
+use crate::unit_symbols::symbols;
+use pli_map::Description;
+use pli_resolve::{ResolvedUnit, StorageClass, Symbol, SymbolKind};
+use std::alloc::{AllocError, Global};
+
+/// Whether a variable is STATIC and compiled.
+fn is_static(class: StorageClass, description: &Description) -> bool
+    ensures { result ≡ units.is_static 31 class (description_view description.now) }
+{
+    match class {
+        StorageClass::Static => is_stored(description),
+        _ => false,
+    }
+}
+
+/// Whether a symbol is a global: a STATIC variable that is compiled, or an entry.
+fn is_global(kind: SymbolKind<'_>) -> bool
+    ensures { (if result then 1 else 0) ≡ one_global 31 (symbol_kind_view kind.entry) }
+{
+    match kind {
+        SymbolKind::Variable {
+            description,
+            class,
+            ..
+        } => is_static(class, description),
+        SymbolKind::Entry { .. } => true,
+        _ => false,
+    }
+}
+
+/// Puts the tokens of the names of globals among the symbols of a block.
+fn put_tokens(symbols: &[Symbol<'_>], tokens: &mut Vec<u32>) -> Result<(), AllocError>
+    ensures { OnOk result (tokens.new.items ≡ tokens.old.items ++ global_tokens 31 (map symbol_view symbols.now)) }
+{
+    for symbol in symbols {
+        if is_global(symbol.kind) {
+            tokens.push(symbol.identifier.at)?;
+        }
+    }
+    Ok(())
+}
+
+/// The tokens of the names of a unit's globals, block after block.
+fn unit_tokens<'r>(alloc: Global, resolved: &'r ResolvedUnit<'r>) -> Result<Vec<u32>, AllocError>
+    ensures { IfOk result (λ tokens. tokens.items ≡ all_tokens 31 (all_symbols (resolved_unit_of (unit_view resolved.now)))) }
+{
+    let Some(blocks) = resolved.block_count().checked_add(1) else {
+        return Err(AllocError);
+    };
+    let mut tokens = Vec::new(alloc);
+    for block in 0..blocks {
+        let symbols = symbols(alloc, resolved, block)?;
+        put_tokens(&symbols, &mut tokens)?;
+    }
+    Ok(tokens)
+}
+
+/// The numbers below a count. Want of memory where there are more than 4,294,967,295.
+fn numbers_below(alloc: Global, count: usize) -> Result<Vec<u32>, AllocError>
+    ensures { IfOk result (λ numbers. numbers.items ≡ numbers_from 0 count) }
+{
+    let Ok(count) = u32::try_from(count) else {
+        return Err(AllocError);
+    };
+    let mut numbers = Vec::new(alloc);
+    for number in 0..count {
+        numbers.push(number)?;
+    }
+    Ok(numbers)
+}
+
+/// What stands under a number; 0 where there is nothing.
+pub(crate) fn under(items: &[u32], number: u32) -> u32
+    ensures { result ≡ get_or items.now number 0 }
+{
+    match items.get(number as usize) {
+        Some(item) => *item,
+        None => 0,
+    }
+}
+
+/// The numbers of tokens, each counted from 0, in the order of the tokens.
+fn sorted_numbers(alloc: Global, tokens: &[u32]) -> Result<Vec<u32>, AllocError>
+    ensures { IfOk result (λ numbers. numbers.items ≡ text_order tokens.now) }
+{
+    let mut numbers = numbers_below(alloc, tokens.len())?;
+    numbers.sort_by_key(|number| under(tokens, *number))?;
+    Ok(numbers)
+}
+
+/// For each number below the count of these numbers its place among them.
+fn places_among(alloc: Global, numbers: &[u32]) -> Result<Vec<u32>, AllocError>
+    requires { All (λ number. number < length numbers.now) numbers.now }
+    ensures { IfOk result (λ places. places.items
+        ≡ map (λ number. place_from 0 number numbers.now) (numbers_from 0 (length numbers.now))) }
+{
+    let Ok(count) = u32::try_from(numbers.len()) else {
+        return Err(AllocError);
+    };
+    let mut places = vec![in alloc; 0_u32; numbers.len()]?;
+    for place in (0..count).rev() {
+        let number = numbers[place as usize];
+        places[number as usize] = place;
+    }
+    Ok(places)
+}
+
+/// For each global of a unit, block after block, its number in the order of the names in the text. Takes time for the
+/// unit's symbols, and for sorting its globals.
+pub(crate) fn global_places<'r>(
+    alloc: Global,
+    resolved: &'r ResolvedUnit<'r>,
+) -> Result<Vec<u32>, AllocError>
+    ensures { IfOk result (λ places. places.items
+        ≡ text_places (all_tokens 31 (all_symbols (resolved_unit_of (unit_view resolved.now))))) }
+{
+    let tokens = unit_tokens(alloc, resolved)?;
+    let numbers = sorted_numbers(alloc, &tokens)?;
+    places_among(alloc, &numbers)
+}
