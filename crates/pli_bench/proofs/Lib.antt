@@ -1,6 +1,8 @@
 pub mod BytesWaiting
 pub mod CommandsObeyed
+pub mod DumpsObeyed
 pub mod FirstWordFound
+pub mod HexLines
 pub mod LinesAnswered
 pub mod LinesListed
 pub mod LinesOfBytes

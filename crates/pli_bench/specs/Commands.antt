@@ -27,6 +27,8 @@ pub data Command : Type 0 where
   ListMembers : Command
   -- the source members are built
   Build : Command
+  -- the bytes of the module that stands are shown
+  Dump : Command
   -- the module that stands is run, with so many steps, or the bench's own number
   Run : (steps : Option ℕ) → Command
   -- the session ends
@@ -151,9 +153,10 @@ command_with word rest =
     else (if is_word (codes "LIST") word then option_and_then list_of rest
     else (if is_word (codes "MEMBERS") word then alone ListMembers rest
     else (if is_word (codes "BUILD") word then alone Build rest
+    else (if is_word (codes "DUMP") word then alone Dump rest
     else (if is_word (codes "RUN") word then run_of rest
     else (if is_word (codes "QUIT") word then alone Quit rest
-    else None)))))))))
+    else None))))))))))
 
 -- the command that a line spells
 abbrev pub command_of : List ℕ → Option Command
@@ -210,6 +213,12 @@ unspelt_members = refl
 
 unspelt_name : command_of (codes "DELETE 1M") ≡ None
 unspelt_name = refl
+
+spelt_dump : command_of (codes "Dump") ≡ Some Dump
+spelt_dump = refl
+
+unspelt_dump : command_of (codes "DUMP M") ≡ None
+unspelt_dump = refl
 
 spelt_run : command_of (codes "RUN 007") ≡ Some (Run (Some 7))
 spelt_run = refl

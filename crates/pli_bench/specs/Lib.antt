@@ -1,4 +1,5 @@
 pub mod Commands
+pub mod Dumps
 pub mod Exchanges
 pub mod Lines
 pub mod Runs

@@ -16,9 +16,11 @@ use Rattle.pli_machine_step.specs.Runs.{Outcome}
 use Rattle.pli_code.specs.declared.ending.Ending.{Ending}
 use Rattle.pli_code.specs.declared.ending.Ending.TheVariants.{Ended, OutOfSteps, Error, MachineFault}
 use Rattle.pli_meaning.specs.Scratch.{Built, Diagnosed, Made, scratch, Means}
+use Rattle.pli_unit_code.specs.Modules.{Module}
 use Rattle.pli_bench.specs.Exchanges.{Exchange}
 use Rattle.pli_bench.specs.Commands.{Command, Add, Delete, Insert, Replace, Remove, ListLines, ListMembers}
-use Rattle.pli_bench.specs.Commands.{Build, Run, Quit, command_of}
+use Rattle.pli_bench.specs.Commands.{Build, Dump, Run, Quit, command_of}
+use Rattle.pli_bench.specs.Dumps.{dumped}
 
 -- the members, whether a module of them stands, and the steps of a bare RUN
 pub record State : Type 0 where
@@ -106,6 +108,13 @@ Builds e =
     × (e.after ≡ left_by (scratch e.before.store.entries) e.before))
     ⊎ ((e.answer ≡ no_memory) × (e.after ≡ without_module e.before))
 
+-- the bytes of the members' module are shown, if a module of them stands; where memory is refused, nothing is
+abbrev pub Dumps : Bool → Exchange State → Type 0
+Dumps false e = Says not_built e
+Dumps true e =
+    (m : Module) × (scratch e.before.store.entries ≡ Made m)
+    × (Says (dumped m ++ okay) e ⊎ Says no_memory e)
+
 -- a run broke off: some first bytes of the output, a line end, and that memory was refused
 pub record Breaks (output answer : List ℕ) : Type 0 where
   pub written : List ℕ
@@ -169,6 +178,8 @@ Obeys (Some (ListLines name)) e = Lists (lines_of e.before.store name) e
 Obeys (Some ListMembers) e = Says (flat_map member_line e.before.store.entries ++ okay) e
 -- BUILD answers the diagnostics, or makes a module
 Obeys (Some Build) e = Builds e
+-- DUMP shows the bytes of the module
+Obeys (Some Dump) e = Dumps e.before.stands e
 -- RUN runs the module with so many steps, or as many as a bare RUN has
 Obeys (Some (Run n)) e = Runs e.before.stands (unwrap_or n e.before.steps) e
 -- QUIT changes nothing

@@ -11,10 +11,12 @@ ghost use Rattle.pli_bench.specs.Session.{Obeys, Step, quits, opened};
 use crate::answer::{put_ending, put_parts, put_refusal};
 use crate::build::{Built, build};
 use crate::command::{Command, read_command};
+use crate::dumping::put_dump;
 use crate::listing::{put_lines, put_members};
 use crate::serving::{Interpreter, Next, ServeFault, WriteFailed, serve};
 use pli_base::{Failed, Name, Sink, Source};
 use pli_code::Ran;
+use pli_deck_code::linked_bytes;
 use pli_include::Expander;
 use pli_members::{EditError, MemberKind, Members, Refusal};
 use pli_print::RunFault;
@@ -98,6 +100,7 @@ impl Bench {
             Some(Command::ListLines(member)) => going_on(self.list_lines(member.name, writer)),
             Some(Command::ListMembers) => going_on(self.list_members(writer)),
             Some(Command::Build) => going_on(self.rebuild(writer)),
+            Some(Command::Dump) => going_on(self.dump(writer)),
             Some(Command::Run(steps)) => going_on(self.execute(steps, writer)),
             Some(Command::Quit) => match put_parts(writer, &[b"OK\n"]) {
                 Ok(()) => Ok(Next::Quit),
@@ -228,6 +231,19 @@ impl Bench {
                 self.standing = None;
                 put_parts(writer, &[b"NO MEMORY\n"])
             }
+        }
+    }
+
+    fn dump<W: Sink>(&self, writer: &mut W) -> Result<(), Failed>
+        ensures answered { Does (Obeys (Some spelt.Dump)) self.now self.now (W.contents writer.old) (W.contents writer.new) result }
+        ensures mark { Marked (W.failed writer.old) (W.failed writer.new) result }
+    {
+        let Some(module) = &self.standing else {
+            return put_parts(writer, &[b"B2 NOT BUILT\n"]);
+        };
+        match linked_bytes(self.alloc, module) {
+            Ok(bytes) => put_dump(writer, &bytes),
+            Err(AllocError) => put_parts(writer, &[b"NO MEMORY\n"]),
         }
     }
 

@@ -7,6 +7,7 @@ mod bench;
 mod build;
 mod command;
 mod compile;
+mod dumping;
 mod listing;
 mod pending;
 mod serving;

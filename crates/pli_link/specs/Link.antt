@@ -77,8 +77,12 @@ abbrev pub entries_of : List (Name × ℕ) → List CodedGlobal → List ℕ
 entries_of procedures gs = flat_map (entry_in procedures) gs
 
 abbrev pub linked_unit : List (Name × ℕ) → Compiled → LinkedUnit
-linked_unit procedures c =
-    record { unit = c.unit; code = c.code; entries = entries_of procedures c.code.globals }
+linked_unit procedures c = record {
+  unit = c.unit;
+  procedure = c.procedure;
+  code = c.code;
+  entries = entries_of procedures c.code.globals;
+}
 
 -- the module of all units, of which this is the main one
 abbrev pub module_of : List Compiled → (main : ℕ) → Module

@@ -57,10 +57,16 @@ fn linked_unit(
     requires { AreSmall procedures.now.entries }
     ensures { IfOk result (λ linked. unit_view linked ≡ link.linked_unit procedures.now.entries (compiled_view compiled)) }
 {
-    let Compiled { unit, code, .. } = compiled;
+    let Compiled {
+        unit,
+        procedure,
+        code,
+        ..
+    } = compiled;
     let entries = entries_of(alloc, procedures, &code.globals)?;
     Ok(LinkedUnit {
         unit,
+        procedure,
         code,
         entries,
     })

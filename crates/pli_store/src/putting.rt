@@ -11,7 +11,7 @@ use pli_value::Value;
 use std::alloc::AllocError;
 
 /// Puts a value in the place of the one at this scalar of a generation.
-#[inline]
+#[inline(always)]
 pub fn put_one(
     generations: &mut Vec<Generation<'_>>,
     part: Part,

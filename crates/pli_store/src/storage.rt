@@ -70,7 +70,7 @@ impl<'m> Storage<'m> {
     }
 
     /// The generation and the scalar to which a place leads.
-    #[inline]
+    #[inline(never)]
     fn part(&self, place: Place<'_>) -> Result<Part, StoreFault>
         ensures { Leads (storage_view self.now) (place_view place.entry) result }
     {
@@ -88,7 +88,7 @@ impl<'m> Storage<'m> {
 
     /// Where the generation stands that begins with the number to which a place leads, if it stands where it was made: no search
     /// is needed then.
-    #[inline]
+    #[inline(always)]
     fn lone(&self, place: Place<'_>) -> Option<usize>
         ensures leads { IfSome result (λ at. LeadsTo (storage_view self.now) (place_view place.entry) (record { at = at; first = 0 })) }
         ensures scalar { IfSome result (λ _. is_scalar (description_view place.entry.description.now) ≡ true) }
@@ -109,7 +109,7 @@ impl<'m> Storage<'m> {
     }
 
     /// The generation and the scalar to which a place leads, if it leads to one. That of a number alone is found at once.
-    #[inline]
+    #[inline(always)]
     fn part_of_number(&self, place: Place<'_>) -> Option<Part>
         ensures { IfSome result (LeadsTo (storage_view self.now) (place_view place.entry)) }
     {
@@ -123,7 +123,7 @@ impl<'m> Storage<'m> {
     }
 
     /// The value at the place of a scalar.
-    #[inline]
+    #[inline(never)]
     fn value_at(&self, place: Place<'_>) -> Result<&Value, StoreFault>
         ensures { (w : World) → Answered (λ v. value_view v.now) result (with_storage self.now w) (with_storage self.now w)
             (held (place_view place.entry) (with_storage self.now w)) }
@@ -150,7 +150,7 @@ impl<'m> Storage<'m> {
     }
 
     /// The number that the place of a scalar holds, where it holds one; `held` tells of any other.
-    #[inline]
+    #[inline(always)]
     pub fn number_at(&self, place: Place<'_>) -> Option<i64>
         ensures { (w : World) → IfSome result (λ x. held (place_view place.entry) (with_storage self.now w)
             ≡ Yields (Number x) (with_storage self.now w)) }
@@ -183,7 +183,7 @@ impl<'m> Storage<'m> {
     }
 
     /// A number put at the place of a scalar; where it is not, nothing has changed, and `stored` tells why.
-    #[inline]
+    #[inline(always)]
     pub fn put_number(&mut self, place: Place<'_>, number: i64) -> bool
         ensures { NumberPut result self.old self.new (place_view place.entry) number }
     {

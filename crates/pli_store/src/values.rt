@@ -45,7 +45,7 @@ pub fn one_value(alloc: Global, value: Value) -> Result<Vec<Value>, AllocError>
 
 /// Puts a value in the place of the one of this number, or behind the last where there are not so many. Takes memory
 /// only there.
-#[inline]
+#[inline(always)]
 pub fn put_value(values: &mut Vec<Value>, first: usize, value: Value) -> Result<(), AllocError>
     ensures ok { OnOk result (values.new.items ≡ take first values.old.items ++ value ∷ [] ++ drop (first + 1) values.old.items) }
     ensures err { OnErr result (values.new.items ≡ values.old.items) }
@@ -101,7 +101,7 @@ fn replace_behind(
 }
 
 /// Whether a description holds a number.
-#[inline]
+#[inline(always)]
 pub fn holds_number(description: &Description, number: i64) -> bool
     ensures { result ≡ true → holds (description_view description.now) (Number number) ≡ true }
 {

@@ -83,6 +83,8 @@ pub struct Code {
 pub struct LinkedUnit {
     /// The name of its member.
     pub unit: Name,
+    /// The name of its external procedure.
+    pub procedure: Name,
     pub code: Code,
     /// For each entry among its globals, in their order: the number of the unit that has its procedure.
     pub entries: Vec<u16>,

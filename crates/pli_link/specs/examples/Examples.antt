@@ -39,8 +39,9 @@ unit n procedure is_main code =
 abbrev pub named : Name → (unit : Name) → LinkedName
 named n u = record { name = n; unit = u }
 
-abbrev pub linked : Name → Code → (entries : List ℕ) → LinkedUnit
-linked n code entries = record { unit = n; code = code; entries = entries }
+abbrev pub linked : Name → (procedure : Name) → Code → (entries : List ℕ) → LinkedUnit
+linked n procedure code entries =
+    record { unit = n; procedure = procedure; code = code; entries = entries }
 
 -- one text in two members
 abbrev pub TwoUnits : Type 0
@@ -55,7 +56,9 @@ OneOfThree =
     link_of (unit (codes "A") (codes "F") false plain ∷ unit (codes "M") (codes "M") true plain
     ∷ unit (codes "Q") (codes "G") false plain ∷ [])
     ≡ Ok (record {
-      units = linked (codes "A") plain [] ∷ linked (codes "M") plain [] ∷ linked (codes "Q") plain [] ∷ [];
+      units =
+          linked (codes "A") (codes "F") plain [] ∷ linked (codes "M") (codes "M") plain []
+          ∷ linked (codes "Q") (codes "G") plain [] ∷ [];
       main = 1;
     })
 
@@ -94,7 +97,9 @@ SameShared =
     link_of (unit (codes "M") (codes "M") true calling
     ∷ unit (codes "Q") (codes "Q") false (sharing (Character 4)) ∷ [])
     ≡ Ok (record {
-      units = linked (codes "M") calling (1 ∷ []) ∷ linked (codes "Q") (sharing (Character 4)) [] ∷ [];
+      units =
+          linked (codes "M") (codes "M") calling (1 ∷ [])
+          ∷ linked (codes "Q") (codes "Q") (sharing (Character 4)) [] ∷ [];
       main = 0;
     })
 
@@ -145,7 +150,10 @@ many = replicate 16 (OwnVariable 0)
 abbrev pub NotTooLarge : Type 0
 NotTooLarge =
     link_of (with_strings many ∷ [])
-    ≡ Ok (record { units = linked (codes "M") (with_strings many).code [] ∷ []; main = 0 })
+    ≡ Ok (record {
+      units = linked (codes "M") (codes "M") (with_strings many).code [] ∷ [];
+      main = 0;
+    })
 
 -- a variable that several units share, or one unit declares several times, counts once
 abbrev pub shared : List CodedGlobal
@@ -154,4 +162,7 @@ shared = replicate 17 (ExternalVariable (codes "Z") 0)
 abbrev pub SharedOnce : Type 0
 SharedOnce =
     link_of (with_strings shared ∷ [])
-    ≡ Ok (record { units = linked (codes "M") (with_strings shared).code [] ∷ []; main = 0 })
+    ≡ Ok (record {
+      units = linked (codes "M") (codes "M") (with_strings shared).code [] ∷ [];
+      main = 0;
+    })

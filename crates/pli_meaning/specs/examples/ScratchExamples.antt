@@ -47,8 +47,10 @@ first_code = record {
 }
 
 abbrev pub first_module : Module
-first_module =
-    record { units = record { unit = codes "M"; code = first_code; entries = [] } ∷ []; main = 0 }
+first_module = record {
+  units = record { unit = codes "M"; procedure = codes "M"; code = first_code; entries = [] } ∷ [];
+  main = 0;
+}
 
 abbrev pub FirstIsMade : Type 0
 FirstIsMade = scratch first_members ≡ Made first_module

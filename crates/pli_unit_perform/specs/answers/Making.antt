@@ -61,10 +61,12 @@ GoesOn (Err fault) whole rest w = EndsAs fault whole w
 abbrev pub Placed : Option Variable → (external : Option Name) → (old new : Storage) → List Static
     → Result (Option Place) StoreFault → Type 0
 Placed (Some v) external old new statics (Ok (Some p)) =
-    made_once v (made_before external statics) (first_world old statics) ≡ Yields (place_view p) (first_world new statics)
+    made_once v (made_before external statics) (first_world old statics)
+    ≡ Yields (place_view p) (first_world new statics)
 Placed None external old new statics (Ok None) = first_world new statics ≡ first_world old statics
 Placed (Some v) external old new statics (Err fault) =
-    EndsAs fault (made_once v (made_before external statics) (first_world old statics)) (first_world new statics)
+    EndsAs fault (made_once v (made_before external statics) (first_world old statics))
+    (first_world new statics)
 Placed v external old new statics result = ⊥
 
 -- external variables that were made already, by their names
@@ -75,7 +77,9 @@ AreKnown s statics =
 -- a variable of a name is there, and known
 abbrev pub KnownAt : Name → Shared → List Static → Result (Option Place) StoreFault → Type 0
 KnownAt name s statics (Ok (Some p)) =
-    (unit : Name) (number : ℕ) → AreKnown s (statics ++ record { unit = unit; number = number; external = Some name; place = place_view p } ∷ [])
+    (unit : Name) (number : ℕ)
+    → AreKnown s
+    (statics ++ record { unit = unit; number = number; external = Some name; place = place_view p } ∷ [])
 KnownAt name s statics (Ok None) = AreKnown s statics
 KnownAt name s statics (Err fault) = Unit {0}
 
@@ -101,27 +105,31 @@ abbrev pub number_behind : (number : ℕ) → Option LinkedGlobal → ℕ
 number_behind number None = number
 number_behind number (Some g) = suc number
 
--- the next global of a unit is linked, of which the first ones are these; those that are left, and the units of
--- their entries
+-- the next global of a unit is linked, of which the first ones are these; those that are left, and the units
+-- of their entries
 pub record NextLinked (c : Code) (unit : Name) (number : ℕ) (statics : List Static)
     (globals more : List CodedGlobal) (entries left : List ℕ) (old new : Shared) (g : Option LinkedGlobal)
     : Type 0 where
   pub made :
-      statics_made unit number (map global_variable (globals_linked c globals entries)) (first_world old.storage statics)
+      statics_made unit number (map global_variable (globals_linked c globals entries))
+      (first_world old.storage statics)
       ≡ statics_made unit (number_behind number g) (map global_variable (globals_linked c more left))
       (first_world new.storage (statics ++ statics_from unit number (there g)))
   pub same :
-      map entry_in (globals_linked c globals entries) ≡ map entry_of (there g) ++ map entry_in (globals_linked c more left)
+      map entry_in (globals_linked c globals entries)
+      ≡ map entry_of (there g) ++ map entry_in (globals_linked c more left)
   pub known : AreKnown new (statics ++ statics_from unit number (there g))
 
 -- or the storage has no room
-abbrev pub Links : (c : Code) (unit : Name) (number : ℕ) (statics : List Static) (globals more : List CodedGlobal)
-    (entries left : List ℕ) (old new : Shared) → Result (Option LinkedGlobal) StoreFault → Type 0
+abbrev pub Links : (c : Code) (unit : Name) (number : ℕ) (statics : List Static)
+    (globals more : List CodedGlobal) (entries left : List ℕ) (old new : Shared)
+    → Result (Option LinkedGlobal) StoreFault → Type 0
 Links c unit number statics globals more entries left old new (Ok g) =
     NextLinked c unit number statics globals more entries left old new g
 Links c unit number statics globals more entries left old new (Err fault) =
     EndsAs fault
-    (statics_made unit number (map global_variable (globals_linked c globals entries)) (first_world old.storage statics))
+    (statics_made unit number (map global_variable (globals_linked c globals entries))
+    (first_world old.storage statics))
     (first_world new.storage statics)
 
 -- all globals of a unit are linked, in the world with the variables of those before

@@ -1,0 +1,86 @@
+-- The module of linked units: their decks, and what their external names stand for (own).
+use Rattle.std.specs.Prelude.{ℕ, ◌+◌, nat_eq, Bool, Option, Some, None, is_some, unwrap_or, List, [], ◌∷◌}
+use Rattle.std.specs.Prelude.{◌++◌, map, if◌then◌else◌}
+use Rattle.std.specs.BTreeMap.{insert_entry, is_at}
+use Rattle.std.specs.Cmp.Lexicographic.{slice_cmp}
+use Rattle.std.specs.Map.{keys_of, lookup}
+use Rattle.std.specs.Ordering.{nat_cmp}
+use Rattle.pli_base.specs.Name.{Name}
+use Rattle.pli_base.specs.Words.{same_name}
+use Rattle.pli_deck.specs.ModuleFields.{External, Member, Module}
+use Rattle.pli_unit_code.specs.CodeTables.{CodedGlobal, OwnVariable, ExternalVariable, EntryPoint}
+use Rattle.pli_unit_code.specs.Modules as linked
+use Rattle.pli_unit_code.specs.Modules.{LinkedUnit}
+use Rattle.pli_deck_code.specs.CodeDecks.{short, deck_of}
+use Rattle.pli_deck_code.specs.declared.externals.Declaration.{Declaration}
+
+-- where an external variable is declared
+abbrev pub declaration : (unit global : ℕ) → Declaration
+declaration unit global = record { unit = short unit; global = short global }
+
+-- the external variables that a unit declares, from this global on
+abbrev pub declared_in : (unit global : ℕ) → List CodedGlobal → List (Name × Declaration)
+declared_in unit global [] = []
+declared_in unit global (ExternalVariable name t ∷ gs) =
+    (name, declaration unit global) ∷ declared_in unit (global + 1) gs
+declared_in unit global (other ∷ gs) = declared_in unit (global + 1) gs
+
+-- and all units, from this one on
+abbrev pub all_declared : (unit : ℕ) → List LinkedUnit → List (Name × Declaration)
+all_declared unit [] = []
+all_declared unit (u ∷ us) = declared_in unit 0 u.code.globals ++ all_declared (unit + 1) us
+
+-- declarations in the order of their names, with one more, unless there is one of its name
+abbrev pub with_declaration : List (Name × Declaration) → Name × Declaration → List (Name × Declaration)
+with_declaration before d =
+    if is_some (lookup (is_at (slice_cmp nat_cmp d.0)) before) then before
+    else insert_entry (slice_cmp nat_cmp) before d.0 d.1
+
+-- of those of one name the first, in the order of the names
+abbrev pub firsts : (before : List (Name × Declaration)) → List (Name × Declaration)
+    → List (Name × Declaration)
+firsts before [] = before
+firsts before (d ∷ ds) = firsts (with_declaration before d) ds
+
+abbrev pub declarations : List LinkedUnit → List (Name × Declaration)
+declarations us = firsts [] (all_declared 0 us)
+
+-- a STATIC variable with its first declaration
+abbrev pub external_of : Name × Declaration → External
+external_of d = record { name = d.0; kind = 2; unit = d.1.unit; global = d.1.global }
+
+-- the number of a name among these, which have numbers from this one on
+abbrev pub number_of : (number : ℕ) → List Name → Name → Option ℕ
+number_of number [] name = None
+number_of number (n ∷ ns) name =
+    if same_name n name then Some (short number) else number_of (number + 1) ns name
+
+-- what external globals stand for: the number of an external variable or, for an entry, of its unit
+abbrev pub links_of : (names : List Name) → List CodedGlobal → (entries : List ℕ) → List ℕ
+links_of names [] entries = []
+links_of names (OwnVariable t ∷ gs) entries = links_of names gs entries
+links_of names (ExternalVariable name t ∷ gs) entries =
+    unwrap_or (number_of 0 names name) 0 ∷ links_of names gs entries
+links_of names (EntryPoint name signature ∷ gs) [] = links_of names gs []
+links_of names (EntryPoint name signature ∷ gs) (unit ∷ units) = unit ∷ links_of names gs units
+
+-- a unit with its deck
+abbrev pub member : (names : List Name) → (is_main : Bool) → LinkedUnit → Member
+member names is_main u = record {
+  name = u.unit;
+  deck = deck_of is_main u;
+  links = links_of names u.code.globals u.entries;
+}
+
+-- units with their decks, the first of which has this number
+abbrev pub members_of : (main : ℕ) → (names : List Name) → (number : ℕ) → List LinkedUnit → List Member
+members_of main names number [] = []
+members_of main names number (u ∷ us) =
+    member names (nat_eq number main) u ∷ members_of main names (number + 1) us
+
+abbrev pub module_of : linked.Module → Module
+module_of m = record {
+  main = m.main;
+  externals = map external_of (declarations m.units);
+  units = members_of m.main (keys_of (declarations m.units)) 0 m.units;
+}

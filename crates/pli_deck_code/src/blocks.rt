@@ -1,0 +1,127 @@
+//! Signatures, globals, blocks, and the deck of a unit.
+ghost use Rattle.std.specs.Prelude.{◌≡◌, map, IfOk};
+ghost use Rattle.pli_deck.specs.DeckView as view;
+ghost use Rattle.pli_map.specs.views.DescriptionView.{description_view};
+ghost use Rattle.pli_unit_code.specs.views.CodeView.{kind_view, signature_view, global_view, block_view, unit_view};
+ghost use Rattle.pli_deck_code.specs.CodeDecks.{kind_number, signature_of, global_of, block_of, deck_of};
+
+use crate::constants::constants_of;
+use crate::instructions::instructions_of;
+use crate::numbers::{byte, short};
+use crate::templates::templates_of;
+use pli_deck::{Block, Deck, Global, Signature};
+use pli_map::Description;
+use pli_unit_code as code;
+use pli_unit_code::{BlockKind, CodedGlobal, CodedSignature, LinkedUnit};
+use std::alloc;
+use std::alloc::AllocError;
+
+/// Copies of descriptions.
+fn descriptions_of(
+    alloc: alloc::Global,
+    descriptions: &[Description],
+) -> Result<Vec<Description>, AllocError>
+    ensures { IfOk result (λ made. map description_view made.items ≡ map description_view descriptions.now) }
+{
+    let mut made = Vec::with_capacity(alloc, descriptions.len())?;
+    for description in descriptions {
+        made.push(description.copy(alloc)?)?;
+    }
+    Ok(made)
+}
+
+/// A signature.
+fn signature_of(alloc: alloc::Global, signature: &CodedSignature) -> Result<Signature, AllocError>
+    ensures { IfOk result (λ made. view.signature_view made ≡ signature_of (signature_view signature.now)) }
+{
+    Ok(Signature {
+        parameters: Vec::from_slice(alloc, &signature.parameters)?,
+        result: signature.result,
+    })
+}
+
+/// A global.
+fn global_of(alloc: alloc::Global, global: &CodedGlobal) -> Result<Global, AllocError>
+    ensures { IfOk result (λ made. view.global_view made ≡ global_of (global_view global.now)) }
+{
+    match global {
+        CodedGlobal::OwnVariable { template } => Ok(Global::Static(*template)),
+        CodedGlobal::ExternalVariable { name, template } => Ok(Global::ExternalStatic {
+            name: *name,
+            template: *template,
+        }),
+        CodedGlobal::EntryPoint { name, signature } => Ok(Global::ExternalEntry {
+            name: *name,
+            signature: signature_of(alloc, signature)?,
+        }),
+    }
+}
+
+/// Globals.
+fn globals_of(alloc: alloc::Global, globals: &[CodedGlobal]) -> Result<Vec<Global>, AllocError>
+    ensures { IfOk result (λ made. map view.global_view made.items ≡ map global_of (map global_view globals.now)) }
+{
+    let mut made = Vec::with_capacity(alloc, globals.len())?;
+    for global in globals {
+        made.push(global_of(alloc, global)?)?;
+    }
+    Ok(made)
+}
+
+/// The number of a kind of blocks.
+fn kind_number(kind: BlockKind) -> u8
+    ensures { result ≡ kind_number (kind_view kind) }
+{
+    match kind {
+        BlockKind::Procedure => 0,
+        BlockKind::Begin => 1,
+        BlockKind::OnUnit => 2,
+    }
+}
+
+/// A block with its numbers in their fields.
+fn block_of(alloc: alloc::Global, block: &code::Block) -> Result<Block, AllocError>
+    ensures { IfOk result (λ made. view.block_view made ≡ block_of (block_view block.now)) }
+{
+    Ok(Block {
+        kind: kind_number(block.kind),
+        parent: match block.parent {
+            None => None,
+            Some(parent) => Some(short(u64::from(parent))),
+        },
+        parameters: byte(block.parameters),
+        variables: Vec::from_slice(alloc, &block.variables)?,
+        temporaries: short(u64::from(block.temporaries)),
+        entry: block.entry,
+        statement: block.statement,
+    })
+}
+
+/// Blocks with their numbers in their fields.
+fn blocks_of(alloc: alloc::Global, blocks: &[code::Block]) -> Result<Vec<Block>, AllocError>
+    ensures { IfOk result (λ made. map view.block_view made.items ≡ map block_of (map block_view blocks.now)) }
+{
+    let mut made = Vec::with_capacity(alloc, blocks.len())?;
+    for block in blocks {
+        made.push(block_of(alloc, block)?)?;
+    }
+    Ok(made)
+}
+
+/// The deck of a unit, whose procedure is the main procedure or not.
+pub fn deck_of(alloc: alloc::Global, is_main: bool, unit: &LinkedUnit) -> Result<Deck, AllocError>
+    ensures { IfOk result (λ made. view.deck_view made ≡ deck_of is_main (unit_view unit.now)) }
+{
+    let code = &unit.code;
+    Ok(Deck {
+        name: unit.procedure,
+        is_main,
+        signature: signature_of(alloc, &code.signature)?,
+        descriptions: descriptions_of(alloc, &code.descriptions)?,
+        templates: templates_of(alloc, &code.descriptions, &code.templates)?,
+        values: constants_of(alloc, &code.values)?,
+        globals: globals_of(alloc, &code.globals)?,
+        blocks: blocks_of(alloc, &code.blocks)?,
+        instructions: instructions_of(alloc, &code.instructions)?,
+    })
+}
