@@ -428,8 +428,7 @@ module _ (all : List Global)
       let first = makes_all u.globals u.name 0 before w values externals typed.0.made (λ i g e. among i g (among_front u.globals (all_globals us) i g e)) (omega (arith, few2)) (omega (arith, small2)) in
       let m = first.2 in
       let rest = all_are_made n us (named_after before u.globals) first.0 typed.1 names.1 m.values m.externals (λ i g e. let b = among_behind u.globals (all_globals us) i g e in among b.0 g b.1)
-      (omega (arith, few2, m.count)) (omega (arith, small2, m.bytes)) in
-      (
+      (omega (arith, few2, m.count)) (omega (arith, small2, m.bytes)) in (
         rest.0,
         further_gives (statics_made u.name 0 (map global_variable u.globals) w) (λ _ w. all_made us w) tt first.0 rest.0 first.1 rest.1,
         behind u us before w first.0 rest.0 names.0 m rest.2,
