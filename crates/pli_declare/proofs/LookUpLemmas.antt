@@ -9,7 +9,7 @@ use Rattle.pli_declare_scopes.specs.declared.found.Found.{Found}
 use Rattle.pli_declare_scopes.specs.declared.found.Found.TheVariants.{Nothing, One, Several}
 use Rattle.pli_declare_scopes.specs.declared.found.Meant.TheVariants.{NotDeclared}
 use Rattle.pli_declare_scopes.specs.declared.repeat.Verdict.{Verdict}
-use Rattle.pli_declare_scopes.specs.Scopes.{Block, Scope, declares, declares_first, fits, fits_fully, with_number, found_below, preferred, found_in, meant_there, meant_from, meant}
+use Rattle.pli_declare_scopes.specs.Scopes.{Block, Scope, declares_first, fits, fits_fully, with_number, found_below, preferred, found_in, meant_there, meant_from, meant}
 use Rattle.pli_declare_outline.specs.Outlines.{Region, Outline}
 use Rattle.pli_declare_constructs.specs.Regions.{first_of, innermost, blocks_round, blocks_from}
 use Rattle.pli_declare_tables.specs.Tables.{Entry, with_verdicts, entries_in, verdicts_in, block_in, unit_entries, unit_block, numbers_from, table_in, scope_of, tables_of}
@@ -208,14 +208,29 @@ module _ (o : Outline) (region : ℕ) (names : List Name) where
     pub found_nowhere : (b : Bool) → declares_first (unit_block o) names ≡ b → b ≡ false → meant (scope_of o region) names ≡ NotDeclared
     found_nowhere b f h = sym w.meant ∙ sym (passed w.out (unit_block o) [] b f h)
 
-first_is : (names : List Name) (first : Name) (block : Block) → 0 < length names → first ≡ get_or names 0 first → declares_first block names ≡ declares block first
-first_is [] first block some e = absurd (omega arith)
-first_is (n ∷ ns) first block some e = ap (declares block) (sym e)
+-- what a block answers that was read
+pub asked : (block read : Block) (names : List Name) (answer : Option Found) → read ≡ block → answer ≡ (if declares_first read names then Some (found_in read names) else None)
+    → answer ≡ (if declares_first block names then Some (found_in block names) else None)
+asked block read names answer is e = e ∙ ap (λ b. if declares_first b names then Some (found_in b names) else None) is
 
--- whether a block that was read declares the first of the names
-pub first_declared : (names : List Name) (first : Name) (block read : Block) (found : Bool) → 0 < length names → first ≡ get_or names 0 first → read ≡ block → found ≡ declares read first
-    → declares_first block names ≡ found
-first_declared names first block read found some e same is = first_is names first block some e ∙ ap (λ b. declares b first) (sym same) ∙ sym is
+-- it answers where it declares the first of the names, and then what is found
+pub some_asked : (block : Block) (names : List Name) (answer : Option Found) (found : Found)
+    → answer ≡ (if declares_first block names then Some (found_in block names) else None) → answer ≡ Some found
+    → (declares_first block names ≡ true) × (found ≡ found_in block names)
+some_asked block names answer found e is = by (declares_first block names) refl (sym e ∙ is)
+  where
+    by : (b : Bool) → declares_first block names ≡ b → (if b then Some (found_in block names) else None) ≡ Some found
+        → (declares_first block names ≡ true) × (found ≡ found_in block names)
+    by true d h = (d, cc)
+    by false d h = cc
+
+pub none_asked : (block : Block) (names : List Name) (answer : Option Found)
+    → answer ≡ (if declares_first block names then Some (found_in block names) else None) → answer ≡ None → declares_first block names ≡ false
+none_asked block names answer e is = by (declares_first block names) refl (sym e ∙ is)
+  where
+    by : (b : Bool) → declares_first block names ≡ b → (if b then Some (found_in block names) else None) ≡ None → declares_first block names ≡ false
+    by true d h = cc
+    by false d h = d
 
 -- tables by their blocks
 

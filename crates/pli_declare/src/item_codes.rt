@@ -75,7 +75,7 @@ impl Known<'_> {
             ≡ map (item_code (outline_view self.now.scopes.outline.now) block) (numbers_from 0 (length (entries_in (outline_view self.now.scopes.outline.now) block)))) }
     {
         let count = self.table(block).entries.len();
-        let mut codes = Vec::new(alloc);
+        let mut codes = Vec::with_capacity(alloc, count)?;
         for number in 0..count {
             codes.push(self.item_code(block, number, good[number]))?;
         }

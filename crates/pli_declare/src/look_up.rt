@@ -1,7 +1,6 @@
 //! What names mean where they stand.
 ghost use Rattle.std.specs.Prelude.{◌≡◌};
 ghost use Rattle.pli_declare_outline.specs.views.OutlineView.{outline_view};
-ghost use Rattle.pli_declare_scopes.specs.Scopes.{found_in};
 ghost use Rattle.pli_declare_tables.specs.answers.Answers.{AreOf};
 ghost use Rattle.pli_declare_tables.specs.views.TableView.{entries_view};
 ghost use Rattle.pli_declare.specs.answers.Answers.{IsLookedUp, IsWithin, entries_at};
@@ -10,7 +9,7 @@ ghost use Rattle.pli_declare.specs.answers.Looking.{looked_there};
 use crate::scopes::Scopes;
 use pli_base::Name;
 use pli_declare_outline::Outline;
-use pli_declare_scopes::{Block, Found};
+use pli_declare_scopes::Found;
 use pli_declare_tables::{Table, Tables};
 
 /// What names mean.
@@ -24,11 +23,11 @@ pub enum Looked {
     NotDeclared,
 }
 
-/// What names mean in the block that decides, which has this region, or none if it is the outermost.
-fn decided(items: &Block, names: &[Name], block: Option<usize>) -> Looked
-    ensures { result ≡ looked_there block (found_in items.now names.now) }
+/// What names mean that fit this in the block that decides, which has this region, or none if it is the outermost.
+fn decided(found: Found, block: Option<usize>) -> Looked
+    ensures { result ≡ looked_there block found }
 {
-    match items.find(names) {
+    match found {
         Found::Nothing => Looked::NotDeclared,
         Found::One(number) => Looked::Found { block, number },
         Found::Several => Looked::Ambiguous,
@@ -40,21 +39,18 @@ fn decided(items: &Block, names: &[Name], block: Option<usize>) -> Looked
 pub(crate) fn look_up(scopes: &Scopes, region: usize, names: &[Name]) -> Looked
     ensures { IsLookedUp result (outline_view scopes.now.outline.now) region names.now }
 {
-    let Some(first) = names.first() else {
-        return Looked::NotDeclared;
-    };
     let mut here = scopes.nesting.innermost(region);
     while let Some(block) = here {
         let items = &scopes.tables.blocks[block].block;
-        if items.declares(*first) {
-            return decided(items, names, here);
+        if let Some(found) = items.find_declared(names) {
+            return decided(found, here);
         }
         here = scopes.nesting.outward(block);
     }
-    if scopes.tables.unit.block.declares(*first) {
-        return decided(&scopes.tables.unit.block, names, None);
+    match scopes.tables.unit.block.find_declared(names) {
+        Some(found) => decided(found, None),
+        None => Looked::NotDeclared,
     }
-    Looked::NotDeclared
 }
 
 /// The table of a block by its region, or that of the outermost one.

@@ -19,7 +19,7 @@ fn note(meanings: &mut IndexMap<u32, Target>, one: Use) -> Result<(), AllocError
 pub(crate) fn meanings(alloc: Global, uses: &[Use]) -> Result<IndexMap<u32, Target>, AllocError>
     ensures { IfOk result (λ meanings. AreMeanings meanings uses.now) }
 {
-    let mut meanings = IndexMap::new(alloc);
+    let mut meanings = IndexMap::with_capacity(alloc, uses.len())?;
     for one in uses {
         note(&mut meanings, *one)?;
     }

@@ -152,6 +152,9 @@ pub(crate) fn tell_parameters(
     requires { AreOf tables.now (outline_view outline.now) }
     ensures { OnOk result (faults.new.items ≡ faults.old.items ++ parameter_codes (outline_view outline.now) region [] parameters.now) }
 {
+    if parameters.is_empty() {
+        return Ok(());
+    }
     let items = block_names(alloc, outline, tables, region)?;
     let mut before = IndexSet::new(alloc);
     for parameter in parameters {

@@ -1,5 +1,5 @@
 //! The faults of references.
-ghost use Rattle.std.specs.Prelude.{◌≡◌, IfOk};
+ghost use Rattle.std.specs.Prelude.{◌≡◌, ◌∷◌, [], IfOk};
 ghost use Rattle.pli_declare_outline.specs.views.OutlineView.{outline_view};
 ghost use Rattle.pli_declare_scopes.specs.Scopes.{meant};
 ghost use Rattle.pli_declare_tables.specs.Tables.{scope_of};
@@ -32,8 +32,20 @@ pub(crate) fn names_of(alloc: Global, identifiers: &[Identifier]) -> Result<Vec<
         .collect(alloc)
 }
 
+/// The code of a reference of one name in a region.
+fn name_code(scopes: &Scopes, here: usize, name: Identifier) -> Option<Code>
+    ensures { result ≡ reference_code (name ∷ []) (meant (scope_of (outline_view scopes.now.outline.now) here) (names_of (name ∷ []))) }
+{
+    match look_up(scopes, here, &[name.name]) {
+        Looked::Found { .. } => None,
+        Looked::Ambiguous => Some(Code::Ambiguous),
+        Looked::NotDeclared if is_built_in(name.name) => None,
+        Looked::NotDeclared => Some(Code::NotDeclared),
+    }
+}
+
 /// The code of a reference in a region, by the names that are joined in it.
-pub(crate) fn reference_code(
+fn joined_code(
     alloc: Global,
     scopes: &Scopes,
     here: usize,
@@ -48,4 +60,19 @@ pub(crate) fn reference_code(
         Looked::NotDeclared if is_function(names) => None,
         Looked::NotDeclared => Some(Code::NotDeclared),
     })
+}
+
+/// The code of a reference in a region. For one name no memory is taken.
+pub(crate) fn reference_code(
+    alloc: Global,
+    scopes: &Scopes,
+    here: usize,
+    names: &[Identifier],
+) -> Result<Option<Code>, AllocError>
+    ensures { IfOk result (λ code. code ≡ reference_code names.now (meant (scope_of (outline_view scopes.now.outline.now) here) (names_of names.now))) }
+{
+    match names {
+        [name] => Ok(name_code(scopes, here, *name)),
+        _ => joined_code(alloc, scopes, here, names),
+    }
 }

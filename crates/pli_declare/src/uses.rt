@@ -1,5 +1,5 @@
 //! What the names that a unit uses mean.
-ghost use Rattle.std.specs.Prelude.{◌≡◌, ℕ, ◌++◌, IfOk, OnOk};
+ghost use Rattle.std.specs.Prelude.{◌≡◌, ℕ, ◌++◌, ◌∷◌, [], IfOk, OnOk};
 ghost use Rattle.pli_declare_outline.specs.Outlines.{Used};
 ghost use Rattle.pli_declare_outline.specs.views.OutlineView.{outline_view, mark_view, marks_view};
 ghost use Rattle.pli_declare_scopes.specs.Scopes.{meant};
@@ -14,6 +14,7 @@ use crate::scopes::Scopes;
 use pli_base::Name;
 use pli_base::syntax::Identifier;
 use pli_declare_outline::{Mark, Placed};
+use pli_declare_variables::is_built_in;
 use std::alloc::{AllocError, Global};
 
 /// What names in a region mean, or this where they are not declared. Ambiguous names mean nothing.
@@ -46,8 +47,22 @@ pub(crate) fn add_use(
     Ok(())
 }
 
-/// What a reference in a region means, at its first name, behind other uses.
-fn add_reference(
+/// What a reference of one name in a region means, behind other uses.
+fn add_name(
+    scopes: &Scopes,
+    here: usize,
+    name: Identifier,
+    uses: &mut Vec<Use>,
+) -> Result<(), AllocError>
+    ensures { OnOk result (uses.new.items ≡ uses.old.items ++ uses_at (outline_view scopes.now.outline.now) here (Used (name ∷ []))) }
+{
+    let function = is_built_in(name.name).then_some(Target::Function);
+    let target = target_of(scopes, here, &[name.name], function);
+    add_use(uses, name.at, target)
+}
+
+/// What names that are joined in a reference in a region mean, at the first of them, behind other uses.
+fn add_joined(
     alloc: Global,
     scopes: &Scopes,
     here: usize,
@@ -63,6 +78,22 @@ fn add_reference(
     let function = is_function(names).then_some(Target::Function);
     let target = target_of(scopes, here, &joined, function);
     add_use(uses, first.at, target)
+}
+
+/// What a reference in a region means, at its first name, behind other uses. For one name no list is made.
+fn add_reference(
+    alloc: Global,
+    scopes: &Scopes,
+    here: usize,
+    names: &[Identifier],
+    uses: &mut Vec<Use>,
+) -> Result<(), AllocError>
+    ensures { OnOk result (uses.new.items ≡ uses.old.items ++ uses_at (outline_view scopes.now.outline.now) here (Used names.now)) }
+{
+    match names {
+        [name] => add_name(scopes, here, *name, uses),
+        _ => add_joined(alloc, scopes, here, names, uses),
+    }
 }
 
 /// What the names that a mark uses mean, behind other uses.

@@ -18,7 +18,7 @@ fn names_of(alloc: Global, identifiers: &[Identifier]) -> Result<Vec<Name>, Allo
         .collect(alloc)
 }
 
-/// Remembers the references of a mark. A GOTO has one name, which is found at once.
+/// Remembers the references of a mark. One name, as that of a GOTO, is found at once.
 fn remember_mark(
     alloc: Global,
     nesting: &Nesting,
@@ -34,6 +34,7 @@ fn remember_mark(
         Mark::Entered { procedure, .. } => {
             remember_options(alloc, nesting, tables, region, procedure.options.as_slice())
         }
+        Mark::Used(identifiers) if identifiers.len() < 2 => Ok(()),
         Mark::Used(identifiers) => {
             let names = names_of(alloc, identifiers)?;
             remember(alloc, nesting, tables, region, &names)

@@ -16,7 +16,7 @@ fn names_of(
 ) -> Result<Vec<Identifier>, AllocError>
     ensures { IfOk result (λ names. names.items ≡ name ∷ member_names (joined_view joined.now)) }
 {
-    let mut names = Vec::new(alloc);
+    let mut names = Vec::with_capacity(alloc, joined.len() + 1)?;
     names.push(name)?;
     for part in joined {
         match part.joining {

@@ -133,7 +133,7 @@ fn mark_allocation(
     ensures { OnOk result (marks_view marks.new.items
         ≡ marks_view marks.old.items ++ placed here (allocation_marks (allocation_view allocation.now))) }
 {
-    let mut names = Vec::new(alloc);
+    let mut names = Vec::with_capacity(alloc, 1)?;
     names.push(allocation.name)?;
     mark(here, Mark::Used(names), marks)?;
     mark_both(alloc, here, &allocation.area, &allocation.target, marks)
@@ -191,7 +191,7 @@ pub fn mark_head<'a>(
         }
         Body::Free(references) => mark_references(alloc, here, references.as_slice(), marks),
         Body::Call { name, arguments } => {
-            let mut names = Vec::new(alloc);
+            let mut names = Vec::with_capacity(alloc, 1)?;
             names.push(*name)?;
             mark(here, Mark::Used(names), marks)?;
             match arguments {

@@ -15,3 +15,4 @@ pub mod PairsReach
 pub mod TailsFound
 pub mod StandsAbove
 pub mod Recalled
+pub mod FoundWhereDeclared

@@ -1,10 +1,11 @@
 //! The items that a block declares.
-ghost use Rattle.std.specs.Prelude.{◌≡◌, ◌<◌, ◌+◌, ◌-◌, reverse, take, drop, ◌++◌, ◌&&◌, [], ◌∷◌, true, false, length, if◌then◌else◌, None, Some, IfSome, IfOk, OnOk, OnErr};
+ghost use Rattle.std.specs.Prelude.{◌≡◌, ◌<◌, ◌+◌, ◌-◌, reverse, take, drop, ◌++◌, ◌&&◌, [], ◌∷◌, true, false, length, get_or, if◌then◌else◌, None, Some, IfSome, IfOk, OnOk, OnErr};
 ghost use Rattle.indexmap.specs.IndexMap.{get, IsUnchanged};
 ghost use Rattle.pli_base.specs.Name.{Name as Characters};
 ghost use Rattle.pli_base.specs.Words.{same_name};
-ghost use Rattle.pli_declare_scopes.specs.Scopes.{declares, item_at, chain_over, is_part, fits, fits_fully, found_below, found_in};
+ghost use Rattle.pli_declare_scopes.specs.Scopes.{declares, declares_first, is_named, item_at, chain_over, is_part, fits, fits_fully, found_below, found_in};
 ghost use Rattle.pli_declare_scopes.specs.declared.found.Found.TheVariants as variants;
+ghost use Rattle.pli_declare_scopes.specs.answers.Indexes.{last_below};
 ghost use Rattle.pli_declare_scopes.specs.answers.Leaps.{IsLastUpTo};
 ghost use Rattle.pli_declare_scopes.specs.answers.Reaches.{IsReach, IsCandidate};
 ghost use Rattle.pli_declare_scopes.specs.answers.Remembered.{found_fitting};
@@ -14,7 +15,7 @@ use crate::leap::{Leap, leap_on};
 use crate::path::{Step, note_end, path_above, path_of};
 use crate::reach::{nearest_above, reach_on, reaches};
 use crate::remembered::{keep, recalled};
-use crate::room::{make_room, push_within};
+use crate::room::{make_room, make_room_for, push_within};
 use indexmap::{IndexMap, IndexSet};
 use pli_base::Name;
 use std::alloc::{AllocError, AllocFailed, Global};
@@ -111,6 +112,33 @@ impl Block {
             remembered: IndexMap::new(alloc),
             tails: IndexMap::new(alloc),
         }
+    }
+
+    /// Asks for room for so many items more.
+    fn reserve(&mut self, count: usize) -> Result<(), AllocError>
+        ensures { self.new ≡ self.old }
+    {
+        self.latest.reserve(count)?;
+        self.steps.reserve(count)?;
+        self.ended.reserve(count)?;
+        make_room_for(
+            count,
+            &mut self.items,
+            &mut self.earlier,
+            &mut self.paths,
+            &mut self.leaps,
+            &mut self.lasts,
+            &mut self.tops,
+        )
+    }
+
+    /// A block that declares nothing, with room for so many items.
+    pub fn with_room(alloc: Global, count: usize) -> Result<Block, AllocError>
+        ensures { IfOk result (λ block. block ≡ []) }
+    {
+        let mut block = Block::new(alloc);
+        block.reserve(count)?;
+        Ok(block)
     }
 
     /// How many items there are.
@@ -344,6 +372,69 @@ impl Block {
             Some(found) => found,
             None => self.searched(names),
         }
+    }
+
+    /// The last item of a name, at whatever level.
+    fn last_of(&self, name: Name) -> Option<usize>
+        ensures { result ≡ last_below (is_named self.now name) (length self.now) }
+    {
+        self.latest.get(&name).copied()
+    }
+
+    /// What items a name qualifies fully, where this is one of them: those of the same path.
+    fn found_at_top(&self, names: &[Name], number: usize) -> Found
+        requires one { length names.now ≡ 1 }
+        requires within { number < length self.now }
+        requires named { is_named self.now (get_or names.now 0 []) number ≡ true }
+        requires top { (item_at self.now number).owner ≡ None }
+        ensures { result ≡ found_below (fits_fully self.now names.now) (length self.now) variants.Nothing }
+    {
+        let path = self.paths[number];
+        self.ended[path]
+    }
+
+    /// What items fit a name, where this is one of those that it qualifies fully.
+    fn found_alike(&self, names: &[Name], number: usize) -> Found
+        requires one { length names.now ≡ 1 }
+        requires within { number < length self.now }
+        requires named { is_named self.now (get_or names.now 0 []) number ≡ true }
+        requires top { (item_at self.now number).owner ≡ None }
+        ensures { result ≡ found_in self.now names.now }
+    {
+        match self.found_at_top(names, number) {
+            Found::Nothing => self.found_partly(names),
+            fully => fully,
+        }
+    }
+
+    /// What items fit the names of a reference, where this is an item of the first of them. No search is needed for one name that
+    /// it qualifies fully.
+    fn found_with(&self, names: &[Name], number: usize) -> Found
+        requires some { 0 < length names.now }
+        requires within { number < length self.now }
+        requires named { is_named self.now (get_or names.now 0 []) number ≡ true }
+        ensures { result ≡ found_in self.now names.now }
+    {
+        if names.len() > 1 {
+            return self.find(names);
+        }
+        match self.items[number].owner {
+            Some(_) => self.find(names),
+            None => self.found_alike(names, number),
+        }
+    }
+
+    /// What items fit the names of a reference, if an item of the first of them is declared.
+    pub fn find_declared(&self, names: &[Name]) -> Option<Found>
+        ensures { result ≡ (if declares_first self.now names.now then Some (found_in self.now names.now) else None) }
+    {
+        let Some(first) = names.first() else {
+            return None;
+        };
+        let Some(number) = self.last_of(*first) else {
+            return None;
+        };
+        Some(self.found_with(names, number))
     }
 
     /// What items the names behind the first of a reference qualify, in part or fully. They are searched for once.

@@ -51,7 +51,7 @@ pub fn standings(alloc: Global, levels: &[Option<u32>]) -> Result<Vec<Standing>,
     ensures { IfOk result (λ standings. standings.items ≡ standings_of levels.now) }
 {
     let mut before = Vec::new(alloc);
-    let mut standings = Vec::new(alloc);
+    let mut standings = Vec::with_capacity(alloc, levels.len())?;
     for (number, written) in levels.iter().enumerate() {
         let level = written.unwrap_or(1);
         let nearest = nearest_among(&mut before, level);

@@ -35,6 +35,31 @@ pub(crate) fn make_room(
     tops.reserve(1)
 }
 
+/// Asks for room for so many in each of these lists, which stay as they are.
+pub(crate) fn make_room_for(
+    count: usize,
+    items: &mut Vec<Declared>,
+    earlier: &mut Vec<Option<usize>>,
+    paths: &mut Vec<usize>,
+    leaps: &mut Vec<Leap>,
+    lasts: &mut Vec<Option<usize>>,
+    tops: &mut Vec<usize>,
+) -> Result<(), AllocError>
+    ensures items { items.new.items ≡ items.old.items }
+    ensures earlier { earlier.new.items ≡ earlier.old.items }
+    ensures paths { paths.new.items ≡ paths.old.items }
+    ensures leaps { leaps.new.items ≡ leaps.old.items }
+    ensures lasts { lasts.new.items ≡ lasts.old.items }
+    ensures tops { tops.new.items ≡ tops.old.items }
+{
+    items.reserve(count)?;
+    earlier.reserve(count)?;
+    paths.reserve(count)?;
+    leaps.reserve(count)?;
+    lasts.reserve(count)?;
+    tops.reserve(count)
+}
+
 /// One more in a list that has room for it.
 pub(crate) fn push_within<T: Copy>(list: &mut Vec<T>, value: T)
     requires room { vec_len list.old < vec_capacity list.old }

@@ -53,7 +53,7 @@ fn names_of<'a>(alloc: Global, items: &'a [Item]) -> Result<Vec<NamedItem<'a>>, 
 fn levels_of(alloc: Global, names: &[NamedItem<'_>]) -> Result<Vec<Option<u32>>, AllocError>
     ensures { IfOk result (λ levels. levels.items ≡ map (λ x. x.1.level) (map named_view names.now)) }
 {
-    let mut levels = Vec::new(alloc);
+    let mut levels = Vec::with_capacity(alloc, names.len())?;
     for named in names {
         levels.push(named.facts.item.level)?;
     }

@@ -114,7 +114,7 @@ fn declared_outside<'a>(alloc: Global, outline: &Outline<'a>) -> Result<Vec<Entr
 fn verdicts_on(alloc: Global, entries: &[Entry<'_>]) -> Result<Vec<Verdict>, AllocError>
     ensures { IfOk result (λ verdicts. verdicts.items ≡ verdicts_of (map written (entries_view entries.now))) }
 {
-    let mut items = Vec::new(alloc);
+    let mut items = Vec::with_capacity(alloc, entries.len())?;
     for entry in entries {
         items.push(Written {
             name: entry.identifier.name,
@@ -122,6 +122,26 @@ fn verdicts_on(alloc: Global, entries: &[Entry<'_>]) -> Result<Vec<Verdict>, All
         })?;
     }
     verdicts(alloc, &items)
+}
+
+/// The items of a block that declares nothing yet, as names are looked up in it.
+fn declared_in(
+    mut block: Block,
+    entries: &[Entry<'_>],
+    verdicts: &[Verdict],
+) -> Result<Block, AllocError>
+    requires empty { block ≡ [] }
+    requires behind { AreBehindOwners (entries_view entries.now) }
+    ensures { IfOk result (λ block. block ≡ with_verdicts (entries_view entries.now) verdicts.now) }
+{
+    for (entry, verdict) in entries.iter().zip(verdicts) {
+        block.declare(Declared {
+            name: entry.identifier.name,
+            owner: entry.owner,
+            counts: *verdict == Verdict::Counts,
+        })?;
+    }
+    Ok(block)
 }
 
 /// The block, as names are looked up in it.
@@ -133,15 +153,8 @@ fn block_with(
     requires { AreBehindOwners (entries_view entries.now) }
     ensures { IfOk result (λ block. block ≡ with_verdicts (entries_view entries.now) verdicts.now) }
 {
-    let mut block = Block::new(alloc);
-    for (entry, verdict) in entries.iter().zip(verdicts) {
-        block.declare(Declared {
-            name: entry.identifier.name,
-            owner: entry.owner,
-            counts: *verdict == Verdict::Counts,
-        })?;
-    }
-    Ok(block)
+    let block = Block::with_room(alloc, entries.len())?;
+    declared_in(block, entries, verdicts)
 }
 
 impl<'a> Table<'a> {

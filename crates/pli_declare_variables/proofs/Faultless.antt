@@ -21,7 +21,8 @@ pub all_codes : (entries : List program.Entry) (names : List Name) (codes : List
     → codes ≡ map (own_code (entries_view entries) names) (numbers_from 0 (length entries)) → codes ≡ own_codes (entries_view entries) names
 all_codes entries names codes made = made ∙ ap (λ (n : ℕ). map (own_code (entries_view entries) names) (numbers_from 0 n)) (sym (length-map entries entry_view))
 
-without : (entries : List Entry) (names : List Name) (n : ℕ) (entity : Entity) → (get_or entries n no_entry).entity ≡ entity → IsGood entries names n entity
+-- an entry of a good block has no fault where it stands
+pub without : (entries : List Entry) (names : List Name) (n : ℕ) (entity : Entity) → (get_or entries n no_entry).entity ≡ entity → IsGood entries names n entity
     → IsFaultless (place_in entries names n) entity
 without entries names n (AsItem item is_bad) is good = (good.0, ap (λ x. item_fault (place_in entries names n) (item_in x)) (sym is) ∙ good.1)
 without entries names n (AsLabel region) is good = tt

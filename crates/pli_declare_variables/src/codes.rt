@@ -1,5 +1,6 @@
 //! The least fault of each item of a block, apart from names.
-ghost use Rattle.std.specs.Prelude.{◌≡◌, map, length, IfOk};
+ghost use Rattle.std.specs.Prelude.{◌≡◌, map, length, List, IfOk};
+ghost use Rattle.pli_base.specs.Name.{Name as Characters};
 ghost use Rattle.pli_base.specs.views.DeclarationView.{item_view};
 ghost use Rattle.pli_declare_attributes.specs.Faults as fault;
 ghost use Rattle.pli_declare_attributes.specs.answers.Cuts.{cut_place};
@@ -9,6 +10,9 @@ ghost use Rattle.pli_declare_tables.specs.views.TableView.{entry_view, entries_v
 ghost use Rattle.pli_declare_tables.specs.answers.Answers.{AreBehindOwners};
 ghost use Rattle.pli_declare_variables.specs.Places.{no_item, item_in};
 ghost use Rattle.pli_declare_variables.specs.Places as place;
+ghost use Rattle.pli_declare_variables.specs.Declarations.{AreGood};
+ghost use Rattle.pli_declare_variables.specs.answers.Declaring.{IsFaultless};
+ghost use Rattle.pli_declare_variables.specs.answers.Walks.{cut_place_in};
 
 use crate::places;
 use pli_base::declaration::Item;
@@ -32,6 +36,18 @@ fn own_code(place: Place, entry: &Entry, nothing: &ItemFacts) -> Option<Code>
     }
 }
 
+/// An item without anything.
+fn no_item(alloc: Global) -> Item
+    ensures { item_view result ≡ no_item }
+{
+    Item {
+        level: None,
+        names: Vec::new(alloc),
+        dimensions: Vec::new(alloc),
+        attributes: Vec::new(alloc),
+    }
+}
+
 /// The least of A3 to A7, A9 and A13 to A15 of each entry, but for the sizes of whole variables, where the parameters are those
 /// of the procedure that is the block.
 pub(crate) fn own_codes(
@@ -43,16 +59,43 @@ pub(crate) fn own_codes(
     ensures { IfOk result (λ codes. codes.items ≡ map (place.own_code (entries_view entries.now) parameters.now) (numbers_from 0 (length entries.now))) }
 {
     let places = places::places(alloc, entries, parameters)?;
-    let nothing = Item {
-        level: None,
-        names: Vec::new(alloc),
-        dimensions: Vec::new(alloc),
-        attributes: Vec::new(alloc),
-    };
+    let nothing = no_item(alloc);
     let nothing = ItemFacts::of(alloc, &nothing)?;
     let mut codes = Vec::with_capacity(alloc, entries.len())?;
     for number in 0..entries.len() {
         codes.push(own_code(places[number], &entries[number], &nothing))?;
+    }
+    Ok(codes)
+}
+
+/// The same of an entry that has no fault of its own, if it is an item.
+fn code_of_good(place: Place, entry: &Entry, nothing: &ItemFacts) -> Option<Code>
+    requires { item_view nothing.now.item.now ≡ no_item }
+    ensures { (p : SpecPlace) → place ≡ cut_place p → IsFaultless p (entry_view entry.now).entity
+        → result ≡ fault.item_fault p (item_in (entry_view entry.now).entity) }
+{
+    match entry.entity {
+        Entity::Item { .. } => None,
+        Entity::Label { .. } | Entity::Procedure { .. } => item_fault(place, nothing),
+    }
+}
+
+/// The same of entries, each at its place, where no item has a fault. Only labels and procedures are looked at.
+pub(crate) fn codes_of_good(
+    alloc: Global,
+    entries: &[Entry],
+    places: &[Place],
+) -> Result<Vec<Option<Code>>, AllocError>
+    requires { length places.now ≡ length entries.now }
+    ensures { IfOk result (λ codes. (parameters : List Characters) → AreGood (entries_view entries.now) parameters
+        → places.now ≡ map (cut_place_in (entries_view entries.now) parameters) (numbers_from 0 (length entries.now))
+        → codes.items ≡ map (place.own_code (entries_view entries.now) parameters) (numbers_from 0 (length entries.now))) }
+{
+    let nothing = no_item(alloc);
+    let nothing = ItemFacts::of(alloc, &nothing)?;
+    let mut codes = Vec::with_capacity(alloc, entries.len())?;
+    for number in 0..entries.len() {
+        codes.push(code_of_good(places[number], &entries[number], &nothing))?;
     }
     Ok(codes)
 }

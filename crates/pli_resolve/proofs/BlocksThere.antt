@@ -1,7 +1,7 @@
 -- Each region of a unit is a block or stands in one.
-use Rattle.std.proofs.Common.{◌≡◌, ℕ, zero, suc, ◌+◌, ◌<◌, Bool, true, false, if◌then◌else◌, Option, Some, None, List, [], ◌∷◌, ◌++◌, length, get_or, refl, sym, ap, ◌∙◌, subst, arith}
+use Rattle.std.proofs.Common.{◌≡◌, ℕ, zero, suc, ◌+◌, ◌<◌, Bool, true, false, if◌then◌else◌, Some, List, [], ◌∷◌, ◌++◌, length, get_or, refl, sym, ap, ◌∙◌, subst, arith}
 use Rattle.pli_base.specs.Statements.{Statement, Numbered, Body, Procedure, Begin, Do, If, On, Statements, Ended, Before, Alternative, NoElse, Else, ExternalProcedure}
-use Rattle.pli_declare_outline.specs.Outlines.{Region, outline_of, regions_in, regions_of, regions_among, regions_else, statement_regions, body_regions, statements_regions, alternative_regions}
+use Rattle.pli_declare_outline.specs.Outlines.{Region, outline_of, regions_in, regions_among, statement_regions, body_regions, statements_regions, alternative_regions}
 use Rattle.pli_declare_constructs.specs.Regions.{is_block, kind_at, outside, innermost, first_or_unit, block_of, blocks_round, blocks_from}
 use Rattle.pli_declare_constructs.proofs.Blocks.{next, next_before, innermost_step, finds}
 use Rattle.pli_resolve.proofs.RegionWalks.{regions_counted, list_regions_counted}

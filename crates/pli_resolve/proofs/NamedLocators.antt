@@ -1,11 +1,11 @@
 -- What BASED and OFFSET name in a unit without faults: an unsubscripted locator that is not based, and an area.
-use Rattle.std.proofs.Common.{◌≡◌, ℕ, zero, suc, ◌+◌, ◌<◌, ◌≤◌, Bool, true, false, not, ◌==◌, ◌&&◌, ◌||◌, if◌then◌else◌, Option, Some, None, is_none, List, [], ◌∷◌, map, length, get_or, slice_get, Contains, bit_and, inl, inr, refl, sym, ap, ◌∙◌, subst, arith}
+use Rattle.std.proofs.Common.{◌≡◌, ℕ, zero, suc, ◌+◌, ◌<◌, Bool, true, false, not, ◌==◌, ◌&&◌, ◌||◌, if◌then◌else◌, Option, Some, None, is_none, List, [], ◌∷◌, map, length, get_or, slice_get, Contains, bit_and, inl, inr, refl, sym, ap, ◌∙◌, subst, arith}
 use Rattle.std.specs.List.{flat_map, list_all, list_any}
 use Rattle.std.proofs.lemmas.Bool.{cases_lt, cases_eq, eqb-true}
 use Rattle.std.proofs.lemmas.Option.{slice_get_within, get_or_from_slice_get}
 use Rattle.pli_base.specs.Name.{Name}
 use Rattle.pli_base.specs.Words.{same_name}
-use Rattle.pli_base.specs.Declarations.{Item, Offset, DescribedAttribute, Plain, AnyEntry, AnyReturns}
+use Rattle.pli_base.specs.Declarations.{Offset, DescribedAttribute, Plain, AnyEntry, AnyReturns}
 use Rattle.pli_base.specs.Statements.{Heading, ExternalProcedure}
 use Rattle.pli_base.specs.declared.code.Code.{Code}
 use Rattle.pli_base.specs.declared.syntax.Identifier.{Identifier}
@@ -15,7 +15,6 @@ use Rattle.pli_map.specs.Description.{Description}
 use Rattle.pli_declare_attributes.specs.Agreement.{is_member}
 use Rattle.pli_declare_attributes.specs.Sets.{pointer, offset, area, based, built_in, entry, data_attributes, has, none_of, outermost, set_of}
 use Rattle.pli_declare_attributes.specs.Types.{number_of}
-use Rattle.pli_declare_attributes.specs.Extents.{is_array}
 use Rattle.pli_declare_attributes.specs.Faults.{item_fault}
 use Rattle.pli_declare_attributes.specs.Completed.{Variable as AVariable, OfVariable, OfEntry, OfBuiltIn, storage_at, variable_of, completed_of}
 use Rattle.pli_declare_attributes.specs.declared.completed.Storage.{Storage}
@@ -24,21 +23,19 @@ use Rattle.pli_declare_outline.specs.Outlines.{Mark, Declared, Labelled, Entered
 use Rattle.pli_declare_tables.specs.Tables.{Entity, AsItem, AsLabel, AsProcedure, Entry, no_entry, entries_in, heading_entries, unit_entries}
 use Rattle.pli_declare_tables.specs.answers.Answers.{AreBehindOwners}
 use Rattle.pli_declare_tables.proofs.MembersStandBehind.{owners_stand_before}
-use Rattle.pli_declare_variables.specs.Places.{members_of, owners_of, place_in, position_of, item_in, item_of, own_code, is_variable, stands_alone, is_bad_level, set_in, is_unsubscripted, is_locator, is_area}
-use Rattle.pli_declare_variables.specs.Descriptions.{is_of_shape, scalar_at, own_codes, description_of}
+use Rattle.pli_declare_variables.specs.Places.{members_of, owners_of, place_in, position_of, item_in, item_of, is_variable, stands_alone, is_bad_level, set_in, is_unsubscripted, is_locator, is_area}
+use Rattle.pli_declare_variables.specs.Descriptions.{scalar_at, own_codes, description_of}
 use Rattle.pli_declare_variables.specs.Declarations.{Declaration, Kind, OfItem, OfLabel, OfProcedure, IsGood, AreGood, returned_by, declaration_at, declared_in, kind_of, whole_description}
 use Rattle.pli_declare.specs.Resolution.{names_nothing, returned_are, heading_code, parameters_of, resolution_faults}
 use Rattle.pli_declare.specs.Resolved.{resolved_of, meaning_at}
 use Rattle.pli_declare_variables.specs.AttributeNames.{plain_of, area_in}
-use Rattle.pli_declare.specs.Resolved as declare
 use Rattle.pli_declare.specs.laws.FaultLaws.{AtUnit, HasHeading}
 use Rattle.pli_declare.specs.declared.block.Target.{Target}
-use Rattle.pli_declare.specs.declared.block.Target.TheVariants.{Name as AName}
 use Rattle.pli_declare.proofs.FaultsAreExact.{faults_are_least_codes}
 use Rattle.pli_declare.proofs.ListsByNumber.{made_at, made_length}
-use Rattle.pli_resolve.specs.Symbols.{Symbol, SymbolFacts, SymbolKind, Way, no_way, ways_of, class_of, place_among, locator_of, area_of, key_of, symbol_kind, symbol_of, symbols_with}
+use Rattle.pli_resolve.specs.Symbols.{Symbol, SymbolFacts, Way, no_way, ways_of, class_of, place_among, locator_of, area_of, key_of, symbol_kind, symbol_of, symbols_with}
 use Rattle.pli_resolve.specs.ResolvedUnits.{ResolvedUnit, resolved_unit_of, symbol_at, facts_of, numbers_of, outermost_number, block_regions_of}
-use Rattle.pli_resolve.specs.laws.LocatorLaws.{IsVariable, IsMember, IsLocating, IsNotBased, IsLocator, IsArea, locator_names, area_names, Means, ClassNames, KindNames, declared_under, entry_under, LocatorsAndAreasAreNamed}
+use Rattle.pli_resolve.specs.laws.LocatorLaws.{IsVariable, IsLocating, IsNotBased, IsLocator, IsArea, locator_names, area_names, Means, ClassNames, KindNames, declared_under, entry_under, LocatorsAndAreasAreNamed}
 use Rattle.pli_resolve.specs.declared.block_numbers.BlockRegion.{BlockRegion}
 use Rattle.pli_resolve.specs.declared.symbol.StorageClass.{StorageClass}
 use Rattle.pli_resolve.specs.declared.symbol.SymbolKey.{SymbolKey}

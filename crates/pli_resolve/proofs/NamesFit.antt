@@ -1,12 +1,11 @@
 -- In a unit without faults each name in BASED means a locator that it may name, and each in OFFSET an area.
 use Rattle.std.proofs.Common.{◌≡◌, ℕ, zero, suc, ◌+◌, ◌<◌, nat_eq, Bool, true, false, not, ◌&&◌, ◌||◌, nat_lt, if◌then◌else◌, Option, Some, None, List, [], ◌∷◌, ◌++◌, map, length, get_or, Contains, inl, inr, refl, sym, ap, ◌∙◌, subst, arith}
 use Rattle.std.specs.List.{flat_map, list_all, list_any}
-use Rattle.std.proofs.lemmas.Bool.{eqb-true, eq-eqb}
-use Rattle.std.proofs.lemmas.List.{length-map}
+use Rattle.std.proofs.lemmas.Bool.{eq-eqb}
 use Rattle.std.proofs.lemmas.Grind.{flat_map-append}
 use Rattle.std.proofs.lemmas.List.Elements.{Contains-append_left, Contains-append_right}
 use Rattle.pli_base.specs.Name.{Name}
-use Rattle.pli_base.specs.Declarations.{Item, SimpleAttribute, Fixed, Binary, Character, Bit, Varying, Pointer, Offset, Area, Based, Controlled, Static, Automatic, External, Internal, Builtin, Initial, DescribedAttribute, Plain, AnyEntry, AnyReturns, Attribute, Simple, Entry, Returns}
+use Rattle.pli_base.specs.Declarations.{Item, SimpleAttribute, Offset, Based, DescribedAttribute, Plain, AnyEntry, AnyReturns, Attribute, Simple, Entry, Returns}
 use Rattle.pli_base.specs.Statements.{Heading, ExternalProcedure}
 use Rattle.pli_base.specs.declared.code.Code.{Code}
 use Rattle.pli_base.specs.declared.code.Code.TheVariants.{AttributesConflict, BadLocatorOrAreaName, BadLevel, TooManyParameters}
@@ -14,13 +13,11 @@ use Rattle.pli_base.specs.declared.syntax.Identifier.{Identifier}
 use Rattle.pli_base.specs.declared.token.Fault.{Fault}
 use Rattle.pli_declare_attributes.specs.Faults.{first_of, lesser, result_fault}
 use Rattle.pli_declare_attributes.proofs.LeastFaults.{no_lesser}
-use Rattle.pli_declare_constructs.specs.Regions.{block_of, blocks_round}
+use Rattle.pli_declare_constructs.specs.Regions.{block_of}
 use Rattle.pli_declare_outline.specs.Outlines.{Mark, Declared, Labelled, Entered, Used, Jumped, Placed, Outline, outline_of, regions_among}
-use Rattle.pli_declare_scopes.specs.Levels.{standings_of}
 use Rattle.pli_declare_scopes.specs.Scopes.{Scope, meant}
 use Rattle.pli_declare_scopes.specs.declared.found.Meant.{Meant}
 use Rattle.pli_declare_scopes.specs.declared.found.Meant.TheVariants.{Item as Means, Ambiguous, NotDeclared}
-use Rattle.pli_declare_scopes.specs.declared.level.Standing.{Standing}
 use Rattle.pli_declare_scopes.specs.declared.repeat.Verdict.TheVariants.{Counts}
 use Rattle.pli_declare_tables.specs.Tables as tables
 use Rattle.pli_declare_tables.specs.Tables.{Entity, AsItem, AsLabel, AsProcedure, no_entry, named, item_entries, entries_of, entries_in, block_in, inner_marks, unit_block, unit_entries, verdicts_in, scope_of, tables_of}
@@ -30,7 +27,6 @@ use Rattle.pli_declare_variables.specs.Declarations.{returned_by}
 use Rattle.pli_declare.specs.Resolution.{is_main, names_fit, is_good, simple_is_good, described_is_good, attribute_is_good, twice_code, returned_are, least, heading_code, entity_codes, item_code, parameters_of, resolution_faults}
 use Rattle.pli_declare.specs.Resolved.{resolved_of, used_as, named_at, item_names, areas_at, locators_at, of_marks, meaning_after, meaning_at}
 use Rattle.pli_declare_variables.specs.AttributeNames.{plain_of, simple_of, area_in, locator_in}
-use Rattle.pli_declare.specs.laws.FaultLaws.{AtName}
 use Rattle.pli_declare.specs.declared.block.Use.{Use}
 use Rattle.pli_declare.specs.declared.block.Target.{Target}
 use Rattle.pli_declare.specs.declared.block.Target.TheVariants.{Name as AName}
@@ -39,7 +35,7 @@ use Rattle.pli_declare.proofs.LookUpLemmas.{no_names}
 use Rattle.pli_resolve.specs.laws.LocatorLaws.{locator_names, area_names}
 use Rattle.pli_resolve.proofs.BlocksThere.{round_its_block}
 use Rattle.pli_resolve.proofs.DeclaredBlocks.{IsRegion}
-use Rattle.pli_resolve.proofs.MarksStand.{Each, each_both, each_at, marks_stand}
+use Rattle.pli_resolve.proofs.MarksStand.{Each, each_both, marks_stand}
 use Rattle.pli_resolve.proofs.MeantNames.{entries_at, region_of, meant_in}
 use Rattle.pli_resolve.proofs.NamesOfMarks.{item_at, item_of_entry, mark_of, names_of_mark}
 

@@ -1,5 +1,5 @@
 -- The names of a block are those of its marks.
-use Rattle.std.proofs.Common.{◌≡◌, ℕ, zero, suc, ◌+◌, ◌-◌, ◌<◌, ◌≤◌, ◌==◌, Bool, true, false, if◌then◌else◌, Option, Some, None, List, [], ◌∷◌, ◌++◌, map, length, get_or, Contains, inl, inr, refl, sym, ap, ◌∙◌, subst, append-nil, arith}
+use Rattle.std.proofs.Common.{◌≡◌, ℕ, zero, suc, ◌+◌, ◌-◌, ◌<◌, ◌≤◌, ◌==◌, Bool, true, false, if◌then◌else◌, List, [], ◌∷◌, ◌++◌, map, length, get_or, Contains, inl, inr, refl, sym, ap, ◌∙◌, subst, arith}
 use Rattle.std.specs.List.{flat_map}
 use Rattle.std.proofs.lemmas.Bool.{cases_lt, eqb-true, eq-eqb}
 use Rattle.std.proofs.lemmas.List.{get_or_append_left, get_or-append-add, length-append, length-map}
@@ -9,7 +9,7 @@ use Rattle.pli_declare_outline.specs.Outlines.{Region, Mark, Declared, Labelled,
 use Rattle.pli_declare_constructs.specs.Regions.{block_of}
 use Rattle.pli_declare_scopes.specs.Levels.{standings_of, level_of}
 use Rattle.pli_declare_scopes.specs.declared.level.Standing.{Standing}
-use Rattle.pli_declare_tables.specs.Tables.{Entity, AsItem, AsLabel, AsProcedure, Entry, no_entry, entries_of, entries_after, entries_in, inner_marks, named, item_entries}
+use Rattle.pli_declare_tables.specs.Tables.{AsItem, AsLabel, Entry, no_entry, entries_of, entries_after, entries_in, inner_marks, named, item_entries}
 use Rattle.pli_declare.proofs.MarkWalkLemmas.{entries_grow, length_standings}
 use Rattle.pli_resolve.proofs.OwnersAreItems.{item_there}
 

@@ -1,10 +1,9 @@
 -- What the attributes of an item without faults say, where POINTER, OFFSET or AREA is one of them.
-use Rattle.std.proofs.Common.{◌≡◌, ℕ, ◌==◌, ◌+◌, ◌&&◌, ◌||◌, Bool, true, false, not, if◌then◌else◌, Option, Some, None, is_none, List, [], ◌∷◌, map, length, bit_and, refl, sym, ap, ◌∙◌, subst}
+use Rattle.std.proofs.Common.{◌≡◌, ℕ, ◌==◌, ◌+◌, ◌&&◌, ◌||◌, Bool, true, false, not, if◌then◌else◌, Option, Some, None, List, [], ◌∷◌, map, bit_and, refl, sym, ap, ◌∙◌, subst}
 use Rattle.std.specs.List.{list_any}
 use Rattle.std.proofs.lemmas.Bool.{eqb-true}
 use Rattle.std.proofs.lemmas.Nat.{and_assoc}
 use Rattle.pli_base.specs.Declarations.{Item}
-use Rattle.pli_base.specs.declared.code.Code.{Code}
 use Rattle.pli_base.specs.declared.code.Code.TheVariants.{AreaNotAllowedHere}
 use Rattle.pli_map.specs.Description as described
 use Rattle.pli_map.specs.Description.{Description}
@@ -13,7 +12,7 @@ use Rattle.pli_declare_attributes.specs.Agreement.{data_types, excluded_at, is_m
 use Rattle.pli_declare_attributes.specs.Types.{scalar_of}
 use Rattle.pli_declare_attributes.specs.Extents.{is_array}
 use Rattle.pli_declare_attributes.specs.Faults.{first_of, is_bad_area, area_fault, own_fault, attributes_fault, item_fault, entry_fault, parameters_in}
-use Rattle.pli_declare_attributes.specs.Completed.{Completed, Variable, OfVariable, OfEntry, OfBuiltIn, storage_at, variable_of, completed_of}
+use Rattle.pli_declare_attributes.specs.Completed.{Variable, OfVariable, OfEntry, OfBuiltIn, storage_at, variable_of, completed_of}
 use Rattle.pli_declare_attributes.specs.declared.completed.Storage.TheVariants as storage
 use Rattle.pli_declare_attributes.specs.declared.place.Place.{Place}
 use Rattle.pli_declare_attributes.specs.declared.place.Position.{Position}

@@ -61,8 +61,8 @@ fn count_member(counts: &mut Vec<usize>, owner: Option<usize>)
 pub(crate) fn ways(alloc: Global, declarations: &[Declaration]) -> Result<Vec<Way>, AllocError>
     ensures { IfOk result (λ ways. map way_view ways.items ≡ spec.ways_of (map declaration_view declarations.now)) }
 {
-    let mut ways = Vec::new(alloc);
-    let mut counts = Vec::new(alloc);
+    let mut ways = Vec::with_capacity(alloc, declarations.len())?;
+    let mut counts = Vec::with_capacity(alloc, declarations.len())?;
     for declaration in declarations {
         let way = way_with(alloc, &ways, &counts, declaration.owner)?;
         count_member(&mut counts, declaration.owner);

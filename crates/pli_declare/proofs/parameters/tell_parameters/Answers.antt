@@ -1,10 +1,21 @@
-use Rattle.std.proofs.Common.{◌<◌, length, arith, sym, ap, ◌∙◌}
+use Rattle.std.proofs.Common.{◌≡◌, ◌<◌, ◌++◌, List, [], length, append-nil, arith, sym, ap, ◌∙◌}
+use Rattle.std.proofs.lemmas.Bool.{eqb-true}
+use Rattle.std.proofs.lemmas.List.{nil_from_length}
 use Rattle.std.specs.List.{list_any}
 use Rattle.pli_base.specs.Words.{same_name}
+use Rattle.pli_base.specs.declared.syntax.Identifier.{Identifier}
 use Rattle.pli_declare_outline.specs.views.OutlineView.{outline_view}
+use Rattle.pli_declare.specs.Resolution.{parameter_codes}
 use Rattle.pli_declare_scopes.proofs.Seen.{seen_more, names_alike}
 use Rattle.pli_declare.proofs.ParameterNames.{names_to, names_more, told_more}
 use Rattle.pli_declare.proofs.parameters.tell_parameters.Goals as goal
+
+pub returns-then-is_empty : goal.returns-then-is_empty
+returns-then-is_empty c =
+    let ps = c.args.parameters.now in
+    let none : ps ≡ [] = nil_from_length ps (eqb-true (length ps) 0 (sym c.is_empty.ensures ∙ c.if-is_empty.true)) in
+    sym (append-nil c.args.faults.now.items)
+    ∙ ap (λ (xs : List Identifier). c.args.faults.now.items ++ parameter_codes (outline_view c.args.outline.now) c.args.region [] xs) (sym none)
 
 pub loop-parameter-preserved : goal.loop-parameter-preserved
 loop-parameter-preserved c =

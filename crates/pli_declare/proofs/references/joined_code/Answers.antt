@@ -4,8 +4,8 @@ use Rattle.pli_declare_outline.specs.views.OutlineView.{outline_view}
 use Rattle.pli_declare_scopes.specs.Scopes.{meant}
 use Rattle.pli_declare_tables.specs.Tables.{scope_of}
 use Rattle.pli_declare.specs.Resolution.{names_of, reference_code}
-use Rattle.pli_declare.proofs.references.reference_code.Goals as goal
-use Rattle.pli_declare.proofs.references.reference_code.Goals.{in-Found, in-Ambiguous, in-NotDeclared, in-NotDeclared-2}
+use Rattle.pli_declare.proofs.references.joined_code.Goals as goal
+use Rattle.pli_declare.proofs.references.joined_code.Goals.{in-Found, in-Ambiguous, in-NotDeclared, in-NotDeclared-2}
 
 pub returns : goal.returns
 returns c =
