@@ -8,10 +8,11 @@ use Rattle.pli_map.specs.laws.SameLaws.{same_decides}
 use Rattle.pli_type_tree.specs.Templates.{Template}
 use Rattle.pli_type_tree.specs.TypedTree.{Signature, Global, OwnVariable, ExternalVariable, EntryPoint}
 use Rattle.pli_unit_code.specs.CodeTables as plain
-use Rattle.pli_gen_tree.specs.Encoding.{Tables, numbered, same_template, signature_descriptions, global_descriptions, global_templates, template_number, signature_code, global_code}
+use Rattle.pli_gen_tree.specs.Encoding.{Tables, numbered, signature_descriptions, global_descriptions, global_templates, template_number, signature_code, global_code}
+use Rattle.pli_type_keys.specs.Same.{same_template}
 use Rattle.pli_gen_tree.proofs.KeyLemmas.{numbered_after, all_there, repeated}
 use Rattle.pli_gen_tree.proofs.TableNumbers.{Has, has_all}
-use Rattle.pli_gen_tree.specs.laws.KeyLaws.{template_decides}
+use Rattle.pli_type_keys.specs.laws.KeyLaws.{template_decides}
 
 -- where a list is not empty
 pub not_none : {X : Type 0} (xs : List X) (b : Bool) → b ≡ (length xs == 0) → b ≡ false → length xs ≡ 0 → ⊥

@@ -13,8 +13,9 @@ use Rattle.pli_map.specs.Same.{same}
 use Rattle.pli_map.specs.laws.SameLaws.{same_decides}
 use Rattle.pli_type_tree.specs.Templates.{Template}
 use Rattle.pli_value.specs.Value.{Value}
-use Rattle.pli_gen_tree.specs.Encoding.{Tables, numbered, same_template}
-use Rattle.pli_gen_tree.specs.laws.KeyLaws.{template_decides}
+use Rattle.pli_gen_tree.specs.Encoding.{Tables, numbered}
+use Rattle.pli_type_keys.specs.Same.{same_template}
+use Rattle.pli_type_keys.specs.laws.KeyLaws.{template_decides}
 use Rattle.pli_gen_tree.proofs.TableNumbers.{Has, more, now}
 
 module _ {K X : Type 0} (v : K → X) (alike : X → X → Bool) where

@@ -24,11 +24,11 @@ use Rattle.pli_gen_tree.specs.Limits.{is_over, member_count, has_many_members, o
 use Rattle.pli_gen_tree.specs.answers.Pieces.{takes_many_slots, template_bytes, HaveDescriptions}
 use Rattle.pli_gen_tree.proofs.TableNumbers.{Has, number_stands}
 use Rattle.pli_gen_emit.specs.views.BlockView.{block_tree, block_trees}
-use Rattle.pli_gen_tree.specs.views.KeyView.{templated}
+use Rattle.pli_type_keys.specs.views.KeyView.{templated}
 use Rattle.pli_gen_emit.specs.views.NamingView.{naming_view, naming_code}
 use Rattle.pli_gen_emit.specs.declared.block.BlockSource.{BlockSource}
 use Rattle.pli_gen_emit.specs.declared.naming.NamingInstruction.{NamingInstruction}
-use Rattle.pli_gen_tree.specs.declared.key.TemplateKey.{TemplateKey}
+use Rattle.pli_type_keys.specs.declared.key.TemplateKey.{TemplateKey}
 
 pub over : (limit n : ℕ) → limit < n → nat_lt limit n ≡ true
 over limit n h = grind (arith, nat_tests)

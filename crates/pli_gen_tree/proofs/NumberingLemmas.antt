@@ -9,7 +9,8 @@ use Rattle.pli_type_tree.specs.TypedTree.{TypedUnit}
 use Rattle.pli_value.specs.Value.{Value}
 use Rattle.pli_gen_emit.specs.TreeTranslation.{BlockTree}
 use Rattle.pli_gen_tree.specs.Encoding as plain
-use Rattle.pli_gen_tree.specs.Encoding.{numbered, same_template, same_value, tables_for, descriptions_named, templates_named, values_named}
+use Rattle.pli_gen_tree.specs.Encoding.{numbered, tables_for, descriptions_named, templates_named, values_named}
+use Rattle.pli_type_keys.specs.Same.{same_template, same_value}
 use Rattle.pli_gen_tree.specs.Encoding.{signature_descriptions, global_descriptions, global_templates, block_templates}
 use Rattle.pli_gen_tree.specs.answers.Numbering.{Numbers}
 use Rattle.pli_gen_tree.specs.answers.Pieces.{no_tables}

@@ -12,7 +12,8 @@ use Rattle.pli_type_tree.specs.TypedTree.{Global, OwnVariable, ExternalVariable,
 use Rattle.pli_unit_code.specs.CodeTables.{CodedTemplate, CodedBlock, CodedSignature, CodedGlobal, Code}
 use Rattle.pli_unit_code.specs.declared.instruction.Instruction.{Instruction}
 use Rattle.pli_gen_emit.specs.TreeTranslation.{BlockTree, behind, block_code, blocks_code, blocks_of, places_of, statement_place, with_target, instructions_of}
-use Rattle.pli_gen_tree.specs.Encoding.{Tables, tables_for, numbered, same_template, same_value, descriptions_named, templates_named, values_named}
+use Rattle.pli_gen_tree.specs.Encoding.{Tables, tables_for, numbered, descriptions_named, templates_named, values_named}
+use Rattle.pli_type_keys.specs.Same.{same_template, same_value}
 use Rattle.pli_gen_tree.specs.Encoding.{signature_descriptions, global_descriptions, global_templates, block_templates}
 use Rattle.pli_gen_tree.specs.Encoding.{template_code, signature_code, global_code, instruction_code, coded_block, coded_blocks, coded_unit, code_of}
 use Rattle.pli_gen_tree.specs.Limits.{is_over, has_many_slots, has_many_members, initial_bytes, is_too_long}

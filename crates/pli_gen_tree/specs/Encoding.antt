@@ -1,42 +1,27 @@
 -- The code of a unit with its tables: descriptions, templates and values are numbered by first use, and equal
 -- ones once (own). First comes what the external procedure takes and gives, then the globals, then the
 -- variables of the blocks, then the instructions, block after block.
-use Rattle.std.specs.Prelude.{ℕ, suc, nat_eq, Bool, false, ◌&&◌, ◌==◌, option_map, List, [], ◌∷◌, ◌++◌, map}
+use Rattle.std.specs.Prelude.{ℕ, suc, Bool, option_map, List, [], ◌∷◌, ◌++◌, map}
 use Rattle.std.specs.Prelude.{length, if◌then◌else◌}
-use Rattle.std.specs.Bool.{beq}
-use Rattle.std.specs.Cmp.Lexicographic.{pointwise}
 use Rattle.std.specs.List.{flat_map, list_any}
-use Rattle.std.specs.Ordering.{int_eq}
 use Rattle.pli_map.specs.Description.{Description}
 use Rattle.pli_map.specs.Same.{same}
 use Rattle.pli_operation.specs.Operations as calculate
 use Rattle.pli_operation.specs.Operations.{Operation, Relation}
 use Rattle.pli_operation.specs.declared.operation.Relation.TheVariants as relations
 use Rattle.pli_operation.specs.declared.operation.Relation as declared_relation
-use Rattle.pli_value.specs.Value.{Value, Number, Characters, Bits}
+use Rattle.pli_value.specs.Value.{Value}
 use Rattle.pli_machine_step.specs.Program as op
-use Rattle.pli_type_tree.specs.Templates.{InitialScalar, Template}
+use Rattle.pli_type_tree.specs.Templates.{Template}
 use Rattle.pli_type_tree.specs.TypedTree.{Signature, Global, OwnVariable, ExternalVariable, EntryPoint}
 use Rattle.pli_type_tree.specs.TypedTree.{TypedUnit}
+use Rattle.pli_type_keys.specs.Same.{same_value, same_template}
 use Rattle.pli_unit_code.specs.CodeTables as plain
 use Rattle.pli_unit_code.specs.CodeTables.{CodedTemplate, CodedBlock, CodedSignature, CodedGlobal, Code}
 use Rattle.pli_unit_code.specs.CodeTables.{there}
 use Rattle.pli_unit_code.specs.declared.instruction.Instruction.{Instruction}
 use Rattle.pli_unit_code.specs.declared.instruction.Instruction.TheVariants as coded
 use Rattle.pli_gen_emit.specs.TreeTranslation.{BlockTree, blocks_of, block_code, behind, instructions_of}
-
--- equal values and templates
-abbrev pub same_value : Value → Value → Bool
-same_value (Number x) (Number y) = int_eq x y
-same_value (Characters s) (Characters t) = pointwise nat_eq s t
-same_value (Bits s) (Bits t) = pointwise beq s t
-same_value v w = false
-
-abbrev pub same_initial : InitialScalar → InitialScalar → Bool
-same_initial a b = (a.scalar == b.scalar) && same_value a.value b.value
-
-abbrev pub same_template : Template → Template → Bool
-same_template a b = same a.description b.description && pointwise same_initial a.initial b.initial
 
 -- a table, with each further one that it has not got put at its end
 abbrev pub numbered : {X : Type 0} → (alike : X → X → Bool) → (table : List X) → List X → List X

@@ -1,3 +1,2 @@
-pub mod KeyLaws
 pub mod Laws
 pub mod ListLaws

@@ -1,2 +1,1 @@
-pub mod KeyView
 pub mod TableView

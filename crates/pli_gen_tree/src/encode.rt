@@ -8,10 +8,10 @@ ghost use Rattle.pli_gen_tree.specs.answers.Pieces.{retargeted, Fits};
 ghost use Rattle.pli_gen_emit.specs.views.NamingView.{naming_view, naming_code};
 ghost use Rattle.pli_gen_tree.specs.views.TableView.{tables_view};
 
-use crate::key::TemplateKey;
 use crate::numbers::Numbers;
 use pli_gen_emit::NamingInstruction;
 use pli_operation::Operation;
+use pli_type_keys::TemplateKey;
 use pli_unit_code::Instruction;
 use std::alloc::AllocError;
 

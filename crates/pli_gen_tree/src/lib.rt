@@ -1,13 +1,11 @@
 //! The generator: the code of a typed unit, with its tables.
 #![tactic(auto)]
 
-mod digest;
 mod encode;
 mod entries;
 mod examples;
 mod generating;
 mod globals;
-mod key;
 mod laws;
 mod limits;
 mod numbers;

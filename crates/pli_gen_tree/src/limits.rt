@@ -9,14 +9,14 @@ ghost use Rattle.pli_gen_tree.specs.Encoding.{coded_unit};
 ghost use Rattle.pli_gen_tree.specs.Limits.{is_over, has_many_members, one_has_many, is_too_long};
 ghost use Rattle.pli_gen_tree.specs.answers.Pieces.{takes_many_slots, template_bytes, HaveDescriptions};
 ghost use Rattle.pli_gen_emit.specs.views.BlockView.{block_tree, block_trees};
-ghost use Rattle.pli_gen_tree.specs.views.KeyView.{templated};
+ghost use Rattle.pli_type_keys.specs.views.KeyView.{templated};
 ghost use Rattle.pli_gen_emit.specs.views.NamingView.{naming_code};
 ghost use Rattle.pli_gen_tree.specs.views.TableView.{tables_view};
 
-use crate::key::TemplateKey;
 use crate::table::Tables;
 use pli_gen_emit::{BlockSource, Emitted};
 use pli_map::{Description, far_size};
+use pli_type_keys::TemplateKey;
 use pli_type_tree::{GlobalGroup, TypedUnit, VariableGroup};
 
 /// The greatest number of entries of a table of a unit, of slots of a block and of members of a structure (own).

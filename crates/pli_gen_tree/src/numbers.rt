@@ -3,14 +3,15 @@ ghost use Rattle.std.specs.Prelude.{◌≡◌, ◌≤◌, ℕ, length, nat_eq, u
 ghost use Rattle.std.specs.HashMap.{get};
 ghost use Rattle.pli_map.specs.views.DescriptionView.{description_view};
 ghost use Rattle.pli_value.specs.Value.{value_view};
-ghost use Rattle.pli_gen_tree.specs.Encoding.{description_number, template_number, number_in, same_value};
-ghost use Rattle.pli_gen_tree.specs.views.KeyView.{templated};
+ghost use Rattle.pli_gen_tree.specs.Encoding.{description_number, template_number, number_in};
+ghost use Rattle.pli_type_keys.specs.Same.{same_value};
+ghost use Rattle.pli_type_keys.specs.views.KeyView.{templated};
 ghost use Rattle.pli_gen_tree.specs.views.TableView.{tables_view};
 
-use crate::key::{DescriptionKey, TemplateKey, ValueKey};
 use crate::one::One;
 use crate::table::Tables;
 use pli_map::Description;
+use pli_type_keys::{DescriptionKey, TemplateKey, ValueKey};
 use pli_value::Value;
 use std::collections::HashMap;
 

@@ -14,16 +14,16 @@ ghost use Rattle.pli_gen_tree.specs.Encoding.{block_templates, tables_for};
 ghost use Rattle.pli_gen_tree.specs.Encoding.{descriptions_named, templates_named, values_named};
 ghost use Rattle.pli_gen_tree.specs.answers.Numbering.{Numbers};
 ghost use Rattle.pli_gen_tree.specs.answers.Pieces.{no_tables};
-ghost use Rattle.pli_gen_tree.specs.views.KeyView.{templated};
+ghost use Rattle.pli_type_keys.specs.views.KeyView.{templated};
 ghost use Rattle.pli_gen_tree.specs.views.TableView.{tables_view};
 
-use crate::key::{DescriptionKey, TemplateKey, ValueKey};
 use crate::one::One;
 use indexmap::IndexSet;
 use pli_base::Name;
 use pli_gen_emit::{BlockSource, Emitted, NamingInstruction};
 use pli_map::Description;
 use pli_operation::Operation;
+use pli_type_keys::{DescriptionKey, TemplateKey, ValueKey};
 use pli_type_tree::{GlobalGroup, Signature, Template, TypedUnit, VariableGroup};
 use pli_value::Value;
 

@@ -16,12 +16,13 @@ use Rattle.pli_type_tree.specs.Templates.{Template}
 use Rattle.pli_unit_code.specs.CodeTables.{Code, template_at, with_description}
 use Rattle.pli_unit_code.specs.declared.code.CodedTemplate.{CodedTemplate}
 use Rattle.pli_unit_code.specs.views.CodeView.{coded_template_view}
-use Rattle.pli_link.specs.Alike.{same_template}
+use Rattle.pli_type_keys.specs.Same.{same_template}
 use Rattle.pli_link.specs.Mismatches.{is_like_first}
 use Rattle.pli_link.specs.answers.Classes.{place_of, IsClass, known_in, Grows, class_in, class_at, AreClasses, AreClassed, IsFirstClassed}
-use Rattle.pli_link.specs.laws.AlikeLaws.{template_decides, option_decides}
-use Rattle.pli_link.specs.views.TemplateView.{found_view}
-use Rattle.pli_link.specs.declared.alike.FoundTemplate.{FoundTemplate}
+use Rattle.pli_link.specs.laws.AlikeLaws.{option_decides}
+use Rattle.pli_type_keys.specs.laws.KeyLaws.{template_decides}
+use Rattle.pli_type_keys.specs.views.KeyView.{templated}
+use Rattle.pli_type_keys.specs.declared.key.TemplateKey.{TemplateKey}
 use Rattle.pli_link.specs.declared.names.External.{External}
 
 same_itself : (t : Template) → same_template t t ≡ true
@@ -48,49 +49,49 @@ class_now t (k ∷ known) = by (same_template t k) refl (class_now t known)
     by true is h = ap (λ b. if b then Some 0 else option_map suc (place_of t known)) is
     by false is h = either (list_any (same_template t) known) h is
 
-any_seen : (v : FoundTemplate) (ks : List FoundTemplate) → list_any (on found_view same_template v) ks ≡ list_any (same_template (found_view v)) (known_in ks)
+any_seen : (v : TemplateKey) (ks : List TemplateKey) → list_any (on templated same_template v) ks ≡ list_any (same_template (templated v)) (known_in ks)
 any_seen v [] = refl
-any_seen v (k ∷ ks) = ap (λ b. same_template (found_view v) (found_view k) || b) (any_seen v ks)
+any_seen v (k ∷ ks) = ap (λ b. same_template (templated v) (templated k) || b) (any_seen v ks)
 
-place_seen : (v : FoundTemplate) (ks : List FoundTemplate) → position_or_len (on found_view same_template v) ks ≡ position_or_len (same_template (found_view v)) (known_in ks)
+place_seen : (v : TemplateKey) (ks : List TemplateKey) → position_or_len (on templated same_template v) ks ≡ position_or_len (same_template (templated v)) (known_in ks)
 place_seen v [] = refl
-place_seen v (k ∷ ks) = ap (λ n. cond (not (same_template (found_view v) (found_view k))) (1 + n) 0) (place_seen v ks)
+place_seen v (k ∷ ks) = ap (λ n. cond (not (same_template (templated v) (templated k))) (1 + n) 0) (place_seen v ks)
 
-known_put : (v : FoundTemplate) (ks : List FoundTemplate) → known_in (insert_key (on found_view same_template) ks v)
-    ≡ (if list_any (same_template (found_view v)) (known_in ks) then known_in ks else known_in ks ++ found_view v ∷ [])
-known_put v ks = by (list_any (on found_view same_template v) ks) ∙ ap (λ b. if b then known_in ks else known_in ks ++ found_view v ∷ []) (any_seen v ks)
+known_put : (v : TemplateKey) (ks : List TemplateKey) → known_in (insert_key (on templated same_template) ks v)
+    ≡ (if list_any (same_template (templated v)) (known_in ks) then known_in ks else known_in ks ++ templated v ∷ [])
+known_put v ks = by (list_any (on templated same_template v) ks) ∙ ap (λ b. if b then known_in ks else known_in ks ++ templated v ∷ []) (any_seen v ks)
   where
-    by : (b : Bool) → known_in (if b then ks else ks ++ v ∷ []) ≡ (if b then known_in ks else known_in ks ++ found_view v ∷ [])
+    by : (b : Bool) → known_in (if b then ks else ks ++ v ∷ []) ≡ (if b then known_in ks else known_in ks ++ templated v ∷ [])
     by true = refl
-    by false = map-append found_view ks (v ∷ [])
+    by false = map-append templated ks (v ∷ [])
 
-pub class_put : (v : FoundTemplate) (ks new : List FoundTemplate) (number : ℕ) → new ≡ insert_key (on found_view same_template) ks v
-    → number ≡ position_or_len (on found_view same_template v) ks → IsClass (known_in new) (Some (found_view v)) (Some number)
+pub class_put : (v : TemplateKey) (ks new : List TemplateKey) (number : ℕ) → new ≡ insert_key (on templated same_template) ks v
+    → number ≡ position_or_len (on templated same_template v) ks → IsClass (known_in new) (Some (templated v)) (Some number)
 class_put v ks new number is at =
-    ap (λ l. place_of (found_view v) (known_in l)) is ∙ ap (place_of (found_view v)) (known_put v ks) ∙ class_now (found_view v) (known_in ks)
+    ap (λ l. place_of (templated v) (known_in l)) is ∙ ap (place_of (templated v)) (known_put v ks) ∙ class_now (templated v) (known_in ks)
     ∙ ap Some (sym (at ∙ place_seen v ks))
 
 -- what was known stays where it was
 
-pub grows_not : (ks : List FoundTemplate) → Grows ks ks
+pub grows_not : (ks : List TemplateKey) → Grows ks ks
 grows_not ks = record { more = []; is = none ks }
   where
-    none : (xs : List FoundTemplate) → xs ≡ xs ++ []
+    none : (xs : List TemplateKey) → xs ≡ xs ++ []
     none [] = refl
     none (x ∷ xs) = ap (λ l. x ∷ l) (none xs)
 
-pub grows_put : (v : FoundTemplate) (ks new : List FoundTemplate) → new ≡ insert_key (on found_view same_template) ks v → Grows ks new
-grows_put v ks new is = subst (Grows ks) (sym is) (by (list_any (on found_view same_template v) ks))
+pub grows_put : (v : TemplateKey) (ks new : List TemplateKey) → new ≡ insert_key (on templated same_template) ks v → Grows ks new
+grows_put v ks new is = subst (Grows ks) (sym is) (by (list_any (on templated same_template v) ks))
   where
     by : (b : Bool) → Grows ks (if b then ks else ks ++ v ∷ [])
     by true = grows_not ks
     by false = record { more = v ∷ []; is = refl }
 
-joined : (xs ys zs : List FoundTemplate) → (xs ++ ys) ++ zs ≡ xs ++ (ys ++ zs)
+joined : (xs ys zs : List TemplateKey) → (xs ++ ys) ++ zs ≡ xs ++ (ys ++ zs)
 joined [] ys zs = refl
 joined (x ∷ xs) ys zs = ap (λ l. x ∷ l) (joined xs ys zs)
 
-pub grows_on : (a b c : List FoundTemplate) → Grows a b → Grows b c → Grows a c
+pub grows_on : (a b c : List TemplateKey) → Grows a b → Grows b c → Grows a c
 grows_on a b c g h = record { more = g.more ++ h.more; is = h.is ∙ ap (λ l. l ++ h.more) g.is ∙ joined a g.more h.more }
 
 place_stays : (t : Template) (known more : List Template) (n : ℕ) → place_of t known ≡ Some n → place_of t (known ++ more) ≡ Some n
@@ -106,18 +107,18 @@ place_stays t (k ∷ known) more n e = by (same_template t k) e (λ m. place_sta
     by true h rest = h
     by false h rest = shifted (place_of t known) h rest
 
-pub class_stays : (old new : List FoundTemplate) → Grows old new → (t : Option Template) (class : Option ℕ) → IsClass (known_in old) t class → IsClass (known_in new) t class
+pub class_stays : (old new : List TemplateKey) → Grows old new → (t : Option Template) (class : Option ℕ) → IsClass (known_in old) t class → IsClass (known_in new) t class
 class_stays old new g None None h = tt
 class_stays old new g None (Some k) h = absurd h
 class_stays old new g (Some t) None h = absurd h
-class_stays old new g (Some t) (Some k) h = ap (place_of t) (ap known_in g.is ∙ map-append found_view old g.more) ∙ place_stays t (known_in old) (known_in g.more) k h
+class_stays old new g (Some t) (Some k) h = ap (place_of t) (ap known_in g.is ∙ map-append templated old g.more) ∙ place_stays t (known_in old) (known_in g.more) k h
 
-pub classes_stay : (old new : List FoundTemplate) (code : Code) (classes : List (Option ℕ)) → Grows old new → AreClasses (known_in old) code classes → AreClasses (known_in new) code classes
+pub classes_stay : (old new : List TemplateKey) (code : Code) (classes : List (Option ℕ)) → Grows old new → AreClasses (known_in old) code classes → AreClasses (known_in new) code classes
 classes_stay old new code classes g all = λ number. class_stays old new g (template_at code number) (class_at classes number) (all number)
 
-pub classed_stay : (old new : List FoundTemplate) (es : List (Name × External)) → Grows old new → AreClassed (known_in old) es → AreClassed (known_in new) es
+pub classed_stay : (old new : List TemplateKey) (es : List (Name × External)) → Grows old new → AreClassed (known_in old) es → AreClassed (known_in new) es
 classed_stay old new [] g all = tt
-classed_stay old new (e ∷ es) g all = (class_stays old new g (option_map found_view e.1.template) e.1.class all.0, classed_stay old new es g all.1)
+classed_stay old new (e ∷ es) g all = (class_stays old new g (option_map templated e.1.template) e.1.class all.0, classed_stay old new es g all.1)
 
 -- templates of one class are equal, and equal ones are of one class
 
@@ -227,7 +228,7 @@ all_classes known code classes long all number = by (nat_lt number (length code.
 -- a table of external variables with one more
 
 pub classed_put : (known : List Template) (es : List (Name × External)) (n : Name) (x : External) → is_among n (keys_of es) ≡ false → AreClassed known es
-    → IsClass known (option_map found_view x.template) x.class → AreClassed known (es ++ (n, x) ∷ [])
+    → IsClass known (option_map templated x.template) x.class → AreClassed known (es ++ (n, x) ∷ [])
 classed_put known [] n x new all one = (one, tt)
 classed_put known (e ∷ es) n x new all one = (all.0, by (same_name n e.0) new (λ h. classed_put known es n x h all.1 one))
   where
@@ -243,16 +244,16 @@ classed_found known test es None all e = tt
 classed_found known test [] (Some x) all e = let bad : ⊥ = cc in absurd bad
 classed_found known test (y ∷ es) (Some x) all e = by (test y.0) e (classed_found known test es (Some x) all.1)
   where
-    by : (b : Bool) → Some x.now ≡ cond b (Some y.1) (lookup test es) → (Some x.now ≡ lookup test es → IsClass known (option_map found_view x.now.template) x.now.class)
-        → IsClass known (option_map found_view x.now.template) x.now.class
-    by true h rest = subst (λ (z : External). IsClass known (option_map found_view z.template) z.class) (sym (some_is x.now y.1 h)) all.0
+    by : (b : Bool) → Some x.now ≡ cond b (Some y.1) (lookup test es) → (Some x.now ≡ lookup test es → IsClass known (option_map templated x.now.template) x.now.class)
+        → IsClass known (option_map templated x.now.template) x.now.class
+    by true h rest = subst (λ (z : External). IsClass known (option_map templated z.template) z.class) (sym (some_is x.now y.1 h)) all.0
     by false h rest = rest h
 
 -- an external variable is unlike the first one where it is of another class
 
 pub unlike_by_class : (known : List Template) (t : Option Template) (class : Option ℕ) (e : Bor External) → IsClass known t class → IsFirstClassed known (Some e)
-    → not (option_eq nat_eq e.now.class class) ≡ not (is_like_first t (Some (option_map found_view e.now.template)))
-unlike_by_class known t class e h i = ap not (same_class known (option_map found_view e.now.template) t e.now.class class i h)
+    → not (option_eq nat_eq e.now.class class) ≡ not (is_like_first t (Some (option_map templated e.now.template)))
+unlike_by_class known t class e h i = ap not (same_class known (option_map templated e.now.template) t e.now.class class i h)
 
 -- steps of loops
 

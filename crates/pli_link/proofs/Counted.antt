@@ -12,17 +12,17 @@ use Rattle.pli_type_tree.specs.Templates.{Template}
 use Rattle.pli_link.specs.ModuleSize.{is_oversized, are_too_large}
 use Rattle.pli_unit_code.specs.CodeTables.{there}
 use Rattle.pli_link.specs.views.NameView.{externals_view}
-use Rattle.pli_link.specs.views.TemplateView.{found_view}
+use Rattle.pli_type_keys.specs.views.KeyView.{templated}
 use Rattle.pli_link.specs.declared.names.External.{External}
 use Rattle.pli_link.specs.answers.Counting.{counted, counted_one, if_counted}
 
 -- what templates say that tables may lack
 abbrev pub shown : List External → List Template
-shown es = flat_map there (map (λ e. option_map found_view e.template) es)
+shown es = flat_map there (map (λ e. option_map templated e.template) es)
 
 pub shown_values : (es : List (Name × External)) → shown (values_of es) ≡ flat_map there (values_of (externals_view es))
 shown_values [] = refl
-shown_values (e ∷ es) = ap (λ ts. there (option_map found_view e.1.template) ++ ts) (shown_values es)
+shown_values (e ∷ es) = ap (λ ts. there (option_map templated e.1.template) ++ ts) (shown_values es)
 
 -- some behind others
 pub counted_behind : (bytes : ℕ) (xs ys : List Template) → counted bytes (xs ++ ys) ≡ if_counted (counted bytes xs) (λ more. counted more ys)

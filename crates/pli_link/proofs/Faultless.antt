@@ -1,11 +1,14 @@
 -- What is known of units of which no fault is told.
-use Rattle.std.proofs.Common.{◌≡◌, ℕ, ◌≤◌, Bool, true, false, ◌||◌, nat_lt, List, [], ◌∷◌, ◌++◌, length, map, refl, arith, if◌then◌else◌}
+use Rattle.std.proofs.Common.{◌≡◌, ℕ, suc, ◌≤◌, Bool, true, false, ◌||◌, nat_lt, List, [], ◌∷◌, ◌++◌, length, map, refl, ap, arith}
 use Rattle.std.specs.Cmp.Lexicographic.{slice_cmp}
 use Rattle.std.specs.List.{sum_by}
-use Rattle.std.specs.Ordering.{nat_cmp, is_gt}
+use Rattle.std.specs.Ordering.{nat_cmp}
 use Rattle.std.proofs.lemmas.Bool.Decides.{nat_tests}
+use Rattle.std.proofs.lemmas.Cmp.{nat_list_cmp_total}
+use Rattle.std.proofs.lemmas.List.Sorted.{length_permutation}
+use Rattle.pli_sort.proofs.Sorted.{items_are_sorted}
 use Rattle.pli_type_tree.specs.Templates.{Template}
-use Rattle.pli_link.specs.Link.{inserted, in_order_after, in_order, defined_again, mains, later, none_among, too_large_if, link_faults}
+use Rattle.pli_link.specs.Link.{in_order, name_alone, defined_again, mains, later, none_among, too_large_if, link_faults}
 use Rattle.pli_link.specs.Mismatches.{faulty_linked}
 use Rattle.pli_link.specs.ModuleSize.{are_too_large, is_too_large, variables_made}
 use Rattle.pli_link.specs.Names.{externals}
@@ -29,17 +32,12 @@ map_empty f [] e = refl
 map_empty f (x ∷ xs) e = let bad : ⊥ = cc in absurd bad
 
 -- names in order are as many as they were
-order_filled : (ps : List LinkedName) (p : LinkedName) (sorted : List LinkedName) → in_order_after (p ∷ sorted) ps ≡ [] → ⊥
-order_filled [] p sorted e = cc
-order_filled (q ∷ ps) p sorted e = by (is_gt (slice_cmp nat_cmp p.name q.name)) (λ r rs. order_filled ps r rs) e
-  where
-    by : (b : Bool) → ((r : LinkedName) (rs : List LinkedName) → in_order_after (r ∷ rs) ps ≡ [] → ⊥) → in_order_after (if b then q ∷ p ∷ sorted else p ∷ inserted q sorted) ps ≡ [] → ⊥
-    by true rest e = rest q (p ∷ sorted) e
-    by false rest e = rest p (inserted q sorted) e
-
 order_empty : (ps : List LinkedName) → in_order ps ≡ [] → ps ≡ []
 order_empty [] e = refl
-order_empty (p ∷ ps) e = absurd (order_filled ps p [] e)
+order_empty (p ∷ ps) e =
+    let sorts = items_are_sorted name_alone (slice_cmp nat_cmp) nat_list_cmp_total (p ∷ ps) in
+    let many : length (in_order (p ∷ ps)) ≡ suc (length ps) = length_permutation _ _ sorts.same_items in
+    absurd (omega (arith, many, ap length e))
 
 none_told : (fault : LinkedName → LinkFault) (ps : List LinkedName) → map fault (in_order ps) ≡ [] → ps ≡ []
 none_told fault ps e = order_empty ps (map_empty fault (in_order ps) e)

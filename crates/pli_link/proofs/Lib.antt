@@ -6,5 +6,3 @@ pub mod LinkedUnits
 pub mod MeantFirst
 pub mod MismatchLemmas
 pub mod NameTables
-pub mod NamesSorted
-pub mod SortedOnce

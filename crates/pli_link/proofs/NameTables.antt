@@ -8,7 +8,7 @@ use Rattle.pli_base.specs.Name.{Name}
 use Rattle.pli_base.specs.Words.{same_name, is_among}
 use Rattle.pli_link.specs.Names.{with_first, firsts}
 use Rattle.pli_link.specs.views.NameView.{externals_view}
-use Rattle.pli_link.specs.views.TemplateView.{found_view}
+use Rattle.pli_type_keys.specs.views.KeyView.{templated}
 use Rattle.pli_link.specs.declared.names.External.{External}
 
 -- what holds where a call succeeds
@@ -53,24 +53,24 @@ same_keys [] = refl
 same_keys (e ∷ es) = ap (λ ks. e.0 ∷ ks) (same_keys es)
 
 pub external_put : (es : List (Name × External)) (n : Name) (t : External) → is_some (lookup (same_name n) es) ≡ false
-    → externals_view (insert_entry same_name es n t) ≡ with_first (externals_view es) (n, option_map found_view t.template)
+    → externals_view (insert_entry same_name es n t) ≡ with_first (externals_view es) (n, option_map templated t.template)
 external_put es n t h =
     let e : is_among n (keys_of es) ≡ false = sym (some_among (same_name n) es) ∙ h in
     let f : is_among n (keys_of (externals_view es)) ≡ false = ap (is_among n) (same_keys es) ∙ e in
-    ap externals_view (new_entry es n t e) ∙ map-append (λ (p : Name × External). (p.0, option_map found_view p.1.template)) es ((n, t) ∷ [])
-    ∙ sym (ap (λ b. if b then externals_view es else externals_view es ++ (n, option_map found_view t.template) ∷ []) f)
+    ap externals_view (new_entry es n t e) ∙ map-append (λ (p : Name × External). (p.0, option_map templated p.1.template)) es ((n, t) ∷ [])
+    ∙ sym (ap (λ b. if b then externals_view es else externals_view es ++ (n, option_map templated t.template) ∷ []) f)
 
 pub external_left : (es : List (Name × External)) (n : Name) (t : External) → is_some (lookup (same_name n) es) ≡ true
-    → externals_view es ≡ with_first (externals_view es) (n, option_map found_view t.template)
+    → externals_view es ≡ with_first (externals_view es) (n, option_map templated t.template)
 external_left es n t h =
-    sym (ap (λ b. if b then externals_view es else externals_view es ++ (n, option_map found_view t.template) ∷ []) (ap (is_among n) (same_keys es) ∙ sym (some_among (same_name n) es) ∙ h))
+    sym (ap (λ b. if b then externals_view es else externals_view es ++ (n, option_map templated t.template) ∷ []) (ap (is_among n) (same_keys es) ∙ sym (some_among (same_name n) es) ∙ h))
 
 -- what a name means in the table and in what it stands for
-pub meant_external : (test : Name → Bool) (es : List (Name × External)) → option_map (λ (x : External). option_map found_view x.template) (lookup test es) ≡ lookup test (externals_view es)
+pub meant_external : (test : Name → Bool) (es : List (Name × External)) → option_map (λ (x : External). option_map templated x.template) (lookup test es) ≡ lookup test (externals_view es)
 meant_external test [] = refl
 meant_external test (e ∷ es) = by (test e.0) (meant_external test es)
   where
-    by : (b : Bool) → option_map (λ (x : External). option_map found_view x.template) (lookup test es) ≡ lookup test (externals_view es)
-        → option_map (λ (x : External). option_map found_view x.template) (cond b (Some e.1) (lookup test es)) ≡ cond b (Some (option_map found_view e.1.template)) (lookup test (externals_view es))
+    by : (b : Bool) → option_map (λ (x : External). option_map templated x.template) (lookup test es) ≡ lookup test (externals_view es)
+        → option_map (λ (x : External). option_map templated x.template) (cond b (Some e.1) (lookup test es)) ≡ cond b (Some (option_map templated e.1.template)) (lookup test (externals_view es))
     by true h = refl
     by false h = h

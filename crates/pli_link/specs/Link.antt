@@ -3,9 +3,10 @@ use Rattle.std.specs.Prelude.{ℕ, Bool, Option, Some, Result, Ok, Err, List, []
 use Rattle.std.specs.Prelude.{if◌then◌else◌}
 use Rattle.std.specs.Cmp.Lexicographic.{slice_cmp}
 use Rattle.std.specs.List.{filter, flat_map}
-use Rattle.std.specs.Ordering.{nat_cmp, is_gt}
+use Rattle.std.specs.Ordering.{nat_cmp}
 use Rattle.pli_base.specs.Name.{Name}
 use Rattle.pli_base.specs.Words.{is_among}
+use Rattle.pli_sort.specs.Sorting as sorting
 use Rattle.pli_unit_code.specs.CodeTables.{CodedGlobal, OwnVariable, ExternalVariable, EntryPoint, there}
 use Rattle.pli_unit_code.specs.Modules.{Module, LinkedUnit}
 use Rattle.pli_link.specs.Mismatches.{faulty_linked}
@@ -19,20 +20,13 @@ use Rattle.pli_link.specs.declared.linking.LinkFault.TheVariants.{Unresolved, De
 use Rattle.pli_link.specs.declared.linking.LinkFault.TheVariants.{ModuleTooLarge}
 use Rattle.pli_link.specs.declared.units.LinkedName.{LinkedName}
 
--- a name put before the first greater one
-abbrev pub inserted : LinkedName → List LinkedName → List LinkedName
-inserted p [] = p ∷ []
-inserted p (q ∷ qs) =
-    if is_gt (slice_cmp nat_cmp q.name p.name) then p ∷ q ∷ qs else q ∷ inserted p qs
+-- the name without its unit
+abbrev pub name_alone : LinkedName → Name
+name_alone n = n.name
 
 -- in the order of names; those that are equal as they stood, which is by unit
-abbrev pub in_order_after : (sorted : List LinkedName) → List LinkedName → List LinkedName
-in_order_after sorted [] = sorted
-in_order_after sorted (p ∷ ps) = in_order_after (inserted p sorted) ps
-
--- sorted
 abbrev pub in_order : List LinkedName → List LinkedName
-in_order = in_order_after []
+in_order = sorting.in_order name_alone (slice_cmp nat_cmp)
 
 -- the units whose procedure has the name of one before
 abbrev pub defined_again : (before : List Name) → List Compiled → List LinkedName

@@ -7,7 +7,8 @@ use Rattle.pli_base.specs.Name.{Name}
 use Rattle.pli_type_tree.specs.Templates.{Template}
 use Rattle.pli_unit_code.specs.CodeTables.{Code, CodedGlobal, OwnVariable, ExternalVariable, EntryPoint}
 use Rattle.pli_unit_code.specs.CodeTables.{template_at}
-use Rattle.pli_link.specs.Alike.{FoundSignature, same_template, same_signature, signature_at}
+use Rattle.pli_link.specs.Alike.{FoundSignature, same_signature, signature_at}
+use Rattle.pli_type_keys.specs.Same.{same_template}
 use Rattle.pli_link.specs.Names.{with_name, meant, procedures, externals, unit_named}
 use Rattle.pli_link.specs.Units.{Compiled}
 use Rattle.pli_link.specs.declared.global_fault.GlobalFault.{GlobalFault}

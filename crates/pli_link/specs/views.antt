@@ -1,3 +1,2 @@
 pub mod NameView
-pub mod TemplateView
 pub mod UnitView

@@ -1,60 +1,16 @@
-//! Whether descriptions, templates and signatures of two units are alike.
+//! Templates of units, and whether signatures of two units are alike.
 ghost use Rattle.std.specs.Prelude.{◌≡◌, Some, map, option_map};
-ghost use Rattle.std.specs.Bool.{beq};
 ghost use Rattle.std.specs.Cmp.Lexicographic.{pointwise};
-ghost use Rattle.std.specs.Cmp.{on_per, on_equiv, partial_equiv_from_equiv};
-ghost use Rattle.std.specs.Hash as fed;
 ghost use Rattle.std.specs.Option.{option_eq};
-ghost use Rattle.std.specs.Ordering.{on};
-ghost use Rattle.std.proofs.Common.{ap};
 ghost use Rattle.pli_map.specs.views.DescriptionView.{description_view};
-ghost use Rattle.pli_value.specs.Value.{value_view};
-ghost use Rattle.pli_type_tree.specs.views.TemplateView.{initial_view};
 ghost use Rattle.pli_unit_code.specs.CodeTables as tables;
 ghost use Rattle.pli_unit_code.specs.views.CodeView.{code_view, coded_template_view, signature_view};
 ghost use Rattle.pli_link.specs.Alike as spec;
-ghost use Rattle.pli_link.specs.answers.Digests.{digest_of_template};
-ghost use Rattle.pli_link.specs.laws.AlikeLaws.{template_decides, same_template_equivalence};
-ghost use Rattle.pli_link.specs.views.TemplateView.{found_view};
+ghost use Rattle.pli_type_keys.specs.views.KeyView.{templated};
 
-use crate::digest::{digest_of, digest_of_initial};
 use pli_map::Description;
-use pli_type_tree::InitialScalar;
+use pli_type_keys::TemplateKey;
 use pli_unit_code::{Code, CodedSignature, CodedTemplate};
-use pli_value::Value;
-use pli_value::bit::Bits;
-use std::hash::{Hash, Hasher};
-
-/// A template as the tables of a unit have it.
-#[derive(Clone, Copy)]
-pub(crate) struct FoundTemplate<'a> {
-    pub description: &'a Description,
-    pub initial: &'a [InitialScalar],
-}
-
-impl PartialEq for FoundTemplate<'_> {
-    ghost eq = { on found_view spec.same_template };
-
-    ghost laws = { on_per found_view (partial_equiv_from_equiv same_template_equivalence) };
-
-    fn eq(&self, other: &Self) -> bool {
-        are_same_templates(self, other)
-    }
-}
-
-impl Eq for FoundTemplate<'_> {
-    ghost laws = { on_equiv found_view same_template_equivalence };
-}
-
-impl Hash for FoundTemplate<'_> {
-    ghost hash_input = { λ t. fed.u64 (digest_of_template (found_view t)) };
-
-    ghost respects_eq = { λ x y e. ap (λ t. fed.u64 (digest_of_template t)) ((template_decides (found_view x) (found_view y)).0 e) };
-
-    fn hash<H: Hasher>(&self, state: &mut H) {
-        state.write_u64(digest_of_initial(digest_of(self.description), self.initial));
-    }
-}
 
 /// The description of this number, if the table has it.
 pub(crate) fn description_at(code: &Code, number: u16) -> Option<&Description>
@@ -67,77 +23,21 @@ pub(crate) fn description_at(code: &Code, number: u16) -> Option<&Description>
 pub(crate) fn found_template<'a>(
     code: &'a Code,
     template: &'a CodedTemplate,
-) -> Option<FoundTemplate<'a>>
-    ensures { option_map found_view result ≡ tables.with_description (code_view code.now) (Some (coded_template_view template.now)) }
+) -> Option<TemplateKey<'a>>
+    ensures { option_map templated result ≡ tables.with_description (code_view code.now) (Some (coded_template_view template.now)) }
 {
-    Some(FoundTemplate {
+    Some(TemplateKey {
         description: description_at(code, template.description)?,
         initial: template.initial.as_slice(),
     })
 }
 
 /// The template of this number, if the tables have it.
-pub(crate) fn template_at(code: &Code, number: u16) -> Option<FoundTemplate<'_>>
-    ensures { option_map found_view result ≡ tables.template_at (code_view code.now) number }
+pub(crate) fn template_at(code: &Code, number: u16) -> Option<TemplateKey<'_>>
+    ensures { option_map templated result ≡ tables.template_at (code_view code.now) number }
 {
     let template = code.templates.get(usize::from(number))?;
     found_template(code, template)
-}
-
-/// Whether bits are equal.
-fn are_same_bits(left: &Bits, right: &Bits) -> bool
-    ensures { result ≡ pointwise beq left.now right.now }
-{
-    if left.length() != right.length() {
-        return false;
-    }
-    for place in 0..left.length() {
-        if left.at(place) != right.at(place) {
-            return false;
-        }
-    }
-    true
-}
-
-/// Whether values are equal.
-fn are_same_values(left: &Value, right: &Value) -> bool
-    ensures { result ≡ spec.same_value (value_view left.now) (value_view right.now) }
-{
-    match (left, right) {
-        (Value::Number(left), Value::Number(right)) => left == right,
-        (Value::Characters(left), Value::Characters(right)) => left == right,
-        (Value::Bits(left), Value::Bits(right)) => are_same_bits(left, right),
-        _ => false,
-    }
-}
-
-/// Whether one initial value equals another, of the same scalar.
-fn is_same_initial(left: &InitialScalar, right: &InitialScalar) -> bool
-    ensures { result ≡ spec.same_initial (initial_view left.now) (initial_view right.now) }
-{
-    left.scalar == right.scalar && are_same_values(&left.value, &right.value)
-}
-
-/// Whether initial values are equal.
-fn are_same_initial(left: &[InitialScalar], right: &[InitialScalar]) -> bool
-    ensures { result ≡ pointwise spec.same_initial (map initial_view left.now) (map initial_view right.now) }
-{
-    if left.len() != right.len() {
-        return false;
-    }
-    for i in 0..left.len() {
-        if !is_same_initial(&left[i], &right[i]) {
-            return false;
-        }
-    }
-    true
-}
-
-/// Whether templates are of one description and have the same initial values.
-fn are_same_templates(left: &FoundTemplate<'_>, right: &FoundTemplate<'_>) -> bool
-    ensures { result ≡ spec.same_template (found_view left.now) (found_view right.now) }
-{
-    *left.description == *right.description && are_same_initial(left.initial, right.initial)
 }
 
 /// Whether descriptions of these numbers are equal.

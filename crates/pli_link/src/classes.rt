@@ -1,20 +1,21 @@
 //! Templates of all units, of equal ones one.
 ghost use Rattle.std.specs.Prelude.{◌≡◌, IfOk, option_map};
 ghost use Rattle.pli_link.specs.answers.Classes as spec;
-ghost use Rattle.pli_link.specs.views.TemplateView.{found_view};
+ghost use Rattle.pli_type_keys.specs.views.KeyView.{templated};
 ghost use Rattle.pli_unit_code.specs.views.CodeView.{code_view};
 
-use crate::alike::{FoundTemplate, found_template};
+use crate::alike::found_template;
 use indexmap::IndexSet;
+use pli_type_keys::TemplateKey;
 use pli_unit_code::Code;
 use std::alloc::{AllocError, Global};
 
 /// The class of a template: its number among those that are known, which it joins if it is new.
 fn class_of<'a>(
-    known: &mut IndexSet<FoundTemplate<'a>>,
-    template: Option<FoundTemplate<'a>>,
+    known: &mut IndexSet<TemplateKey<'a>>,
+    template: Option<TemplateKey<'a>>,
 ) -> Result<Option<usize>, AllocError>
-    ensures class { IfOk result (λ class. spec.IsClass (spec.known_in known.new.keys) (option_map found_view template.entry) class) }
+    ensures class { IfOk result (λ class. spec.IsClass (spec.known_in known.new.keys) (option_map templated template.entry) class) }
     ensures grows { spec.Grows known.old.keys known.new.keys }
 {
     let Some(template) = template else {
@@ -29,7 +30,7 @@ fn class_of<'a>(
 /// The classes of the templates of a unit, by their numbers.
 pub(crate) fn classes_of<'a>(
     alloc: Global,
-    known: &mut IndexSet<FoundTemplate<'a>>,
+    known: &mut IndexSet<TemplateKey<'a>>,
     code: &'a Code,
 ) -> Result<Vec<Option<usize>>, AllocError>
     ensures classes { IfOk result (λ classes. spec.AreClasses (spec.known_in known.new.keys) (code_view code.now) classes.items) }

@@ -3,7 +3,6 @@
 
 mod alike;
 mod classes;
-mod digest;
 mod global_fault;
 mod laws;
 mod linked;

@@ -7,7 +7,6 @@ ghost use Rattle.pli_link.specs.answers.Tables.{AreNames, HaveClasses, units_in}
 ghost use Rattle.pli_link.specs.views.UnitView.{compiled_view};
 ghost use Rattle.pli_link.specs.declared.linking.LinkError.TheVariants.{OutOfMemory};
 
-use crate::alike::FoundTemplate;
 use crate::global_fault::GlobalFault;
 use crate::linked::{linked_units, main_at};
 use crate::mismatches::faulty_names;
@@ -17,6 +16,7 @@ use crate::sizes::is_too_large;
 use crate::units::{Compiled, LinkedName};
 use indexmap::{IndexMap, IndexSet};
 use pli_base::Name;
+use pli_type_keys::TemplateKey;
 use pli_unit_code::Module;
 use std::alloc::{AllocError, AllocFailed, Global};
 
@@ -149,7 +149,7 @@ fn main_faults(alloc: Global, units: &[Compiled]) -> Result<Vec<LinkFault>, Allo
 /// The faults of units whose names these are, by code, name and unit.
 fn faults_among<'a>(
     alloc: Global,
-    known: &mut IndexSet<FoundTemplate<'a>>,
+    known: &mut IndexSet<TemplateKey<'a>>,
     names: &Names<'a, '_>,
 ) -> Result<Vec<LinkFault>, AllocError>
     requires names { AreNames names.now }

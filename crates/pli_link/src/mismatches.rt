@@ -6,19 +6,20 @@ ghost use Rattle.pli_link.specs.Alike.{signature_at};
 ghost use Rattle.pli_link.specs.Names as meaning;
 ghost use Rattle.pli_link.specs.answers.Classes.{AreClasses, Grows, IsClass, IsFirstClassed, known_in};
 ghost use Rattle.pli_link.specs.answers.Tables.{AreNames, HaveClasses, units_in};
-ghost use Rattle.pli_link.specs.declared.alike.FoundTemplate.{FoundTemplate};
+ghost use Rattle.pli_type_keys.specs.declared.key.TemplateKey.{TemplateKey};
 ghost use Rattle.pli_link.specs.views.UnitView.{compiled_view};
-ghost use Rattle.pli_link.specs.views.TemplateView.{found_view};
+ghost use Rattle.pli_type_keys.specs.views.KeyView.{templated};
 ghost use Rattle.pli_unit_code.specs.CodeTables.{there};
 ghost use Rattle.pli_unit_code.specs.views.CodeView.{code_view, global_view, signature_view};
 
-use crate::alike::{FoundTemplate, is_same_signature};
+use crate::alike::is_same_signature;
 use crate::classes::{class_at, classes_of};
 use crate::global_fault::GlobalFault;
 use crate::names::{External, Names};
 use crate::units::{Compiled, LinkedName};
 use indexmap::IndexSet;
 use pli_base::Name;
+use pli_type_keys::TemplateKey;
 use pli_unit_code::{Code, CodedGlobal, CodedSignature};
 use std::alloc::{AllocError, Global};
 
@@ -52,7 +53,7 @@ fn is_unlike(
     first: Option<&External<'_>>,
 ) -> bool
     ensures { (known : List Template) (t : Option Template) → IsClass known t class → IsFirstClassed known first.entry
-        → result ≡ spec.is_unlike t (option_map (λ u. compiled_view u.now) procedure.entry) (option_map (λ e. option_map found_view e.now.template) first.entry) }
+        → result ≡ spec.is_unlike t (option_map (λ u. compiled_view u.now) procedure.entry) (option_map (λ e. option_map templated e.now.template) first.entry) }
 {
     match (procedure, first) {
         (Some(_), _) | (None, None) => true,
@@ -69,7 +70,7 @@ fn has_fault(
     global: &CodedGlobal,
 ) -> bool
     requires { AreNames names.now }
-    ensures { (known : List FoundTemplate) → HaveClasses known names.now → AreClasses (known_in known) (code_view code.now) classes.now
+    ensures { (known : List TemplateKey) → HaveClasses known names.now → AreClasses (known_in known) (code_view code.now) classes.now
         → result ≡ spec.has_fault (units_in names.now) fault (code_view code.now) (global_view global.now) }
 {
     match (fault, global) {
@@ -109,7 +110,7 @@ fn faulty_name(
     global: &CodedGlobal,
 ) -> Option<Name>
     requires { AreNames names.now }
-    ensures { (known : List FoundTemplate) → HaveClasses known names.now → AreClasses (known_in known) (code_view code.now) classes.now
+    ensures { (known : List TemplateKey) → HaveClasses known names.now → AreClasses (known_in known) (code_view code.now) classes.now
         → there result ≡ spec.faulty_in (units_in names.now) fault (code_view code.now) (global_view global.now) }
 {
     if has_fault(names, fault, classes, code, global) {
@@ -129,7 +130,7 @@ fn names_with_fault(
     globals: &[CodedGlobal],
 ) -> Result<IndexSet<Name>, AllocError>
     requires { AreNames names.now }
-    ensures { IfOk result (λ found. (known : List FoundTemplate) → HaveClasses known names.now → AreClasses (known_in known) (code_view code.now) classes.now
+    ensures { IfOk result (λ found. (known : List TemplateKey) → HaveClasses known names.now → AreClasses (known_in known) (code_view code.now) classes.now
         → found.keys ≡ spec.each_once [] (spec.faulty_names (units_in names.now) fault (code_view code.now) (map global_view globals.now))) }
 {
     let mut found = IndexSet::new(alloc);
@@ -158,7 +159,7 @@ fn add_linked(
 /// The names of globals that have a fault, with their units, in the order of the units.
 pub(crate) fn faulty_names<'a>(
     alloc: Global,
-    known: &mut IndexSet<FoundTemplate<'a>>,
+    known: &mut IndexSet<TemplateKey<'a>>,
     names: &Names<'a, '_>,
     fault: GlobalFault,
     units: &'a [Compiled],

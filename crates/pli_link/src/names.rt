@@ -5,14 +5,15 @@ ghost use Rattle.pli_link.specs.answers.Classes.{AreClassed, AreClasses, IsClass
 ghost use Rattle.pli_link.specs.Names as spec;
 ghost use Rattle.pli_link.specs.views.UnitView.{compiled_view};
 ghost use Rattle.pli_link.specs.views.NameView.{externals_view};
-ghost use Rattle.pli_link.specs.views.TemplateView.{found_view};
+ghost use Rattle.pli_type_keys.specs.views.KeyView.{templated};
 ghost use Rattle.pli_unit_code.specs.views.CodeView.{code_view, global_view};
 
-use crate::alike::{FoundTemplate, template_at};
+use crate::alike::template_at;
 use crate::classes::{class_at, classes_of};
 use crate::units::Compiled;
 use indexmap::{IndexMap, IndexSet};
 use pli_base::Name;
+use pli_type_keys::TemplateKey;
 use pli_unit_code::{Code, CodedGlobal};
 use std::alloc::{AllocError, Global};
 
@@ -20,7 +21,7 @@ use std::alloc::{AllocError, Global};
 /// templates that are known.
 #[derive(Clone, Copy)]
 pub(crate) struct External<'a> {
-    pub template: Option<FoundTemplate<'a>>,
+    pub template: Option<TemplateKey<'a>>,
     pub class: Option<usize>,
 }
 
@@ -68,8 +69,8 @@ fn note_external<'a>(
     name: Name,
     external: External<'a>,
 ) -> Result<(), AllocError>
-    ensures first { OnOk result (externals_view externals.new.entries ≡ spec.with_first (externals_view externals.old.entries) (name, option_map found_view external.entry.template)) }
-    ensures classed { OnOk result ((known : List Template) → AreClassed known externals.old.entries → IsClass known (option_map found_view external.entry.template) external.entry.class → AreClassed known externals.new.entries) }
+    ensures first { OnOk result (externals_view externals.new.entries ≡ spec.with_first (externals_view externals.old.entries) (name, option_map templated external.entry.template)) }
+    ensures classed { OnOk result ((known : List Template) → AreClassed known externals.old.entries → IsClass known (option_map templated external.entry.template) external.entry.class → AreClassed known externals.new.entries) }
 {
     if externals.contains_key(&name) {
         return Ok(());
@@ -105,7 +106,7 @@ fn note_shared<'a>(
 /// The external variables, each with the template of its first declaration; the templates of all units become known.
 pub(crate) fn externals<'a>(
     alloc: Global,
-    known: &mut IndexSet<FoundTemplate<'a>>,
+    known: &mut IndexSet<TemplateKey<'a>>,
     units: &'a [Compiled],
 ) -> Result<IndexMap<Name, External<'a>>, AllocError>
     ensures first { IfOk result (λ found. externals_view found.entries ≡ spec.externals (map compiled_view units.now)) }

@@ -11,14 +11,15 @@ ghost use Rattle.pli_link.specs.views.UnitView.{compiled_view};
 ghost use Rattle.pli_link.specs.views.NameView.{externals_view};
 ghost use Rattle.pli_unit_code.specs.views.CodeView.{code_view, global_view};
 ghost use Rattle.pli_unit_code.specs.CodeTables.{there};
-ghost use Rattle.pli_link.specs.views.TemplateView.{found_view};
+ghost use Rattle.pli_type_keys.specs.views.KeyView.{templated};
 
-use crate::alike::{FoundTemplate, template_at};
+use crate::alike::template_at;
 use crate::names::{External, Names};
 use crate::units::Compiled;
 use indexmap::IndexMap;
 use pli_base::Name;
 use pli_map::{Description, size};
+use pli_type_keys::TemplateKey;
 use pli_unit_code::{Code, CodedGlobal};
 
 /// The most bytes that live at once (own).
@@ -47,9 +48,9 @@ fn with_bytes(bytes: u32, description: &Description) -> Option<u32>
 }
 
 /// The same of a template, if the tables have it.
-fn with_template(bytes: u32, template: &Option<FoundTemplate<'_>>) -> Option<u32>
+fn with_template(bytes: u32, template: &Option<TemplateKey<'_>>) -> Option<u32>
     requires { bytes ≤ 16777216 }
-    ensures counts { result ≡ counted bytes (there (option_map found_view template.now)) }
+    ensures counts { result ≡ counted bytes (there (option_map templated template.now)) }
     ensures within { IfSome result (λ more. more ≤ 16777216) }
 {
     match template {

@@ -15,7 +15,9 @@ use Rattle.pli_gen_tree.specs.laws.ListLaws.{all_front, all_back}
 use Rattle.pli_gen_stands.specs.Linked.{AreEntries, AreUnitsOf, IsModuleOf}
 use Rattle.pli_meaning_tree.specs.TreeMeaning.{unit_named}
 use Rattle.pli_meaning_typed.specs.TypedPrograms.{IsLinked, all_globals}
-use Rattle.pli_link.specs.Alike.{same_template, same_signature}
+use Rattle.pli_type_keys.specs.Same.{same_template}
+use Rattle.pli_type_keys.specs.laws.KeyLaws.{template_decides}
+use Rattle.pli_link.specs.Alike.{same_signature}
 use Rattle.pli_link.specs.Link.{entries_of, linked_unit, module_of}
 use Rattle.pli_link.specs.Mismatches.{is_unlike_procedure, is_unlike, has_fault, name_of, each_once, faulty_in, faulty_names, faulty_in_unit, faulty_linked}
 use Rattle.pli_link.specs.Names as meaning
@@ -23,7 +25,7 @@ use Rattle.pli_link.specs.Names.{with_name, meant, procedures_from, procedures, 
 use Rattle.pli_link.specs.Units.{Compiled}
 use Rattle.pli_link.specs.declared.global_fault.GlobalFault.{GlobalFault}
 use Rattle.pli_link.specs.declared.global_fault.GlobalFault.TheVariants.{Unresolved, Mismatch}
-use Rattle.pli_link.specs.laws.AlikeLaws.{template_decides, option_decides, signature_decides}
+use Rattle.pli_link.specs.laws.AlikeLaws.{option_decides, signature_decides}
 use Rattle.pli_link.proofs.Faultless.{front_empty, back_empty, map_empty}
 use Rattle.pli_link.proofs.MeantFirst.{meant_first}
 use Rattle.pli_meaning.specs.Programs.{program_of_units}

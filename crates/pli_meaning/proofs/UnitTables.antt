@@ -11,10 +11,11 @@ use Rattle.pli_type_tree.specs.Templates.{Template}
 use Rattle.pli_type_tree.specs.TypedTree.{Signature, Global, OwnVariable, ExternalVariable, EntryPoint, TypedUnit}
 use Rattle.pli_unit_code.specs.CodeTables.{CodedGlobal, template_at, there, with_description, described}
 use Rattle.pli_gen_emit.specs.TreeTranslation.{blocks_of, instructions_of}
-use Rattle.pli_gen_tree.specs.Encoding.{Tables, tables_for, same_template, description_number, template_number, template_code, signature_code, global_code, code_of}
+use Rattle.pli_gen_tree.specs.Encoding.{Tables, tables_for, description_number, template_number, template_code, signature_code, global_code, code_of}
 use Rattle.pli_gen_tree.specs.Encoding.{signature_descriptions, global_descriptions, global_templates, block_templates, descriptions_named, templates_named}
 use Rattle.pli_gen_tree.specs.laws.ListLaws.{all_front, all_back}
-use Rattle.pli_gen_tree.specs.laws.KeyLaws.{template_decides}
+use Rattle.pli_type_keys.specs.Same.{same_template}
+use Rattle.pli_type_keys.specs.laws.KeyLaws.{template_decides}
 use Rattle.pli_gen_tree.proofs.TableNumbers.{Has, number_stands, has_all}
 use Rattle.pli_gen_tree.proofs.UnitLemmas.{globals_described}
 use Rattle.pli_link.specs.Alike.{FoundSignature, description_at, signature_at}

@@ -1,5 +1,4 @@
 pub mod FaultCodes
 pub mod Lists
 pub mod TextNumbers
-pub mod TextSorted
 pub mod TypedTrees

@@ -6,8 +6,12 @@ use Rattle.std.proofs.lemmas.List.{length-map}
 use Rattle.std.proofs.lemmas.List.Elements.{All-cons, All-nil}
 use Rattle.std.proofs.lemmas.List.Sorted.{All-permutation, Contains-permutation, length_permutation}
 use Rattle.std.proofs.lemmas.Option.{none-some, same_Some}
+use Rattle.std.specs.List.Sorted.{IsPermutation}
+use Rattle.std.specs.Ordering.{nat_cmp}
+use Rattle.std.proofs.lemmas.Cmp.{nat_cmp_total}
+use Rattle.pli_sort.proofs.Corresponding.{AllBoth, both_in_order}
+use Rattle.pli_sort.proofs.Sorted.{items_are_sorted}
 use Rattle.pli_type.specs.TextOrder.{in_order, numbers_from, place_from, text_order, text_places}
-use Rattle.pli_type.proofs.TextSorted.{AllBoth, both_in_order, same_items}
 
 -- ---- numbers
 
@@ -45,6 +49,10 @@ given_under f from (suc count) zero k d e h = let same : from ≡ k = omega (ari
 given_under f from (suc count) (suc i) k d e h = given_under f (suc from) count i k d (omega (arith, e)) (omega (arith, h))
 
 -- ---- places
+
+-- in the order of the text there are the same items
+pub same_items : {A : Type 0} (token : A → ℕ) (xs : List A) → IsPermutation xs (in_order token xs)
+same_items token xs = let sorts = items_are_sorted token nat_cmp nat_cmp_total xs in sorts.same_items
 
 -- the order of the text has the numbers of all tokens
 pub order_counted : (tokens : List ℕ) → length (text_order tokens) ≡ length tokens
@@ -135,7 +143,7 @@ module _ {A : Type 0} (at : A → ℕ) (xs : List A) where
       let all : AllBoth R (numbers_from 0 (length xs)) xs = all_numbered xs 0 xs (λ i. ap (slice_get xs) (omega arith)) in
       let numbered : AllBoth R (numbers_from 0 (length (map at xs))) xs = rw counted all in
       let both : AllBoth R order (in_order at xs) =
-      both_in_order R (λ n. get_or (map at xs) n 0) at (λ n y h. token_given at xs n y h) [] (numbers_from 0 (length (map at xs))) [] xs tt numbered in
+      both_in_order nat_cmp R (λ n. get_or (map at xs) n 0) at (λ n y h. token_given at xs n y h) [] (numbers_from 0 (length (map at xs))) [] xs tt numbered in
       let found = both_at R order (in_order at xs) s.0 k both s.2 in
       let spot : get_or (text_places (map at xs)) k 0 ≡ s.0 = omega (arith, placed, s.1) in
       ap (slice_get (in_order at xs)) spot ∙ found.1 ∙ ap Some (same_Some found.0 x (sym found.2 ∙ e))

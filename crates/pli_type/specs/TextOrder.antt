@@ -1,18 +1,11 @@
 -- The order of the text: items in the order of the tokens at which they stand.
-use Rattle.std.specs.Prelude.{ℕ, zero, suc, nat_eq, nat_lt, List, [], ◌∷◌, get_or, length, map, if◌then◌else◌}
-
--- an item put before the first that stands at a later token
-abbrev pub inserted : {A : Type 0} → (token : A → ℕ) → A → List A → List A
-inserted token x [] = x ∷ []
-inserted token x (y ∷ ys) = if nat_lt (token x) (token y) then x ∷ y ∷ ys else y ∷ inserted token x ys
-
-abbrev pub in_order_after : {A : Type 0} → (token : A → ℕ) → (sorted : List A) → List A → List A
-in_order_after token sorted [] = sorted
-in_order_after token sorted (x ∷ xs) = in_order_after token (inserted token x sorted) xs
+use Rattle.std.specs.Prelude.{ℕ, zero, suc, nat_eq, List, [], ◌∷◌, get_or, length, map, if◌then◌else◌}
+use Rattle.std.specs.Ordering.{nat_cmp}
+use Rattle.pli_sort.specs.Sorting as sorting
 
 -- in the order of tokens; those at one token as they stood
 abbrev pub in_order : {A : Type 0} → (token : A → ℕ) → List A → List A
-in_order token = in_order_after token []
+in_order token = sorting.in_order token nat_cmp
 
 -- so many numbers, the first of which is this one
 abbrev pub numbers_from : (from count : ℕ) → List ℕ

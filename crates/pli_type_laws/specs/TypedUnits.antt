@@ -1,5 +1,5 @@
 -- What the type checker gives is well typed and numbered well.
-use Rattle.std.specs.Prelude.{◌≡◌, ℕ, Bool, true, Option, Some, None, List, [], Ok}
+use Rattle.std.specs.Prelude.{◌≡◌, ℕ, Bool, true, Option, None, List, [], Ok}
 use Rattle.pli_base.specs.Statements.{ExternalProcedure}
 use Rattle.pli_base.specs.Words.{Tokens}
 use Rattle.pli_gen_tree.specs.WellNumbered.{IsWellNumbered}

@@ -23,7 +23,7 @@ use Rattle.pli_type.specs.NamedUnits.{is_plain, all_plain, is_static, member_ite
 use Rattle.pli_type.specs.NamedUnits.{global_of, global_with, globals_from, globals_of, all_globals}
 use Rattle.pli_type.specs.NamedUnits.{PlacedGlobal, placed, block_globals}
 use Rattle.pli_type.specs.TextOrder.{in_order}
-use Rattle.pli_type.proofs.TextSorted.{same_items}
+use Rattle.pli_type.proofs.TextNumbers.{same_items}
 use Rattle.pli_type_tree.specs.Globals.{templates_in}
 use Rattle.pli_type_tree.specs.Templates.{InitialScalar, Template, with_initial, variable_of}
 use Rattle.pli_type_tree.specs.TypedTree.{Global, OwnVariable, ExternalVariable, EntryPoint}

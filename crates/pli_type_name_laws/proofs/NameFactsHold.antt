@@ -1,6 +1,6 @@
 -- The facts about the names of a unit.
 use Rattle.std.specs.Prelude.{◌≡◌, ℕ, suc, true, false, nat_eq, nat_le, Bool, Option, Some, None, option_map}
-use Rattle.std.specs.Prelude.{List, [], ◌∷◌, map, slice_get, if◌then◌else◌, refl}
+use Rattle.std.specs.Prelude.{List, [], ◌∷◌, slice_get, if◌then◌else◌, refl}
 use Rattle.std.proofs.Common.{sym, ◌∙◌, ap, subst}
 use Rattle.std.proofs.lemmas.Bool.{and_parts, eqb-true}
 use Rattle.std.proofs.lemmas.Option.{same_Some, none-some}
@@ -10,7 +10,7 @@ use Rattle.pli_resolve.specs.ResolvedUnits.{ResolvedUnit, ResolvedBlock, all_sym
 use Rattle.pli_resolve.specs.declared.block_numbers.ResolvedBlockKind.{ResolvedBlockKind}
 use Rattle.pli_resolve.specs.declared.block_numbers.ResolvedBlockKind.TheVariants as kinds
 use Rattle.pli_type.specs.NamedUnits.{is_plain, is_stored, is_automatic, block_symbols, parameter_numbers, parameters_of}
-use Rattle.pli_type.specs.NamedUnits.{returned_of, outward_to, is_reached, is_procedure, stands_around, gives_stored}
+use Rattle.pli_type.specs.NamedUnits.{outward_to, is_reached, is_procedure, stands_around, gives_stored}
 use Rattle.pli_type.specs.NamedUnits.{named_procedure, named_unit}
 use Rattle.pli_type.specs.Names.{NamedUnit, NamedVariable, NamedProcedure}
 use Rattle.pli_type_tree.specs.Globals.{description_of, signature_of}

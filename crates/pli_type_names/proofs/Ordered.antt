@@ -1,28 +1,10 @@
--- The tokens of globals, and places in the order of the text, one after another.
-use Rattle.std.proofs.Common.{◌≡◌, ℕ, zero, suc, ◌+◌, ◌<◌, ◌≤◌, nat_eq, List, [], ◌∷◌, ◌++◌, map, drop, length, get_or, slice_set, replicate, refl, sym, ap, ◌∙◌, arith}
+-- Places in the order of the text, one after another.
+use Rattle.std.proofs.Common.{◌≡◌, ℕ, zero, suc, ◌+◌, ◌<◌, ◌≤◌, nat_eq, List, ◌∷◌, map, drop, length, get_or, slice_set, replicate, refl, sym, ap, ◌∙◌, arith}
 use Rattle.std.specs.Prelude.{if◌then◌else◌}
 use Rattle.std.proofs.lemmas.Bool.{cond-true, cond-false, eq-eqb, ne_eqb}
-use Rattle.std.proofs.lemmas.List.{append_assoc, drop_all, drop_more}
-use Rattle.pli_resolve.specs.declared.symbol.Symbol.{Symbol}
-use Rattle.pli_resolve.specs.views.SymbolView.{symbol_view, symbol_kind_view}
-use Rattle.pli_type.specs.NamedUnits.{global_tokens, one_global}
+use Rattle.std.proofs.lemmas.List.{drop_all, drop_more}
 use Rattle.pli_type.specs.TextOrder.{numbers_from, place_from}
 use Rattle.pli_type.proofs.TextNumbers.{numbers_alike}
-
--- ---- tokens
-
--- one symbol more that is a global, and one that is none
-pub token_put : (made : List ℕ) (s : Symbol) (rest : List Symbol) → 1 ≡ one_global 31 (symbol_kind_view s.kind)
-    → (made ++ s.identifier.at ∷ []) ++ global_tokens 31 (map symbol_view rest) ≡ made ++ global_tokens 31 (map symbol_view (s ∷ rest))
-token_put made s rest one =
-    append_assoc made (s.identifier.at ∷ []) (global_tokens 31 (map symbol_view rest))
-    ∙ ap (λ n. made ++ (replicate n s.identifier.at ++ global_tokens 31 (map symbol_view rest))) one
-
-pub token_passed : (made : List ℕ) (s : Symbol) (rest : List Symbol) → 0 ≡ one_global 31 (symbol_kind_view s.kind)
-    → made ++ global_tokens 31 (map symbol_view rest) ≡ made ++ global_tokens 31 (map symbol_view (s ∷ rest))
-token_passed made s rest none = ap (λ n. made ++ (replicate n s.identifier.at ++ global_tokens 31 (map symbol_view rest))) none
-
--- ---- places
 
 chosen : {A : Type 0} (m n : ℕ) (x y : A) → m ≡ n → (if nat_eq m n then x else y) ≡ x
 chosen m n x y e = cond-true _ _ _ (eq-eqb m n e)

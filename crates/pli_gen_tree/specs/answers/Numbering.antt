@@ -4,7 +4,8 @@ use Rattle.pli_map.specs.Description.{Description}
 use Rattle.pli_map.specs.Same.{same}
 use Rattle.pli_type_tree.specs.Templates.{Template}
 use Rattle.pli_value.specs.Value.{Value}
-use Rattle.pli_gen_tree.specs.Encoding.{numbered, same_template, same_value}
+use Rattle.pli_gen_tree.specs.Encoding.{numbered}
+use Rattle.pli_type_keys.specs.Same.{same_template, same_value}
 use Rattle.pli_gen_tree.specs.declared.table.Tables.{Tables}
 use Rattle.pli_gen_tree.specs.views.TableView.{tables_view}
 

@@ -2,7 +2,7 @@
 use Rattle.std.specs.Prelude.{map}
 use Rattle.pli_gen_tree.specs.Encoding as plain
 use Rattle.pli_gen_tree.specs.declared.table.Tables.{Tables}
-use Rattle.pli_gen_tree.specs.views.KeyView.{described, templated, valued}
+use Rattle.pli_type_keys.specs.views.KeyView.{described, templated, valued}
 
 abbrev pub tables_view : Tables → plain.Tables
 tables_view t = record {

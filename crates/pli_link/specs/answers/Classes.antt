@@ -6,9 +6,9 @@ use denote.Ref.{Bor}
 use Rattle.pli_base.specs.Name.{Name}
 use Rattle.pli_type_tree.specs.Templates.{Template}
 use Rattle.pli_unit_code.specs.CodeTables.{Code, template_at}
-use Rattle.pli_link.specs.Alike.{same_template}
-use Rattle.pli_link.specs.views.TemplateView.{found_view}
-use Rattle.pli_link.specs.declared.alike.FoundTemplate.{FoundTemplate}
+use Rattle.pli_type_keys.specs.Same.{same_template}
+use Rattle.pli_type_keys.specs.views.KeyView.{templated}
+use Rattle.pli_type_keys.specs.declared.key.TemplateKey.{TemplateKey}
 use Rattle.pli_link.specs.declared.names.External.{External}
 
 -- where the first template stands that is equal to one
@@ -24,12 +24,12 @@ IsClass known (Some t) None = ⊥
 IsClass known (Some t) (Some k) = place_of t known ≡ Some k
 
 -- the templates that are known
-abbrev pub known_in : List FoundTemplate → List Template
-known_in ts = map found_view ts
+abbrev pub known_in : List TemplateKey → List Template
+known_in ts = map templated ts
 
 -- others may have come behind those that were known
-pub record Grows (old new : List FoundTemplate) : Type 0 where
-  pub more : List FoundTemplate
+pub record Grows (old new : List TemplateKey) : Type 0 where
+  pub more : List TemplateKey
   pub is : new ≡ old ++ more
 
 -- the class by a template's number
@@ -47,9 +47,9 @@ AreClasses known code classes =
 
 -- external variables have the classes of their templates
 abbrev pub AreClassed : (known : List Template) → List (Name × External) → Type 0
-AreClassed known es = AllByRecursion (λ e. IsClass known (option_map found_view e.1.template) e.1.class) es
+AreClassed known es = AllByRecursion (λ e. IsClass known (option_map templated e.1.template) e.1.class) es
 
 -- so has a first one that was found
 abbrev pub IsFirstClassed : (known : List Template) → Option (Bor External) → Type 0
 IsFirstClassed known None = Unit {0}
-IsFirstClassed known (Some e) = IsClass known (option_map found_view e.now.template) e.now.class
+IsFirstClassed known (Some e) = IsClass known (option_map templated e.now.template) e.now.class

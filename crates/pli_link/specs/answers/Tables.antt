@@ -7,7 +7,7 @@ use Rattle.pli_link.specs.Units as plain
 use Rattle.pli_link.specs.views.NameView.{externals_view}
 use Rattle.pli_link.specs.views.UnitView.{compiled_view}
 use Rattle.pli_link.specs.answers.Classes.{AreClassed, known_in}
-use Rattle.pli_link.specs.declared.alike.FoundTemplate.{FoundTemplate}
+use Rattle.pli_type_keys.specs.declared.key.TemplateKey.{TemplateKey}
 use Rattle.pli_link.specs.declared.names.Names.{Names}
 
 -- the units whose names they are
@@ -25,5 +25,5 @@ AreNames n =
     × (externals_view n.externals.now.entries ≡ externals (units_in n))
 
 -- and the external variables have the classes of their templates
-abbrev pub HaveClasses : List FoundTemplate → Names → Type 0
+abbrev pub HaveClasses : List TemplateKey → Names → Type 0
 HaveClasses known n = AreClassed (known_in known) n.externals.now.entries

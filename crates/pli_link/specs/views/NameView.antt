@@ -3,7 +3,7 @@ use Rattle.std.specs.Prelude.{Option, option_map, List, map}
 use Rattle.pli_base.specs.Name.{Name}
 use Rattle.pli_type_tree.specs.Templates.{Template}
 use Rattle.pli_link.specs.declared.names.External.{External}
-use Rattle.pli_link.specs.views.TemplateView.{found_view}
+use Rattle.pli_type_keys.specs.views.KeyView.{templated}
 
 abbrev pub externals_view : List (Name × External) → List (Name × Option Template)
-externals_view es = map (λ e. (e.0, option_map found_view e.1.template)) es
+externals_view es = map (λ e. (e.0, option_map templated e.1.template)) es

@@ -1,6 +1,6 @@
 use Rattle.std.proofs.Common.{map, ap, ◌∙◌, refl, arith}
 use Rattle.pli_map.specs.views.DescriptionView.{description_view}
-use Rattle.pli_gen_tree.specs.views.KeyView.{described}
+use Rattle.pli_type_keys.specs.views.KeyView.{described}
 use Rattle.pli_gen_emit.proofs.LoopLemmas.{more_mapped, put_as}
 use Rattle.pli_gen_tree.proofs.entries.copy_descriptions.Goals as goal
 

@@ -1,6 +1,6 @@
 use Rattle.std.proofs.Common.{◌≡◌, ◌++◌, map, drop}
 use Rattle.pli_value.specs.Value.{value_view}
-use Rattle.pli_gen_tree.specs.views.KeyView.{valued}
+use Rattle.pli_type_keys.specs.views.KeyView.{valued}
 use Rattle.pli_gen_tree.proofs.entries.copy_values.Given as goal
 
 abbrev pub invariant-loop-key : goal.invariant-loop-key

@@ -1,7 +1,7 @@
 use Rattle.std.proofs.Common.{◌≡◌, ◌++◌, map, drop}
 use Rattle.pli_unit_code.specs.views.CodeView.{coded_template_view}
 use Rattle.pli_gen_tree.specs.Encoding.{template_code}
-use Rattle.pli_gen_tree.specs.views.KeyView.{templated}
+use Rattle.pli_type_keys.specs.views.KeyView.{templated}
 use Rattle.pli_gen_tree.specs.views.TableView.{tables_view}
 use Rattle.pli_gen_tree.proofs.entries.encode_templates.Given as goal
 

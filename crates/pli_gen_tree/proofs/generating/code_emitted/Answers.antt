@@ -1,5 +1,5 @@
 use Rattle.std.proofs.Common.{ap, map}
-use Rattle.pli_gen_tree.specs.views.KeyView.{described, templated, valued}
+use Rattle.pli_type_keys.specs.views.KeyView.{described, templated, valued}
 use Rattle.pli_gen_tree.proofs.KeyLemmas.{same_tables}
 use Rattle.pli_gen_tree.proofs.generating.code_emitted.Goals as goal
 

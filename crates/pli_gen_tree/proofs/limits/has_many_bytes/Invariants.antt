@@ -2,7 +2,7 @@ use Rattle.std.proofs.Common.{◌≡◌, ◌+◌, ◌≤◌, map, drop}
 use Rattle.std.specs.List.{sum_by}
 use Rattle.std.specs.Prelude.{fold}
 use Rattle.pli_gen_tree.specs.answers.Pieces.{template_bytes}
-use Rattle.pli_gen_tree.specs.views.KeyView.{templated}
+use Rattle.pli_type_keys.specs.views.KeyView.{templated}
 use Rattle.pli_gen_tree.proofs.limits.has_many_bytes.Given as goal
 
 -- the bytes so far and those of the templates that are left

@@ -1,6 +1,7 @@
 use Rattle.std.proofs.Common.{◌∙◌, ◌∷◌, [], ap}
-use Rattle.pli_gen_tree.specs.Encoding.{numbered, same_template}
-use Rattle.pli_gen_tree.specs.views.KeyView.{templated}
+use Rattle.pli_gen_tree.specs.Encoding.{numbered}
+use Rattle.pli_type_keys.specs.Same.{same_template}
+use Rattle.pli_type_keys.specs.views.KeyView.{templated}
 use Rattle.pli_gen_tree.specs.views.TableView.{tables_view}
 use Rattle.pli_gen_tree.proofs.table.number_used.Goals as goal
 

@@ -1,7 +1,7 @@
 use Rattle.std.proofs.Common.{◌≡◌, true, not, ap, ◌∙◌, refl}
 use Rattle.std.specs.Result.{is_ok}
-use Rattle.pli_gen_tree.specs.Encoding.{same_value}
-use Rattle.pli_gen_tree.specs.views.KeyView.{valued}
+use Rattle.pli_type_keys.specs.Same.{same_value}
+use Rattle.pli_type_keys.specs.views.KeyView.{valued}
 use Rattle.pli_gen_tree.proofs.KeyLemmas.{inserted, at_ok}
 use Rattle.pli_gen_tree.proofs.table.number_value.Goals as goal
 

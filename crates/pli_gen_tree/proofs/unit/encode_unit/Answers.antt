@@ -11,7 +11,7 @@ use Rattle.pli_gen_emit.specs.views.BlockView.{block_tree, block_trees}
 use Rattle.pli_gen_emit.specs.views.NamingView.{naming_code}
 use Rattle.pli_gen_tree.specs.Encoding.{description_number, instruction_code, template_code, global_code}
 use Rattle.pli_gen_tree.specs.answers.Pieces.{Fits, retargeted, step_place, blocks_with_entries}
-use Rattle.pli_gen_tree.specs.views.KeyView.{described, templated, valued}
+use Rattle.pli_type_keys.specs.views.KeyView.{described, templated, valued}
 use Rattle.pli_gen_tree.specs.views.TableView.{tables_view}
 use Rattle.pli_gen_tree.proofs.CodeFits.{unit_fits, places_fit, entries_fit, entries_counted}
 use Rattle.pli_gen_tree.proofs.LimitLemmas.{short_parts}

@@ -1,6 +1,6 @@
 use Rattle.std.proofs.Common.{◌∙◌, ap, length, unwrap_or}
 use Rattle.pli_map.specs.Same.{same}
-use Rattle.pli_gen_tree.specs.views.KeyView.{described}
+use Rattle.pli_type_keys.specs.views.KeyView.{described}
 use Rattle.pli_gen_tree.proofs.NumberLemmas.{found_number}
 use Rattle.pli_gen_tree.proofs.numbers.Numbers.description.Goals as goal
 

@@ -1,6 +1,6 @@
 use Rattle.std.proofs.Common.{◌∙◌, ap, length, unwrap_or}
-use Rattle.pli_gen_tree.specs.Encoding.{same_template}
-use Rattle.pli_gen_tree.specs.views.KeyView.{templated}
+use Rattle.pli_type_keys.specs.Same.{same_template}
+use Rattle.pli_type_keys.specs.views.KeyView.{templated}
 use Rattle.pli_gen_tree.proofs.NumberLemmas.{found_number}
 use Rattle.pli_gen_tree.proofs.numbers.Numbers.template.Goals as goal
 

@@ -1,6 +1,6 @@
 use Rattle.std.proofs.Common.{◌∙◌, ap, length, unwrap_or}
-use Rattle.pli_gen_tree.specs.Encoding.{same_value}
-use Rattle.pli_gen_tree.specs.views.KeyView.{valued}
+use Rattle.pli_type_keys.specs.Same.{same_value}
+use Rattle.pli_type_keys.specs.views.KeyView.{valued}
 use Rattle.pli_gen_tree.proofs.NumberLemmas.{found_number}
 use Rattle.pli_gen_tree.proofs.numbers.Numbers.value.Goals as goal
 

@@ -1,0 +1,3 @@
+pub mod Corresponding
+pub mod Sorted
+pub mod SortedOnce

@@ -1,0 +1,4 @@
+pub mod Same
+pub mod answers
+pub mod laws
+pub mod views

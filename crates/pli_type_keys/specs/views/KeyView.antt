@@ -1,0 +1,22 @@
+-- What entries of tables are, apart from where they lie in memory.
+use Rattle.std.specs.Prelude.{map}
+use Rattle.pli_map.specs.Description.{Description}
+use Rattle.pli_map.specs.views.DescriptionView.{description_view}
+use Rattle.pli_value.specs.Value.{Value, value_view}
+use Rattle.pli_type_tree.specs.Templates.{Template}
+use Rattle.pli_type_tree.specs.views.TemplateView.{initial_view}
+use Rattle.pli_type_keys.specs.declared.key.DescriptionKey.{DescriptionKey}
+use Rattle.pli_type_keys.specs.declared.key.TemplateKey.{TemplateKey}
+use Rattle.pli_type_keys.specs.declared.key.ValueKey.{ValueKey}
+
+abbrev pub described : DescriptionKey → Description
+described k = description_view k.description.now
+
+abbrev pub templated : TemplateKey → Template
+templated k = record {
+  description = description_view k.description.now;
+  initial = map initial_view k.initial.now;
+}
+
+abbrev pub valued : ValueKey → Value
+valued k = value_view k.value.now
