@@ -1,7 +1,7 @@
 //! Constants, initial values and templates at the front of bytes.
 ghost use Rattle.std.specs.Prelude.{◌≡◌, ◌≤◌, ◌<◌, ℕ, slice_index, map};
 ghost use Rattle.std.specs.Str.{bytes_eq};
-ghost use Rattle.pli_deck.specs.Fields.{made, list_of, list, u4};
+ghost use Rattle.pli_deck.specs.Fields.{made, list_of, u4};
 ghost use Rattle.pli_deck.specs.Decks as plain;
 ghost use Rattle.pli_deck.specs.DeckFields as deck_fields;
 ghost use Rattle.pli_deck.specs.DeckView.{constant_view, initial_view, template_view};
@@ -81,7 +81,7 @@ pub fn constant_of(alloc: Global, bytes: &[u8]) -> Result<(Constant, &[u8]), Rea
 }
 
 /// Reads a constant.
-struct Constants;
+pub struct Constants;
 
 impl ReadsOne for Constants {
     type Value = Constant;
@@ -95,14 +95,6 @@ impl ReadsOne for Constants {
     fn read<'a>(&self, alloc: Global, bytes: &'a [u8]) -> Result<(Constant, &'a [u8]), ReadError> {
         constant_of(alloc, bytes)
     }
-}
-
-/// A list of constants.
-pub fn constants_of(alloc: Global, bytes: &[u8]) -> Result<(Vec<Constant>, &[u8]), ReadError>
-    ensures { Gives (λ x. (map constant_view x.0.items, x.1.now)) result ((list deck_fields.constant).read bytes.now) }
-{
-    let (count, rest) = short_of(bytes)?;
-    many_of(alloc, &Constants, u32::from(count), rest)
 }
 
 /// Reads an initial value.
@@ -134,7 +126,7 @@ fn initials_of(alloc: Global, bytes: &[u8]) -> Result<(Vec<Initial>, &[u8]), Rea
 }
 
 /// Reads a template.
-struct Templates;
+pub struct Templates;
 
 impl ReadsOne for Templates {
     type Value = Template;
@@ -157,12 +149,4 @@ impl ReadsOne for Templates {
             rest,
         ))
     }
-}
-
-/// A list of templates.
-pub fn templates_of(alloc: Global, bytes: &[u8]) -> Result<(Vec<Template>, &[u8]), ReadError>
-    ensures { Gives (λ x. (map template_view x.0.items, x.1.now)) result ((list deck_fields.template).read bytes.now) }
-{
-    let (count, rest) = short_of(bytes)?;
-    many_of(alloc, &Templates, u32::from(count), rest)
 }

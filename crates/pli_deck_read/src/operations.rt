@@ -1,24 +1,15 @@
 //! Instructions at the front of bytes.
 ghost use Rattle.std.specs.Prelude.{◌≡◌, ◌≤◌};
-ghost use Rattle.pli_deck.specs.Instructions.{reader_of, instruction};
+ghost use Rattle.pli_deck.specs.Instructions.{reader_of};
 ghost use Rattle.pli_deck_read.specs.Reading.{Gives};
 
 use crate::error::ReadError;
 use crate::reading::{byte_of, byte_within, short_of, signed_within, word_of};
 use pli_deck::{Fault, Instruction};
 
-/// The instruction at the front of the bytes.
-#[tactic(auto, using(crate::proofs::OperandReading::none_beyond), unfolding(pli_deck::specs::Instructions::instruction, pli_deck::specs::Instructions::reader_of))]
-pub fn instruction_of(bytes: &[u8]) -> Result<(Instruction, &[u8]), ReadError>
-    ensures { Gives (λ x. (x.0, x.1.now)) result (instruction.read bytes.now) }
-{
-    let (code, rest) = byte_of(bytes)?;
-    operation_of(code, rest)
-}
-
 /// The instruction of this code, with what stands behind it.
 #[tactic(auto, using(crate::proofs::OperandReading::none_beyond))]
-fn operation_of(code: u8, bytes: &[u8]) -> Result<(Instruction, &[u8]), ReadError>
+pub fn operation_of(code: u8, bytes: &[u8]) -> Result<(Instruction, &[u8]), ReadError>
     ensures { Gives (λ x. (x.0, x.1.now)) result (reader_of code bytes.now) }
 {
     if code <= 8 {

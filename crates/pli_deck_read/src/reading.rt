@@ -1,6 +1,6 @@
 //! Numbers, names and lists at the front of bytes.
 ghost use Rattle.std.specs.Prelude.{◌≡◌, ◌≤◌, List, Result, map, true, false, IfOk, IfSome, IfNone, unsigned_abs};
-ghost use Rattle.pli_deck.specs.Fields.{byte_at, number_at, many, byte, list_of, u1, u2, count_of_one, from_to, signed};
+ghost use Rattle.pli_deck.specs.Fields.{byte_at, number_at, many, byte, list, list_of, u1, u2, count_of_one, from_to, signed};
 ghost use Rattle.pli_deck.specs.Fields as fields;
 ghost use Rattle.pli_deck.specs.DeckFields as deck_fields;
 ghost use Rattle.pli_deck_read.specs.Reading.{Gives};
@@ -183,4 +183,16 @@ pub fn many_of<'a, R: ReadsOne>(
         rest = behind;
     }
     Ok((values, rest))
+}
+
+/// A list, with its count of two bytes.
+pub fn list_at<'a, R: ReadsOne>(
+    alloc: Global,
+    reader: &R,
+    bytes: &'a [u8],
+) -> Result<(Vec<R::Value>, &'a [u8]), ReadError>
+    ensures { Gives (λ x. (map R.say x.0.items, x.1.now)) result ((list R.field).read bytes.now) }
+{
+    let (count, rest) = short_of(bytes)?;
+    many_of(alloc, reader, u32::from(count), rest)
 }

@@ -8,10 +8,10 @@ ghost use Rattle.pli_deck.specs.Instructions.{instruction};
 ghost use Rattle.pli_deck_read.specs.Reading.{Gives};
 
 use crate::error::ReadError;
-use crate::operations::instruction_of;
+use crate::operations::operation_of;
 use crate::reading::{
-    ReadsOne, byte_of, byte_within, count_within, many_of, name_text_of, optional_of, short_of,
-    upper_name, word_of,
+    ReadsOne, byte_of, byte_within, count_within, list_at, many_of, name_text_of, optional_of,
+    short_of, upper_name, word_of,
 };
 use pli_deck::{Block, Fault, Global as DeckGlobal, Instruction, Signature};
 use std::alloc::Global;
@@ -61,70 +61,7 @@ pub fn signature_of(alloc: Global, bytes: &[u8]) -> Result<(Signature, &[u8]), R
 fn number_list_of(alloc: Global, bytes: &[u8]) -> Result<(Vec<u16>, &[u8]), ReadError>
     ensures { Gives (λ x. (x.0.items, x.1.now)) result ((list u2).read bytes.now) }
 {
-    let (count, rest) = short_of(bytes)?;
-    numbers_of(alloc, u32::from(count), rest)
-}
-
-/// A block.
-#[tactic(auto, unfolding(pli_deck::specs::DeckFields::block))]
-pub fn block_of(alloc: Global, bytes: &[u8]) -> Result<(Block, &[u8]), ReadError>
-    ensures { Gives (λ x. (block_view x.0, x.1.now)) result (deck_fields.block.read bytes.now) }
-{
-    let (kind, rest) = byte_within(bytes, 0, 2)?;
-    let (parent, rest) = optional_of(rest)?;
-    let (parameters, rest) = byte_within(rest, 0, 64)?;
-    let (variables, rest) = number_list_of(alloc, rest)?;
-    let (temporaries, rest) = short_of(rest)?;
-    let (entry, rest) = short_of(rest)?;
-    let (statement, rest) = word_of(rest)?;
-    Ok((
-        Block {
-            kind,
-            parent,
-            parameters,
-            variables,
-            temporaries,
-            entry,
-            statement,
-        },
-        rest,
-    ))
-}
-
-/// A global.
-#[tactic(auto, unfolding(pli_deck::specs::DeckFields::global, pli_deck::specs::DeckFields::name))]
-pub fn global_of(alloc: Global, bytes: &[u8]) -> Result<(DeckGlobal, &[u8]), ReadError>
-    ensures { Gives (λ x. (global_view x.0, x.1.now)) result (deck_fields.global.read bytes.now) }
-{
-    let (kind, rest) = byte_of(bytes)?;
-    match kind {
-        0 => {
-            let (template, rest) = short_of(rest)?;
-            Ok((DeckGlobal::Static(template), rest))
-        }
-        1 => {
-            let (template, rest) = short_of(rest)?;
-            Ok((DeckGlobal::Controlled(template), rest))
-        }
-        2 => {
-            let (text, rest) = name_text_of(rest)?;
-            let Some(name) = upper_name(text) else {
-                return Err(ReadError::Fault(Fault::OutOfRange));
-            };
-            let (template, rest) = short_of(rest)?;
-            Ok((DeckGlobal::ExternalStatic { name, template }, rest))
-        }
-        3 => {
-            let (text, rest) = name_text_of(rest)?;
-            let Some(name) = upper_name(text) else {
-                return Err(ReadError::Fault(Fault::OutOfRange));
-            };
-            let (template, rest) = short_of(rest)?;
-            Ok((DeckGlobal::ExternalControlled { name, template }, rest))
-        }
-        4 => entry_of(alloc, rest),
-        _ => Err(ReadError::Fault(Fault::OutOfRange)),
-    }
+    list_at(alloc, &Numbers, bytes)
 }
 
 /// An external procedure.
@@ -141,7 +78,7 @@ fn entry_of(alloc: Global, bytes: &[u8]) -> Result<(DeckGlobal, &[u8]), ReadErro
 }
 
 /// Reads a global.
-struct Globals;
+pub struct Globals;
 
 impl ReadsOne for Globals {
     type Value = DeckGlobal;
@@ -152,25 +89,46 @@ impl ReadsOne for Globals {
 
     ghost field = { deck_fields.global };
 
+    #[tactic(auto, unfolding(pli_deck::specs::DeckFields::global, pli_deck::specs::DeckFields::name))]
     fn read<'a>(
         &self,
         alloc: Global,
         bytes: &'a [u8],
     ) -> Result<(DeckGlobal, &'a [u8]), ReadError> {
-        global_of(alloc, bytes)
+        let (kind, rest) = byte_of(bytes)?;
+        match kind {
+            0 => {
+                let (template, rest) = short_of(rest)?;
+                Ok((DeckGlobal::Static(template), rest))
+            }
+            1 => {
+                let (template, rest) = short_of(rest)?;
+                Ok((DeckGlobal::Controlled(template), rest))
+            }
+            2 => {
+                let (text, rest) = name_text_of(rest)?;
+                let Some(name) = upper_name(text) else {
+                    return Err(ReadError::Fault(Fault::OutOfRange));
+                };
+                let (template, rest) = short_of(rest)?;
+                Ok((DeckGlobal::ExternalStatic { name, template }, rest))
+            }
+            3 => {
+                let (text, rest) = name_text_of(rest)?;
+                let Some(name) = upper_name(text) else {
+                    return Err(ReadError::Fault(Fault::OutOfRange));
+                };
+                let (template, rest) = short_of(rest)?;
+                Ok((DeckGlobal::ExternalControlled { name, template }, rest))
+            }
+            4 => entry_of(alloc, rest),
+            _ => Err(ReadError::Fault(Fault::OutOfRange)),
+        }
     }
 }
 
-/// A list of globals.
-pub fn globals_of(alloc: Global, bytes: &[u8]) -> Result<(Vec<DeckGlobal>, &[u8]), ReadError>
-    ensures { Gives (λ x. (map global_view x.0.items, x.1.now)) result ((list deck_fields.global).read bytes.now) }
-{
-    let (count, rest) = short_of(bytes)?;
-    many_of(alloc, &Globals, u32::from(count), rest)
-}
-
 /// Reads a block.
-struct Blocks;
+pub struct Blocks;
 
 impl ReadsOne for Blocks {
     type Value = Block;
@@ -181,17 +139,28 @@ impl ReadsOne for Blocks {
 
     ghost field = { deck_fields.block };
 
+    #[tactic(auto, unfolding(pli_deck::specs::DeckFields::block))]
     fn read<'a>(&self, alloc: Global, bytes: &'a [u8]) -> Result<(Block, &'a [u8]), ReadError> {
-        block_of(alloc, bytes)
+        let (kind, rest) = byte_within(bytes, 0, 2)?;
+        let (parent, rest) = optional_of(rest)?;
+        let (parameters, rest) = byte_within(rest, 0, 64)?;
+        let (variables, rest) = number_list_of(alloc, rest)?;
+        let (temporaries, rest) = short_of(rest)?;
+        let (entry, rest) = short_of(rest)?;
+        let (statement, rest) = word_of(rest)?;
+        Ok((
+            Block {
+                kind,
+                parent,
+                parameters,
+                variables,
+                temporaries,
+                entry,
+                statement,
+            },
+            rest,
+        ))
     }
-}
-
-/// A list of blocks.
-pub fn blocks_of(alloc: Global, bytes: &[u8]) -> Result<(Vec<Block>, &[u8]), ReadError>
-    ensures { Gives (λ x. (map block_view x.0.items, x.1.now)) result ((list deck_fields.block).read bytes.now) }
-{
-    let (count, rest) = short_of(bytes)?;
-    many_of(alloc, &Blocks, u32::from(count), rest)
 }
 
 /// Reads an instruction.
@@ -208,12 +177,14 @@ impl ReadsOne for Instructions {
 
     ghost field = { instruction };
 
+    #[tactic(auto, using(crate::proofs::OperandReading::none_beyond), unfolding(pli_deck::specs::Instructions::instruction, pli_deck::specs::Instructions::reader_of))]
     fn read<'a>(
         &self,
         _alloc: Global,
         bytes: &'a [u8],
     ) -> Result<(Instruction, &'a [u8]), ReadError> {
-        instruction_of(bytes)
+        let (code, rest) = byte_of(bytes)?;
+        operation_of(code, rest)
     }
 }
 
@@ -221,6 +192,5 @@ impl ReadsOne for Instructions {
 pub fn instructions_of(alloc: Global, bytes: &[u8]) -> Result<(Vec<Instruction>, &[u8]), ReadError>
     ensures { Gives (λ x. (x.0.items, x.1.now)) result ((list instruction).read bytes.now) }
 {
-    let (count, rest) = short_of(bytes)?;
-    many_of(alloc, &Instructions, u32::from(count), rest)
+    list_at(alloc, &Instructions, bytes)
 }

@@ -6,11 +6,11 @@ ghost use Rattle.pli_deck.specs.DeckView.{deck_view};
 ghost use Rattle.pli_deck_read.specs.TablesView.{tables_view};
 ghost use Rattle.pli_deck_read.specs.Reading.{Gives};
 
-use crate::constants::{are_same, constants_of, templates_of};
+use crate::constants::{Constants, Templates, are_same};
 use crate::described::descriptions_of;
 use crate::error::ReadError;
-use crate::reading::{byte_of, flag_of, name_text_of, upper_name};
-use crate::tables::{blocks_of, globals_of, instructions_of, signature_of};
+use crate::reading::{byte_of, flag_of, list_at, name_text_of, upper_name};
+use crate::tables::{Blocks, Globals, instructions_of, signature_of};
 use pli_deck::{Block, Constant, Deck, Fault, Global as DeckGlobal, Instruction, Template};
 use pli_map::Description;
 use std::alloc::Global;
@@ -32,10 +32,10 @@ fn tables_of(alloc: Global, bytes: &[u8]) -> Result<(Tables, &[u8]), ReadError>
     ensures { Gives (λ x. (tables_view x.0, x.1.now)) result (deck_fields.tables.read bytes.now) }
 {
     let (descriptions, rest) = descriptions_of(alloc, bytes)?;
-    let (templates, rest) = templates_of(alloc, rest)?;
-    let (values, rest) = constants_of(alloc, rest)?;
-    let (globals, rest) = globals_of(alloc, rest)?;
-    let (blocks, rest) = blocks_of(alloc, rest)?;
+    let (templates, rest) = list_at(alloc, &Templates, rest)?;
+    let (values, rest) = list_at(alloc, &Constants, rest)?;
+    let (globals, rest) = list_at(alloc, &Globals, rest)?;
+    let (blocks, rest) = list_at(alloc, &Blocks, rest)?;
     let (instructions, rest) = instructions_of(alloc, rest)?;
     Ok((
         Tables {
