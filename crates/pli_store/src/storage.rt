@@ -12,7 +12,7 @@ ghost use Rattle.pli_value.specs.Value.{value_view, Number};
 
 use crate::fault::StoreFault;
 use crate::generation::{Generation, Made};
-use crate::part::{Part, scalar_of};
+use crate::part::{Part, are_same_numbers, scalar_of};
 use crate::place::Place;
 use crate::putting::{put_many, put_one};
 use crate::values::{copy_values, holds_number, one_value, values_from};
@@ -70,7 +70,7 @@ impl<'m> Storage<'m> {
     }
 
     /// The generation and the scalar to which a place leads.
-    #[inline(never)]
+    #[inline(always)]
     fn part(&self, place: Place<'_>) -> Result<Part, StoreFault>
         ensures { Leads (storage_view self.now) (place_view place.entry) result }
     {
@@ -97,33 +97,14 @@ impl<'m> Storage<'m> {
         if generation.number != place.generation || place.offset != 0 {
             return None;
         }
-        match (
-            place.description,
-            scalar_of(generation.description, 0, place.description),
-        ) {
-            (Description::FixedBinary(_), Some(first)) => {
-                if first == 0 { Some(place.hint) } else { None }
-            }
-            _ => None,
+        if !are_same_numbers(generation.description, place.description) {
+            return None;
         }
-    }
-
-    /// The generation and the scalar to which a place leads, if it leads to one. That of a number alone is found at once.
-    #[inline(always)]
-    fn part_of_number(&self, place: Place<'_>) -> Option<Part>
-        ensures { IfSome result (LeadsTo (storage_view self.now) (place_view place.entry)) }
-    {
-        if let Some(at) = self.lone(place) {
-            return Some(Part { at, first: 0 });
-        }
-        match self.part(place) {
-            Ok(part) => Some(part),
-            Err(_fault) => None,
-        }
+        Some(place.hint)
     }
 
     /// The value at the place of a scalar.
-    #[inline(never)]
+    #[inline]
     fn value_at(&self, place: Place<'_>) -> Result<&Value, StoreFault>
         ensures { (w : World) → Answered (λ v. value_view v.now) result (with_storage self.now w) (with_storage self.now w)
             (held (place_view place.entry) (with_storage self.now w)) }
@@ -149,7 +130,20 @@ impl<'m> Storage<'m> {
         }
     }
 
-    /// The number that the place of a scalar holds, where it holds one; `held` tells of any other.
+    /// The number that the place of a scalar holds, where it holds one, found by a walk over the description.
+    #[inline(never)]
+    fn far_number(&self, place: Place<'_>) -> Option<i64>
+        ensures { (w : World) → IfSome result (λ x. held (place_view place.entry) (with_storage self.now w)
+            ≡ Yields (Number x) (with_storage self.now w)) }
+    {
+        match self.value_at(place) {
+            Ok(Value::Number(number)) => Some(*number),
+            _ => None,
+        }
+    }
+
+    /// The number that the place of a scalar holds, where it holds one; `held` tells of any other. That of a number alone
+    /// is found at once.
     #[inline(always)]
     pub fn number_at(&self, place: Place<'_>) -> Option<i64>
         ensures { (w : World) → IfSome result (λ x. held (place_view place.entry) (with_storage self.now w)
@@ -161,10 +155,7 @@ impl<'m> Storage<'m> {
                 _ => None,
             };
         }
-        match self.value_at(place) {
-            Ok(Value::Number(number)) => Some(*number),
-            _ => None,
-        }
+        self.far_number(place)
     }
 
     /// A value put at the place of a scalar.
@@ -182,20 +173,41 @@ impl<'m> Storage<'m> {
         Ok(())
     }
 
-    /// A number put at the place of a scalar; where it is not, nothing has changed, and `stored` tells why.
+    /// A number put at the scalar to which a place leads.
     #[inline(always)]
-    pub fn put_number(&mut self, place: Place<'_>, number: i64) -> bool
+    fn put_number_in(&mut self, place: Place<'_>, part: Part, number: i64) -> bool
+        requires { LeadsTo (storage_view self.old) (place_view place) part }
         ensures { NumberPut result self.old self.new (place_view place.entry) number }
     {
-        let Some(part) = self.part_of_number(place) else {
-            return false;
-        };
         if !holds_number(place.description, number) {
             return false;
         }
         match put_one(&mut self.generations, part, Value::Number(number)) {
             Ok(()) => true,
             Err(_) => false,
+        }
+    }
+
+    /// A number put at the place of a scalar that is found by a walk over the description.
+    #[inline(never)]
+    fn put_far_number(&mut self, place: Place<'_>, number: i64) -> bool
+        ensures { NumberPut result self.old self.new (place_view place.entry) number }
+    {
+        match self.part(place) {
+            Ok(part) => self.put_number_in(place, part, number),
+            Err(_fault) => false,
+        }
+    }
+
+    /// A number put at the place of a scalar; where it is not, nothing has changed, and `stored` tells why. That of a number
+    /// alone is found at once.
+    #[inline(always)]
+    pub fn put_number(&mut self, place: Place<'_>, number: i64) -> bool
+        ensures { NumberPut result self.old self.new (place_view place.entry) number }
+    {
+        match self.lone(place) {
+            Some(at) => self.put_number_in(place, Part { at, first: 0 }, number),
+            None => self.put_far_number(place, number),
         }
     }
 

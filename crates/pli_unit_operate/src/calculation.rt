@@ -12,9 +12,10 @@ ghost use Rattle.pli_unit_operate.specs.views.CalculationView.{calculation_view,
 
 use pli_map::Description;
 use pli_operation::Relation;
+use pli_value::Value;
 use pli_value::bit::{self, Bits};
+use pli_value::character::{self, STRING_LIMIT};
 use pli_value::number::{self, Raised};
-use pli_value::{Value, character};
 use std::alloc::{AllocError, Global};
 use std::cmp::Ordering;
 
@@ -273,30 +274,54 @@ pub fn fit_number(description: &Description, number: i64) -> Immediate
     }
 }
 
+/// Characters fitted to a description. Takes memory only where they are extended.
+fn fit_text(description: &Description, mut text: Vec<u8>) -> Result<Calculation, AllocError>
+    ensures { IfOk result (λ c. calculation_view c ≡ fitted_to (description_view description.now) (plain.Characters text.items)) }
+{
+    match description {
+        Description::Character(size) => {
+            let size = *size as usize;
+            text.truncate(size);
+            text.resize(size, b' ')?;
+            Ok(Calculation::Gives(Value::Characters(text)))
+        }
+        Description::Varying(size) => {
+            text.truncate(*size as usize);
+            Ok(Calculation::Gives(Value::Characters(text)))
+        }
+        _ => Ok(Calculation::Misfits),
+    }
+}
+
+/// Bits fitted to a description. Want of memory is answered also where it has more than 32,767 bits.
+fn fit_bits(
+    alloc: Global,
+    description: &Description,
+    bits: &Bits,
+) -> Result<Calculation, AllocError>
+    ensures { IfOk result (λ c. calculation_view c ≡ fitted_to (description_view description.now) (plain.Bits bits.now)) }
+{
+    match description {
+        Description::Bit(size) if *size > BIT_LIMIT => Err(AllocError),
+        Description::Bit(size) => {
+            Ok(Calculation::Gives(Value::Bits(bit::fit(alloc, bits, *size as usize)?)))
+        }
+        _ => Ok(Calculation::Misfits),
+    }
+}
+
 /// A value fitted to a description. Want of memory is answered also where it has more than 32,767 bits.
 pub fn fit(
     alloc: Global,
     description: &Description,
-    value: &Value,
+    value: Value,
 ) -> Result<Calculation, AllocError>
-    ensures { IfOk result (λ c. calculation_view c ≡ fitted_to (description_view description.now) (value_view value.now)) }
+    ensures { IfOk result (λ c. calculation_view c ≡ fitted_to (description_view description.now) (value_view value)) }
 {
-    match (description, value) {
-        (_, Value::Number(number)) => Ok(as_calculation(fit_number(description, *number))),
-        (Description::Character(size), Value::Characters(text)) => Ok(Calculation::Gives(
-            Value::Characters(character::fit(alloc, text, *size as usize)?),
-        )),
-        (Description::Varying(size), Value::Characters(text)) => Ok(Calculation::Gives(
-            Value::Characters(Vec::from_slice(
-                alloc,
-                character::fit_varying(text, *size as usize),
-            )?),
-        )),
-        (Description::Bit(size), Value::Bits(_)) if *size > BIT_LIMIT => Err(AllocError),
-        (Description::Bit(size), Value::Bits(bits)) => {
-            Ok(Calculation::Gives(Value::Bits(bit::fit(alloc, bits, *size as usize)?)))
-        }
-        _ => Ok(Calculation::Misfits),
+    match value {
+        Value::Number(number) => Ok(as_calculation(fit_number(description, number))),
+        Value::Characters(text) => fit_text(description, text),
+        Value::Bits(bits) => fit_bits(alloc, description, &bits),
     }
 }
 
@@ -391,44 +416,76 @@ fn of_bit_strings(
     }
 }
 
-/// A part of a string from a place on.
-fn rest(alloc: Global, string: &Value, first: i64) -> Result<Calculation, AllocError>
+/// One string of characters behind another, where they are short enough together. The first is extended.
+fn join(mut left: Vec<u8>, right: &Vec<u8>) -> Result<Calculation, AllocError>
     ensures { IfOk result (λ c. calculation_view c
-        ≡ calculated_with 31 calculate.Rest (value_view string.now) (plain.Number first)) }
+        ≡ calculated_with 31 calculate.Concatenate (plain.Characters left.items) (plain.Characters right.now.items)) }
 {
-    match string {
-        Value::Number(_) => Ok(Calculation::Misfits),
-        Value::Characters(text) => as_characters(alloc, character::rest(text, first)),
-        Value::Bits(bits) => match bit::rest(alloc, bits, first)? {
-            Some(part) => Ok(Calculation::Gives(Value::Bits(part))),
-            None => Ok(Calculation::OutOfString),
-        },
+    if left.len() + right.len() > STRING_LIMIT {
+        return Ok(Calculation::OutOfString);
     }
+    left.extend_from_slice(right)?;
+    Ok(Calculation::Gives(Value::Characters(left)))
 }
 
-/// An operation on two values. Want of memory is answered also where a number has more than 64 bits.
-pub fn calculate_with(
+/// An operation on characters and another value.
+fn with_text(
     alloc: Global,
     operation: Infix,
-    left: &Value,
+    left: Vec<u8>,
     right: &Value,
 ) -> Result<Calculation, AllocError>
     ensures { IfOk result (λ c. calculation_view c
-        ≡ calculated_with 31 (infix_view operation) (value_view left.now) (value_view right.now)) }
+        ≡ calculated_with 31 (infix_view operation) (plain.Characters left.items) (value_view right.now)) }
 {
-    match (left, right) {
-        (Value::Number(left), Value::Number(right)) => {
-            Ok(as_calculation(calculate_numbers(operation, *left, *right)?))
+    match (operation, right) {
+        (Infix::Concatenate, Value::Characters(right)) => join(left, right),
+        (_, Value::Characters(right)) => of_texts(alloc, operation, &left, right),
+        (Infix::Rest, Value::Number(first)) => {
+            as_characters(alloc, character::rest(&left, *first))
         }
-        (Value::Characters(left), Value::Characters(right)) => of_texts(
-            alloc, operation, left, right,
-        ),
-        (Value::Bits(left), Value::Bits(right)) => of_bit_strings(alloc, operation, left, right),
-        (_, Value::Number(first)) => match operation {
-            Infix::Rest => rest(alloc, left, *first),
-            _ => Ok(Calculation::Misfits),
+        _ => Ok(Calculation::Misfits),
+    }
+}
+
+/// An operation on bits and another value.
+fn with_bits(
+    alloc: Global,
+    operation: Infix,
+    left: &Bits,
+    right: &Value,
+) -> Result<Calculation, AllocError>
+    ensures { IfOk result (λ c. calculation_view c
+        ≡ calculated_with 31 (infix_view operation) (plain.Bits left.now) (value_view right.now)) }
+{
+    match (operation, right) {
+        (_, Value::Bits(right)) => of_bit_strings(alloc, operation, left, right),
+        (Infix::Rest, Value::Number(first)) => match bit::rest(alloc, left, *first)? {
+            Some(part) => Ok(Calculation::Gives(Value::Bits(part))),
+            None => Ok(Calculation::OutOfString),
         },
         _ => Ok(Calculation::Misfits),
+    }
+}
+
+/// An operation on two values; the left one is extended where it may be. Want of memory is answered also where a number
+/// has more than 64 bits.
+pub fn calculate_with(
+    alloc: Global,
+    operation: Infix,
+    left: Value,
+    right: &Value,
+) -> Result<Calculation, AllocError>
+    ensures { IfOk result (λ c. calculation_view c
+        ≡ calculated_with 31 (infix_view operation) (value_view left) (value_view right.now)) }
+{
+    match left {
+        Value::Number(left) => match right {
+            Value::Number(right) => Ok(as_calculation(calculate_numbers(operation, left, *right)?)),
+            _ => Ok(Calculation::Misfits),
+        },
+        Value::Characters(left) => with_text(alloc, operation, left, right),
+        Value::Bits(left) => with_bits(alloc, operation, &left, right),
     }
 }
 

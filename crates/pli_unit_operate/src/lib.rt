@@ -9,6 +9,6 @@ pub use calculation::{
     calculate_numbers, calculate_with, fit, fit_number, is_within,
 };
 pub use operand::{
-    Operand, pop_number, pop_place, pop_three, pop_truth, pop_two, pop_value, push,
-    take_three_numbers, take_two_numbers,
+    Operand, Taken, pop_number, pop_place, pop_three, pop_truth, pop_two, pop_value, push,
+    take_three_numbers, take_two_numbers, take_value,
 };

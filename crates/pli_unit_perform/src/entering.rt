@@ -15,11 +15,13 @@ use crate::storing::stop_at;
 use crate::variables::make_variables;
 use pli_store::Place;
 use pli_unit_code::{Block, Code};
+use pli_unit_operate::Operand;
 use pli_value::Value;
 use std::alloc::{AllocError, Global};
 use std::mem;
 
 /// So many temporaries, of which none is set.
+#[inline]
 fn unset(alloc: Global, count: u32) -> Result<Vec<Option<Value>>, AllocError>
     ensures { IfOk result (λ temporaries. temporaries.items ≡ replicate count None) }
 {
@@ -31,7 +33,8 @@ fn unset(alloc: Global, count: u32) -> Result<Vec<Option<Value>>, AllocError>
 }
 
 /// The activation of a block before its first instruction and before its variables are made: its first slots are its
-/// arguments, and it owns these generations.
+/// arguments, it owns these generations, and its operands, which are none yet, have this memory.
+#[inline(always)]
 pub fn activation<'m>(
     alloc: Global,
     unit: usize,
@@ -40,7 +43,9 @@ pub fn activation<'m>(
     link: u32,
     slots: Vec<Place<'m>>,
     owned: Vec<u32>,
+    operands: Vec<Operand<'m>>,
 ) -> Result<Activation<'m>, AllocError>
+    requires { operands.items ≡ [] }
     ensures { IfOk result (λ a. (frame_view a ≡ record { unit = unit; next = block.now.entry; operands = []; locals = fresh block.now.temporaries })
         × ((image : Image) → activation_view image a ≡ record {
           unit = name_at image.linked unit;
@@ -62,7 +67,7 @@ pub fn activation<'m>(
         pending: Vec::new(alloc),
         owned,
         next: block.entry as usize,
-        operands: Vec::new(alloc),
+        operands,
         temporaries,
         jumps: 0,
         stamp: 0,
@@ -71,6 +76,7 @@ pub fn activation<'m>(
 
 /// Lets the newest activation wait, with what it hands over, and begins one of a block of a unit, whose variables are
 /// not made yet.
+#[inline(always)]
 fn begin_block<'m>(
     alloc: Global,
     machine: &mut Machine<'m>,
@@ -84,9 +90,11 @@ fn begin_block<'m>(
     ensures { OnOk result ((image : Image) (put : List ℕ) →
         HasBegun image put unit number block.now.statement block.now.entry block.now.temporaries link (map place_view places.entry.items) machine.old machine.new) }
 {
-    let (handed, others) = hand_over(alloc, &machine.here.pending, &places)?;
+    let pending = mem::replace(&mut machine.here.pending, Vec::new(alloc));
+    let (handed, others) = hand_over(alloc, pending, &places)?;
     machine.here.pending = others;
-    let new = activation(alloc, unit, number, block, link, places, handed)?;
+    let operands = machine.spare.take_operands(alloc);
+    let new = activation(alloc, unit, number, block, link, places, handed, operands)?;
     let before = mem::replace(&mut machine.here, new);
     machine.waiting.push(before)?;
     Ok(())

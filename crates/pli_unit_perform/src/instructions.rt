@@ -75,16 +75,15 @@ pub fn subscript(
 }
 
 /// Puts a constant of the tables upon the operands.
-pub fn constant(
-    alloc: Global,
-    code: &Code,
-    machine: &mut Machine,
+pub fn constant<'m>(
+    code: &'m Code,
+    machine: &mut Machine<'m>,
     value: u16,
 ) -> Result<Option<Stop>, AllocError>
     ensures { IfOk result (Does (looked_up (code_view code.now) (coded.Constant value)) machine.old machine.new) }
 {
     match code.values.get(value as usize) {
-        Some(value) => put_constant(alloc, machine, value),
+        Some(value) => put_constant(machine, value),
         None => Ok(Some(Stop::Fault)),
     }
 }

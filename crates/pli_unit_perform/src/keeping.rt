@@ -20,17 +20,19 @@ fn copied(alloc: Global, value: &Value) -> Result<Value, AllocError>
     }
 }
 
-/// Puts a copy of a constant upon the operands.
+/// Puts a constant upon the operands. A number is copied, any other value is not.
 #[inline]
-pub fn put_constant(
-    alloc: Global,
-    machine: &mut Machine,
-    value: &Value,
+pub fn put_constant<'m>(
+    machine: &mut Machine<'m>,
+    value: &'m Value,
 ) -> Result<Option<Stop>, AllocError>
     ensures { IfOk result (Does (Constant (value_view value.now)) machine.old machine.new) }
 {
-    let copy = copied(alloc, value)?;
-    push(&mut machine.here.operands, Operand::OfValue(copy))?;
+    let operand = match value {
+        Value::Number(number) => Operand::OfValue(Value::Number(*number)),
+        _ => Operand::OfConstant(value),
+    };
+    push(&mut machine.here.operands, operand)?;
     Ok(None)
 }
 

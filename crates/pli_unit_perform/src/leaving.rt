@@ -7,10 +7,22 @@ ghost use Rattle.pli_machine_step.specs.Program.{Return, ReturnValue};
 ghost use Rattle.pli_unit_perform.specs.answers.Activated.{Leaves};
 ghost use Rattle.pli_unit_perform.specs.views.MachineView.{Does, Moves};
 
-use crate::machine::{Machine, Stop};
+use crate::machine::{Activation, Machine, Stop};
 use pli_unit_operate::{Operand, pop_value, push};
 use pli_value::Value;
 use std::alloc::{AllocError, Global};
+use std::mem;
+
+/// Gives numbers, where there are none yet, the memory of those that have ended.
+#[inline]
+fn lend(pending: &mut Vec<u32>, ended: &mut Vec<u32>)
+    ensures { pending.new.items ≡ pending.old.items }
+{
+    if pending.is_empty() {
+        ended.clear();
+        mem::swap(pending, ended);
+    }
+}
 
 /// Ends the newest activation, where one waits for it; else the machine stays as it is.
 pub fn leave(machine: &mut Machine) -> bool
@@ -18,10 +30,16 @@ pub fn leave(machine: &mut Machine) -> bool
     ensures fewer { result ≡ true → length machine.new.waiting.items < length machine.old.waiting.items }
 {
     match machine.waiting.pop() {
-        Some(next) => {
+        Some(mut next) => {
             machine.storage.end(&machine.here.pending);
             machine.storage.end(&machine.here.owned);
-            machine.here = next;
+            lend(&mut next.pending, &mut machine.here.owned);
+            let Activation {
+                operands,
+                slots,
+                ..
+            } = mem::replace(&mut machine.here, next);
+            machine.spare.keep(operands, slots);
             true
         }
         None => false,

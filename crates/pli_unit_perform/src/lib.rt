@@ -25,6 +25,7 @@ mod places;
 mod printing;
 mod shared;
 mod slots;
+mod spare;
 mod starting;
 mod stepping;
 mod storing;

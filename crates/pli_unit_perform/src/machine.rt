@@ -1,6 +1,7 @@
 //! The machine: its activations, storage and output.
 ghost use Rattle.std.specs.Prelude.{◌≤◌, length};
 
+use crate::spare::Spare;
 use pli_code::RunError;
 use pli_store::{Place, Storage};
 use pli_unit_operate::Operand;
@@ -58,6 +59,8 @@ pub struct Machine<'m> {
     pub steps: u64,
     /// How many steps may be taken.
     pub limit: u64,
+    /// What activations have left that have ended.
+    pub(crate) spare: Spare<'m>,
     ghost on_line: { column ≤ 121 },
     ghost few: { length waiting.items ≤ 1000 },
 }

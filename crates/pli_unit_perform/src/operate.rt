@@ -11,8 +11,8 @@ use pli_code::RunError;
 use pli_map::Description;
 use pli_unit_operate::{
     Calculation, Immediate, Infix, Operand, Prefix, Ternary, calculate_by, calculate_from,
-    calculate_numbers, calculate_with, fit, fit_number, is_within, pop_number, pop_three, pop_two,
-    pop_value, push, take_three_numbers, take_two_numbers,
+    calculate_numbers, calculate_with, fit, fit_number, is_within, pop_number, pop_three,
+    pop_value, push, take_three_numbers, take_two_numbers, take_value,
 };
 use pli_value::Value;
 use pli_value::number::Raised;
@@ -107,10 +107,13 @@ fn operate_with_values(
 ) -> Result<Option<Stop>, AllocError>
     ensures { IfOk result (Acts (operated_as (infix_view operation)) operands.old.items operands.new.items) }
 {
-    let Some((left, right)) = pop_two(alloc, operands)? else {
+    let Some(right) = take_value(alloc, operands)? else {
         return Ok(Some(Stop::Fault));
     };
-    let calculation = calculate_with(alloc, operation, &left, &right)?;
+    let Some(left) = pop_value(alloc, operands)? else {
+        return Ok(Some(Stop::Fault));
+    };
+    let calculation = calculate_with(alloc, operation, left, right.value())?;
     give(operands, calculation)
 }
 
@@ -171,6 +174,6 @@ fn fit_to(
     let Some(value) = pop_value(alloc, operands)? else {
         return Ok(Some(Stop::Fault));
     };
-    let calculation = fit(alloc, description, &value)?;
+    let calculation = fit(alloc, description, value)?;
     give(operands, calculation)
 }

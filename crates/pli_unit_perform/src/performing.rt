@@ -64,7 +64,7 @@ pub fn perform<'m>(
             high,
             multiplier,
         } => subscript(machine, low, high, multiplier),
-        Instruction::Constant { value } => constant(alloc, code, machine, value),
+        Instruction::Constant { value } => constant(code, machine, value),
         Instruction::Load => load(alloc, machine),
         Instruction::Store => store(alloc, machine),
         Instruction::Copy => copy(alloc, machine),

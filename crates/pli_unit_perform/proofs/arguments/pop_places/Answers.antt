@@ -1,7 +1,14 @@
-use Rattle.std.proofs.Common.{◌∙◌, ◌-◌, ◌+◌, arith}
+use Rattle.std.proofs.Common.{[], ◌∙◌, ◌-◌, ◌+◌, map, reverse, sym, ap, arith}
+use Rattle.pli_store.specs.views.StorageView.{place_view}
+use Rattle.pli_machine_step.specs.Machine.{places_off}
 use Rattle.pli_unit_operate.specs.views.OperandView.{stack}
 use Rattle.pli_unit_perform.proofs.GivenPlaces.{none_off, one_off}
 use Rattle.pli_unit_perform.proofs.arguments.pop_places.Goals as goal
+
+pub loop-taken-init : goal.loop-taken-init
+loop-taken-init c =
+    ap (λ k. places_off k [] (stack c.args.operands.now.items)) (omega arith)
+    ∙ ap (λ ps. places_off (c.args.count - 0) (map place_view (reverse ps)) (stack c.args.operands.now.items)) (sym c.requires)
 
 pub returns-in_default : goal.returns-in_default
 returns-in_default c =

@@ -48,6 +48,6 @@ returns c =
     begins_enter (unit_with md m.here.unit code entries) c.args.number b (frame_view m.here) (frames_of m.waiting.items) (world_of (image_with md statics) m put) (left_of m) (Some b) c.in-Some.link refl
     (sym c.is_begin.ensures ∙ c.if-not-is_begin.false) (c.link_of.ensures statics code entries put ∙ c.in-Some.is) (has_room (image_with md statics) m put (omega arith))
     ∙ ap (λ ps. leads (enters (head_of (unit_with md m.here.unit code entries) c.args.number b) m.here.unit b c.in-Some.link (map place_view ps) (frame_view m.here ∷ frames_of m.waiting.items) (world_of (image_with md statics) m put)) (left_of m))
-    (sym c.new-places.ensures.items)
+    (sym c.take_slots-places.ensures)
     ∙ moves (image_with md statics) entries put)
     c.enter.ensures

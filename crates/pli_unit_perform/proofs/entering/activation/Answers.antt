@@ -24,7 +24,7 @@ returns c =
       pending = ns;
       owned = c.args.owned.items;
     } in (
-      ap (λ ops. frame (stack ops) (map (option_map value_view) c.in_ok-temporaries.temporaries.items)) c.new-2.ensures.items
+      ap (λ ops. frame (stack ops) (map (option_map value_view) c.in_ok-temporaries.temporaries.items)) c.requires
           ∙ ap (frame []) (ap (map (option_map value_view)) c.in_ok-temporaries.ensures ∙ none_set c.args.block.now.temporaries),
       λ image. ap (made image) c.new.ensures.items,
     )

@@ -22,12 +22,13 @@ returns c = λ image put.
       pending = [];
       owned = ns;
     } in
-    let handed : c.in_ok-handed.handed.items ≡ filter (is_given (map place_view c.args.places.items)) m.here.pending.items =
-    c.in_ok-handed.ensures.0 ∙ ap (λ ps. filter (is_given (map place_view ps)) c.deref.result.now) c.deref-2.ensures.value
-    ∙ ap (filter (is_given (map place_view c.args.places.items))) c.deref.ensures.value in
-    let others : c.in_ok-handed.others.items ≡ filter (λ g. not (is_given (map place_view c.args.places.items) g)) m.here.pending.items =
-    c.in_ok-handed.ensures.1 ∙ ap (λ ps. filter (λ g. not (is_given (map place_view ps) g)) c.deref.result.now) c.deref-2.ensures.value
-    ∙ ap (filter (λ g. not (is_given (map place_view c.args.places.items) g))) c.deref.ensures.value in
+    let places = map place_view c.args.places.items in
+    let handed : c.in_ok-handed.handed.items ≡ filter (is_given places) m.here.pending.items =
+    c.in_ok-handed.ensures.0 ∙ ap (λ ps. filter (is_given (map place_view ps)) c.replace-pending.result.items) c.deref.ensures.value
+    ∙ ap (λ v. filter (is_given places) v.items) c.replace-pending.ensures.value in
+    let others : c.in_ok-handed.others.items ≡ filter (λ g. not (is_given places g)) m.here.pending.items =
+    c.in_ok-handed.ensures.1 ∙ ap (λ ps. filter (λ g. not (is_given (map place_view ps) g)) c.replace-pending.result.items) c.deref.ensures.value
+    ∙ ap (λ v. filter (λ g. not (is_given places g)) v.items) c.replace-pending.ensures.value in
     let first : activation_view image c.replace-before.new.dest ≡ made (filter (is_given (map place_view c.args.places.items)) m.here.pending.items) =
     ap (activation_view image) c.replace-before.ensures.after ∙ c.in_ok-new.ensures.1 image ∙ ap made handed in
     let rest : activations_of image c.push.new.self.items
@@ -37,7 +38,8 @@ returns c = λ image put.
     ∙ ap (λ a. activation_view image a ∷ activations_of image m.waiting.items) c.replace-before.ensures.value
     ∙ ap (λ ns. record (activation_view image m.here) { pending = ns } ∷ activations_of image m.waiting.items) others in
     record {
-      here = ap frame_view c.replace-before.ensures.after ∙ c.in_ok-new.ensures.0;
+      here =
+          ap frame_view c.replace-before.ensures.after ∙ c.in_ok-new.ensures.0;
       frames =
           ap (λ xs. reverse (map frame_view xs)) c.in_ok-push.ensures.items
           ∙ newest_first frame_view m.waiting.items c.replace-before.result

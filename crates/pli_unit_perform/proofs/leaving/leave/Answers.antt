@@ -1,8 +1,8 @@
-use Rattle.std.proofs.Common.{map, reverse, refl, sym, ap, ◌∙◌}
+use Rattle.std.proofs.Common.{◌∷◌, map, reverse, refl, sym, ap, ◌∙◌}
 use Rattle.pli_store.specs.Storage.{without}
 use Rattle.pli_store.specs.World.{left_by}
 use Rattle.pli_store.specs.views.StorageView.{storage_view}
-use Rattle.pli_unit_perform.specs.views.MachineView.{activation_view, frame_view, world_of}
+use Rattle.pli_unit_perform.specs.views.MachineView.{activation_view, activations_of, frame_view, frames_of, world_of}
 use Rattle.pli_store.proofs.RisingNumbers.{without_append}
 use Rattle.pli_unit_perform.proofs.Ends.{newest_first, same_world}
 use Rattle.pli_unit_perform.proofs.leaving.leave.Goals as goal
@@ -13,7 +13,10 @@ returns-in-Some-clause-leaves c = λ image put.
     let here = c.args.machine.now.here in
     let storage = storage_view c.args.machine.now.storage in
     record {
-      frames = ap (λ xs. reverse (map frame_view xs)) c.in-Some.ensures.items ∙ newest_first frame_view c.pop.new.self.items c.in-Some.next;
+      frames =
+          ap (λ xs. reverse (map frame_view xs)) c.in-Some.ensures.items
+          ∙ newest_first frame_view c.pop.new.self.items c.in-Some.next
+          ∙ ap (λ a. frame_view a ∷ frames_of c.pop.new.self.items) (sym c.replace-slots.ensures.after);
       world =
           same_world (world_of image c.args.machine.now put) _ _ _ _ _ _
           (c.end-in-Some.ensures.storage
@@ -21,6 +24,9 @@ returns-in-Some-clause-leaves c = λ image put.
           ∙ ap (without here.owned.items) (c.end.ensures.storage ∙ ap (λ ns. without ns storage) c.deref.ensures.value)
           ∙ sym (without_append here.pending.items here.owned.items storage))
           (c.end-in-Some.ensures.made ∙ c.end.ensures.made)
-          (sym (ap (λ xs. reverse (map (activation_view image) xs)) c.in-Some.ensures.items ∙ newest_first (activation_view image) c.pop.new.self.items c.in-Some.next));
+          (sym (ap (λ xs. reverse (map (activation_view image) xs)) c.in-Some.ensures.items
+          ∙ newest_first (activation_view image) c.pop.new.self.items c.in-Some.next
+          ∙ ap (λ ns. record (activation_view image c.in-Some.next) { pending = ns } ∷ activations_of image c.pop.new.self.items) (sym c.lend.ensures)
+          ∙ ap (λ a. activation_view image a ∷ activations_of image c.pop.new.self.items) (sym c.replace-slots.ensures.after)));
       left = refl;
     }

@@ -9,8 +9,8 @@ use Rattle.pli_store.proofs.Leading.{leads_to}
 use Rattle.pli_store.proofs.Searches.{stands_at}
 use Rattle.pli_store.proofs.storage.Storage.lone.Goals as goal
 
-pub returns-then-first-eq0-clause-leads : goal.returns-then-first-eq0-clause-leads
-returns-then-first-eq0-clause-leads c =
+pub returns-clause-leads : goal.returns-clause-leads
+returns-clause-leads c =
     let items = c.args.self.now.generations.items in
     let place = c.args.place in
     let g = c.in_ok-generation.generation.now in
@@ -19,6 +19,6 @@ returns-then-first-eq0-clause-leads c =
     ∙ slice_get_read c.deref.result.now (length c.deref.result.now) place.hint g refl (ltb-true place.hint (length c.deref.result.now) (sym c.in_ok-generation.ensures.lookup.0)) c.in_ok-generation.ensures.lookup.1 in
     let stands = subst (λ n. StandsAt (storage_view c.args.self.now) n place.hint) c.if-generation-place.false (stands_at items c.args.self.now.made c.args.self.now.rising place.hint g here) in
     let first : Some 0 ≡ option_map (λ k. min k 18446744073709551615) (first_scalar (description_view g.description.now) 0 (description_view place.description.now)) =
-    subst (λ (k : ℕ). Some k ≡ option_map (λ k. min k 18446744073709551615) (first_scalar (description_view g.description.now) 0 (description_view place.description.now))) c.if-first-eq0.true c.in-FixedBinary-Some.ensures in
+    ap (option_map (λ k. min k 18446744073709551615)) (sym (c.if-not-are_same_numbers.ensures.stands refl)) in
     leads_to items (place_view place) place.hint stands refl g here 0
     (subst (λ (o : ℕ). Some 0 ≡ option_map (λ k. min k 18446744073709551615) (first_scalar (description_view g.description.now) o (description_view place.description.now))) (sym c.if-place-ne0.false) first)

@@ -3,7 +3,7 @@ use Rattle.std.specs.Prelude.{not}
 use Rattle.std.specs.List.{filter}
 use Rattle.pli_store.specs.World.{is_given}
 use Rattle.pli_store.specs.views.StorageView.{place_view}
-use Rattle.pli_unit_perform.proofs.arguments.hand_over.Given as goal
+use Rattle.pli_unit_perform.proofs.arguments.hand_some_over.Given as goal
 
 -- so far each is in its list
 abbrev pub invariant-loop-generation : goal.invariant-loop-generation
