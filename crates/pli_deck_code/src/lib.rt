@@ -16,3 +16,4 @@ mod templates;
 pub use examples::worked_modules;
 pub use laws::offsets_are_places;
 pub use modules::{linked_bytes, module_of};
+pub use offsets::offsets_of;

@@ -1,0 +1,9 @@
+pub mod ComparedLists
+pub mod DecksBack
+pub mod DecksForth
+pub mod FoundScalars
+pub mod LoadedModules
+pub mod MadeLists
+pub mod ModulesBack
+pub mod ModulesForth
+pub mod RisingOffsets

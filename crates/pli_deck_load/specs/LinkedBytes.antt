@@ -1,0 +1,39 @@
+-- Which linked module the bytes of a module are, and what loading them answers.
+use Rattle.std.specs.Prelude.{◌≡◌, ℕ, true, List, Result, Ok, Err}
+use Rattle.pli_deck.specs.ModuleFields as deck
+use Rattle.pli_deck.specs.ModuleSpelling.{SpellsModule}
+use Rattle.pli_deck.specs.declared.fault.Fault.{Fault}
+use Rattle.pli_deck_code.specs.CodeModules.{module_of}
+use Rattle.pli_unit_code.specs.Modules as linked
+use Rattle.pli_unit_code.specs.declared.code.Module.{Module}
+use Rattle.pli_unit_code.specs.views.CodeView.{module_view}
+use Rattle.pli_deck_load.specs.CodeFields.{module_fits}
+use Rattle.pli_deck_load.specs.declared.error.LoadError.{LoadError}
+use Rattle.pli_deck_load.specs.declared.error.LoadError.TheVariants as errors
+
+-- bytes are a linked module where its numbers are within their fields, and they spell its module of decks
+pub record IsLinked (bytes : List ℕ) (m : linked.Module) : Type 0 where
+  pub fits : module_fits m ≡ true
+  pub spelled : SpellsModule bytes (module_of m)
+
+-- this module is loaded, unless memory runs out
+abbrev pub IsMemory : LoadError → Type 0
+IsMemory errors.Memory = Unit {0}
+IsMemory other = ⊥
+
+abbrev pub Loads : Result Module LoadError → linked.Module → Type 0
+Loads (Ok loaded) m = module_view loaded ≡ m
+Loads (Err e) m = IsMemory e
+
+-- a fault is that which reading gives; bytes that are no linked module are read
+abbrev pub IsRead : Result deck.Module Fault → Type 0
+IsRead read = (m : deck.Module) × (read ≡ Ok m)
+
+abbrev pub Refuses : LoadError → Result deck.Module Fault → Type 0
+Refuses errors.Memory read = Unit {0}
+Refuses (errors.Fault f) read = read ≡ Err f
+Refuses errors.NotYet read = IsRead read
+
+abbrev pub FaultsAre : Result Module LoadError → Result deck.Module Fault → Type 0
+FaultsAre (Ok loaded) read = IsRead read
+FaultsAre (Err e) read = Refuses e read

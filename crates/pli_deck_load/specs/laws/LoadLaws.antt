@@ -1,0 +1,7 @@
+-- Bytes are one linked module at most.
+use Rattle.std.specs.Prelude.{◌≡◌, ℕ, List}
+use Rattle.pli_unit_code.specs.Modules.{Module}
+use Rattle.pli_deck_load.specs.LinkedBytes.{IsLinked}
+
+abbrev pub OneLinkedModule : Type 0
+OneLinkedModule = (bytes : List ℕ) (m n : Module) → IsLinked bytes m → IsLinked bytes n → m ≡ n

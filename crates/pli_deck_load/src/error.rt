@@ -1,0 +1,45 @@
+//! Why no linked module was made of bytes.
+ghost use Rattle.std.specs.Prelude.{◌≡◌};
+ghost use Rattle.pli_deck_load.specs.answers.Answers.{load_error};
+ghost use Rattle.pli_deck_load.specs.declared.error.LoadError.TheVariants.{Memory};
+
+use pli_deck::Fault;
+use pli_deck_read::ReadError;
+use std::alloc::{AllocError, AllocFailed};
+
+/// Why nothing was loaded.
+#[derive(Debug, Drop)]
+pub enum LoadError {
+    Memory,
+    Fault(Fault),
+    /// The bytes are a module that the machine does not run yet: one with null pointers or offsets, controlled
+    /// variables, or instructions of storage or of conditions; or one that is linked otherwise than by names.
+    NotYet,
+}
+
+impl From<AllocError> for LoadError {
+    ghost from_gives = { λ _ e. e ≡ Memory };
+
+    fn from(_e: AllocError) -> LoadError {
+        LoadError::Memory
+    }
+}
+
+impl<T: Drop> From<AllocFailed<T>> for LoadError {
+    ghost from_gives = { λ _ e. e ≡ Memory };
+
+    fn from(_e: AllocFailed<T>) -> LoadError {
+        LoadError::Memory
+    }
+}
+
+impl From<ReadError> for LoadError {
+    ghost from_gives = { λ r e. e ≡ load_error r };
+
+    fn from(error: ReadError) -> LoadError {
+        match error {
+            ReadError::Memory => LoadError::Memory,
+            ReadError::Fault(fault) => LoadError::Fault(fault),
+        }
+    }
+}

@@ -1,0 +1,19 @@
+//! Modules from their bytes as the linker gives them: what a run goes over.
+#![tactic(auto)]
+
+mod blocks;
+mod constants;
+mod descriptions;
+mod error;
+mod globals;
+mod instructions;
+mod laws;
+mod linkings;
+mod lists;
+mod modules;
+mod templates;
+mod units;
+
+pub use error::LoadError;
+pub use laws::one_linked_module;
+pub use modules::load;
