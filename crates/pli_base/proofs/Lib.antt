@@ -1,2 +1,3 @@
 pub mod CodeOrder
 pub mod CodeTable
+pub mod WrittenNames

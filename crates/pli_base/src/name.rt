@@ -26,14 +26,15 @@ pub struct Name {
 }
 
 impl Model for Name {
-    ghost use Rattle.std.specs.Prelude.{◌≡◌, ◌≤◌, ◌-◌, ◌++◌, ℕ, List, length, take, drop, replicate};
+    ghost use Rattle.std.specs.Prelude.{◌≡◌, ◌≤◌, ◌-◌, ◌++◌, ℕ, List, length, take, drop, replicate, Some};
+    ghost use Rattle.pli_base.specs.Name.{name_of};
     ghost use Rattle.pli_base.specs.views.NameFields.{restored};
 
     ghost Value = { List ℕ };
 
     ghost view = { λ n. take n.count n.bytes };
 
-    ghost invariant = { λ n. (n.count ≤ 31) × (drop n.count n.bytes ≡ replicate (31 - n.count) 0) × (length n.bytes ≡ 31) };
+    ghost invariant = { λ n. (n.count ≤ 31) × (drop n.count n.bytes ≡ replicate (31 - n.count) 0) × (length n.bytes ≡ 31) × (name_of (take n.count n.bytes) ≡ Some (take n.count n.bytes)) };
 
     ghost inverse = { λ v. record { bytes = v ++ replicate (31 - length v) 0; count = length v } };
 
@@ -99,6 +100,13 @@ impl Name {
         ensures { IsTrue result ↔ (self.now ≡ text.now) }
     {
         self.bytes() == text
+    }
+
+    /// Law: a name is read as itself.
+    pub fn reads_as_itself(&self)
+        ensures { name_of self.now ≡ Some self.now }
+    {
+        let _ = &self.count;
     }
 
     /// The characters.

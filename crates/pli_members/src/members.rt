@@ -77,6 +77,13 @@ impl Members {
         Names::of(self.entries())
     }
 
+    /// Law: there are at most 999 members.
+    pub fn are_few(&self)
+        ensures { length self.now.entries ≤ 999 }
+    {
+        let _ = &self.entries;
+    }
+
     /// How many members there are, at most 999.
     pub fn count(&self) -> usize
         ensures { result ≡ length self.now.entries }

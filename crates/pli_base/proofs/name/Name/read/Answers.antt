@@ -1,6 +1,8 @@
-use Rattle.std.proofs.Common.{◌≡◌, ℕ, ◌+◌, ◌-◌, ◌<◌, List, [], ◌∷◌, ◌++◌, length, take, drop, map, replicate, slice_set, get_or, arith, ◌∙◌, sym, ap}
+use Rattle.std.proofs.Common.{◌≡◌, ℕ, ◌+◌, ◌-◌, ◌<◌, List, [], ◌∷◌, ◌++◌, length, take, drop, map, replicate, slice_set, get_or, arith, ◌∙◌, sym, ap, rules}
+use Rattle.std.proofs.Math.Seq.{take-length}
 use Rattle.std.proofs.lemmas.List.{take_more_set, take_more, map-append, length-set, drop-set-lt, drop-drop, drop-replicate}
 use Rattle.pli_base.specs.Name.{upper}
+use Rattle.pli_base.proofs.WrittenNames.{read_as_itself}
 use Rattle.pli_base.proofs.name.Name.read.Goals as goal
 
 one_less : (i : ℕ) → 31 - i - 1 ≡ 31 - (i + 1)
@@ -30,3 +32,11 @@ loop-place-preserved c =
     let text = c.args.text.now in
     let i = c.loop-place.place in
     (length-set bytes i c.upper.result ∙ c.loop-place.invariant.0, rw c.upper.ensures (taken bytes text i (omega arith) (omega arith) c.loop-place.invariant.1), dropped bytes text i c.upper.result c.loop-place.invariant.2)
+
+pub invariant_of-result : goal.invariant_of-result
+invariant_of-result c =
+    let text = c.args.text.now in
+    let at_end : c.loop-place.place ≡ length text = search rules in
+    let read : take c.loop-place.place c.loop-place.bytes ≡ map upper text = c.loop-place.invariant.1 ∙ ap (λ n. map upper (take n text)) at_end ∙ ap (map upper) (take-length text) in
+    let whole : take (length text) c.loop-place.bytes ≡ map upper text = ap (λ n. take n c.loop-place.bytes) (sym at_end) ∙ read in
+    (search rules, search rules, search rules, rw whole (read_as_itself text (search rules) (search rules)))

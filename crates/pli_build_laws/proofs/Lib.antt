@@ -1,0 +1,2 @@
+pub mod BuiltModules
+pub mod FormedMembers

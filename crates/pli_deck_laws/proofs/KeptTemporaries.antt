@@ -1,0 +1,110 @@
+-- The temporaries that the iterations of a block keep are no more than its instructions.
+use Rattle.std.proofs.Common.{◌≡◌, ℕ, suc, ◌+◌, ◌≤◌, List, [], ◌∷◌, ◌++◌, length, ap, ◌∙◌, arith}
+use Rattle.pli_gen_emit.specs.TreeTranslation.{BlockTree, value_code, behind, keeps_code, sets_code, tests_code, advances_code, back_code, turn_place, list_place, statement_code, form_code, list_code, end_code, block_code}
+use Rattle.pli_gen_tree.proofs.IterationCode.{iterate_ends}
+use Rattle.pli_gen_tree.proofs.SimpleCode.{behind_both}
+use Rattle.pli_machine_step.specs.Program as op
+use Rattle.pli_type_tree.specs.Iterations.{kept_by, temporaries_of, is_iterated}
+use Rattle.pli_type_tree.specs.TypedTree.{TypedExpression, TypedStatement, Statement, TypedStatements, NoStatement, StatementThen, NoElse, Else, Iteration}
+use Rattle.pli_type_tree.specs.TypedTree.{Form, Null, Assign, AssignAggregate, Put, If, Begin, Group, While, Iterate, Call, Goto, Return, ReturnValue, Stop}
+use Rattle.pli_deck_laws.specs.WellFormed.{kept_in, kept_in_form, kept_among}
+use Rattle.pli_deck_laws.proofs.CodeGrows.{grows}
+
+keeps_long : (t : ℕ) (es : List TypedExpression) (p : ℕ) → p + length es ≤ behind (keeps_code t es) p
+keeps_long t [] p = omega arith
+keeps_long t (e ∷ es) p =
+    let rest = keeps_code (suc t) es in
+    let q = behind (value_code e) p in
+    let a : behind (keeps_code t (e ∷ es)) p ≡ behind rest (suc q) = behind_both (value_code e) (op.SetTemporary t ∷ rest) p in
+    let g : p ≤ q = grows (value_code e) p in
+    let k = keeps_long (suc t) es (suc q) in
+    omega (arith, a, g, k)
+
+start_long : (i : Iteration) (p : ℕ) → p + temporaries_of i.range ≤ turn_place i p
+start_long i p =
+    let keeps = keeps_code i.temporary (i.start ∷ kept_by i.range) in
+    let sets = sets_code i (op.TakeTemporary i.temporary ∷ []) in
+    let a : behind (keeps ++ sets) p ≡ behind sets (behind keeps p) = behind_both keeps sets p in
+    let g : behind keeps p ≤ behind sets (behind keeps p) = grows sets (behind keeps p) in
+    let k = keeps_long i.temporary (i.start ∷ kept_by i.range) p in
+    omega (arith, a, g, k)
+
+mutual
+  kept_in_statement : (s : TypedStatement) (p : ℕ) → p + kept_in s ≤ behind (statement_code s p) p
+  kept_in_statement (Statement number form) p = let k = kept_in_this number form (suc p) in omega (arith, k)
+
+  kept_in_this : (number : ℕ) (f : Form) (p : ℕ) → p + kept_in_form f ≤ behind (form_code number f p) p
+  kept_in_this number (If test part NoElse) p =
+      let q = suc (behind (value_code test) p) in
+      let code = statement_code part q in
+      let e : behind (value_code test ++ op.JumpUnless (behind code q) ∷ code) p ≡ behind code q = behind_both (value_code test) (op.JumpUnless (behind code q) ∷ code) p in
+      let g : p ≤ behind (value_code test) p = grows (value_code test) p in
+      let k = kept_in_statement part q in
+      omega (arith, e, g, k)
+  kept_in_this number (If test part (Else other)) p =
+      let q = suc (behind (value_code test) p) in
+      let code = statement_code part q in
+      let r = suc (behind code q) in
+      let otherwise = statement_code other r in
+      let front = value_code test ++ op.JumpUnless r ∷ code in
+      let rest = op.Jump (behind otherwise r) ∷ otherwise in
+      let a : behind front p ≡ behind code q = behind_both (value_code test) (op.JumpUnless r ∷ code) p in
+      let b : behind (front ++ rest) p ≡ behind otherwise r = behind_both front rest p ∙ ap (λ k. behind otherwise (suc k)) a in
+      let g : p ≤ behind (value_code test) p = grows (value_code test) p in
+      let k = kept_in_statement part q in
+      let l = kept_in_statement other r in
+      omega (arith, b, g, k, l)
+  kept_in_this number (Group statements) p = kept_in_list statements p
+  kept_in_this number (While test statements) p =
+      let q = suc (suc (behind (value_code test) (suc p))) in
+      let code = list_code statements q in
+      let out = suc (behind code q) in
+      let front = op.Line number ∷ value_code test ++ op.JumpUnless out ∷ op.Step number ∷ code in
+      let back = op.Jump p ∷ [] in
+      let a : behind front p ≡ behind code q = behind_both (value_code test) (op.JumpUnless out ∷ op.Step number ∷ code) (suc p) in
+      let b : behind (front ++ back) p ≡ out = behind_both front back p ∙ ap suc a in
+      let g : suc p ≤ behind (value_code test) (suc p) = grows (value_code test) (suc p) in
+      let k = kept_in_list statements q in
+      omega (arith, b, g, k)
+  kept_in_this number (Iterate i statements) p =
+      let turn = turn_place i p in
+      let q = list_place i p in
+      let code = list_code statements q in
+      let back = back_code (is_iterated i.range) number (advances_code i.range i) turn in
+      let e : behind (form_code number (Iterate i statements) p) p ≡ behind back (behind code q) = iterate_ends number i (list_code statements) p in
+      let s = start_long i p in
+      let a : turn ≤ behind (tests_code i 0) turn = grows (tests_code i 0) turn in
+      let c : behind code q ≤ behind back (behind code q) = grows back (behind code q) in
+      let k = kept_in_list statements q in
+      omega (arith, e, s, a, c, k)
+  kept_in_this number Null p = let g = grows (form_code number Null p) p in omega (arith, g)
+  kept_in_this number (Assign target value) p = let g = grows (form_code number (Assign target value) p) p in omega (arith, g)
+  kept_in_this number (AssignAggregate target source) p = let g = grows (form_code number (AssignAggregate target source) p) p in omega (arith, g)
+  kept_in_this number (Put skip items) p = let g = grows (form_code number (Put skip items) p) p in omega (arith, g)
+  kept_in_this number (Begin head statements) p = let g = grows (form_code number (Begin head statements) p) p in omega (arith, g)
+  kept_in_this number (Call callee arguments) p = let g = grows (form_code number (Call callee arguments) p) p in omega (arith, g)
+  kept_in_this number (Goto outward label) p = let g = grows (form_code number (Goto outward label) p) p in omega (arith, g)
+  kept_in_this number (Return outward) p = let g = grows (form_code number (Return outward) p) p in omega (arith, g)
+  kept_in_this number (ReturnValue outward value) p = let g = grows (form_code number (ReturnValue outward value) p) p in omega (arith, g)
+  kept_in_this number Stop p = let g = grows (form_code number Stop p) p in omega (arith, g)
+
+  kept_in_list : (ss : TypedStatements) (p : ℕ) → p + kept_among ss ≤ behind (list_code ss p) p
+  kept_in_list NoStatement p = omega arith
+  kept_in_list (StatementThen first more) p =
+      let code = statement_code first p in
+      let q = behind code p in
+      let rest = list_code more q in
+      let e : behind (code ++ rest) p ≡ behind rest q = behind_both code rest p in
+      let k = kept_in_statement first p in
+      let l = kept_in_list more q in
+      omega (arith, e, k, l)
+
+-- where a block's code is short, its temporaries are few
+pub few_temporaries : (b : BlockTree) (p n : ℕ) → b.head.temporaries ≤ kept_among b.statements → behind (block_code b p) p ≤ n → b.head.temporaries ≤ n
+few_temporaries b p n h short =
+    let code = list_code b.statements p in
+    let last = end_code b.function_end in
+    let e : behind (code ++ last) p ≡ behind last (behind code p) = behind_both code last p in
+    let g : behind code p ≤ behind last (behind code p) = grows last (behind code p) in
+    let k = kept_in_list b.statements p in
+    omega (arith, h, short, e, g, k)

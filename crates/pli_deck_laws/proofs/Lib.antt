@@ -1,0 +1,13 @@
+pub mod Allowed
+pub mod AllowedCode
+pub mod CodeGrows
+pub mod DecksSay
+pub mod FieldsFit
+pub mod InstructionsFit
+pub mod KeptTemporaries
+pub mod PartsFit
+pub mod ScalarsStand
+pub mod TablesFit
+pub mod UnitBlocks
+pub mod WorkedUnit
+pub mod TypesSay

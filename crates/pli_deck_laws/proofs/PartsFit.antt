@@ -1,0 +1,262 @@
+-- Templates, globals, blocks and instructions of a well-formed unit fit the fields of a deck.
+use Rattle.std.proofs.Common.{◌≡◌, ℕ, suc, ◌<◌, ◌≤◌, true, nat_le, Option, Some, None, option_map, List, [], ◌∷◌, ◌++◌, length, map, get_or, slice_get, refl, ap, sym, ◌∙◌, arith, true≢false}
+use Rattle.std.specs.List.{flat_map, list_all, AllByRecursion}
+use Rattle.std.proofs.lemmas.Bool.{le-leb}
+use Rattle.std.proofs.lemmas.List.{length-map}
+use Rattle.pli_map.specs.Description.{Description, FixedBinary, Character, Varying, Bit, Pointer, Offset, Area, Array, Structure}
+use Rattle.pli_map.specs.Sizes.{size_of}
+use Rattle.pli_map.specs.Values.{holds}
+use Rattle.pli_machine_step.specs.Program as op
+use Rattle.pli_type_tree.specs.Templates.{InitialScalar, Template}
+use Rattle.pli_type_tree.specs.TypedTree.{Signature, Global, OwnVariable, ExternalVariable, EntryPoint}
+use Rattle.pli_type_tree.specs.WellTyped.{scalars_of}
+use Rattle.pli_unit_code.specs.CodeTables as code
+use Rattle.pli_unit_code.specs.CodeTables.{there}
+use Rattle.pli_value.specs.Value.{Value, Number, Characters, Bits}
+use Rattle.pli_gen_emit.specs.TreeTranslation.{BlockTree, behind, block_code, blocks_code}
+use Rattle.pli_gen_tree.specs.Encoding.{Tables, signature_descriptions, global_descriptions, global_templates, block_templates, description_number, template_number, template_code, signature_code, global_code, coded_block, coded_blocks}
+use Rattle.pli_gen_tree.specs.laws.ListLaws.{all_front, all_back}
+use Rattle.pli_gen_tree.proofs.SimpleCode.{all_both, behind_both}
+use Rattle.pli_deck.specs.Decks as deck
+use Rattle.pli_deck.specs.Fields.{u1, u2, u4, list_of, ◌⊗◌}
+use Rattle.pli_deck.specs.DeckFields.{name, constant, initial, template, signature, global, block_kind, optional, block}
+use Rattle.pli_deck.specs.DeckFaults.{Naming, OfDescription, OfTemplate, OfInstruction, named_by_result, named_by_signature, named_by_template, named_by_global, named_by_parent, named_by_block}
+use Rattle.pli_deck.specs.DeckFaults.{scalar_at, is_fitted, fits_scalar, is_good_template}
+use Rattle.pli_deck_code.specs.CodeDecks.{byte, short, constant_of, initial_of, offsets_in, template_of, signature_of, global_of, kind_number, block_of}
+use Rattle.pli_deck_code.specs.ScalarOffsets.{offsets_of}
+use Rattle.pli_deck_laws.specs.KeptNumbers.{IsByte, IsShort, IsNear, KeepsBlock, KeepsInitial, KeepsTemplate}
+use Rattle.pli_deck_laws.specs.Limits.{level_limit, parameter_limit, IfThere, IsConstant, IsMade, IsInitial, IsTemplate, IsSignature, IsGlobal}
+use Rattle.pli_deck_laws.specs.WellFormed.{slots_of, IsHead}
+use Rattle.pli_deck_laws.proofs.FieldsFit.{both_hold, each_holds, all_mapped, fits_byte, fits_short, fits_word, fits_range, fits_pair, fits_list, fits_optional, fits_name, near, fits_constant, fits_signature}
+use Rattle.pli_deck_laws.proofs.InstructionsFit.{Named, is_byte, is_short}
+use Rattle.pli_deck_laws.proofs.ScalarsStand.{scalar_found}
+use Rattle.pli_deck_laws.proofs.TablesFit.{StandsDescription, StandsTemplate, description_within, template_within}
+use Rattle.pli_deck_laws.proofs.CodeGrows.{block_is_some, grows}
+use Rattle.pli_deck_laws.proofs.KeptTemporaries.{few_temporaries}
+use Rattle.pli_deck_laws.proofs.UnitBlocks.{all_as, all_pairs}
+use Rattle.pli_deck_laws.specs.UnitTypes.{HasBytes, BeginsWithBytes, HasName}
+
+-- ---- initial values
+
+-- a constant that a scalar may hold is fitted to it
+fitted : (d : Description) (v : Value) → IsConstant v → holds d v ≡ true → is_fitted d (constant_of v) ≡ true
+fitted (FixedBinary p) (Number x) h k = ap (λ y. is_fitted (FixedBinary p) (deck.Number y)) (near x h) ∙ k
+fitted (Character n) (Characters text) h k = k
+fitted (Varying n) (Characters text) h k = k
+fitted (Bit n) (Bits bits) h k = k
+fitted (FixedBinary p) (Characters text) h k = absurd (true≢false (sym k))
+fitted (FixedBinary p) (Bits bits) h k = absurd (true≢false (sym k))
+fitted (Character n) (Number x) h k = absurd (true≢false (sym k))
+fitted (Character n) (Bits bits) h k = absurd (true≢false (sym k))
+fitted (Varying n) (Number x) h k = absurd (true≢false (sym k))
+fitted (Varying n) (Bits bits) h k = absurd (true≢false (sym k))
+fitted (Bit n) (Number x) h k = absurd (true≢false (sym k))
+fitted (Bit n) (Characters text) h k = absurd (true≢false (sym k))
+fitted Pointer v h k = absurd (true≢false (sym k))
+fitted Offset v h k = absurd (true≢false (sym k))
+fitted (Area n) v h k = absurd (true≢false (sym k))
+fitted (Array bounds element) v h k = absurd (true≢false (sym k))
+fitted (Structure _) v h k = absurd (true≢false (sym k))
+
+pub is_near : (v : Value) → IsConstant v → IsNear v
+is_near (Number x) h = near x h
+is_near (Characters text) h = tt
+is_near (Bits bits) h = tt
+
+-- an initial value of a description
+record GoodInitial (d : Description) (i : InitialScalar) : Type 0 where
+  fits : initial.fits (initial_of (offsets_of d) i) ≡ true
+  is : fits_scalar (scalar_at d (get_or (offsets_of d) i.scalar 0)) (constant_of i.value) ≡ true
+  keeps : KeepsInitial d i
+
+good_initial : (d : Description) → IsMade d → (i : InitialScalar) → IsInitial (scalars_of d) i → HasBytes i.value → GoodInitial d i
+unfolding initial
+good_initial d made i h bytes =
+    let f = scalar_found level_limit d made.0 made.1 i.scalar h.0.0 h.0.1 in
+    let small = f.small in
+    let said = f.said in
+    record {
+      fits = fits_pair u4 constant (get_or (offsets_of d) i.scalar 0) (constant_of i.value) (fits_word (get_or (offsets_of d) i.scalar 0) (omega (arith, small, said))) (fits_constant i.value h.1 bytes);
+      is = ap (λ s. fits_scalar s (constant_of i.value)) f.is ∙ fitted h.0.0 i.value h.1 h.0.2;
+      keeps = (f.plain ∙ ap Some (sym f.said), is_near i.value h.1);
+    }
+
+module _ (tables : Tables) (globals blocks last : ℕ) (few_descriptions : length tables.descriptions ≤ 65535) (few_templates : length tables.templates ≤ 65535) where
+  abbrev IsNamed : Naming → Type 0
+  IsNamed n = Named tables globals blocks last n
+
+  -- ---- templates
+
+  abbrev said : Template → deck.Template
+  said t = template_of tables.descriptions (template_code tables t)
+
+  pub record GoodTemplate (t : Template) : Type 0 where
+    pub fits : template.fits (said t) ≡ true
+    pub names : AllByRecursion IsNamed (named_by_template (said t))
+    pub is : is_good_template (slice_get tables.descriptions (said t).description) (said t).initial ≡ true
+    pub keeps : KeepsTemplate tables.descriptions (template_code tables t)
+
+  offsets_there : (o : Option Description) (d : Description) → o ≡ Some d → offsets_in o ≡ offsets_of d
+  offsets_there o d h = ap offsets_in h
+
+  -- its initial values, at these offsets
+  abbrev initials : (offsets : List ℕ) → Template → List deck.Initial
+  initials offsets t = map (initial_of offsets) t.initial
+
+  all_initials : (d : Description) → IsMade d → (is : List InitialScalar) → AllByRecursion (IsInitial (scalars_of d)) is → AllByRecursion (λ (i : InitialScalar). HasBytes i.value) is
+      → AllByRecursion (GoodInitial d) is
+  all_initials d made is h bytes = all_pairs (IsInitial (scalars_of d)) (λ (i : InitialScalar). HasBytes i.value) (GoodInitial d) (good_initial d made) is h bytes
+
+  pub template_good : (t : Template) → IsTemplate t → BeginsWithBytes (template_code tables t) → StandsDescription tables t.description → GoodTemplate t
+  unfolding template
+  template_good t h bytes stands =
+      let d = t.description in
+      let number = description_number tables d in
+      let below = description_within tables d stands in
+      let good = all_initials d h.0 t.initial h.1 bytes in
+      let offsets = offsets_in (slice_get tables.descriptions number) in
+      let same : offsets ≡ offsets_of d = offsets_there (slice_get tables.descriptions number) d stands in
+      let count : length (initials offsets t) ≡ length t.initial = length-map t.initial (initial_of offsets) in
+      let counted : length (initials offsets t) < 4294967296 = let k = h.2 in omega (arith, k, count) in
+      let fitting : AllByRecursion (λ i. initial.fits i ≡ true) (initials (offsets_of d) t) = all_mapped (initial_of (offsets_of d)) (GoodInitial d) (λ i. initial.fits i ≡ true) (λ i g. g.fits) t.initial good in
+      let there : AllByRecursion (λ (i : deck.Initial). fits_scalar (scalar_at d i.offset) i.value ≡ true) (initials (offsets_of d) t) =
+      all_mapped (initial_of (offsets_of d)) (GoodInitial d) (λ (i : deck.Initial). fits_scalar (scalar_at d i.offset) i.value ≡ true) (λ i g. g.is) t.initial good in
+      record {
+        fits = fits_pair u2 (list_of u4 initial) number (initials offsets t) (fits_short number (omega (arith, below, few_descriptions)))
+            (fits_list u4 initial (initials offsets t) (fits_word (length (initials offsets t)) counted)
+            (ap (λ o. list_all initial.fits (initials o t)) same ∙ each_holds initial.fits (λ i. initial.fits i ≡ true) (λ i e. e) (initials (offsets_of d) t) fitting));
+        names = (below, tt);
+        is = ap (λ o. is_good_template o (initials (offsets_in o) t)) stands
+            ∙ both_hold (nat_le (size_of d) 1000000) (list_all (λ i. fits_scalar (scalar_at d i.offset) i.value) (initials (offsets_of d) t)) (le-leb (size_of d) 1000000 h.0.1)
+            (each_holds (λ i. fits_scalar (scalar_at d i.offset) i.value) (λ i. fits_scalar (scalar_at d i.offset) i.value ≡ true) (λ i e. e) (initials (offsets_of d) t) there);
+        keeps = (d, stands, all_as (GoodInitial d) (KeepsInitial d) (λ i g. g.keeps) t.initial good);
+      }
+
+  -- ---- signatures and globals
+
+  below_last : (n : ℕ) → n < length tables.descriptions → n < 65535
+  below_last n h = omega (arith, h, few_descriptions)
+
+  result_below : (o : Option Description) → AllByRecursion (StandsDescription tables) (there o) → IfThere (λ n. n < length tables.descriptions) (option_map (description_number tables) o)
+  result_below None h = tt
+  result_below (Some d) h = description_within tables d h.0
+
+  as_below : (o : Option ℕ) → IfThere (λ n. n < length tables.descriptions) o → IfThere (λ n. n < 65535) o
+  as_below None h = tt
+  as_below (Some n) h = below_last n h
+
+  result_named : (o : Option ℕ) → IfThere (λ n. n < length tables.descriptions) o → AllByRecursion IsNamed (named_by_result o)
+  result_named None h = tt
+  result_named (Some n) h = (h, tt)
+
+  pub record GoodSignature (s : Signature) : Type 0 where
+    pub fits : signature.fits (signature_of (signature_code tables s)) ≡ true
+    pub names : AllByRecursion IsNamed (named_by_signature (signature_of (signature_code tables s)))
+
+  pub signature_good : (s : Signature) → IsSignature s → AllByRecursion (StandsDescription tables) (signature_descriptions s) → GoodSignature s
+  signature_good s h stands =
+      let numbers = map (description_number tables) s.parameters in
+      let result = option_map (description_number tables) s.result in
+      let all : AllByRecursion (λ n. n < length tables.descriptions) numbers = all_mapped (description_number tables) (StandsDescription tables) (λ n. n < length tables.descriptions)
+      (description_within tables) s.parameters (all_front (StandsDescription tables) s.parameters (there s.result) stands) in
+      let one = result_below s.result (all_back (StandsDescription tables) s.parameters (there s.result) stands) in
+      let count : length numbers ≡ length s.parameters = length-map s.parameters (description_number tables) in
+      let few = h.0 in
+      record {
+        fits = fits_signature numbers result (omega (arith, few, count)) (all_as (λ n. n < length tables.descriptions) (λ n. n < 65535) below_last numbers all) (as_below result one);
+        names = all_both IsNamed (map OfDescription numbers) (named_by_result result) (all_mapped OfDescription (λ n. n < length tables.descriptions) IsNamed (λ n e. e) numbers all) (result_named result one);
+      }
+
+  pub record GoodGlobal (g : Global) : Type 0 where
+    pub fits : global.fits (global_of (global_code tables g)) ≡ true
+    pub names : AllByRecursion IsNamed (named_by_global (global_of (global_code tables g)))
+
+  number_fits : (t : Template) → StandsTemplate tables t → u2.fits (template_number tables t) ≡ true
+  number_fits t h = let below = template_within tables t h in fits_short (template_number tables t) (omega (arith, below, few_templates))
+
+  global_good : (g : Global) → IsGlobal g → HasName (global_code tables g) → AllByRecursion (StandsDescription tables) (global_descriptions g) → AllByRecursion (StandsTemplate tables) (global_templates g) → GoodGlobal g
+  unfolding global
+  global_good (OwnVariable t) h named ds ts = record { fits = number_fits t ts.0; names = (template_within tables t ts.0, tt) }
+  global_good (ExternalVariable n t) h named ds ts =
+      record { fits = fits_pair name u2 n (template_number tables t) (fits_name n named) (number_fits t ts.0); names = (template_within tables t ts.0, tt) }
+  global_good (EntryPoint n s) h named ds ts =
+      let g = signature_good s h ds in
+      record { fits = fits_pair name signature n (signature_of (signature_code tables s)) (fits_name n named) g.fits; names = g.names }
+
+  pub globals_good : (gs : List Global) → AllByRecursion IsGlobal gs → AllByRecursion HasName (map (global_code tables) gs) → AllByRecursion (StandsDescription tables) (flat_map global_descriptions gs)
+      → AllByRecursion (StandsTemplate tables) (flat_map global_templates gs) → AllByRecursion GoodGlobal gs
+  globals_good [] h named ds ts = tt
+  globals_good (g ∷ gs) h named ds ts = (
+    global_good g h.0 named.0 (all_front (StandsDescription tables) (global_descriptions g) (flat_map global_descriptions gs) ds)
+        (all_front (StandsTemplate tables) (global_templates g) (flat_map global_templates gs) ts),
+    globals_good gs h.1 named.1 (all_back (StandsDescription tables) (global_descriptions g) (flat_map global_descriptions gs) ds)
+        (all_back (StandsTemplate tables) (global_templates g) (flat_map global_templates gs) ts),
+  )
+
+  -- ---- blocks
+
+  -- what is asked of a block
+  pub record BlockWithin (b : BlockTree) : Type 0 where
+    pub parent : IfThere (λ n. n < blocks) b.parent
+    pub parameters : b.parameters ≤ parameter_limit
+    pub head : IsHead b.head b.statements
+    pub slots : slots_of b ≤ 65535
+
+  pub record GoodCodedBlock (b : code.CodedBlock) : Type 0 where
+    pub fits : block.fits (block_of b) ≡ true
+    pub names : AllByRecursion IsNamed (named_by_block (block_of b))
+    pub keeps : KeepsBlock b
+
+  kind_fits : (k : op.BlockKind) → block_kind.fits (kind_number k) ≡ true
+  kind_fits op.Procedure = refl
+  kind_fits op.BeginBlock = refl
+  kind_fits op.OnUnit = refl
+
+  module _ (few_blocks : blocks ≤ 65535) (few_instructions : suc last ≤ 65535) where
+    parent_fits : (o : Option ℕ) → IfThere (λ n. n < blocks) o → optional.fits (option_map short o) ≡ true
+    parent_fits None h = fits_optional None tt
+    parent_fits (Some n) h = fits_optional (Some (short n)) (omega (arith, h, few_blocks))
+
+    parent_named : (o : Option ℕ) → IfThere (λ n. n < blocks) o → AllByRecursion IsNamed (named_by_parent (option_map short o))
+    parent_named None h = tt
+    parent_named (Some n) h = (omega (arith, h), tt)
+
+    parent_kept : (o : Option ℕ) → IfThere (λ n. n < blocks) o → IfThere IsShort o
+    parent_kept None h = tt
+    parent_kept (Some n) h = is_short n (omega (arith, h, few_blocks))
+
+    block_good : (b : BlockTree) (p : ℕ) → p ≤ last → b.head.temporaries ≤ 65535 → BlockWithin b → AllByRecursion (StandsTemplate tables) b.head.variables → GoodCodedBlock (coded_block tables b p)
+    unfolding block
+    block_good b p entry temporaries h stand =
+        let numbers = map (template_number tables) b.head.variables in
+        let few = h.parameters in
+        let slots = h.slots in
+        let all : AllByRecursion (λ n. n < length tables.templates) numbers = all_mapped (template_number tables) (StandsTemplate tables) (λ n. n < length tables.templates) (template_within tables) b.head.variables stand in
+        let count : length numbers ≡ length b.head.variables = length-map b.head.variables (template_number tables) in
+        let kept : IsByte b.parameters = is_byte b.parameters (omega (arith, few)) in
+        let last_parts = fits_pair u2 u4 p b.head.statement (fits_short p (omega (arith, entry, few_instructions))) (fits_word b.head.statement h.head.0) in
+        let four = fits_pair u2 (u2 ⊗ u4) (short b.head.temporaries) (p, b.head.statement) (fits_short (short b.head.temporaries) (omega arith)) last_parts in
+        let variables = fits_list u2 u2 numbers (fits_short (length numbers) (omega (arith, count, slots)))
+        (each_holds u2.fits (λ n. n < length tables.templates) (λ n e. fits_short n (omega (arith, e, few_templates))) numbers all) in
+        let parameters = fits_range 0 64 (byte b.parameters) u1 (fits_byte (byte b.parameters) (omega arith)) (omega arith) (omega (arith, few)) in
+        record {
+          fits = both_hold _ _ (kind_fits b.kind) (both_hold _ _ (parent_fits b.parent h.parent) (both_hold _ _ parameters (both_hold _ _ variables four)));
+          names = all_both IsNamed (named_by_parent (option_map short b.parent) ++ map OfTemplate numbers) (OfInstruction p ∷ [])
+              (all_both IsNamed (named_by_parent (option_map short b.parent)) (map OfTemplate numbers) (parent_named b.parent h.parent)
+              (all_mapped OfTemplate (λ n. n < length tables.templates) IsNamed (λ n e. e) numbers all)) (entry, tt);
+          keeps = (parent_kept b.parent h.parent, kept, is_short b.head.temporaries temporaries);
+        }
+
+    pub blocks_good : (bs : List BlockTree) (p : ℕ) → behind (blocks_code bs p) p ≤ suc last → AllByRecursion BlockWithin bs → AllByRecursion (StandsTemplate tables) (block_templates bs)
+        → AllByRecursion GoodCodedBlock (coded_blocks tables bs p)
+    blocks_good [] p end h stand = tt
+    blocks_good (b ∷ bs) p end h stand =
+        let code = block_code b p in
+        let q = behind code p in
+        let rest = blocks_code bs q in
+        let e : behind (code ++ rest) p ≡ behind rest q = behind_both code rest p in
+        let g : q ≤ behind rest q = grows rest q in
+        let some : suc p ≤ q = block_is_some b p in (
+          block_good b p (omega (arith, e, g, some, end)) (few_temporaries b p 65535 h.0.head.2 (omega (arith, e, g, end, few_instructions))) h.0 (all_front (StandsTemplate tables) b.head.variables (block_templates bs) stand),
+          blocks_good bs q (omega (arith, e, end)) h.1 (all_back (StandsTemplate tables) b.head.variables (block_templates bs) stand),
+        )

@@ -1,0 +1,6 @@
+pub mod DeckLaws
+pub mod KeptNumbers
+pub mod Limits
+pub mod UnitTypes
+pub mod WellFormed
+pub mod examples

@@ -1,0 +1,124 @@
+-- What is within the limits of the language: names, descriptions, values, what variables are made from,
+-- operations, and what procedures take and give.
+use Rattle.std.specs.Prelude.{◌≡◌, ℕ, zero, suc, ◌≤◌, ◌<◌, ◌%◌, ℤ, unsigned_abs, int_le, IsTrue}
+use Rattle.std.specs.Prelude.{Option, Some, None, List, length, slice_get}
+use Rattle.std.specs.List.{AllByRecursion}
+use Rattle.pli_map.specs.declared.description.Bounds.{Bounds}
+use Rattle.pli_map.specs.Description.{Description, FixedBinary, Character, Varying, Bit, Pointer, Offset}
+use Rattle.pli_map.specs.Description.{Area, Array, Structure, Members, NoMembers, MemberThen}
+use Rattle.pli_map.specs.Sizes.{size_of}
+use Rattle.pli_map.specs.Values.{holds}
+use Rattle.pli_operation.specs.Operations as calculate
+use Rattle.pli_operation.specs.Operations.{Operation}
+use Rattle.pli_type_tree.specs.Templates.{InitialScalar, Template}
+use Rattle.pli_type_tree.specs.TypedTree.{Stride, Signature, Global, OwnVariable, ExternalVariable}
+use Rattle.pli_type_tree.specs.TypedTree.{EntryPoint}
+use Rattle.pli_type_tree.specs.WellTyped.{scalars_of}
+use Rattle.pli_value.specs.Value.{Value, Number, Characters, Bits}
+
+-- an activation is at most so many static links outward
+abbrev pub link_limit : ℕ
+link_limit = 64
+
+-- there are at most so many parameters and arguments
+abbrev pub parameter_limit : ℕ
+parameter_limit = 64
+
+-- a description has at most so many levels
+abbrev pub level_limit : ℕ
+level_limit = 512
+
+-- numbers of statements, offsets and multipliers are less than this, and so is how many initial values a
+-- variable has
+abbrev pub word_limit : ℕ
+word_limit = 4294967296
+
+-- it holds of what is there, if anything is
+abbrev pub IfThere : {X : Type 0} → (X → Type 0) → Option X → Type 0
+IfThere Holds None = Unit {0}
+IfThere Holds (Some x) = Holds x
+
+-- descriptions
+
+-- a length of 1 to 32,767, and a precision of 1 to 31
+abbrev pub IsLength : ℕ → Type 0
+IsLength n = (1 ≤ n) × (n ≤ 32767)
+
+abbrev pub IsPrecision : ℕ → Type 0
+IsPrecision p = (1 ≤ p) × (p ≤ 31)
+
+-- a bound is at most 32,767 from 0, and no low one is over its high one
+abbrev pub IsBound : ℤ → Type 0
+IsBound x = unsigned_abs x ≤ 32767
+
+abbrev pub AreBounds : Bounds → Type 0
+AreBounds b = IsTrue (int_le b.low b.high) × IsBound b.low × IsBound b.high
+
+-- one to eight dimensions, and one member or more; in at most so many levels
+abbrev mutual
+  pub IsDescribed : (levels : ℕ) → Description → Type 0
+  IsDescribed zero d = ⊥
+  IsDescribed (suc n) (FixedBinary p) = IsPrecision p
+  IsDescribed (suc n) (Character k) = IsLength k
+  IsDescribed (suc n) (Varying k) = IsLength k
+  IsDescribed (suc n) (Bit k) = IsLength k
+  IsDescribed (suc n) Pointer = Unit {0}
+  IsDescribed (suc n) Offset = Unit {0}
+  IsDescribed (suc n) (Area k) = (1 ≤ k) × (k ≤ 1000000) × (k % 8 ≡ 0)
+  IsDescribed (suc n) (Array bounds element) =
+      (1 ≤ length bounds) × (length bounds ≤ 8) × AllByRecursion AreBounds bounds × IsDescribed n element
+  IsDescribed (suc n) (Structure NoMembers) = ⊥
+  IsDescribed (suc n) (Structure (MemberThen d ds)) = IsDescribed n d × AreDescribed n ds
+
+  pub AreDescribed : (levels : ℕ) → Members → Type 0
+  AreDescribed n NoMembers = Unit {0}
+  AreDescribed n (MemberThen d ds) = IsDescribed n d × AreDescribed n ds
+
+abbrev pub IsDescription : Description → Type 0
+IsDescription d = IsDescribed level_limit d
+
+-- values: a number of at most 31 binary digits, or a string of at most 32,767 elements
+
+abbrev pub IsConstant : Value → Type 0
+IsConstant (Number x) = unsigned_abs x ≤ 2147483647
+IsConstant (Characters text) = length text ≤ 32767
+IsConstant (Bits bits) = length bits ≤ 32767
+
+-- variables
+
+-- what is made of a description takes at most 1,000,000 bytes
+abbrev pub IsMade : Description → Type 0
+IsMade d = IsDescription d × (size_of d ≤ 1000000)
+
+-- an initial value is one that its scalar may hold
+abbrev pub IsInitial : (scalars : List Description) → InitialScalar → Type 0
+IsInitial scalars i =
+    ((d : Description) × (slice_get scalars i.scalar ≡ Some d) × IsTrue (holds d i.value))
+    × IsConstant i.value
+
+abbrev pub IsTemplate : Template → Type 0
+IsTemplate t =
+    IsMade t.description × AllByRecursion (IsInitial (scalars_of t.description)) t.initial
+    × (length t.initial < word_limit)
+
+-- operations and subscripts
+
+abbrev pub IsOperation : Operation → Type 0
+IsOperation (calculate.Fit d) = IsDescription d
+IsOperation (calculate.ToCharacters width) = width ≤ 255
+IsOperation (calculate.Divide precision) = IsPrecision precision
+IsOperation operation = Unit {0}
+
+abbrev pub IsStride : Stride → Type 0
+IsStride s = IsBound s.low × IsBound s.high × (s.multiplier < word_limit)
+
+-- what procedures take and give, and what a unit names that is there for the whole program
+abbrev pub IsSignature : Signature → Type 0
+IsSignature s =
+    (length s.parameters ≤ parameter_limit) × AllByRecursion IsDescription s.parameters
+    × IfThere IsDescription s.result
+
+abbrev pub IsGlobal : Global → Type 0
+IsGlobal (OwnVariable v) = IsTemplate v
+IsGlobal (ExternalVariable name v) = IsTemplate v
+IsGlobal (EntryPoint name s) = IsSignature s

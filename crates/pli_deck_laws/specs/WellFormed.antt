@@ -1,0 +1,156 @@
+-- Well-formed units: what a typed unit says is within the limits of the language, and what it names by a
+-- number is one of its own. Everything is asked of the typed tree, form by form.
+use Rattle.std.specs.Prelude.{ℕ, ◌+◌, ◌≤◌, ◌<◌, nat_lt, IsTrue, List, length}
+use Rattle.std.specs.List.{flat_map, list_any, AllByRecursion}
+use Rattle.pli_gen_emit.specs.TreeTranslation.{argument_count, BlockTree, has_number, blocks_of_procedure}
+use Rattle.pli_type_tree.specs.Iterations.{temporaries_of}
+use Rattle.pli_type_tree.specs.TypedTree.{Root, InSlot, OfProgram, Callee, OfBlock, OfEntry}
+use Rattle.pli_type_tree.specs.TypedTree.{TypedExpression, Literal, Held, Calculated, Called}
+use Rattle.pli_type_tree.specs.TypedTree.{TypedReference, Whole, Part, Operands, NoOperand, OperandThen}
+use Rattle.pli_type_tree.specs.TypedTree.{Subscripts, NoSubscript, SubscriptThen}
+use Rattle.pli_type_tree.specs.TypedTree.{TypedArguments, NoArgument, ByPlace, ByDummy}
+use Rattle.pli_type_tree.specs.TypedTree.{TypedRange, Once, ToBy, ByTo, Repeated, Iteration, BlockHead}
+use Rattle.pli_type_tree.specs.TypedTree.{TypedStatement, Statement, TypedStatements, NoStatement}
+use Rattle.pli_type_tree.specs.TypedTree.{StatementThen, OtherWise, NoElse, Else}
+use Rattle.pli_type_tree.specs.TypedTree.{Form, Null, Assign, AssignAggregate, Put, If, Begin, Group, While}
+use Rattle.pli_type_tree.specs.TypedTree.{Iterate, Call, Goto, Return, ReturnValue, Stop}
+use Rattle.pli_type_tree.specs.TypedTree.{TypedProcedure, TypedUnit}
+use Rattle.pli_deck_laws.specs.Limits.{link_limit, parameter_limit, word_limit, IfThere}
+use Rattle.pli_deck_laws.specs.Limits.{IsDescription, IsConstant, IsMade, IsTemplate, IsOperation}
+use Rattle.pli_deck_laws.specs.Limits.{IsStride, IsSignature, IsGlobal}
+
+-- the blocks of a unit, procedure after procedure, and the slots of a block
+abbrev pub unit_blocks : TypedUnit → List BlockTree
+unit_blocks t = flat_map blocks_of_procedure t.procedures
+
+abbrev pub slots_of : BlockTree → ℕ
+slots_of b = b.parameters + length b.head.variables
+
+-- how many temporaries the iterations of a block keep, those of BEGIN blocks in it apart
+abbrev mutual
+  pub kept_in : TypedStatement → ℕ
+  kept_in (Statement number form) = kept_in_form form
+
+  pub kept_in_form : Form → ℕ
+  kept_in_form (If condition consequence alternative) = kept_in consequence + kept_in_else alternative
+  kept_in_form (Group statements) = kept_among statements
+  kept_in_form (While condition statements) = kept_among statements
+  kept_in_form (Iterate iteration statements) = temporaries_of iteration.range + kept_among statements
+  kept_in_form form = 0
+
+  pub kept_in_else : OtherWise → ℕ
+  kept_in_else NoElse = 0
+  kept_in_else (Else statement) = kept_in statement
+
+  pub kept_among : TypedStatements → ℕ
+  kept_among NoStatement = 0
+  kept_among (StatementThen first more) = kept_in first + kept_among more
+
+-- a block begins at a statement, with variables, and has no more temporaries than its iterations keep
+abbrev pub IsHead : BlockHead → TypedStatements → Type 0
+IsHead h statements =
+    (h.statement < word_limit) × AllByRecursion IsTemplate h.variables
+    × (h.temporaries ≤ kept_among statements)
+
+-- in a unit
+module _ (t : TypedUnit) where
+  -- a block has this number; one has a slot of this number; a global has this number
+  abbrev pub HasBlock : (number : ℕ) → Type 0
+  HasBlock number = IsTrue (list_any (has_number number) (unit_blocks t))
+
+  abbrev pub HasSlot : (slot : ℕ) → Type 0
+  HasSlot slot = IsTrue (list_any (λ b. nat_lt slot (slots_of b)) (unit_blocks t))
+
+  abbrev pub HasGlobal : (number : ℕ) → Type 0
+  HasGlobal number = number < length t.globals
+
+  abbrev pub IsRoot : Root → Type 0
+  IsRoot (InSlot outward slot) = (outward ≤ link_limit) × HasSlot slot
+  IsRoot (OfProgram number) = HasGlobal number
+
+  abbrev pub IsCallee : Callee → Type 0
+  IsCallee (OfBlock block) = HasBlock block
+  IsCallee (OfEntry number) = HasGlobal number
+
+  -- expressions
+  abbrev mutual
+    pub IsExpression : TypedExpression → Type 0
+    IsExpression (Literal v) = IsConstant v
+    IsExpression (Held r) = IsReference r
+    IsExpression (Calculated operation operands) = IsOperation operation × AreOperands operands
+    IsExpression (Called callee arguments) =
+        IsCallee callee × (argument_count arguments ≤ parameter_limit) × AreArguments arguments
+
+    pub IsReference : TypedReference → Type 0
+    IsReference (Whole root) = IsRoot root
+    IsReference (Part root offset d subscripts) =
+        IsRoot root × (offset < word_limit) × IsDescription d × AreSubscripts subscripts
+
+    pub AreOperands : Operands → Type 0
+    AreOperands NoOperand = Unit {0}
+    AreOperands (OperandThen e more) = IsExpression e × AreOperands more
+
+    pub AreSubscripts : Subscripts → Type 0
+    AreSubscripts NoSubscript = Unit {0}
+    AreSubscripts (SubscriptThen stride e more) = IsStride stride × IsExpression e × AreSubscripts more
+
+    pub AreArguments : TypedArguments → Type 0
+    AreArguments NoArgument = Unit {0}
+    AreArguments (ByPlace r more) = IsReference r × AreArguments more
+    AreArguments (ByDummy d e more) = IsMade d × IsExpression e × AreArguments more
+
+  -- groups with a control variable
+  abbrev pub IsRange : TypedRange → Type 0
+  IsRange Once = Unit {0}
+  IsRange (ToBy to by) = IsExpression to × IfThere IsExpression by
+  IsRange (ByTo by to) = IsExpression by × IfThere IsExpression to
+  IsRange (Repeated next) = IsExpression next
+
+  abbrev pub IsIteration : Iteration → Type 0
+  IsIteration i =
+      IsReference i.control × AllByRecursion IsOperation i.conversion × IsExpression i.start
+      × IsRange i.range × IfThere IsExpression i.condition
+
+  -- statements
+  abbrev mutual
+    pub IsStatement : TypedStatement → Type 0
+    IsStatement (Statement number form) = (number < word_limit) × IsForm form
+
+    pub IsForm : Form → Type 0
+    IsForm Null = Unit {0}
+    IsForm (Assign target e) = IsReference target × IsExpression e
+    IsForm (AssignAggregate target source) = IsReference target × IsReference source
+    IsForm (Put skip items) = AllByRecursion IsExpression items
+    IsForm (If condition consequence alternative) =
+        IsExpression condition × IsStatement consequence × IsElse alternative
+    IsForm (Begin head statements) = IsHead head statements × AreStatements statements
+    IsForm (Group statements) = AreStatements statements
+    IsForm (While condition statements) = IsExpression condition × AreStatements statements
+    IsForm (Iterate iteration statements) = IsIteration iteration × AreStatements statements
+    IsForm (Call callee arguments) =
+        IsCallee callee × (argument_count arguments ≤ parameter_limit) × AreArguments arguments
+    IsForm (Goto outward label) = outward ≤ link_limit
+    IsForm (Return outward) = outward ≤ link_limit
+    IsForm (ReturnValue outward e) = (outward ≤ link_limit) × IsExpression e
+    IsForm Stop = Unit {0}
+
+    pub IsElse : OtherWise → Type 0
+    IsElse NoElse = Unit {0}
+    IsElse (Else statement) = IsStatement statement
+
+    pub AreStatements : TypedStatements → Type 0
+    AreStatements NoStatement = Unit {0}
+    AreStatements (StatementThen first more) = IsStatement first × AreStatements more
+
+  -- a procedure stands in a block of the unit, or in none
+  abbrev pub IsProcedure : TypedProcedure → Type 0
+  IsProcedure f =
+      IsHead f.head f.statements × IfThere HasBlock f.parent × (f.parameters ≤ parameter_limit)
+      × IfThere (λ n. n < word_limit) f.function_end × AreStatements f.statements
+
+-- a unit has at least one procedure, the external one
+pub record IsWellFormed (t : TypedUnit) : Type 0 where
+  pub signature : IsSignature t.signature
+  pub globals : AllByRecursion IsGlobal t.globals
+  pub some : 1 ≤ length t.procedures
+  pub procedures : AllByRecursion (IsProcedure t) t.procedures

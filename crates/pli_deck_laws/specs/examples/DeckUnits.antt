@@ -1,0 +1,96 @@
+-- A worked example: a unit with a template, a group with a control variable, a call and an entry.
+use Rattle.std.specs.Prelude.{◌≡◌, ℕ, true, false, pos, None, Some, [], ◌∷◌, codes}
+use Rattle.pli_gen_tree.specs.Encoding.{code_of}
+use Rattle.pli_gen_tree.specs.Limits.{is_too_long}
+use Rattle.pli_gen_tree.specs.WellNumbered.{IsWellNumbered}
+use Rattle.pli_map.specs.Description.{Description, FixedBinary, Character, Array}
+use Rattle.pli_operation.specs.Operations.{Fit}
+use Rattle.pli_type_tree.specs.Templates.{Template}
+use Rattle.pli_type_tree.specs.TypedTree.{InSlot, TypedExpression, Literal, Calculated, TypedReference, Whole}
+use Rattle.pli_type_tree.specs.TypedTree.{NoOperand, OperandThen, NoArgument, ByPlace, ByDummy, OfBlock}
+use Rattle.pli_type_tree.specs.TypedTree.{TypedStatement, Statement, Iterate, Call, ToBy, NoStatement}
+use Rattle.pli_type_tree.specs.TypedTree.{StatementThen, TypedProcedure, OwnVariable, EntryPoint, TypedUnit}
+use Rattle.pli_value.specs.Value.{Number, Characters}
+use Rattle.pli_deck_laws.specs.WellFormed.{IsWellFormed}
+
+-- `M: PROC OPTIONS(MAIN); DCL X FIXED BIN(15) INIT(7); DCL N(2) CHAR(3) STATIC INIT('ABC', 'DEF');`
+-- `DO X = 1 TO 3; CALL S(X, 5); END; S: PROC(A, B); DCL (A, B) FIXED BIN(15); END S; END M;`
+-- and an entry that it declares
+abbrev pub number : ℕ → TypedExpression
+number n = Literal (Number (pos n))
+
+abbrev pub small : Description
+small = FixedBinary 15
+
+abbrev pub counter : TypedReference
+counter = Whole (InSlot 0 0)
+
+abbrev pub calling : TypedStatement
+calling =
+    Statement 5
+    (Call (OfBlock 1)
+    (ByPlace counter (ByDummy small (Calculated (Fit small) (OperandThen (number 5) NoOperand)) NoArgument)))
+
+abbrev pub counting : TypedStatement
+counting =
+    Statement 4
+    (Iterate
+    (record {
+      control = counter;
+      conversion = Fit small ∷ [];
+      start = number 1;
+      range = ToBy (number 3) None;
+      condition = None;
+      temporary = 0;
+    }) (StatementThen calling NoStatement))
+
+abbrev pub external : TypedProcedure
+external = record {
+  head = record {
+    number = 0;
+    statement = 1;
+    variables =
+        record { description = small; initial = record { scalar = 0; value = Number (pos 7) } ∷ [] } ∷ [];
+    temporaries = 3;
+  };
+  parent = None;
+  parameters = 0;
+  function_end = None;
+  statements = StatementThen counting NoStatement;
+}
+
+abbrev pub inner : TypedProcedure
+inner = record {
+  head = record { number = 1; statement = 6; variables = []; temporaries = 0 };
+  parent = Some 0;
+  parameters = 2;
+  function_end = None;
+  statements = NoStatement;
+}
+
+abbrev pub names : Template
+names = record {
+  description = Array (record { low = pos 1; high = pos 2 } ∷ []) (Character 3);
+  initial =
+      record { scalar = 0; value = Characters (codes "ABC") }
+      ∷ record { scalar = 1; value = Characters (codes "DEF") }
+      ∷ [];
+}
+
+abbrev pub worked : TypedUnit
+worked = record {
+  name = codes "M";
+  procedure = codes "M";
+  is_main = true;
+  signature = record { parameters = []; result = None };
+  globals =
+      OwnVariable names
+      ∷ EntryPoint (codes "E") (record { parameters = small ∷ []; result = Some (Character 3) })
+      ∷ [];
+  procedures = external ∷ inner ∷ [];
+}
+
+-- it is numbered well, well formed, and not too long
+abbrev pub WorkedIsWellFormed : Type 0
+WorkedIsWellFormed =
+    IsWellNumbered worked × IsWellFormed worked × (is_too_long (code_of worked) ≡ false)

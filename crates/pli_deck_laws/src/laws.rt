@@ -1,0 +1,21 @@
+//! Laws of what a deck says of its unit.
+ghost use Rattle.pli_deck_laws.specs.DeckLaws.{ScalarsAreFound, UnitsAreSaid};
+ghost use Rattle.pli_deck_laws.specs.examples.DeckUnits.{WorkedIsWellFormed};
+
+/// A law: where a scalar of a description within the limits of the language stands, there the description has it.
+#[tactic(auto, using(crate::proofs::ScalarsStand::scalars_are_found))]
+pub fn scalars_are_found()
+    ensures { ScalarsAreFound }
+{}
+
+/// A law: the deck of a unit that is well formed, numbered well and not too long is one that bytes spell: each of its
+/// numbers is in the range of its field, what it names is there, its jumps lead to instructions, and its templates are
+/// within their limits. And it says each number as the code has it.
+pub fn units_are_said()
+    ensures { UnitsAreSaid }
+{}
+
+/// A worked example: a unit with templates, a group with a control variable and a call is well formed.
+pub fn worked_unit()
+    ensures { WorkedIsWellFormed }
+{}

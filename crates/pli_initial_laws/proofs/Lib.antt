@@ -1,0 +1,3 @@
+pub mod InitialsFew
+pub mod ScalarCounts
+pub mod WaysDiffer

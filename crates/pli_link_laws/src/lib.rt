@@ -1,0 +1,6 @@
+//! Laws of the modules that linking gives.
+#![tactic(auto)]
+
+mod laws;
+
+pub use laws::{linked_modules_are_said, short_modules_have_short_decks};

@@ -1,0 +1,2 @@
+pub mod KeptNumbers
+pub mod ModulesLoad

@@ -1,0 +1,55 @@
+-- Linked modules that are loaded from their bytes.
+use Rattle.std.specs.Prelude.{◌≡◌, ◌≤◌, ◌<◌, true, false, Ok, List, [], ◌∷◌, length}
+use Rattle.std.specs.List.{AllByRecursion}
+use Rattle.pli_deck.specs.ModuleSpelling.{module_bytes}
+use Rattle.pli_deck_code.specs.CodeModules.{module_of}
+use Rattle.pli_deck_laws.specs.KeptNumbers.{KeepsNumbers}
+use Rattle.pli_deck_laws.specs.UnitTypes.{IsTypedUnit}
+use Rattle.pli_deck_laws.specs.WellFormed.{IsWellFormed}
+use Rattle.pli_deck_load.specs.CodeFields.{module_fits}
+use Rattle.pli_deck_load.specs.LinkedBytes.{IsLinked}
+use Rattle.pli_gen_tree.specs.Encoding.{code_of}
+use Rattle.pli_gen_tree.specs.Limits.{is_too_long}
+use Rattle.pli_gen_tree.specs.WellNumbered.{IsWellNumbered}
+use Rattle.pli_link.specs.Link.{link_of}
+use Rattle.pli_link.specs.Units.{Compiled}
+use Rattle.pli_link_laws.specs.LinkedModules.{IsSaidAlone}
+use Rattle.pli_type_tree.specs.TypedTree.{TypedUnit}
+use Rattle.pli_unit_code.specs.Modules.{Module}
+
+-- a unit whose code keeps its numbers in a deck
+abbrev pub KeepsItsNumbers : Compiled → Type 0
+KeepsItsNumbers c = KeepsNumbers c.code
+
+-- the numbers of what is linked of them are within their fields, and each entry has its unit
+abbrev pub LinkedModulesKeepNumbers : Type 0
+LinkedModulesKeepNumbers =
+    (cs : List Compiled) (m : Module) → link_of cs ≡ Ok m → AllByRecursion KeepsItsNumbers cs
+    → module_fits m ≡ true
+
+-- what is linked of units that bytes can say is what its bytes are
+abbrev pub LinkedModulesAreLoaded : Type 0
+LinkedModulesAreLoaded =
+    (cs : List Compiled) (m : Module) → link_of cs ≡ Ok m → length cs ≤ 999
+    → AllByRecursion KeepsItsNumbers cs → AllByRecursion IsSaidAlone (module_of m).units
+    → IsLinked (module_bytes (module_of m)) m
+
+-- a unit that is compiled from a typed unit which is well formed, numbered well and not too long
+pub record IsCompiledFrom (t : TypedUnit) (c : Compiled) : Type 0 where
+  pub procedure : c.procedure ≡ t.procedure
+  pub code : c.code ≡ code_of t
+  pub numbered : IsWellNumbered t
+  pub formed : IsWellFormed t
+  pub short : is_too_long (code_of t) ≡ false
+
+abbrev pub AreCompiledFrom : List TypedUnit → List Compiled → Type 0
+AreCompiledFrom [] [] = Unit {0}
+AreCompiledFrom [] (c ∷ cs) = ⊥
+AreCompiledFrom (t ∷ ts) [] = ⊥
+AreCompiledFrom (t ∷ ts) (c ∷ cs) = IsCompiledFrom t c × AreCompiledFrom ts cs
+
+abbrev pub CompiledModulesAreLoaded : Type 0
+CompiledModulesAreLoaded =
+    (ts : List TypedUnit) (cs : List Compiled) (m : Module) → AreCompiledFrom ts cs → link_of cs ≡ Ok m
+    → length cs ≤ 999 → AllByRecursion IsTypedUnit m.units → length (module_bytes (module_of m)) < 4294967296
+    → IsLinked (module_bytes (module_of m)) m

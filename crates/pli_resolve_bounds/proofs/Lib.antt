@@ -1,0 +1,5 @@
+pub mod Descriptions
+pub mod Faultless
+pub mod LevelsOfEntries
+pub mod SymbolsWithin
+pub mod StatementsCounted

@@ -1,0 +1,2 @@
+pub mod SymbolBounds
+pub mod StatementNumbers

@@ -1,0 +1,30 @@
+-- What the symbols of a unit without faults of declarations say is within the limits of the language.
+use Rattle.std.specs.Prelude.{◌≡◌, ◌≤◌, [], length}
+use Rattle.std.specs.List.{AllByRecursion}
+use Rattle.pli_base.specs.Statements.{ExternalProcedure}
+use Rattle.pli_declare.specs.Resolution.{resolution_faults}
+use Rattle.pli_resolve.specs.ResolvedUnits.{resolved_unit_of, all_symbols}
+use Rattle.pli_resolve.specs.Symbols.{SymbolKind, Variable, Member, Label, Procedure, Entry, BuiltIn}
+use Rattle.pli_deck_laws.specs.Limits.{parameter_limit, IfThere, IsDescription, IsMade}
+
+-- a variable, whatever it is made for; what a procedure returns; what an entry takes and returns
+abbrev pub IsLimited : SymbolKind → Type 0
+IsLimited (Variable description class scope initial area) = IsMade description
+IsLimited (Member root path initial area) = Unit {0}
+IsLimited (Label statement) = Unit {0}
+IsLimited (Procedure block returned area) = IfThere IsDescription returned
+IsLimited (Entry parameters returned) =
+    (length parameters ≤ parameter_limit) × AllByRecursion IsMade parameters × IfThere IsDescription returned
+IsLimited BuiltIn = Unit {0}
+
+-- so it is with the symbols of each block, and of the outermost one
+abbrev pub SymbolsAreLimited : Type 0
+SymbolsAreLimited =
+    (u : ExternalProcedure) → resolution_faults u ≡ []
+    → AllByRecursion (λ ss. AllByRecursion (λ s. IsLimited s.kind) ss) (all_symbols (resolved_unit_of u))
+
+-- and no block has more parameters
+abbrev pub ParametersAreFew : Type 0
+ParametersAreFew =
+    (u : ExternalProcedure) → resolution_faults u ≡ []
+    → AllByRecursion (λ b. length b.parameters ≤ parameter_limit) (resolved_unit_of u).blocks

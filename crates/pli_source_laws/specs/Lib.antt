@@ -1,0 +1,2 @@
+pub mod CompiledSources
+pub mod Sources

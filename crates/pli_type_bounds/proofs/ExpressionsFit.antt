@@ -1,0 +1,278 @@
+-- Expressions and references are within the limits: by induction on the source tree.
+use Rattle.std.specs.Prelude.{◌≡◌, ℕ, suc, ◌≤◌, nat_eq, nat_le, Bool, true, false, not, ◌&&◌, Option, Some, None, option_map, option_and_then}
+use Rattle.std.specs.Prelude.{List, [], ◌∷◌, length, Result, refl, if◌then◌else◌}
+use Rattle.std.specs.List.{AllByRecursion}
+use Rattle.std.proofs.Common.{arith, subst, ap, sym}
+use Rattle.pli_base.specs.Syntax.{Expression, Referred, Constant, Parenthesized, Prefix, Infix, Reference, Named}
+use Rattle.pli_base.specs.Syntax.{JoinedParts, Alone, Joined, Arguments, Absent, Given, Expressions, Empty, Listed}
+use Rattle.pli_base.specs.declared.code.Code.TheVariants.{WrongOperandType}
+use Rattle.pli_base.specs.declared.token.Fault.{Fault}
+use Rattle.pli_base.specs.declared.syntax.Joining.TheVariants.{Member, Located}
+use Rattle.pli_gen_emit.specs.TreeTranslation.{argument_count}
+use Rattle.pli_map.specs.Description as described
+use Rattle.pli_map.specs.Description.{Description}
+use Rattle.pli_map.specs.Same.{same}
+use Rattle.pli_map.specs.Scalars.{is_scalar}
+use Rattle.pli_map.specs.Sizes.{size_of}
+use Rattle.pli_type.specs.ExpressionTypes.{TypedValue, precision_of, prefix_value, infix_value, converted}
+use Rattle.pli_type.specs.FunctionCalls.{Denoted, DenotesVariable, DenotesResult, Meant, OneValue, WholeAggregate, meant_as, Argument}
+use Rattle.pli_type.specs.FunctionCalls.{roles_of, function_called}
+use Rattle.pli_type.specs.Names.{NamedAs, AVariable, AFunction, AProcedure, ALabel, Untyped, NamedVariable, NamedProcedure, Naming}
+use Rattle.pli_type.specs.ProcedureCalls.{passed_place, passed_value, passed, passed_before, all_passed, or_wrong_argument}
+use Rattle.pli_type.specs.ProcedureCalls.{arguments_passed, result_of, type_returned}
+use Rattle.pli_type.specs.References.{Role, AsValue, AsArgument, AsLocator, wants_scalar, variable_meant, StridedPart, part_of, with_subscripts, subscripts_at, reference_to, Referent, permitted, settled}
+use Rattle.pli_type.specs.Typing.{first_token, how_many, or_fault, one_value}
+use Rattle.pli_type.specs.Typing.{subscript_value, Segment, OfVariable, OfFunction, OfNoVariable, is_call, with_more, ended, procedure_called, roles_or_none}
+use Rattle.pli_type.specs.Typing.{as_value, denoted, meant, referred, joined, begun, subscripts_in, all_subscripts, all_arguments, value_of}
+use Rattle.pli_type.specs.declared.expression_type.ExpressionType.{ExpressionType}
+use Rattle.pli_type_tree.specs.TypedTree.{Root, Stride, TypedExpression, TypedReference, TypedArguments, TypedUnit}
+use Rattle.pli_type_bounds.proofs.Given.{OnGiven, OnRead, read_then, read_if, read_option, given_made, all_behind}
+use Rattle.pli_type_bounds.proofs.Meanings.{IsPart, IsVariable, IsProcedureNamed, IsMeaning, IsValue, IsReferent, IsMeant, IsDenoted, AreArgumentsGiven, IsSegment}
+use Rattle.pli_type_bounds.proofs.OperatorsFit.{constant_fits, prefix_fits, infix_fits, converted_fits, denoted_fits, functions_fit}
+use Rattle.pli_source_laws.specs.Sources.{IsSource, IsSourceReference, AreSourceParts, AreSourceArguments, AreSources}
+use Rattle.pli_deck_laws.specs.Limits.{parameter_limit, IsDescription, IsMade, IsStride}
+use Rattle.pli_deck_laws.specs.WellFormed.{IsRoot, IsExpression, IsReference, AreSubscripts, AreArguments}
+
+module _ (t : TypedUnit) where
+  -- ---- references
+
+  subscripts_fit : (ss : List Stride) (xs : List TypedExpression) → AllByRecursion IsStride ss → AllByRecursion (IsExpression t) xs
+      → AreSubscripts t (subscripts_at ss xs)
+  subscripts_fit (s ∷ ss) (x ∷ xs) h k = (h.0, k.0, subscripts_fit ss xs h.1 k.1)
+  subscripts_fit [] xs h k = tt
+  subscripts_fit (s ∷ ss) [] h k = tt
+
+  reference_fits : (root : Root) (path : List ℕ) (q : StridedPart) (xs : List TypedExpression) → IsRoot t root → IsPart q
+      → AllByRecursion (IsExpression t) xs → IsReference t (reference_to root path q xs)
+  reference_fits root [] q [] r h k = r
+  reference_fits root [] q (x ∷ xs) r h k = (r, h.offset, h.described, subscripts_fit q.strides (x ∷ xs) h.strides k)
+  reference_fits root (i ∷ path) q xs r h k = (r, h.offset, h.described, subscripts_fit q.strides xs h.strides k)
+
+  allowed : (role : Role) (located : Bool) (at : ℕ) (r : Referent) → IsReferent t r → OnRead (IsReferent t) (permitted role located at r)
+  allowed role located at r h =
+      read_if (IsReferent t) (wants_scalar role && not (is_scalar r.description)) _ _ tt (read_if (IsReferent t) located _ _ tt h)
+
+  module _ (role : Role) (located : Bool) (at : ℕ) (v : NamedVariable) (known : IsVariable t v) (xs : List TypedExpression)
+      (given : AllByRecursion (IsExpression t) xs) where
+    with_part : (p : StridedPart) → part_of v ≡ Some p → (o : Option StridedPart) → with_subscripts (length xs) p ≡ o
+        → OnRead (IsReferent t) (settled role located at v xs o)
+    with_part p is None e = tt
+    with_part p is (Some q) e =
+        let part : IsPart q = known.parts p q (length xs) is e in
+        allowed role located at (record { reference = reference_to v.root v.path q xs; description = q.description })
+        (record { reference = reference_fits v.root v.path q xs known.root part given; described = part.described })
+
+    in_variable : (o : Option StridedPart) → part_of v ≡ o
+        → OnRead (IsReferent t) (settled role located at v xs (option_and_then (with_subscripts (length xs)) o))
+    in_variable None is = tt
+    in_variable (Some p) is = with_part p is (with_subscripts (length xs) p) refl
+
+    variable_fits : OnRead (IsReferent t) (variable_meant role located at v xs)
+    variable_fits = in_variable (part_of v) refl
+
+  -- ---- calls
+
+  bytes_small : (b c : Bool) → (if b then 2 else if c then 4 else 8) ≤ 1000000
+  bytes_small true c = omega arith
+  bytes_small false true = omega arith
+  bytes_small false false = omega arith
+
+  -- what is converted is a scalar, and small
+  small : (d : Description) (v : TypedValue) (e : TypedExpression) → IsDescription d → converted 31 d v ≡ Some e → size_of d ≤ 1000000
+  small (described.FixedBinary p) v e h k = bytes_small (nat_le p 15) (nat_le p 31)
+  small (described.Character n) v e h k = omega (arith, h)
+  small (described.Varying n) v e h k = omega (arith, h)
+  small (described.Bit n) v e h k = omega (arith, h)
+  small d v e h k = absurd (cc)
+
+  place_if : (b : Bool) (r : TypedReference) → IsReference t r → OnGiven (IsReference t) (if b then Some r else None)
+  place_if true r h = h
+  place_if false r h = tt
+
+  place_fits : (d : Description) (a : Denoted) → IsDenoted t a → OnGiven (IsReference t) (passed_place d a)
+  place_fits d (DenotesVariable r) h = place_if (same r.description d) r.reference h.reference
+  place_fits d (DenotesResult v) h = tt
+
+  abbrev IsDummy : Description → TypedExpression → Type 0
+  IsDummy d e = IsMade d × IsExpression t e
+
+  dummy_of : (d : Description) (v : TypedValue) (o : Option TypedExpression) → IsDescription d → converted 31 d v ≡ o → OnGiven (IsExpression t) o
+      → OnGiven (IsDummy d) o
+  dummy_of d v (Some e) good is h = ((good, small d v e good is), h)
+  dummy_of d v None good is h = tt
+
+  value_fits : (d : Description) (m : Meant) → IsDescription d → IsMeant t m → OnGiven (IsDummy d) (passed_value 31 d m)
+  value_fits d (OneValue v) good h = dummy_of d v (converted 31 d v) good refl (converted_fits t d v good h)
+  value_fits d (WholeAggregate r) good h = tt
+
+  abbrev pub Pass : List Description → TypedArguments → Type 0
+  Pass ds xs = AreArguments t xs × (argument_count xs ≡ length ds)
+
+  one_passed : (d : Description) (ds : List Description) (place : Option TypedReference) (value : Option TypedExpression)
+      (more : TypedArguments) → OnGiven (IsReference t) place → OnGiven (IsDummy d) value → Pass ds more
+      → OnGiven (Pass (d ∷ ds)) (passed d place value more)
+  one_passed d ds (Some r) value more a b h = ((a, h.0), ap suc h.1)
+  one_passed d ds None (Some e) more a b h = ((b.0, b.1, h.0), ap suc h.1)
+  one_passed d ds None None more a b h = tt
+
+  before : (d : Description) (ds : List Description) (g : Argument) (more : Option TypedArguments) → IsDescription d → IsDenoted t g.denoted
+      → OnGiven (Pass ds) more → OnGiven (Pass (d ∷ ds)) (passed_before 31 d g more)
+  before d ds g None good h k = tt
+  before d ds g (Some more) good h k =
+      one_passed d ds (passed_place d g.denoted) (passed_value 31 d (meant_as g.denoted)) more (place_fits d g.denoted h)
+      (value_fits d (meant_as g.denoted) good (denoted_fits t g.denoted h)) k
+
+  all_pass : (ds : List Description) (gs : List Argument) → AllByRecursion IsDescription ds → AreArgumentsGiven t gs
+      → OnGiven (Pass ds) (all_passed 31 ds gs)
+  all_pass [] [] good h = (tt, refl)
+  all_pass [] (g ∷ gs) good h = tt
+  all_pass (d ∷ ds) [] good h = tt
+  all_pass (d ∷ ds) (g ∷ gs) good h = before d ds g (all_passed 31 ds gs) good.0 h.0 (all_pass ds gs good.1 h.1)
+
+  or_wrong : (at : ℕ) (ds : List Description) (o : Option TypedArguments) → OnGiven (Pass ds) o → OnRead (Pass ds) (or_wrong_argument at o)
+  or_wrong at ds (Some xs) h = h
+  or_wrong at ds None h = tt
+
+  pub arguments_fit : (p : NamedProcedure) → IsProcedureNamed t p → (at : ℕ) (gs : List Argument) → AreArgumentsGiven t gs
+      → OnRead (Pass p.parameters) (arguments_passed 31 p at gs)
+  arguments_fit p known at gs h =
+      read_if (Pass p.parameters) (nat_eq (length gs) (length p.parameters)) _ _
+      (or_wrong at p.parameters (all_passed 31 p.parameters gs) (all_pass p.parameters gs known.described h)) tt
+
+  result_fits : (p : NamedProcedure) → IsProcedureNamed t p → (xs : TypedArguments) → Pass p.parameters xs → (at : ℕ) (o : Option ExpressionType)
+      → OnRead (IsValue t) (result_of at p.callee xs o)
+  result_fits p known xs h at None = tt
+  result_fits p known xs h at (Some kind) = (known.callee, subst (λ n. n ≤ parameter_limit) (sym h.1) known.few, h.0)
+
+  procedure_fits : (p : NamedProcedure) → IsProcedureNamed t p → (at : ℕ) (gs : List Argument) → AreArgumentsGiven t gs
+      → OnRead (IsSegment t) (procedure_called 31 p at gs)
+  procedure_fits p known at gs h =
+      read_then (Pass p.parameters) (IsSegment t) (arguments_passed 31 p at gs) _ (arguments_fit p known at gs h)
+      (λ xs fit. read_then (IsValue t) (IsSegment t) (result_of at p.callee xs (type_returned p.returned)) _
+      (result_fits p known xs fit at (type_returned p.returned)) (λ v k. k))
+
+  -- ---- segments
+
+  one_meant : (at : ℕ) (m : Meant) → IsMeant t m → OnRead (IsValue t) (one_value at m)
+  one_meant at (OneValue v) h = h
+  one_meant at (WholeAggregate r) h = tt
+
+  more_segment : (g : Segment) (ys : List TypedExpression) → IsSegment t g → AllByRecursion (IsExpression t) ys → IsSegment t (with_more g ys)
+  more_segment (OfVariable located at v xs) ys h k = (h.0, all_behind (IsExpression t) xs ys h.1 k)
+  more_segment (OfFunction v) ys h k = h
+  more_segment (OfNoVariable at) ys h k = tt
+
+  ended_fits : (role : Role) (g : Segment) → IsSegment t g → OnRead (IsDenoted t) (ended role g)
+  ended_fits role (OfVariable located at v xs) h =
+      read_then (IsReferent t) (IsDenoted t) (variable_meant role located at v xs) _ (variable_fits role located at v h.0 xs h.1) (λ r g. g)
+  ended_fits role (OfFunction v) h = h
+  ended_fits role (OfNoVariable at) h = tt
+
+module _ (t : TypedUnit) (meaning : ℕ → NamedAs) (known : (at : ℕ) → IsMeaning t (meaning at)) where
+  abbrev pub N : Naming
+  N = record { greatest = 31; meaning = meaning }
+
+  value_read : (at : ℕ) (r : Result Denoted Fault) → OnRead (IsDenoted t) r → OnRead (IsValue t) (as_value at r)
+  value_read at r h =
+      read_then (IsDenoted t) (IsValue t) r (λ d. one_value at (meant_as d)) h (λ d k. one_meant t at (meant_as d) (denoted_fits t d k))
+
+  mutual
+    denoted_all : (role : Role) (e : Expression) → IsSource e → OnRead (IsDenoted t) (denoted N role e)
+    denoted_all role (Referred reference) l = referred_fits role reference l
+    denoted_all role (Constant at value) l = constant_fits t value l
+    denoted_all role (Parenthesized at inner) l =
+        read_then (IsValue t) (IsDenoted t) (as_value (first_token inner) (denoted N AsValue inner)) _
+        (value_read (first_token inner) (denoted N AsValue inner) (denoted_all AsValue inner l)) (λ v h. h)
+    denoted_all role (Prefix operator at operand) l =
+        read_then (IsValue t) (IsDenoted t) (as_value (first_token operand) (denoted N AsValue operand)) _
+        (value_read (first_token operand) (denoted N AsValue operand) (denoted_all AsValue operand l))
+        (λ v h. read_then (IsValue t) (IsDenoted t) (or_fault WrongOperandType at (prefix_value 31 operator v)) _
+        (read_option (IsValue t) WrongOperandType at (prefix_value 31 operator v) (prefix_fits t operator v h)) (λ u g. g))
+    denoted_all role (Infix operator at left right) l =
+        read_then (IsValue t) (IsDenoted t) (as_value (first_token left) (denoted N AsValue left)) _
+        (value_read (first_token left) (denoted N AsValue left) (denoted_all AsValue left l.0))
+        (λ v h. read_then (IsValue t) (IsDenoted t) (as_value (first_token right) (denoted N AsValue right)) _
+        (value_read (first_token right) (denoted N AsValue right) (denoted_all AsValue right l.1))
+        (λ w k. read_then (IsValue t) (IsDenoted t) (or_fault WrongOperandType at (infix_value 31 operator v w)) _
+        (read_option (IsValue t) WrongOperandType at (infix_value 31 operator v w) (infix_fits t operator v w h k)) (λ u g. g)))
+
+    pub referred_fits : (role : Role) (r : Reference) → IsSourceReference r → OnRead (IsDenoted t) (referred N role r)
+    referred_fits role (Named name arguments more) l =
+        read_then (IsSegment t) (IsDenoted t) (begun N (meaning name.at) (is_call role false more) false name.at arguments) _
+        (begun_fits (meaning name.at) (known name.at) (is_call role false more) false name.at arguments l.0)
+        (λ g h. joined_fits role g h more l.1)
+
+    joined_fits : (role : Role) (g : Segment) → IsSegment t g → (more : JoinedParts) → AreSourceParts more
+        → OnRead (IsDenoted t) (joined N role g more)
+    joined_fits role g h Alone l = ended_fits t role g h
+    joined_fits role g h (Joined Member name arguments more) l =
+        read_then (AllByRecursion (IsExpression t)) (IsDenoted t) (subscripts_in N arguments) _ (subscripts_all arguments l.0)
+        (λ xs k. joined_fits role (with_more g xs) (more_segment t g xs h k) more l.1)
+    joined_fits role g h (Joined Located name arguments more) l =
+        read_then (IsDenoted t) (IsDenoted t) (ended AsLocator g) _ (ended_fits t AsLocator g h)
+        (λ locator k. read_then (IsSegment t) (IsDenoted t)
+        (begun N (meaning name.at) (is_call role true more) true name.at arguments) _
+        (begun_fits (meaning name.at) (known name.at) (is_call role true more) true name.at arguments l.0)
+        (λ s u. joined_fits role s u more l.1))
+
+    begun_fits : (a : NamedAs) → IsMeaning t a → (call located : Bool) (at : ℕ) (arguments : Arguments)
+        → AreSourceArguments arguments → OnRead (IsSegment t) (begun N a call located at arguments)
+    begun_fits (AVariable v) k call located at (Given list) l =
+        read_then (AllByRecursion (IsExpression t)) (IsSegment t) (all_subscripts N list) _ (indices_fit list l) (λ xs h. (k, h))
+    begun_fits (AVariable v) k call located at Absent l = (k, tt)
+    begun_fits (AFunction function) k true located at (Given list) l =
+        read_then (AreArgumentsGiven t) (IsSegment t) (all_arguments N (roles_or_none (roles_of function (how_many list))) list) _
+        (list_fits (roles_or_none (roles_of function (how_many list))) list l)
+        (λ gs h. read_then (IsValue t) (IsSegment t) (function_called 31 function at (roles_of function (how_many list)) gs) _
+        (functions_fit t function at (roles_of function (how_many list)) gs h) (λ v g. g))
+    begun_fits (AFunction function) k false located at (Given list) l =
+        read_then (AreArgumentsGiven t) (IsSegment t) (all_arguments N [] list) _ (list_fits [] list l) (λ gs h. tt)
+    begun_fits (AFunction function) k true located at Absent l = tt
+    begun_fits (AFunction function) k false located at Absent l = tt
+    begun_fits (AProcedure p) k true located at (Given list) l =
+        read_then (AreArgumentsGiven t) (IsSegment t) (all_arguments N [] list) _ (list_fits [] list l)
+        (λ gs h. procedure_fits t p k at gs h)
+    begun_fits (AProcedure p) k false located at (Given list) l =
+        read_then (AreArgumentsGiven t) (IsSegment t) (all_arguments N [] list) _ (list_fits [] list l) (λ gs h. tt)
+    begun_fits (AProcedure p) k true located at Absent l = tt
+    begun_fits (AProcedure p) k false located at Absent l = tt
+    begun_fits (ALabel statement) k call located at (Given list) l =
+        read_then (AreArgumentsGiven t) (IsSegment t) (all_arguments N [] list) _ (list_fits [] list l) (λ gs h. tt)
+    begun_fits (ALabel statement) k call located at Absent l = tt
+    begun_fits Untyped k call located at (Given list) l =
+        read_then (AreArgumentsGiven t) (IsSegment t) (all_arguments N [] list) _ (list_fits [] list l) (λ gs h. tt)
+    begun_fits Untyped k call located at Absent l = tt
+
+    subscripts_all : (arguments : Arguments) → AreSourceArguments arguments
+        → OnRead (AllByRecursion (IsExpression t)) (subscripts_in N arguments)
+    subscripts_all Absent l = tt
+    subscripts_all (Given list) l = indices_fit list l
+
+    indices_fit : (list : Expressions) → AreSources list → OnRead (AllByRecursion (IsExpression t)) (all_subscripts N list)
+    indices_fit Empty l = tt
+    indices_fit (Listed first more) l =
+        read_then (IsValue t) (AllByRecursion (IsExpression t)) (as_value (first_token first) (denoted N AsValue first)) _
+        (value_read (first_token first) (denoted N AsValue first) (denoted_all AsValue first l.0))
+        (λ v h. read_then (IsExpression t) (AllByRecursion (IsExpression t)) (subscript_value 31 (first_token first) v) _
+        (read_option (IsExpression t) WrongOperandType (first_token first) (option_map (λ p. v.expression) (precision_of 31 v.kind))
+        (given_made (IsExpression t) (λ p. v.expression) (precision_of 31 v.kind) (λ p. h)))
+        (λ x k. read_then (AllByRecursion (IsExpression t)) (AllByRecursion (IsExpression t)) (all_subscripts N more) _ (indices_fit more l.1)
+        (λ xs j. (k, j))))
+
+    pub list_fits : (roles : List Role) (list : Expressions) → AreSources list → OnRead (AreArgumentsGiven t) (all_arguments N roles list)
+    list_fits [] Empty l = tt
+    list_fits (role ∷ roles) Empty l = tt
+    list_fits [] (Listed first more) l =
+        read_then (IsDenoted t) (AreArgumentsGiven t) (denoted N AsArgument first) _ (denoted_all AsArgument first l.0)
+        (λ m h. read_then (AreArgumentsGiven t) (AreArgumentsGiven t) (all_arguments N [] more) _ (list_fits [] more l.1) (λ gs k. (h, k)))
+    list_fits (role ∷ roles) (Listed first more) l =
+        read_then (IsDenoted t) (AreArgumentsGiven t) (denoted N role first) _ (denoted_all role first l.0)
+        (λ m h. read_then (AreArgumentsGiven t) (AreArgumentsGiven t) (all_arguments N roles more) _ (list_fits roles more l.1)
+        (λ gs k. (h, k)))
+
+  pub meant_fits : (role : Role) (e : Expression) → IsSource e → OnRead (IsMeant t) (meant N role e)
+  meant_fits role e l =
+      read_then (IsDenoted t) (IsMeant t) (denoted N role e) _ (denoted_all role e l) (denoted_fits t)
+
+  pub value_of_fits : (e : Expression) → IsSource e → OnRead (IsValue t) (value_of N e)
+  value_of_fits e l = value_read (first_token e) (denoted N AsValue e) (denoted_all AsValue e l)

@@ -1,0 +1,236 @@
+-- Forms without statements in them are within the limits.
+use Rattle.std.specs.Prelude.{◌≡◌, ℕ, suc, ◌≤◌, Bool, true, false, Option, Some, None, is_none, option_map, List, [], ◌∷◌, length}
+use Rattle.std.specs.Prelude.{Ok, refl, if◌then◌else◌}
+use Rattle.std.specs.List.{AllByRecursion}
+use Rattle.std.proofs.Common.{arith, subst, sym}
+use Rattle.pli_base.specs.Reading.{at_fault}
+use Rattle.pli_base.specs.Statements as tree
+use Rattle.pli_base.specs.Statements.{Range}
+use Rattle.pli_base.specs.Syntax.{Expression, Referred, Reference, Arguments, Absent, Given}
+use Rattle.pli_base.specs.declared.code.Code.TheVariants.{WrongOperandType, CannotAssign, CannotPrint, NotYetBuilt, WrongReturn}
+use Rattle.pli_base.specs.declared.syntax.Identifier.{Identifier}
+use Rattle.pli_map.specs.Description.{Description}
+use Rattle.pli_map.specs.Same.{same}
+use Rattle.pli_map.specs.Scalars.{is_scalar}
+use Rattle.pli_type.specs.ExpressionTypes.{TypedValue, precision_of, converted, conversions, printed}
+use Rattle.pli_type.specs.FunctionCalls.{Denoted, DenotesVariable, DenotesResult, Meant, OneValue, WholeAggregate, Argument}
+use Rattle.pli_type.specs.Names.{NamedAs, AVariable, AFunction, AProcedure, ALabel, Untyped, NamedProcedure, Naming}
+use Rattle.pli_type.specs.ProcedureCalls.{arguments_passed}
+use Rattle.pli_type.specs.References.{AsArgument, AsLocator, AsTarget, Referent}
+use Rattle.pli_type.specs.StatementTyping.{aggregate_assigned, scalar_assigned, assigned, assignment, truth_of, condition, item, items}
+use Rattle.pli_type.specs.StatementTyping.{Surroundings, Enclosing, label_found, jump_to, jump, goto_typed, arguments_typed, no_function, call_of}
+use Rattle.pli_type.specs.StatementTyping.{call_typed, returned_value, return_typed, number_of, limit, possible_limit, limits}
+use Rattle.pli_type.specs.StatementTyping.{without_subscripts, suits_range, suited_control, controls, possible_condition, next_value, with_repeat}
+use Rattle.pli_type.specs.StatementTyping.{iteration}
+use Rattle.pli_type.specs.Typing.{first_token, or_fault, meant, referred, value_of}
+use Rattle.pli_type.specs.declared.expression_type.ExpressionType.{ExpressionType}
+use Rattle.pli_type.specs.declared.expression_type.ExpressionType.TheVariants as types
+use Rattle.pli_type_tree.specs.TypedTree as typed
+use Rattle.pli_type_tree.specs.TypedTree.{TypedExpression, TypedReference, TypedArguments, TypedRange, Form, Iteration, TypedUnit}
+use Rattle.pli_type_bounds.proofs.Given.{OnGiven, OnRead, given_made, read_then, read_if, read_option}
+use Rattle.pli_type_bounds.proofs.ExpressionsFit.{N, Pass, arguments_fit, referred_fits, list_fits, meant_fits, value_of_fits}
+use Rattle.pli_type_bounds.proofs.Meanings.{IsProcedureNamed, IsMeaning, IsValue, IsReferent, IsMeant, IsDenoted, AreArgumentsGiven}
+use Rattle.pli_type_bounds.proofs.OperatorsFit.{converted_fits, conversions_fit, printed_fits}
+use Rattle.pli_source_laws.specs.Sources.{IsSource, IsSourceReference, AreSourceArguments, IsSourceRange, IsSourceControl}
+use Rattle.pli_deck_laws.specs.Limits.{link_limit, parameter_limit, IfThere, IsDescription, IsOperation}
+use Rattle.pli_deck_laws.specs.WellFormed.{IsExpression, IsReference, IsRange, IsIteration, IsForm}
+
+module _ (t : TypedUnit) where
+  truth_fits : (e : TypedExpression) (kind : ExpressionType) → IsExpression t e
+      → OnGiven (IsExpression t) (truth_of (record { expression = e; kind = kind }))
+  truth_fits e types.Bits h = h
+  truth_fits e (types.FixedDecimal d) h = tt
+  truth_fits e (types.FixedBinary p) h = tt
+  truth_fits e types.Characters h = tt
+  truth_fits e types.Pointer h = tt
+  truth_fits e types.Offset h = tt
+  truth_fits e types.Area h = tt
+
+  aggregate_fits : (equals : ℕ) (target : Referent) → IsReferent t target → (m : Meant) → IsMeant t m
+      → OnRead (IsForm t) (aggregate_assigned equals target m)
+  aggregate_fits equals target h (OneValue v) k = tt
+  aggregate_fits equals target h (WholeAggregate source) k =
+      read_if (IsForm t) (same target.description source.description) (Ok (typed.AssignAggregate target.reference source.reference)) _
+      (h.reference, k.reference) tt
+
+  -- how far a label is, where these blocks are around
+  label_near : (bs : List Enclosing) (label outward : ℕ) → label_found bs label ≡ Some outward → suc outward ≤ length bs
+  label_near [] label outward e = absurd (cc)
+  label_near (b ∷ bs) label outward e = by _ e (λ k f. label_near bs label k f)
+    where
+      same_some : {x y : ℕ} → Some x ≡ Some y → x ≡ y
+      same_some e = cc
+
+      next : (o : Option ℕ) → label_found bs label ≡ o → option_map suc o ≡ Some outward
+          → ((k : ℕ) → label_found bs label ≡ Some k → suc k ≤ length bs) → suc outward ≤ suc (length bs)
+      next None is e rest = absurd (cc)
+      next (Some k) is e rest = omega (arith, rest k is, same_some e)
+
+      by : (c : Bool) → (if c then Some 0 else option_map suc (label_found bs label)) ≡ Some outward
+          → ((k : ℕ) → label_found bs label ≡ Some k → suc k ≤ length bs) → suc outward ≤ suc (length bs)
+      by true e rest = omega (arith, same_some e)
+      by false e rest = next (label_found bs label) refl e rest
+
+module _ (t : TypedUnit) (meaning : ℕ → NamedAs) (known : (at : ℕ) → IsMeaning t (meaning at)) where
+  abbrev M : Naming
+  M = N t meaning known
+
+  pub condition_fits : (e : Expression) → IsSource e → OnRead (IsExpression t) (condition M e)
+  condition_fits e l =
+      read_then (IsValue t) (IsExpression t) (value_of M e) _ (value_of_fits t meaning known e l)
+      (λ v h. read_option (IsExpression t) WrongOperandType (first_token e) (truth_of v) (truth_fits t v.expression v.kind h))
+
+  item_fits : (e : Expression) → IsSource e → OnRead (IsExpression t) (item M e)
+  item_fits e l =
+      read_then (IsValue t) (IsExpression t) (value_of M e) _ (value_of_fits t meaning known e l)
+      (λ v h. read_option (IsExpression t) CannotPrint (first_token e) (printed v) (printed_fits t v.expression v.kind h))
+
+  pub items_fit : (es : List Expression) → AllByRecursion IsSource es → OnRead (AllByRecursion (IsExpression t)) (items M es)
+  items_fit [] l = tt
+  items_fit (e ∷ es) l =
+      read_then (IsExpression t) (AllByRecursion (IsExpression t)) (item M e) _ (item_fits e l.0)
+      (λ x h. read_then (AllByRecursion (IsExpression t)) (AllByRecursion (IsExpression t)) (items M es) _ (items_fit es l.1) (λ xs k. (h, k)))
+
+  scalar_fits : (equals : ℕ) (r : TypedReference) (d : Description) → IsReference t r → IsDescription d → (e : Expression) → IsSource e
+      → OnRead (IsForm t) (scalar_assigned M equals r d e)
+  scalar_fits equals r d placed good e l =
+      read_then (IsValue t) (IsForm t) (value_of M e) _ (value_of_fits t meaning known e l)
+      (λ v h. read_then (IsExpression t) (IsForm t) (or_fault CannotAssign equals (converted 31 d v)) _
+      (read_option (IsExpression t) CannotAssign equals (converted 31 d v) (converted_fits t d v good h))
+      (λ x k. (placed, k)))
+
+  assigned_fits : (at equals : ℕ) (d : Denoted) → IsDenoted t d → (e : Expression) → IsSource e → OnRead (IsForm t) (assigned M at equals d e)
+  assigned_fits at equals (DenotesVariable target) h e l =
+      read_if (IsForm t) (is_scalar target.description) _ _
+      (scalar_fits equals target.reference target.description h.reference h.described e l)
+      (read_then (IsMeant t) (IsForm t) (meant M AsArgument e) (aggregate_assigned equals target)
+      (meant_fits t meaning known AsArgument e l) (aggregate_fits t equals target h))
+  assigned_fits at equals (DenotesResult v) h e l = tt
+
+  pub assignment_fits : (at : ℕ) (target : Reference) (equals : ℕ) (e : Expression) → IsSourceReference target → IsSource e
+      → OnRead (IsForm t) (assignment M at target equals e)
+  assignment_fits at target equals e l m =
+      read_then (IsDenoted t) (IsForm t) (referred M AsTarget target) _ (referred_fits t meaning known AsTarget target l)
+      (λ d h. assigned_fits at equals d h e m)
+
+  -- calls
+  no_function_fits : (p : NamedProcedure) → IsProcedureNamed t p → (xs : TypedArguments) → Pass t p.parameters xs → (at : ℕ)
+      (o : Option Description) → OnRead (IsForm t) (no_function at p.callee o xs)
+  no_function_fits p k xs h at None = (k.callee, subst (λ n. n ≤ parameter_limit) (sym h.1) k.few, h.0)
+  no_function_fits p k xs h at (Some d) = tt
+
+  call_of_fits : (at : ℕ) (a : NamedAs) → IsMeaning t a → (gs : List Argument) → AreArgumentsGiven t gs → OnRead (IsForm t) (call_of 31 at a gs)
+  call_of_fits at (AProcedure p) k gs h =
+      read_then (Pass t p.parameters) (IsForm t) (arguments_passed 31 p at gs) _ (arguments_fit t p k at gs h)
+      (λ xs fit. no_function_fits p k xs fit at p.returned)
+  call_of_fits at other k gs h = tt
+
+  arguments_read : (a : Arguments) → AreSourceArguments a → OnRead (AreArgumentsGiven t) (arguments_typed M a)
+  arguments_read Absent l = tt
+  arguments_read (Given list) l = list_fits t meaning known [] list l
+
+  pub call_fits : (name : Identifier) (a : Arguments) → AreSourceArguments a → OnRead (IsForm t) (call_typed M name a)
+  call_fits name a l =
+      read_then (AreArgumentsGiven t) (IsForm t) (arguments_typed M a) _ (arguments_read a l)
+      (λ gs h. call_of_fits name.at (meaning name.at) (known name.at) gs h)
+
+  -- returns, where few BEGIN blocks are left, and what is returned is described
+  module _ (su : Surroundings) (near : su.begins ≤ link_limit) (good : IfThere IsDescription su.value) where
+    without_value : (at : ℕ) (b : Bool) → OnRead (IsForm t) (if b then Ok (typed.Return su.begins) else at_fault WrongReturn at)
+    without_value at true = near
+    without_value at false = tt
+
+    with_value : (at first : ℕ) (v : TypedValue) → IsValue t v → (o : Option Description) → IfThere IsDescription o
+        → OnRead (IsForm t) (returned_value 31 at first su.begins o v)
+    with_value at first v h None g = tt
+    with_value at first v h (Some d) g =
+        read_then (IsExpression t) (IsForm t) (or_fault CannotAssign first (converted 31 d v)) _
+        (read_option (IsExpression t) CannotAssign first (converted 31 d v) (converted_fits t d v g h)) (λ x k. (near, k))
+
+    pub return_fits : (at : ℕ) (v : Option Expression) → IfThere IsSource v → OnRead (IsForm t) (return_typed M su at v)
+    return_fits at None l = without_value at (is_none su.value)
+    return_fits at (Some e) l =
+        read_then (IsValue t) (IsForm t) (value_of M e) _ (value_of_fits t meaning known e l)
+        (λ v h. with_value at (first_token e) v h su.value good)
+
+  -- jumps, where few blocks are around
+  module _ (su : Surroundings) (few : length su.blocks ≤ link_limit) where
+    jump_found : (label : ℕ) (o : Option ℕ) → label_found su.blocks label ≡ o → OnGiven (IsForm t) (jump_to label o)
+    jump_found label None e = tt
+    jump_found label (Some outward) e = omega (arith, label_near t su.blocks label outward e, few)
+
+    jump_fits : (a : NamedAs) → OnGiven (IsForm t) (jump su a)
+    jump_fits (ALabel statement) = jump_found statement (label_found su.blocks statement) refl
+    jump_fits (AVariable v) = tt
+    jump_fits (AFunction f) = tt
+    jump_fits (AProcedure p) = tt
+    jump_fits Untyped = tt
+
+    pub goto_fits : (label : Identifier) → OnRead (IsForm t) (goto_typed M su label)
+    goto_fits label = read_option (IsForm t) NotYetBuilt label.at (jump su (meaning label.at)) (jump_fits (meaning label.at))
+
+  -- groups with a control variable
+  limit_fits : (e : Expression) → IsSource e → OnRead (IsExpression t) (limit M e)
+  limit_fits e l =
+      read_then (IsValue t) (IsExpression t) (value_of M e) _ (value_of_fits t meaning known e l)
+      (λ v h. read_option (IsExpression t) WrongOperandType (first_token e) (number_of 31 v)
+      (given_made (IsExpression t) (λ p. v.expression) (precision_of 31 v.kind) (λ p. h)))
+
+  possible_limit_fits : (o : Option Expression) → IfThere IsSource o → OnRead (IfThere (IsExpression t)) (possible_limit M o)
+  possible_limit_fits None l = tt
+  possible_limit_fits (Some e) l =
+      read_then (IsExpression t) (IfThere (IsExpression t)) (limit M e) _ (limit_fits e l) (λ x h. h)
+
+  limits_fit : (range : Option Range) → IfThere IsSourceRange range → OnRead (IsRange t) (limits M range)
+  limits_fit (Some (tree.To to by)) l =
+      read_then (IsExpression t) (IsRange t) (limit M to) _ (limit_fits to l.0)
+      (λ x h. read_then (IfThere (IsExpression t)) (IsRange t) (possible_limit M by) _ (possible_limit_fits by l.1) (λ y k. (h, k)))
+  limits_fit (Some (tree.By by to)) l =
+      read_then (IsExpression t) (IsRange t) (limit M by) _ (limit_fits by l.0)
+      (λ x h. read_then (IfThere (IsExpression t)) (IsRange t) (possible_limit M to) _ (possible_limit_fits to l.1) (λ y k. (h, k)))
+  limits_fit (Some (tree.Repeat next)) l = tt
+  limits_fit None l = tt
+
+  control_fits : (at : ℕ) (r : Referent) (b : Bool) → IsReferent t r → OnRead (IsReferent t) (suited_control at r b)
+  control_fits at r true h = h
+  control_fits at r false h = tt
+
+  controls_fit : (at : ℕ) (range : TypedRange) (d : Denoted) → IsDenoted t d → OnRead (IsReferent t) (controls at range d)
+  controls_fit at range (DenotesVariable r) h =
+      read_if (IsReferent t) (without_subscripts r.reference) _ _ (control_fits at r (suits_range r.description range) h) tt
+  controls_fit at range (DenotesResult v) h = tt
+
+  possible_condition_fits : (o : Option Expression) → IfThere IsSource o → OnRead (IfThere (IsExpression t)) (possible_condition M o)
+  possible_condition_fits None l = tt
+  possible_condition_fits (Some e) l =
+      read_then (IsExpression t) (IfThere (IsExpression t)) (condition M e) _ (condition_fits e l) (λ x h. h)
+
+  next_fits : (d : Description) → IsDescription d → (e : Expression) → IsSource e → OnRead (IsRange t) (next_value M d e)
+  next_fits d good e l =
+      read_then (IsValue t) (IsRange t) (value_of M e) _ (value_of_fits t meaning known e l)
+      (λ v h. read_then (IsExpression t) (IsRange t) (or_fault CannotAssign (first_token e) (converted 31 d v)) _
+      (read_option (IsExpression t) CannotAssign (first_token e) (converted 31 d v) (converted_fits t d v good h)) (λ x k. k))
+
+  turns_fit : (d : Description) → IsDescription d → (kept : TypedRange) (range : Option Range) → IfThere IsSourceRange range → IsRange t kept
+      → OnRead (IsRange t) (with_repeat M d kept range)
+  turns_fit d good kept (Some (tree.Repeat next)) l h = next_fits d good next l
+  turns_fit d good kept (Some (tree.To to by)) l h = h
+  turns_fit d good kept (Some (tree.By by to)) l h = h
+  turns_fit d good kept None l h = h
+
+  pub iteration_fits : (temporary : ℕ) (variable : Reference) (equals : ℕ) (first : Expression) (range : Option Range)
+      (tested : Option Expression) → IsSourceControl (tree.Iterate variable equals first range tested)
+      → OnRead (IsIteration t) (iteration M temporary variable equals first range tested)
+  iteration_fits temporary variable equals first range tested l =
+      read_then (IsValue t) (IsIteration t) (value_of M first) _ (value_of_fits t meaning known first l.1)
+      (λ v h. read_then (IsRange t) (IsIteration t) (limits M range) _ (limits_fit range l.2)
+      (λ kept k. read_then (IsDenoted t) (IsIteration t) (referred M AsLocator variable) _ (referred_fits t meaning known AsLocator variable l.0)
+      (λ d g. read_then (IsReferent t) (IsIteration t) (controls (first_token (Referred variable)) kept d) _
+      (controls_fit (first_token (Referred variable)) kept d g)
+      (λ r m. read_then (AllByRecursion IsOperation) (IsIteration t) (or_fault CannotAssign equals (conversions 31 r.description v.kind)) _
+      (read_option (AllByRecursion IsOperation) CannotAssign equals (conversions 31 r.description v.kind)
+      (conversions_fit t r.description v.kind m.described))
+      (λ operations c. read_then (IfThere (IsExpression t)) (IsIteration t) (possible_condition M tested) _ (possible_condition_fits tested l.3)
+      (λ x w. read_then (IsRange t) (IsIteration t) (with_repeat M r.description kept range) _
+      (turns_fit r.description m.described kept range l.2 k)
+      (λ turns s. (m.reference, c, h, s, w))))))))

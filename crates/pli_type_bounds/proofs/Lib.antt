@@ -1,0 +1,12 @@
+pub mod BlocksThere
+pub mod ExpressionsFit
+pub mod FormsFit
+pub mod Given
+pub mod Meanings
+pub mod NamesFit
+pub mod OperatorsFit
+pub mod PartsFit
+pub mod StatementsFit
+pub mod SymbolsFit
+pub mod TemplatesFit
+pub mod UnitsFit

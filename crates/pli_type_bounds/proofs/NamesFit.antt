@@ -1,0 +1,280 @@
+-- What the names of a unit without faults mean is within the limits, and so are its parameters and results.
+use Rattle.std.specs.Prelude.{◌≡◌, ℕ, zero, suc, ◌+◌, ◌<◌, ◌≤◌, nat_eq, nat_le, Bool, true, false, Option, Some, None, option_map, option_and_then}
+use Rattle.std.specs.Prelude.{List, [], ◌∷◌, ◌++◌, map, length, slice_get, if◌then◌else◌, refl}
+use Rattle.std.specs.List.{AllByRecursion}
+use Rattle.std.proofs.Common.{sym, ap, subst, arith, length-append}
+use Rattle.std.proofs.lemmas.Bool.{and_parts, leb-true, eqb-true}
+use Rattle.std.proofs.lemmas.List.{length-map}
+use Rattle.std.proofs.lemmas.Option.{same_Some, none-some, slice_get_within, get_or_from_slice_get}
+use Rattle.pli_base.specs.Statements.{ExternalProcedure}
+use Rattle.pli_base.specs.declared.syntax.Identifier.{Identifier}
+use Rattle.pli_declare.specs.Resolution.{resolution_faults}
+use Rattle.pli_map.specs.Description.{Description}
+use Rattle.pli_map.specs.Sizes.{size_of}
+use Rattle.pli_resolve.specs.ResolvedUnits.{ResolvedUnit, ResolvedBlock, resolved_unit_of, all_symbols, symbol_at, meaning_at}
+use Rattle.pli_resolve.specs.Symbols.{Symbol, SymbolKind, Variable, Member, Label, Procedure, Entry, BuiltIn}
+use Rattle.pli_resolve.specs.declared.symbol.SymbolKey.{SymbolKey}
+use Rattle.pli_type.specs.NamedUnits.{is_plain, is_automatic, block_symbols, of_block, is_procedure, parameter_numbers, description_in, parameters_of, returned_by, returned_of}
+use Rattle.pli_type.specs.NamedUnits.{outward_to, is_reached, all_globals, templates_of, named_as}
+use Rattle.pli_type.specs.Names.{NamedVariable, NamedProcedure, NamedAs, AVariable, AFunction, AProcedure, ALabel, Untyped}
+use Rattle.pli_type_name_laws.proofs.NamesMean.{Begins, IsThere, variable_begins, procedure_named_so}
+use Rattle.pli_type_name_laws.proofs.RootsStand.{Standing, IsEntry, descriptions, automatic_stored, entry_stands}
+use Rattle.pli_type_tree.specs.Globals.{description_of, signature_of}
+use Rattle.pli_type_tree.specs.Templates.{Template}
+use Rattle.pli_type_tree.specs.TypedTree.{Root, InSlot, OfProgram, Callee, OfBlock, OfEntry, Global, OwnVariable, ExternalVariable, EntryPoint, Signature, TypedUnit}
+use Rattle.pli_resolve_bounds.proofs.SymbolsWithin.{parameters_are_few}
+use Rattle.pli_type_bounds.proofs.Meanings.{IsVariable, IsProcedureNamed, IsMeaning}
+use Rattle.pli_type_bounds.proofs.PartsFit.{parts_fit}
+use Rattle.pli_type_bounds.proofs.SymbolsFit.{symbol_fits, initial_fits}
+use Rattle.pli_resolve_bounds.specs.SymbolBounds.{IsLimited}
+use Rattle.pli_type_bounds.proofs.Given.{all_behind}
+use Rattle.pli_type_bounds.proofs.TemplatesFit.{AreSymbols, all_described, templates_fit, globals_fit}
+use Rattle.pli_initial_laws.specs.InitialCounts.{HaveFewInitial}
+use Rattle.pli_deck_laws.specs.Limits.{IfThere, IsDescription, IsTemplate, IsGlobal, link_limit, parameter_limit}
+use Rattle.pli_deck_laws.specs.WellFormed.{HasBlock, HasSlot, IsRoot, IsCallee}
+
+-- ---- lists
+
+all_mapped : {A B : Type 0} (P : B → Type 0) (f : A → B) (xs : List A) → ((x : A) → P (f x)) → AllByRecursion P (map f xs)
+all_mapped P f [] h = tt
+all_mapped P f (x ∷ xs) h = (h x, all_mapped P f xs h)
+
+pub all_at : {A : Type 0} (P : A → Type 0) (xs : List A) → ((i : ℕ) (x : A) → slice_get xs i ≡ Some x → P x) → AllByRecursion P xs
+all_at P [] h = tt
+all_at P (x ∷ xs) h = (h 0 x refl, all_at P xs (λ i y e. h (suc i) y e))
+
+at_all : {A : Type 0} (P : A → Type 0) (xs : List A) (i : ℕ) (x : A) → AllByRecursion P xs → slice_get xs i ≡ Some x → P x
+at_all P [] i x h e = absurd (none-some x e)
+at_all P (y ∷ xs) zero x h e = subst P (same_Some y x e) h.0
+at_all P (y ∷ xs) (suc i) x h e = at_all P xs i x h.1 e
+
+-- a block that is found around is one of few, and has what all of them have
+pub outward_near : (P : ℕ → Type 0) (numbers : List ℕ) (block outward : ℕ) → AllByRecursion P numbers → outward_to numbers block ≡ Some outward
+    → (outward < length numbers) × P block
+outward_near P [] block outward all e = absurd (none-some outward e)
+outward_near P (n ∷ ns) block outward all e = by (nat_eq n block) refl e (λ k f. outward_near P ns block k all.1 f)
+  where
+    next : (o : Option ℕ) → outward_to ns block ≡ o → option_map suc o ≡ Some outward
+        → ((k : ℕ) → outward_to ns block ≡ Some k → (k < length ns) × P block) → (outward < suc (length ns)) × P block
+    next None is f rest = absurd (none-some outward f)
+    next (Some k) is f rest = let known = rest k is in (omega (arith, known.0, same_Some (suc k) outward f), known.1)
+
+    by : (c : Bool) → nat_eq n block ≡ c → (if c then Some 0 else option_map suc (outward_to ns block)) ≡ Some outward
+        → ((k : ℕ) → outward_to ns block ≡ Some k → (k < length ns) × P block) → (outward < suc (length ns)) × P block
+    by true is f rest = (omega (arith, same_Some 0 outward f), subst P (eqb-true n block is) all.0)
+    by false is f rest = next (outward_to ns block) refl f rest
+
+-- ---- a unit
+
+module _ (u : ExternalProcedure) (none : resolution_faults u ≡ []) where
+  abbrev pub R : ResolvedUnit
+  R = resolved_unit_of u
+
+  -- the symbols of a block
+  pub symbol_in : (block number : ℕ) (s : Symbol) → slice_get (block_symbols R block) number ≡ Some s → IsLimited s.kind
+  symbol_in block number s e = symbol_fits u none (record { block = block; number = number }) s e
+
+  pub symbols_in : (block : ℕ) → AllByRecursion (λ (s : Symbol). IsLimited s.kind) (block_symbols R block)
+  symbols_in block = all_at (λ (s : Symbol). IsLimited s.kind) (block_symbols R block) (λ i s e. symbol_in block i s e)
+
+  -- parameters
+  kind_described : (i : Identifier) (kind : SymbolKind) → IsLimited kind → IsDescription (description_in (Some (record { identifier = i; kind = kind })))
+  kind_described i (Variable d class scope initial area) h = h.0
+  kind_described i (Member root path initial area) h = tt
+  kind_described i (Label statement) h = tt
+  kind_described i (Procedure block returned area) h = tt
+  kind_described i (Entry parameters returned) h = tt
+  kind_described i BuiltIn h = tt
+
+  parameter_described : (block number : ℕ) (o : Option Symbol) → slice_get (block_symbols R block) number ≡ o → IsDescription (description_in o)
+  parameter_described block number None e = tt
+  parameter_described block number (Some s) e = kind_described s.identifier s.kind (symbol_in block number s e)
+
+  pub parameters_described : (block : ℕ) → AllByRecursion IsDescription (parameters_of R block)
+  parameters_described block =
+      all_mapped IsDescription (λ number. description_in (slice_get (block_symbols R block) number)) (parameter_numbers R block)
+      (λ number. parameter_described block number (slice_get (block_symbols R block) number) refl)
+
+  few_if : (b : Bool) (xs : List ℕ) → length xs ≤ parameter_limit → length (if b then xs else []) ≤ parameter_limit
+  few_if true xs h = h
+  few_if false xs h = omega arith
+
+  numbers_few : (block : ℕ) (o : Option ResolvedBlock) → slice_get R.blocks block ≡ o
+      → length (of_block (λ b. if is_procedure b.kind then b.parameters else []) [] o) ≤ parameter_limit
+  numbers_few block None e = omega arith
+  numbers_few block (Some b) e =
+      few_if (is_procedure b.kind) b.parameters
+      (at_all (λ (b : ResolvedBlock). length b.parameters ≤ parameter_limit) R.blocks block b (parameters_are_few u none) e)
+
+  pub parameters_few : (block : ℕ) → length (parameters_of R block) ≤ parameter_limit
+  parameters_few block =
+      omega (
+        arith,
+        numbers_few block (slice_get R.blocks block) refl,
+        length-map (parameter_numbers R block) (λ number. description_in (slice_get (block_symbols R block) number)),
+      )
+
+  -- results
+  kind_returned : (i : Identifier) (kind : SymbolKind) → IsLimited kind → IfThere IsDescription (returned_by (Some (record { identifier = i; kind = kind })))
+  kind_returned i (Variable d class scope initial area) h = tt
+  kind_returned i (Member root path initial area) h = tt
+  kind_returned i (Label statement) h = tt
+  kind_returned i (Procedure block returned area) h = h
+  kind_returned i (Entry parameters returned) h = tt
+  kind_returned i BuiltIn h = tt
+
+  symbol_returned : (key : SymbolKey) (o : Option Symbol) → symbol_at R key ≡ o → IfThere IsDescription (returned_by o)
+  symbol_returned key None e = tt
+  symbol_returned key (Some s) e = kind_returned s.identifier s.kind (symbol_fits u none key s e)
+
+  key_returned : (o : Option SymbolKey) → IfThere IsDescription (option_and_then (λ key. returned_by (symbol_at R key)) o)
+  key_returned None = tt
+  key_returned (Some key) = symbol_returned key (symbol_at R key) refl
+
+  pub returned_described : (block : ℕ) → IfThere IsDescription (returned_of R block)
+  returned_described block = key_returned (of_block (λ b. if is_procedure b.kind then b.name else None) None (slice_get R.blocks block))
+
+  -- ---- what is there in the typed unit
+
+  abbrev pub Automatic : (block : ℕ) → List Template
+  Automatic block = templates_of (is_automatic 31) (block_symbols R block)
+
+  abbrev pub Globals : List Global
+  Globals = all_globals 31 (all_symbols R)
+
+  -- the typed unit has the globals and the blocks, each with its slots
+  pub record Has (t : TypedUnit) : Type 0 where
+    pub globals : t.globals ≡ Globals
+    pub blocks : (block : ℕ) → block < length R.blocks → HasBlock t block
+    pub slots : (block slot : ℕ) → block < length R.blocks → slot < length (parameters_of R block) + length (Automatic block) → HasSlot t slot
+
+  global_within : (gs : List Global) (number : ℕ) (d : Description) → description_of (slice_get gs number) ≡ Some d → number < length gs
+  global_within gs number d e = by (slice_get gs number) refl e
+    where
+      by : (o : Option Global) → slice_get gs number ≡ o → description_of o ≡ Some d → number < length gs
+      by None is f = absurd (none-some d f)
+      by (Some g) is f = slice_get_within gs number g is
+
+  entry_within : (gs : List Global) (number : ℕ) (s : Signature) → signature_of (slice_get gs number) ≡ Some s → number < length gs
+  entry_within gs number s e = by (slice_get gs number) refl e
+    where
+      by : (o : Option Global) → slice_get gs number ≡ o → signature_of o ≡ Some s → number < length gs
+      by None is f = absurd (none-some s f)
+      by (Some g) is f = slice_get_within gs number g is
+
+  pub automatic_fit : (block : ℕ) → AllByRecursion IsTemplate (Automatic block)
+  automatic_fit block =
+      templates_fit (is_automatic 31) (automatic_stored 31) (block_symbols R block) 0 (block_symbols R block) (symbols_in block) (initial_fits u none block)
+
+  each_block : (i : ℕ) (ss : List Symbol) → slice_get (all_symbols R) i ≡ Some ss
+      → AreSymbols ss × HaveFewInitial ss 0 ss
+  each_block i ss e =
+      let same : block_symbols R i ≡ ss = get_or_from_slice_get (all_symbols R) i ss [] e in
+      (subst AreSymbols same (symbols_in i), subst (λ (ss : List Symbol). HaveFewInitial ss 0 ss) same (initial_fits u none i))
+
+  pub all_globals_fit : AllByRecursion IsGlobal Globals
+  all_globals_fit =
+      globals_fit (all_symbols R)
+      (all_at (λ (ss : List Symbol). AreSymbols ss × HaveFewInitial ss 0 ss) (all_symbols R) each_block)
+
+  -- what slots and globals are
+  described_templates : (ts : List Template) → AllByRecursion IsTemplate ts → AllByRecursion IsDescription (descriptions ts)
+  described_templates [] h = tt
+  described_templates (v ∷ ts) h = (h.0.0.0, described_templates ts h.1)
+
+  slots_described : (block : ℕ) → AllByRecursion IsDescription (parameters_of R block ++ descriptions (Automatic block))
+  slots_described block =
+      all_behind IsDescription (parameters_of R block) (descriptions (Automatic block)) (parameters_described block)
+      (described_templates (Automatic block) (automatic_fit block))
+
+  global_described : (o : Option Global) (d : Description) → ((g : Global) → o ≡ Some g → IsGlobal g) → description_of o ≡ Some d → IsDescription d
+  global_described None d h e = absurd (none-some d e)
+  global_described (Some (OwnVariable v)) d h e = subst IsDescription (same_Some v.description d e) (h (OwnVariable v) refl).0.0
+  global_described (Some (ExternalVariable name v)) d h e = subst IsDescription (same_Some v.description d e) (h (ExternalVariable name v) refl).0.0
+  global_described (Some (EntryPoint name s)) d h e = absurd (none-some d e)
+
+  module _ (t : TypedUnit) (has : Has t) where
+    abbrev IsInside : List ℕ → Type 0
+    IsInside blocks = AllByRecursion (λ b. b < length R.blocks) blocks
+
+    slot_fits : (blocks : List ℕ) (outward slot : ℕ) (d : Description) → length blocks ≤ link_limit → IsInside blocks
+        → Standing 31 R blocks (InSlot outward slot) d → IsRoot t (InSlot outward slot) × IsDescription d
+    slot_fits blocks outward slot d near inside (block, at, there) =
+        let found = outward_near (λ b. b < length R.blocks) blocks block outward inside at in
+        let within : slot < length (parameters_of R block) + length (Automatic block) =
+        omega (
+          arith,
+          slice_get_within (parameters_of R block ++ descriptions (Automatic block)) slot d there,
+          length-append (parameters_of R block) (descriptions (Automatic block)),
+          length-map (Automatic block) (λ (v : Template). v.description),
+        ) in
+        ((omega (arith, found.0, near), has.slots block slot found.1 within), at_all IsDescription _ slot d (slots_described block) there)
+
+    global_fits : (blocks : List ℕ) (number : ℕ) (d : Description) → Standing 31 R blocks (OfProgram number) d
+        → IsRoot t (OfProgram number) × IsDescription d
+    global_fits blocks number d e = (
+      subst (λ (gs : List Global). number < length gs) (sym has.globals) (global_within Globals number d e),
+      global_described (slice_get Globals number) d (λ g is. at_all IsGlobal Globals number g all_globals_fit is) e,
+    )
+
+    root_fits : (blocks : List ℕ) (root : Root) (d : Description) → length blocks ≤ link_limit → IsInside blocks → Standing 31 R blocks root d
+        → IsRoot t root × IsDescription d
+    root_fits blocks (InSlot outward slot) d near inside h = slot_fits blocks outward slot d near inside h
+    root_fits blocks (OfProgram number) d near inside h = global_fits blocks number d h
+
+    variable_fits : (blocks : List ℕ) (v : NamedVariable) → length blocks ≤ link_limit → IsInside blocks → Begins 31 R blocks v → IsVariable t v
+    variable_fits blocks v near inside b =
+        let both = root_fits blocks v.root v.whole near inside b.0 in
+        let small : size_of v.whole ≤ 1000000 = leb-true (size_of v.whole) 1000000 (and_parts (is_plain 31 v.whole) (nat_le (size_of v.whole) 1000000) b.1).1 in
+        record { root = both.0; parts = λ p q given e f. parts_fit v both.1 small p q given e f }
+
+    -- procedures
+    reached_within : (blocks : List ℕ) (block : ℕ) (o : Option ResolvedBlock) → slice_get R.blocks block ≡ o → is_reached blocks o ≡ true
+        → block < length R.blocks
+    reached_within blocks block None is h = absurd (not_true h)
+      where
+        not_true : false ≡ true → ⊥
+        not_true e = absurd (cc)
+    reached_within blocks block (Some b) is h = slice_get_within R.blocks block b is
+
+    entry_parts : (p : NamedProcedure) (kind : SymbolKind) → IsEntry p.parameters p.returned kind → IsLimited kind
+        → (length p.parameters ≤ parameter_limit) × AllByRecursion IsDescription p.parameters
+    entry_parts p (Entry ps o) h g =
+        (subst (λ (ds : List Description). length ds ≤ parameter_limit) h.0 g.0, subst (AllByRecursion IsDescription) h.0 (all_described ps g.1))
+    entry_parts p (Variable d class scope values area) h g = absurd h
+    entry_parts p (Member root path values area) h g = absurd h
+    entry_parts p (Label statement) h g = absurd h
+    entry_parts p (Procedure block returned area) h g = absurd h
+    entry_parts p BuiltIn h g = absurd h
+
+    callee_fits : (blocks : List ℕ) (p : NamedProcedure) (c : Callee) → p.callee ≡ c → IsThere 31 R blocks p c → IsProcedureNamed t p
+    callee_fits blocks p (OfBlock block) is h =
+        let same : parameters_of R block ≡ p.parameters = ap (λ (q : NamedProcedure). q.parameters) h.0 in
+        record {
+          callee = subst (IsCallee t) (sym is) (has.blocks block (reached_within blocks block (slice_get R.blocks block) refl h.1));
+          few = subst (λ (ds : List Description). length ds ≤ parameter_limit) same (parameters_few block);
+          described = subst (AllByRecursion IsDescription) same (parameters_described block);
+        }
+    callee_fits blocks p (OfEntry number) is h =
+        let parts = entry_parts p h.symbol.kind h.entry (symbol_in h.key.block h.key.number h.symbol h.there) in
+        let within = entry_within Globals _ _ (entry_stands 31 R h.key h.symbol p.parameters p.returned h.there h.entry) in
+        record {
+          callee =
+              subst (IsCallee t) (sym is)
+              (subst (λ (gs : List Global). number < length gs) (sym has.globals) (subst (λ k. k < length Globals) (sym h.is) within));
+          few = parts.0;
+          described = parts.1;
+        }
+
+    named_fits : (blocks : List ℕ) (at : ℕ) → length blocks ≤ link_limit → IsInside blocks → (a : NamedAs) → named_as 31 R blocks (meaning_at R at) ≡ a
+        → IsMeaning t a
+    named_fits blocks at near inside (AVariable v) e = variable_fits blocks v near inside (variable_begins 31 R blocks v (meaning_at R at) e)
+    named_fits blocks at near inside (AProcedure p) e =
+        callee_fits blocks p p.callee refl ((procedure_named_so 31 R blocks p (meaning_at R at) e).there)
+    named_fits blocks at near inside (AFunction f) e = tt
+    named_fits blocks at near inside (ALabel statement) e = tt
+    named_fits blocks at near inside Untyped e = tt
+
+    pub meanings_fit : (blocks : List ℕ) (at : ℕ) → length blocks ≤ link_limit → IsInside blocks
+        → IsMeaning t (named_as 31 R blocks (meaning_at R at))
+    meanings_fit blocks at near inside = named_fits blocks at near inside (named_as 31 R blocks (meaning_at R at)) refl

@@ -1,0 +1,320 @@
+-- Operators, conversions and built-in functions of what is within the limits are within them.
+use Rattle.std.specs.Prelude.{◌≡◌, ℕ, zero, suc, ◌-◌, ◌≤◌, nat_eq, nat_le, ℤ, Bool, true, false, ◌&&◌}
+use Rattle.std.specs.Prelude.{Option, Some, None, option_map, option_and_then, List, [], ◌∷◌, ◌++◌, map, length, slice_get, refl, if◌then◌else◌}
+use Rattle.std.specs.List.{AllByRecursion}
+use Rattle.std.proofs.Common.{arith}
+use Rattle.std.proofs.lemmas.Bool.{and_parts, leb-true}
+use Rattle.pli_base.specs.declared.syntax.ConstantValue.{ConstantValue}
+use Rattle.pli_base.specs.declared.syntax.ConstantValue.TheVariants as constants
+use Rattle.pli_base.specs.declared.syntax.InfixOperator.{InfixOperator}
+use Rattle.pli_base.specs.declared.syntax.InfixOperator.TheVariants as infixes
+use Rattle.pli_base.specs.declared.syntax.PrefixOperator.{PrefixOperator}
+use Rattle.pli_base.specs.declared.syntax.PrefixOperator.TheVariants as prefixes
+use Rattle.pli_map.specs.Description as described
+use Rattle.pli_map.specs.Description.{Description, Array}
+use Rattle.pli_map.specs.declared.description.Bounds.{Bounds}
+use Rattle.pli_operation.specs.Operations.{Operation, Divide, Rest, Substring}
+use Rattle.pli_operation.specs.Operations.{ToCharacters, Fit, Add, Subtract, Multiply, Compare, Concatenate, And, Or}
+use Rattle.pli_operation.specs.Operations.{Relation, Equal, Unequal, Less, AtMost, Greater, AtLeast}
+use Rattle.pli_resolve.specs.declared.built_in.BuiltInFunction.{BuiltInFunction}
+use Rattle.pli_resolve.specs.declared.built_in.BuiltInFunction.TheVariants as functions
+use Rattle.pli_type.specs.ExpressionTypes.{TypedValue, precision_of, precisions, all_operands, constant, with_one, with_plus, with_minus, with_not}
+use Rattle.pli_type.specs.ExpressionTypes.{prefix_value, infix_value, on_numbers, sum_precision, product_precision, columns, width_of, decimal_digits}
+use Rattle.pli_type.specs.ExpressionTypes.{string_type, string_as, on_strings, as_bits, compared, comparison, concatenation, of_bits_alone}
+use Rattle.pli_type.specs.ExpressionTypes.{number_as_characters, as_characters, only_bits, suited, converted, string_conversions, bit_conversions, suiting, conversions, printed_from}
+use Rattle.pli_type.specs.FunctionCalls.{Meant, OneValue, WholeAggregate, meant_as, Argument, Denoted, DenotesVariable, DenotesResult, meant_by}
+use Rattle.pli_type.specs.FunctionCalls.{call_type, operation_of, calculation, of_values, bound_value, bound_in, the_bound}
+use Rattle.pli_type.specs.FunctionCalls.{value_in, values_in, divided, of_arguments, or_bad_argument, function_called, number_type}
+use Rattle.pli_type.specs.References.{Role}
+use Rattle.pli_type.specs.declared.expression_type.ExpressionType.{ExpressionType}
+use Rattle.pli_type.specs.declared.expression_type.ExpressionType.TheVariants as types
+use Rattle.pli_type_tree.specs.TypedTree.{TypedExpression, TypedReference, TypedUnit}
+use Rattle.pli_type_bounds.proofs.Given.{OnGiven, OnRead, given_map, given_made, given_if}
+use Rattle.pli_type_bounds.proofs.Meanings.{IsValue, IsReferent, IsMeant, IsDenoted, AreArgumentsGiven}
+use Rattle.pli_source_laws.specs.Sources.{IsWritten}
+use Rattle.pli_deck_laws.specs.Limits.{IsDescription, IsBound, AreBounds, IsOperation}
+use Rattle.pli_deck_laws.specs.WellFormed.{IsExpression, AreOperands}
+
+-- no number becomes more characters than a byte counts
+width_fits : (digits : ℕ) → columns digits ≤ 255
+width_fits digits = omega arith
+
+module _ (t : TypedUnit) where
+  pub constant_fits : (value : ConstantValue) → IsWritten value → IsValue t (constant value)
+  constant_fits (constants.Decimal value digits) h = h
+  constant_fits (constants.Binary value digits) h = h
+  constant_fits (constants.Characters text) h = h
+  constant_fits (constants.Bits bits) h = h
+
+  operands_fit : (es : List TypedExpression) → AllByRecursion (IsExpression t) es → AreOperands t (all_operands es)
+  operands_fit [] h = tt
+  operands_fit (e ∷ es) h = (h.0, operands_fit es h.1)
+
+  -- ---- prefix operators
+
+  plus : (v : TypedValue) (o : Option ℕ) → IsValue t v → OnGiven (IsValue t) (with_plus v o)
+  plus v (Some p) h = h
+  plus v None h = tt
+
+  minus : (v : TypedValue) (o : Option ℕ) → IsValue t v → OnGiven (IsValue t) (with_minus v o)
+  minus v (Some p) h = (tt, (h, tt))
+  minus v None h = tt
+
+  negation : (e : TypedExpression) (kind : ExpressionType) → IsExpression t e → OnGiven (IsValue t) (with_not e kind)
+  negation e types.Bits h = (tt, (h, tt))
+  negation e other h = tt
+
+  pub prefix_fits : (operator : PrefixOperator) (v : TypedValue) → IsValue t v → OnGiven (IsValue t) (prefix_value 31 operator v)
+  prefix_fits prefixes.Plus v h = plus v (precision_of 31 v.kind) h
+  prefix_fits prefixes.Minus v h = minus v (precision_of 31 v.kind) h
+  prefix_fits prefixes.Not v h = negation v.expression v.kind h
+
+  -- ---- infix operators
+
+  numbers_fit : (operation : Operation) (precision : (p q : ℕ) → ℕ) (v w : TypedValue) → IsOperation operation → IsValue t v → IsValue t w
+      → OnGiven (IsValue t) (on_numbers 31 operation precision v w)
+  numbers_fit operation precision v w good a b = given_made (IsValue t) _ (precisions 31 v.kind w.kind) (λ ps. (good, (a, (b, tt))))
+
+  string_fits : (e : TypedExpression) (from to : ExpressionType) → IsExpression t e → IsExpression t (string_as e from to)
+  string_fits e types.Bits types.Characters h = (tt, (h, tt))
+  string_fits e from to h = h
+
+  strings_fit : (operation : Operation) (v w : TypedValue) (kind : ExpressionType) → IsOperation operation → IsValue t v → IsValue t w
+      → IsExpression t (on_strings operation v w kind)
+  strings_fit operation v w kind good a b =
+      (good, (string_fits v.expression v.kind kind a, (string_fits w.expression w.kind kind b, tt)))
+
+  compared_fits : (relation : Relation) (v w : TypedValue) (o : Option ExpressionType) → IsValue t v → IsValue t w
+      → OnGiven (IsValue t) (compared 31 relation v w o)
+  compared_fits relation v w (Some kind) a b = strings_fit (Compare relation) v w kind tt a b
+  compared_fits relation v w None a b =
+      given_map (IsValue t) (IsValue t) (λ v. as_bits v.expression) (on_numbers 31 (Compare relation) (sum_precision 31) v w) (λ x h. h)
+      (numbers_fit (Compare relation) (sum_precision 31) v w tt a b)
+
+  comparison_fits : (relation : Relation) (v w : TypedValue) → IsValue t v → IsValue t w → OnGiven (IsValue t) (comparison 31 relation v w)
+  comparison_fits relation v w a b = compared_fits relation v w (string_type v.kind w.kind) a b
+
+  concatenation_fits : (v w : TypedValue) → IsValue t v → IsValue t w → OnGiven (IsValue t) (concatenation v w)
+  concatenation_fits v w a b = given_made (IsValue t) _ (string_type v.kind w.kind) (λ kind. strings_fit Concatenate v w kind tt a b)
+
+  bits_fit : (operation : Operation) (e f : TypedExpression) (one other : ExpressionType) → IsOperation operation → IsExpression t e → IsExpression t f
+      → OnGiven (IsValue t) (of_bits_alone operation e f one other)
+  bits_fit operation e f types.Bits types.Bits good a b = (good, (a, (b, tt)))
+  bits_fit operation e f one other good a b = tt
+
+  pub infix_fits : (operator : InfixOperator) (v w : TypedValue) → IsValue t v → IsValue t w → OnGiven (IsValue t) (infix_value 31 operator v w)
+  infix_fits infixes.Add v w a b = numbers_fit Add (sum_precision 31) v w tt a b
+  infix_fits infixes.Subtract v w a b = numbers_fit Subtract (sum_precision 31) v w tt a b
+  infix_fits infixes.Multiply v w a b = numbers_fit Multiply (product_precision 31) v w tt a b
+  infix_fits infixes.Equal v w a b = comparison_fits Equal v w a b
+  infix_fits infixes.NotEqual v w a b = comparison_fits Unequal v w a b
+  infix_fits infixes.Less v w a b = comparison_fits Less v w a b
+  infix_fits infixes.LessOrEqual v w a b = comparison_fits AtMost v w a b
+  infix_fits infixes.Greater v w a b = comparison_fits Greater v w a b
+  infix_fits infixes.GreaterOrEqual v w a b = comparison_fits AtLeast v w a b
+  infix_fits infixes.Concatenate v w a b = concatenation_fits v w a b
+  infix_fits infixes.And v w a b = bits_fit And v.expression w.expression v.kind w.kind tt a b
+  infix_fits infixes.Or v w a b = bits_fit Or v.expression w.expression v.kind w.kind tt a b
+
+  -- ---- conversions
+
+  with_width : (e : TypedExpression) (o : Option ℕ) → OnGiven (λ width. width ≤ 255) o → IsExpression t e
+      → OnGiven (IsExpression t) (number_as_characters e o)
+  with_width e (Some width) few h = (few, (h, tt))
+  with_width e None few h = tt
+
+  widths : (kind : ExpressionType) → OnGiven (λ width. width ≤ 255) (width_of kind)
+  widths (types.FixedDecimal digits) = width_fits digits
+  widths (types.FixedBinary precision) = width_fits (decimal_digits precision)
+  widths types.Characters = tt
+  widths types.Bits = tt
+  widths types.Pointer = tt
+  widths types.Offset = tt
+  widths types.Area = tt
+
+  characters_fit : (e : TypedExpression) (kind : ExpressionType) → IsExpression t e → OnGiven (IsExpression t) (as_characters e kind)
+  characters_fit e types.Characters h = h
+  characters_fit e types.Bits h = (tt, (h, tt))
+  characters_fit e other h = with_width e (width_of other) (widths other) h
+
+  only_bits_fit : (e : TypedExpression) (kind : ExpressionType) → IsExpression t e → OnGiven (IsExpression t) (only_bits e kind)
+  only_bits_fit e types.Bits h = h
+  only_bits_fit e other h = tt
+
+  suited_fits : (d : Description) (e : TypedExpression) (kind : ExpressionType) → IsExpression t e → OnGiven (IsExpression t) (suited 31 d e kind)
+  suited_fits (described.FixedBinary p) e kind h = given_made (IsExpression t) (λ p. e) (precision_of 31 kind) (λ p. h)
+  suited_fits (described.Character k) e kind h = characters_fit e kind h
+  suited_fits (described.Varying k) e kind h = characters_fit e kind h
+  suited_fits (described.Bit k) e kind h = only_bits_fit e kind h
+  suited_fits other e kind h = tt
+
+  pub converted_fits : (d : Description) (v : TypedValue) → IsDescription d → IsValue t v → OnGiven (IsExpression t) (converted 31 d v)
+  converted_fits d v good h =
+      given_map (IsExpression t) (IsExpression t) (with_one (Fit d)) (suited 31 d v.expression v.kind) (λ e k. (good, (k, tt)))
+      (suited_fits d v.expression v.kind h)
+
+  pub printed_fits : (e : TypedExpression) (kind : ExpressionType) → IsExpression t e → OnGiven (IsExpression t) (printed_from e kind)
+  printed_fits e types.Characters h = h
+  printed_fits e types.Bits h = h
+  printed_fits e other h = with_width e (width_of other) (widths other) h
+
+  -- operations of a conversion
+  as_operation : (o : Option ℕ) → OnGiven (λ width. width ≤ 255) o
+      → OnGiven (AllByRecursion IsOperation) (option_map (λ width. ToCharacters width ∷ []) o)
+  as_operation (Some width) few = (few, tt)
+  as_operation None few = tt
+
+  string_operations : (kind : ExpressionType) → OnGiven (AllByRecursion IsOperation) (string_conversions kind)
+  string_operations types.Characters = tt
+  string_operations types.Bits = (tt, tt)
+  string_operations other = as_operation (width_of other) (widths other)
+
+  bit_operations : (kind : ExpressionType) → OnGiven (AllByRecursion IsOperation) (bit_conversions kind)
+  bit_operations types.Bits = tt
+  bit_operations other = tt
+
+  suiting_operations : (d : Description) (kind : ExpressionType) → OnGiven (AllByRecursion IsOperation) (suiting 31 d kind)
+  suiting_operations (described.FixedBinary p) kind = given_made (AllByRecursion IsOperation) (λ p. []) (precision_of 31 kind) (λ p. tt)
+  suiting_operations (described.Character k) kind = string_operations kind
+  suiting_operations (described.Varying k) kind = string_operations kind
+  suiting_operations (described.Bit k) kind = bit_operations kind
+  suiting_operations other kind = tt
+
+  then_fitted : (d : Description) (operations : List Operation) → IsDescription d → AllByRecursion IsOperation operations
+      → AllByRecursion IsOperation (operations ++ Fit d ∷ [])
+  then_fitted d [] good h = (good, tt)
+  then_fitted d (o ∷ os) good h = (h.0, then_fitted d os good h.1)
+
+  pub conversions_fit : (d : Description) (kind : ExpressionType) → IsDescription d → OnGiven (AllByRecursion IsOperation) (conversions 31 d kind)
+  conversions_fit d kind good =
+      given_map (AllByRecursion IsOperation) (AllByRecursion IsOperation) (λ operations. operations ++ Fit d ∷ []) (suiting 31 d kind)
+      (λ os h. then_fitted d os good h) (suiting_operations d kind)
+
+  -- ---- what is denoted
+
+  held_fits : (r : TypedReference) (d : Description) → IsReferent t (record { reference = r; description = d })
+      → IsMeant t (meant_by (record { reference = r; description = d }))
+  held_fits r (described.FixedBinary p) h = h.reference
+  held_fits r (described.Character k) h = h.reference
+  held_fits r (described.Varying k) h = h.reference
+  held_fits r (described.Bit k) h = h.reference
+  held_fits r described.Pointer h = h.reference
+  held_fits r described.Offset h = h.reference
+  held_fits r (described.Area k) h = h.reference
+  held_fits r (described.Array bounds element) h = h
+  held_fits r (described.Structure ds) h = h
+
+  pub denoted_fits : (d : Denoted) → IsDenoted t d → IsMeant t (meant_as d)
+  denoted_fits (DenotesVariable r) h = held_fits r.reference r.description h
+  denoted_fits (DenotesResult v) h = h
+
+  -- ---- built-in functions
+
+  calculated_fits : (o : Option Operation) (kind : Option ExpressionType) (es : List TypedExpression) → OnGiven IsOperation o
+      → AllByRecursion (IsExpression t) es → OnGiven (IsValue t) (calculation o kind es)
+  calculated_fits (Some operation) (Some kind) es good h = (good, operands_fit es h)
+  calculated_fits (Some operation) None es good h = tt
+  calculated_fits None kind es good h = tt
+
+  rest_or_part : (b : Bool) → IsOperation (if b then Rest else Substring)
+  rest_or_part true = tt
+  rest_or_part false = tt
+
+  operation_good : (function : BuiltInFunction) (given : ℕ) → OnGiven IsOperation (operation_of function given)
+  operation_good functions.Abs given = tt
+  operation_good functions.Sign given = tt
+  operation_good functions.Length given = tt
+  operation_good functions.Max given = tt
+  operation_good functions.Min given = tt
+  operation_good functions.Mod given = tt
+  operation_good functions.Index given = tt
+  operation_good functions.Substring given = rest_or_part (nat_eq given 2)
+  operation_good function given = tt
+
+  expressions_of : (vs : List TypedValue) → AllByRecursion (IsValue t) vs → AllByRecursion (IsExpression t) (map (λ v. v.expression) vs)
+  expressions_of [] h = tt
+  expressions_of (v ∷ vs) h = (h.0, expressions_of vs h.1)
+
+  values_fit : (function : BuiltInFunction) (vs : List TypedValue) → AllByRecursion (IsValue t) vs → OnGiven (IsValue t) (of_values 31 function vs)
+  values_fit function vs h =
+      calculated_fits (operation_of function (length vs)) (call_type 31 function (map (λ v. v.kind) vs)) (map (λ v. v.expression) vs)
+      (operation_good function (length vs)) (expressions_of vs h)
+
+  -- DIVIDE
+  quotient_by : (precision : ℕ) (b : Bool) (kind : Option ExpressionType) (es : List TypedExpression)
+      → ((nat_le 1 precision && nat_le precision 31) ≡ b) → AllByRecursion (IsExpression t) es
+      → OnGiven (IsValue t) (calculation (Some (Divide precision)) (if b then kind else None) es)
+  quotient_by precision true kind es e h =
+      let both : (nat_le 1 precision ≡ true) × (nat_le precision 31 ≡ true) = and_parts _ _ e in
+      calculated_fits (Some (Divide precision)) kind es (leb-true 1 precision both.0, leb-true precision 31 both.1) h
+  quotient_by precision false kind es e h = tt
+
+  division_fits : (x y : Meant) (written : Option ℕ) → IsMeant t x → IsMeant t y → OnGiven (IsValue t) (divided 31 x y written)
+  division_fits (OneValue v) (OneValue w) None a b = tt
+  division_fits (OneValue v) (OneValue w) (Some precision) a b =
+      quotient_by precision (nat_le 1 precision && nat_le precision 31)
+      (option_map (λ ps. number_type precision) (precisions 31 v.kind w.kind)) (v.expression ∷ w.expression ∷ []) refl (a, (b, tt))
+  division_fits (OneValue v) (WholeAggregate r) written a b = tt
+  division_fits (WholeAggregate r) y written a b = tt
+
+  -- LBOUND and HBOUND
+  bound_fits : (x : ℤ) → IsBound x → IsValue t (bound_value x)
+  bound_fits x h = omega (arith, h)
+
+  abbrev Keeps : (Bounds → ℤ) → Type 0
+  Keeps which = (b : Bounds) → AreBounds b → IsBound (which b)
+
+  bound_at : (which : Bounds → ℤ) → Keeps which → (bs : List Bounds) (k : ℕ) → AllByRecursion AreBounds bs
+      → OnGiven (IsValue t) (option_map (λ b. bound_value (which b)) (slice_get bs k))
+  bound_at which keeps [] k h = tt
+  bound_at which keeps (b ∷ bs) zero h = bound_fits (which b) (keeps b h.0)
+  bound_at which keeps (b ∷ bs) (suc k) h = bound_at which keeps bs k h.1
+
+  bound_within : (which : Bounds → ℤ) → Keeps which → (number : ℕ) (d : Description) → IsDescription d
+      → OnGiven (IsValue t) (bound_in which number d)
+  bound_within which keeps number (Array bs element) h =
+      given_if (IsValue t) (nat_le 1 number) _ (bound_at which keeps bs (number - 1) h.2)
+  bound_within which keeps number other h = tt
+
+  bound_of : (which : Bounds → ℤ) → Keeps which → (m : Meant) (written : Option ℕ) → IsMeant t m → OnGiven (IsValue t) (the_bound which m written)
+  bound_of which keeps (OneValue v) written h = tt
+  bound_of which keeps (WholeAggregate r) None h = tt
+  bound_of which keeps (WholeAggregate r) (Some number) h = bound_within which keeps number r.description h.described
+
+  -- arguments that are values
+  one_value_in : (m : Meant) → IsMeant t m → OnGiven (IsValue t) (value_in m)
+  one_value_in (OneValue v) h = h
+  one_value_in (WholeAggregate r) h = tt
+
+  first_and_others : (o : Option TypedValue) (os : Option (List TypedValue)) → OnGiven (IsValue t) o → OnGiven (AllByRecursion (IsValue t)) os
+      → OnGiven (AllByRecursion (IsValue t)) (option_and_then (λ v. option_map (λ vs. v ∷ vs) os) o)
+  first_and_others (Some v) (Some vs) a b = (a, b)
+  first_and_others (Some v) None a b = tt
+  first_and_others None os a b = tt
+
+  all_values_in : (gs : List Argument) → AreArgumentsGiven t gs → OnGiven (AllByRecursion (IsValue t)) (values_in gs)
+  all_values_in [] h = tt
+  all_values_in (g ∷ gs) h =
+      first_and_others (value_in (meant_as g.denoted)) (values_in gs)
+      (one_value_in (meant_as g.denoted) (denoted_fits g.denoted h.0)) (all_values_in gs h.1)
+
+  given_values : (function : BuiltInFunction) (o : Option (List TypedValue)) → OnGiven (AllByRecursion (IsValue t)) o
+      → OnGiven (IsValue t) (option_and_then (of_values 31 function) o)
+  given_values function (Some vs) h = values_fit function vs h
+  given_values function None h = tt
+
+  arguments_give : (function : BuiltInFunction) (gs : List Argument) → AreArgumentsGiven t gs → OnGiven (IsValue t) (of_arguments 31 function gs)
+  arguments_give functions.Divide (x ∷ y ∷ p ∷ []) h =
+      division_fits (meant_as x.denoted) (meant_as y.denoted) p.written (denoted_fits x.denoted h.0) (denoted_fits y.denoted h.1.0)
+  arguments_give functions.LowBound (a ∷ n ∷ []) h = bound_of (λ b. b.low) (λ b k. k.1) (meant_as a.denoted) n.written (denoted_fits a.denoted h.0)
+  arguments_give functions.HighBound (a ∷ n ∷ []) h = bound_of (λ b. b.high) (λ b k. k.2) (meant_as a.denoted) n.written (denoted_fits a.denoted h.0)
+  arguments_give function gs h = given_values function (values_in gs) (all_values_in gs h)
+
+  or_bad : (at : ℕ) (o : Option TypedValue) → OnGiven (IsValue t) o → OnRead (IsValue t) (or_bad_argument at o)
+  or_bad at (Some v) h = h
+  or_bad at None h = tt
+
+  pub functions_fit : (function : BuiltInFunction) (at : ℕ) (roles : Option (List Role)) (gs : List Argument) → AreArgumentsGiven t gs
+      → OnRead (IsValue t) (function_called 31 function at roles gs)
+  functions_fit function at None gs h = tt
+  functions_fit function at (Some roles) gs h = or_bad at (of_arguments 31 function gs) (arguments_give function gs h)

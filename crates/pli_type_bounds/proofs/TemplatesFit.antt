@@ -1,0 +1,308 @@
+-- What variables are made from is within the limits: their descriptions, and each initial value with its scalar.
+use Rattle.std.specs.Prelude.{◌≡◌, ℕ, zero, suc, ◌+◌, ◌-◌, ◌*◌, ◌^◌, ◌<◌, ◌≤◌, nat_le, Bool, true, false, IsTrue, ℤ, pos, unsigned_abs}
+use Rattle.std.specs.Prelude.{Some, List, [], ◌∷◌, ◌++◌, length, map, take, replicate, slice_get, if◌then◌else◌, refl}
+use Rattle.std.specs.List.{flat_map, AllByRecursion}
+use Rattle.std.proofs.Common.{sym, ◌∙◌, ap, subst, arith, pow_pos, append_assoc, append-nil, length-append, length-take, eq-eqb, le-leb}
+use Rattle.std.proofs.Math.Pow.{pow_mono}
+use Rattle.std.proofs.lemmas.Bool.{and_parts, lt-ltb, leb-true, ltb-true}
+use Rattle.std.proofs.lemmas.List.{length-replicate}
+use Rattle.std.proofs.lemmas.List.Elements.{All-from_recursion, recursion_from_All}
+use Rattle.std.proofs.lemmas.List.Sorted.{All-permutation}
+use Rattle.pli_base.specs.Name.{Name}
+use Rattle.pli_declare_attributes.specs.declared.completed.Scope.{Scope}
+use Rattle.pli_declare_attributes.specs.declared.completed.Scope.TheVariants as scopes
+use Rattle.pli_map.specs.Description.{Description, FixedBinary, Character, Varying, Bit, Array, Structure, Members, NoMembers, MemberThen}
+use Rattle.pli_map.specs.Scalars.{is_scalar, scalars_in, scalars_among}
+use Rattle.pli_map.specs.Sizes.{count_of, size_of}
+use Rattle.pli_map.specs.Values.{holds}
+use Rattle.pli_resolve.specs.Symbols.{Symbol, SymbolKind, Variable, Member, Label, Procedure, Entry, BuiltIn}
+use Rattle.pli_resolve.specs.declared.symbol.StorageClass.{StorageClass}
+use Rattle.pli_type.specs.InitialScalars.{NumberedScalar, counted_from, scalars_on, scalars_in_member, as_held, each_with, values_written, InitialItem, initial_scalars, template_of}
+use Rattle.pli_type.specs.NamedUnits.{is_plain, all_plain, is_stored, is_static, member_items, template_at, templates_from}
+use Rattle.pli_type.specs.NamedUnits.{global_of, global_with, globals_from, globals_of, all_globals}
+use Rattle.pli_type.specs.NamedUnits.{PlacedGlobal, placed, block_globals}
+use Rattle.pli_type.specs.TextOrder.{in_order}
+use Rattle.pli_type.proofs.TextNumbers.{same_items}
+use Rattle.pli_type_name_laws.proofs.PlainDescriptions.{plain_element, plain_members}
+use Rattle.pli_type_name_laws.proofs.RootsStand.{static_stored}
+use Rattle.pli_type_tree.specs.Templates.{Template}
+use Rattle.pli_type_tree.specs.TypedTree.{Global}
+use Rattle.pli_type_tree.specs.WellTyped.{scalars_of, scalars_of_members}
+use Rattle.pli_value.specs.Numbers.{has_digits}
+use Rattle.pli_value.specs.Strings.{fitted}
+use Rattle.pli_value.specs.Value.{Value, Number, Characters, Bits}
+use Rattle.pli_type_bounds.proofs.Given.{all_behind}
+use Rattle.pli_resolve_bounds.specs.SymbolBounds.{IsLimited}
+use Rattle.pli_initial_laws.specs.InitialCounts.{HasFewInitial, HaveFewInitial}
+use Rattle.pli_deck_laws.specs.Limits.{IsDescription, IsConstant, IsInitial, IsMade, IsTemplate, IsGlobal, word_limit}
+
+not_true : false ≡ true → ⊥
+not_true e = absurd (cc)
+
+-- ---- a value as its scalar holds it
+
+zero_held : (p : ℕ) → has_digits p (pos 0) ≡ true
+zero_held p = lt-ltb 0 (2 ^ p) (pow_pos p)
+
+fitted_length : {A : Type 0} (extension : A) (n : ℕ) (s : List A) → length (fitted extension n s) ≡ n
+fitted_length extension n s =
+    omega (arith, length-append (take n s) (replicate (n - length s) extension), length-take n s, length-replicate (n - length s) extension)
+
+cut_length : (n : ℕ) (s : List ℕ) → length (take n s) ≤ n
+cut_length n s = omega (arith, length-take n s)
+
+-- numbers of few digits
+few_digits : (p : ℕ) (x : ℤ) → p ≤ 31 → has_digits p x ≡ true → unsigned_abs x ≤ 2147483647
+few_digits p x le h =
+    let below : unsigned_abs x < 2 ^ p = ltb-true (unsigned_abs x) (2 ^ p) h in
+    let power : 2 ^ p ≤ 2 ^ 31 = powers p le in
+    omega (arith, below, power)
+  where
+    powers : (p : ℕ) → p ≤ 31 → 2 ^ p ≤ 2 ^ 31
+    powers p le = pow_mono le
+
+-- the scalar holds it, and it is within the limits
+abbrev IsKept : Description → Value → Type 0
+IsKept d v = IsTrue (holds d v) × IsConstant v
+
+number_kept : (p : ℕ) (x : ℤ) → p ≤ 31 → (b : Bool) → has_digits p x ≡ b → IsKept (FixedBinary p) (as_held (FixedBinary p) (Number x))
+number_kept p x le true e = subst (IsKept (FixedBinary p)) (sym (kept e)) (e, few_digits p x le e)
+  where
+    kept : has_digits p x ≡ true → as_held (FixedBinary p) (Number x) ≡ Number x
+    kept e = rw e refl
+number_kept p x le false e = subst (IsKept (FixedBinary p)) (sym (first e)) (zero_held p, omega arith)
+  where
+    first : has_digits p x ≡ false → as_held (FixedBinary p) (Number x) ≡ Number (pos 0)
+    first e = rw e refl
+
+string_kept : (k : ℕ) (s : List ℕ) → k ≤ 32767 → length s ≡ k → IsKept (Character k) (Characters s)
+string_kept k s le e = (eq-eqb _ k e, omega (arith, le, e))
+
+varying_kept : (k : ℕ) (s : List ℕ) → k ≤ 32767 → length s ≤ k → IsKept (Varying k) (Characters s)
+varying_kept k s le e = (le-leb _ k e, omega (arith, le, e))
+
+bits_kept : (k : ℕ) (s : List Bool) → k ≤ 32767 → length s ≡ k → IsKept (Bit k) (Bits s)
+bits_kept k s le e = (eq-eqb _ k e, omega (arith, le, e))
+
+few : (k : ℕ) → is_plain 31 (Character k) ≡ true → k ≤ 32767
+few k h = leb-true k 32767 (and_parts _ _ h).1
+
+kept_is : (d : Description) (v : Value) → is_plain 31 d ≡ true → is_scalar d ≡ true → IsKept d (as_held d v)
+kept_is (FixedBinary p) (Number x) plain one = number_kept p x (leb-true p 31 plain) (has_digits p x) refl
+kept_is (FixedBinary p) (Characters s) plain one = (zero_held p, omega arith)
+kept_is (FixedBinary p) (Bits s) plain one = (zero_held p, omega arith)
+kept_is (Character k) (Characters s) plain one =
+    string_kept k (fitted 32 k s) (few k plain) (fitted_length 32 k s)
+kept_is (Character k) (Number x) plain one = string_kept k (replicate k 32) (few k plain) (length-replicate k 32)
+kept_is (Character k) (Bits s) plain one = string_kept k (replicate k 32) (few k plain) (length-replicate k 32)
+kept_is (Varying k) (Characters s) plain one = varying_kept k (take k s) (few k plain) (cut_length k s)
+kept_is (Varying k) (Number x) plain one = varying_kept k [] (few k plain) (omega arith)
+kept_is (Varying k) (Bits s) plain one = varying_kept k [] (few k plain) (omega arith)
+kept_is (Bit k) (Bits s) plain one = bits_kept k (fitted false k s) (few k plain) (fitted_length false k s)
+kept_is (Bit k) (Number x) plain one = bits_kept k (replicate k false) (few k plain) (length-replicate k false)
+kept_is (Bit k) (Characters s) plain one = bits_kept k (replicate k false) (few k plain) (length-replicate k false)
+kept_is (Array bs e) v plain one = absurd (not_true one)
+kept_is (Structure ds) v plain one = absurd (not_true one)
+kept_is d v plain one = absurd (not_true plain)
+
+-- ---- how many scalars there are
+
+often_length : (k : ℕ) (ds : List Description) → length (flat_map (λ xs. xs) (replicate k ds)) ≡ k * length ds
+often_length zero ds = omega arith
+often_length (suc k) ds = omega (arith, length-append ds (flat_map (λ xs. xs) (replicate k ds)), often_length k ds)
+
+mutual
+  scalar_count : (d : Description) → length (scalars_of d) ≡ scalars_in d
+  scalar_count (Array bs e) = often_length (count_of bs) (scalars_of e) ∙ ap (λ m. count_of bs * m) (scalar_count e)
+  scalar_count (Structure ds) = member_count ds
+  scalar_count d = refl
+
+  member_count : (ds : Members) → length (scalars_of_members ds) ≡ scalars_among ds
+  member_count NoMembers = refl
+  member_count (MemberThen d ds) = omega (arith, length-append (scalars_of d) (scalars_of_members ds), scalar_count d, member_count ds)
+
+-- ---- which scalars an item has
+
+-- a numbered scalar is the one of that number, and plain
+abbrev Suits : List Description → NumberedScalar → Type 0
+Suits whole s =
+    (slice_get whole s.scalar ≡ Some s.description) × (is_plain 31 s.description ≡ true) × (is_scalar s.description ≡ true)
+
+stands_behind : (front back : List Description) (d : Description) → slice_get (front ++ (d ∷ back)) (length front) ≡ Some d
+stands_behind [] back d = refl
+stands_behind (x ∷ front) back d = stands_behind front back d
+
+one_scalar : (whole front back : List Description) (d : Description) (first : ℕ) → is_plain 31 d ≡ true → is_scalar d ≡ true
+    → whole ≡ front ++ (d ∷ back) → length front ≡ first → AllByRecursion (Suits whole) (record { scalar = first; description = d } ∷ [])
+one_scalar whole front back d first plain one split at =
+    ((ap (λ ds. slice_get ds first) split ∙ sym (ap (slice_get (front ++ (d ∷ back))) at) ∙ stands_behind front back d, plain, one), tt)
+
+-- the scalars of elements, of each one what it has
+in_elements : (whole ds : List Description) (f : ℕ → List NumberedScalar) (size : ℕ) → length ds ≡ size
+    → ((front back : List Description) (first : ℕ) → whole ≡ front ++ (ds ++ back) → length front ≡ first → AllByRecursion (Suits whole) (f first))
+    → (k : ℕ) (front back : List Description) (first : ℕ) → whole ≡ front ++ (flat_map (λ xs. xs) (replicate k ds) ++ back) → length front ≡ first
+    → AllByRecursion (Suits whole) (flat_map f (counted_from first size k))
+in_elements whole ds f size is each zero front back first split at = tt
+in_elements whole ds f size is each (suc k) front back first split at =
+    let rest : List Description = flat_map (λ xs. xs) (replicate k ds) in
+    let here : whole ≡ front ++ (ds ++ (rest ++ back)) = split ∙ ap (λ xs. front ++ xs) (append_assoc ds rest back) in
+    all_behind (Suits whole) (f first) (flat_map f (counted_from (first + size) size k)) (each front (rest ++ back) first here at)
+    (in_elements whole ds f size is each k (front ++ ds) back (first + size) (here ∙ sym (append_assoc front ds (rest ++ back)))
+    (omega (arith, length-append front ds, is, at)))
+
+mutual
+  item_scalars : (whole : List Description) (d : Description) (path : List ℕ) (front back : List Description) (first : ℕ)
+      → is_plain 31 d ≡ true → whole ≡ front ++ (scalars_of d ++ back) → length front ≡ first
+      → AllByRecursion (Suits whole) (scalars_on d path first)
+  item_scalars whole (Array bs e) path front back first plain split at =
+      in_elements whole (scalars_of e) (λ k. scalars_on e path k) (scalars_in e) (scalar_count e)
+      (λ front back first split at. item_scalars whole e path front back first (plain_element 31 bs e plain) split at)
+      (count_of bs) front back first split at
+  item_scalars whole (Structure ds) [] front back first plain split at = tt
+  item_scalars whole (Structure ds) (i ∷ path) front back first plain split at =
+      member_scalars whole ds i path front back first (plain_members 31 ds plain) split at
+  item_scalars whole (FixedBinary p) path front back first plain split at = one_scalar whole front back (FixedBinary p) first plain refl split at
+  item_scalars whole (Character k) path front back first plain split at = one_scalar whole front back (Character k) first plain refl split at
+  item_scalars whole (Varying k) path front back first plain split at = one_scalar whole front back (Varying k) first plain refl split at
+  item_scalars whole (Bit k) path front back first plain split at = one_scalar whole front back (Bit k) first plain refl split at
+  item_scalars whole d path front back first plain split at = absurd (not_true plain)
+
+  member_scalars : (whole : List Description) (ds : Members) (i : ℕ) (path : List ℕ) (front back : List Description) (first : ℕ)
+      → all_plain 31 ds ≡ true → whole ≡ front ++ (scalars_of_members ds ++ back) → length front ≡ first
+      → AllByRecursion (Suits whole) (scalars_in_member ds i path first)
+  member_scalars whole NoMembers i path front back first plain split at = tt
+  member_scalars whole (MemberThen d ds) zero path front back first plain split at =
+      item_scalars whole d path front (scalars_of_members ds ++ back) first (and_parts (is_plain 31 d) (all_plain 31 ds) plain).0
+      (split ∙ ap (λ xs. front ++ xs) (append_assoc (scalars_of d) (scalars_of_members ds) back)) at
+  member_scalars whole (MemberThen d ds) (suc i) path front back first plain split at =
+      member_scalars whole ds i path (front ++ scalars_of d) back (first + scalars_in d)
+      (and_parts (is_plain 31 d) (all_plain 31 ds) plain).1
+      (
+      split ∙ ap (λ xs. front ++ xs) (append_assoc (scalars_of d) (scalars_of_members ds) back)
+      ∙ sym (append_assoc front (scalars_of d) (scalars_of_members ds ++ back))
+      )
+      (omega (arith, length-append front (scalars_of d), scalar_count d, at))
+
+-- ---- initial values
+
+each_fits : (whole : List Description) (ss : List NumberedScalar) (vs : List Value) → AllByRecursion (Suits whole) ss
+    → AllByRecursion (IsInitial whole) (each_with ss vs)
+each_fits whole [] vs h = tt
+each_fits whole (s ∷ ss) [] h = tt
+each_fits whole (s ∷ ss) (v ∷ vs) h =
+    let kept = kept_is s.description v h.0.1 h.0.2 in
+    (((s.description, h.0.0, kept.0), kept.1), each_fits whole ss vs h.1)
+
+items_fit : (d : Description) (items : List InitialItem) → is_plain 31 d ≡ true
+    → AllByRecursion (IsInitial (scalars_of d)) (flat_map (initial_scalars d) items)
+items_fit d [] plain = tt
+items_fit d (i ∷ is) plain =
+    all_behind (IsInitial (scalars_of d)) (initial_scalars d i) (flat_map (initial_scalars d) is)
+    (each_fits (scalars_of d) (scalars_on d i.path 0) (values_written i.values)
+    (item_scalars (scalars_of d) d i.path [] [] 0 plain (sym (append-nil (scalars_of d))) refl))
+    (items_fit d is plain)
+
+-- ---- templates
+
+template_fits : (d : Description) (items : List InitialItem) → is_stored 31 d ≡ true → IsDescription d
+    → length (template_of d items).initial < word_limit → IsTemplate (template_of d items)
+template_fits d items stored h few =
+    let parts = and_parts (is_plain 31 d) (nat_le (size_of d) 1000000) stored in
+    ((h, leb-true (size_of d) 1000000 parts.1), items_fit d items parts.0, few)
+
+-- the members of a variable among symbols
+abbrev pub AreSymbols : List Symbol → Type 0
+AreSymbols ss = AllByRecursion (λ (s : Symbol). IsLimited s.kind) ss
+
+module _ (is_such : StorageClass → Description → Bool) (stored : (class : StorageClass) (d : Description) → is_such class d ≡ true → is_stored 31 d ≡ true)
+    (all : List Symbol) where
+  one_fits : (class : StorageClass) (d : Description) (items : List InitialItem) (b : Bool) → is_such class d ≡ b → IsDescription d
+      → length (template_of d items).initial < word_limit
+      → AllByRecursion IsTemplate (if b then template_of d items ∷ [] else [])
+  one_fits class d items true e h few = (template_fits d items (stored class d e) h few, tt)
+  one_fits class d items false e h few = tt
+
+  pub symbol_fits : (number : ℕ) (kind : SymbolKind) → IsLimited kind → HasFewInitial all number kind
+      → AllByRecursion IsTemplate (template_at is_such all number kind)
+  symbol_fits number (Variable d class scope values area) h few =
+      one_fits class d (record { path = []; values = values } ∷ member_items number all) (is_such class d) refl h.0 (omega (arith, few.0, few.1))
+  symbol_fits number (Member root path values area) h few = tt
+  symbol_fits number (Label statement) h few = tt
+  symbol_fits number (Procedure block returned area) h few = tt
+  symbol_fits number (Entry parameters returned) h few = tt
+  symbol_fits number BuiltIn h few = tt
+
+  pub templates_fit : (number : ℕ) (ss : List Symbol) → AreSymbols ss → HaveFewInitial all number ss
+      → AllByRecursion IsTemplate (templates_from is_such all number ss)
+  templates_fit number [] h few = tt
+  templates_fit number (s ∷ ss) h few =
+      all_behind IsTemplate (template_at is_such all number s.kind) (templates_from is_such all (suc number) ss)
+      (symbol_fits number s.kind h.0 few.0) (templates_fit (suc number) ss h.1 few.1)
+
+-- ---- globals
+
+-- what may be made is described
+pub all_described : (ds : List Description) → AllByRecursion IsMade ds → AllByRecursion IsDescription ds
+all_described [] h = tt
+all_described (d ∷ ds) h = (h.0.0, all_described ds h.1)
+
+scoped_fit : (scope : Scope) (name : Name) (ts : List Template) → AllByRecursion IsTemplate ts
+    → AllByRecursion IsGlobal (map (global_of scope name) ts)
+scoped_fit scope name [] h = tt
+scoped_fit scopes.Internal name (t ∷ ts) h = (h.0, scoped_fit scopes.Internal name ts h.1)
+scoped_fit scopes.External name (t ∷ ts) h = (h.0, scoped_fit scopes.External name ts h.1)
+
+module _ (all : List Symbol) where
+  global_fits : (number : ℕ) (name : Name) (kind : SymbolKind) → IsLimited kind → HasFewInitial all number kind
+      → AllByRecursion IsGlobal (global_with 31 all number name kind)
+  global_fits number name (Variable d class scope values area) h few =
+      scoped_fit scope name (template_at (is_static 31) all number (Variable d class scope values area))
+      (symbol_fits (is_static 31) (static_stored 31) all number (Variable d class scope values area) h few)
+  global_fits number name (Member root path values area) h few = tt
+  global_fits number name (Label statement) h few = tt
+  global_fits number name (Procedure block returned area) h few = tt
+  global_fits number name (Entry parameters returned) h few = ((h.0, all_described parameters h.1, h.2), tt)
+  global_fits number name BuiltIn h few = tt
+
+  -- with their tokens
+  abbrev IsPlacedGlobal : PlacedGlobal → Type 0
+  IsPlacedGlobal p = IsGlobal p.global
+
+  placed_fit : (at : ℕ) (gs : List Global) → AllByRecursion IsGlobal gs → AllByRecursion IsPlacedGlobal (map (placed at) gs)
+  placed_fit at [] h = tt
+  placed_fit at (g ∷ gs) h = (h.0, placed_fit at gs h.1)
+
+  globals_fit_from : (number : ℕ) (ss : List Symbol) → AreSymbols ss → HaveFewInitial all number ss → AllByRecursion IsPlacedGlobal (globals_from 31 all number ss)
+  globals_fit_from number [] h few = tt
+  globals_fit_from number (s ∷ ss) h few =
+      let own : List Global = global_with 31 all number s.identifier.name s.kind in
+      all_behind IsPlacedGlobal (map (placed s.identifier.at) own) (globals_from 31 all (suc number) ss)
+      (placed_fit s.identifier.at own (global_fits number s.identifier.name s.kind h.0 few.0))
+      (globals_fit_from (suc number) ss h.1 few.1)
+
+abbrev AllPlaced : List PlacedGlobal → Type 0
+AllPlaced ps = AllByRecursion (λ (p : PlacedGlobal). IsGlobal p.global) ps
+
+-- of several blocks
+abbrev pub AreBlocks : List (List Symbol) → Type 0
+AreBlocks blocks = AllByRecursion (λ (ss : List Symbol). AreSymbols ss × HaveFewInitial ss 0 ss) blocks
+
+blocks_fit : (blocks : List (List Symbol)) → AreBlocks blocks → AllPlaced (block_globals 31 blocks)
+blocks_fit [] h = tt
+blocks_fit (ss ∷ more) h =
+    all_behind (λ (p : PlacedGlobal). IsGlobal p.global) (globals_of 31 ss) (block_globals 31 more)
+    (globals_fit_from ss 0 ss h.0.0 h.0.1) (blocks_fit more h.1)
+
+unplaced : (ps : List PlacedGlobal) → AllPlaced ps → AllByRecursion IsGlobal (map (λ (p : PlacedGlobal). p.global) ps)
+unplaced [] h = tt
+unplaced (p ∷ ps) h = (h.0, unplaced ps h.1)
+
+-- and in the order of the text
+pub globals_fit : (blocks : List (List Symbol)) → AreBlocks blocks → AllByRecursion IsGlobal (all_globals 31 blocks)
+globals_fit blocks h =
+    let ps : List PlacedGlobal = block_globals 31 blocks in
+    let qs : List PlacedGlobal = in_order (λ (p : PlacedGlobal). p.at) ps in
+    unplaced qs
+    (recursion_from_All (λ (p : PlacedGlobal). IsGlobal p.global) qs
+    (All-permutation (λ (p : PlacedGlobal). IsGlobal p.global) ps qs (same_items (λ (p : PlacedGlobal). p.at) ps)
+    (All-from_recursion (λ (p : PlacedGlobal). IsGlobal p.global) ps (blocks_fit blocks h))))

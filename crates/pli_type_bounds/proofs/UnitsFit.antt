@@ -1,0 +1,201 @@
+-- Typed units are well formed.
+use Rattle.std.specs.Prelude.{◌≡◌, ℕ, zero, suc, ◌+◌, ◌≤◌, ◌<◌, Option, Some, None, List, [], ◌∷◌, length, slice_get}
+use Rattle.std.specs.Prelude.{true, Result, Ok, Err, refl}
+use Rattle.std.proofs.Common.{arith, sym, ap, ◌∙◌, subst}
+use Rattle.std.proofs.lemmas.List.{length-map}
+use Rattle.pli_base.specs.Statements.{ExternalProcedure, Statements, Ended, Before, Numbered, list_count}
+use Rattle.pli_base.specs.Words.{Tokens}
+use Rattle.pli_base.specs.declared.token.Fault.{Fault}
+use Rattle.pli_deck_laws.specs.Limits.{word_limit, IfThere}
+use Rattle.pli_deck_laws.specs.WellFormed.{IsWellFormed}
+use Rattle.pli_declare.specs.Resolution.{resolution_faults}
+use Rattle.pli_map.specs.Description.{Description}
+use Rattle.pli_parse.proofs.StatementRead.{unit_reads}
+use Rattle.pli_parse_expression.specs.Expressions.{Deeper}
+use Rattle.pli_parse_expression.specs.Operators.{nesting_limit}
+use Rattle.pli_parse_statement.specs.StatementGrammar.{SpellsStatements}
+use Rattle.pli_parse_statement.specs.StatementReading.{unit_of}
+use Rattle.pli_parse_statement.specs.StatementWords.{Context, a_procedure}
+use Rattle.pli_resolve.specs.ResolvedUnits.{ResolvedUnit, resolved_unit_of, all_symbols, meaning_at}
+use Rattle.pli_resolve.specs.TreeBlocks as source
+use Rattle.pli_type.specs.Checked as typing
+use Rattle.pli_type.specs.Checked.{in_unit, first_inside, external_of, typed_as, checked, unless_unbuilt}
+use Rattle.pli_type.specs.NamedUnits.{is_automatic, all_globals, block_symbols, parameters_of, returned_of, means_later, named_as}
+use Rattle.pli_type.specs.NamedUnits.{named_unit, templates_of, checked_unit}
+use Rattle.pli_type.specs.Names.{NamedUnit, NamedAs}
+use Rattle.pli_type.specs.StatementTyping.{WithProcedures, enclosing, function_end, statements_typed}
+use Rattle.pli_type.specs.Temporaries.{temporaries_among}
+use Rattle.pli_type_laws.proofs.BlocksKnown.{Sits, sits_all}
+use Rattle.pli_type_laws.proofs.BlocksKnown as counted
+use Rattle.pli_type_name_laws.proofs.BlocksOfUnits.{blocks_are_of_tree}
+use Rattle.pli_type_name_laws.proofs.NameFactsHold.{facts_hold}
+use Rattle.pli_type_name_laws.proofs.NestingHolds.{unit_nests}
+use Rattle.pli_type_name_laws.proofs.NumberingHolds.{units_are_numbered}
+use Rattle.pli_type_name_laws.specs.NameFacts.{NameFacts}
+use Rattle.pli_type_name_laws.specs.Numbering.{AreNumbered}
+use Rattle.pli_type_name_laws.specs.SourceBlocks.{SourceBlock, unit_blocks}
+use Rattle.pli_type_name_laws.specs.UnitBlocks.{in_unit as block_in_unit, in_tree}
+use Rattle.pli_type_tree.specs.TypedTree.{TypedStatements, TypedUnit}
+use Rattle.pli_gen_emit.specs.TreeTranslation.{blocks_among}
+use Rattle.pli_type_bounds.proofs.BlocksThere.{AreHere, list_here, has_block, has_slot}
+use Rattle.pli_type_bounds.proofs.Given.{OnTyped}
+use Rattle.pli_type_bounds.proofs.NamesFit.{Has, Automatic, automatic_fit, all_globals_fit, meanings_fit, parameters_few, parameters_described, returned_described}
+use Rattle.pli_type_bounds.proofs.StatementsFit as fitting
+use Rattle.pli_type_bounds.proofs.StatementsFit.{unit_by, UnitFits, Fit, ListFits, list_fits}
+use Rattle.pli_type_bounds.specs.UnitLaws.{TypedUnitsAreWellFormed}
+use Rattle.pli_resolve_bounds.proofs.StatementsCounted.{statements_are_few}
+use Rattle.pli_source_laws.proofs.ConstantsWithin.{constants_are_within_limits}
+use Rattle.pli_source_laws.specs.Sources.{AreSourceStatements}
+
+-- ---- numbers
+
+-- statements that are numbered from some number on, and spelled from 2 on, are numbered from 2 on
+numbered_at : (c : Context) (levels p k from : ℕ) (ts : Tokens) (ss : Statements) → SpellsStatements c levels p k ts ss → AreNumbered from ss → AreNumbered k ss
+numbered_at c levels p k from ts Ended h n = tt
+numbered_at c levels p k from ts (Before (Numbered number label at body) more) h n =
+    let same : from ≡ k = sym n.0.0 ∙ h.3.4 in
+    subst (λ k. AreNumbered k (Before (Numbered number label at body) more)) same n
+
+opened : (F : ℕ → Type 0) (X : Type 0) (levels : ℕ) → Deeper F levels → ((m : ℕ) → F m → X) → X
+opened F X zero h g = absurd h
+opened F X (suc m) h g = g m h
+
+unit_numbered : (texts : Tokens) (u : ExternalProcedure) → unit_of texts ≡ Ok u → AreNumbered 2 u.statements
+unit_numbered texts u read =
+    let s = unit_reads texts u read in
+    let n = units_are_numbered texts u read in
+    let at : ℕ = 3 + length s.1 + 1 in
+    opened (λ m. SpellsStatements a_procedure m at 2 s.2 u.statements) (AreNumbered 2 u.statements) nesting_limit s.9
+    (λ m g. numbered_at a_procedure m at 2 n.0 s.2 u.statements g n.1)
+
+-- ---- what is given
+
+given_same : {A B : Type 0} {x y : A} (r : Result A B) → r ≡ Ok x → r ≡ Ok y → x ≡ y
+given_same r e f = cc
+
+error_given : {A B : Type 0} {x : A} {y : B} (r : Result A B) → r ≡ Err y → r ≡ Ok x → ⊥
+error_given r f e = absurd (cc)
+
+on_given : {A : Type 0} (P : A → Type 0) (r : Result A (List Fault)) (y : A) → r ≡ Ok y → OnTyped P r → P y
+on_given P (Ok x) y e h = subst P (given_same (Ok x) refl e) h
+on_given P (Err fs) y e h = absurd (error_given (Err fs) refl e)
+
+module _ (texts : Tokens) (u : ExternalProcedure) (read : unit_of texts ≡ Ok u) (none : resolution_faults u ≡ []) (short : length texts ≤ 200000) (list_good : AreSourceStatements u.statements) where
+  abbrev R : ResolvedUnit
+  R = resolved_unit_of u
+
+  abbrev meaning : List ℕ → ℕ → NamedAs
+  meaning = λ blocks at. named_as 31 R blocks (meaning_at R at)
+
+  abbrev U : NamedUnit
+  U = unit_by u (λ at. means_later (meaning_at R at)) meaning (parameters_of R) (returned_of R)
+      (λ block. templates_of (is_automatic 31) (block_symbols R block)) (all_globals 31 (all_symbols R))
+
+  -- how many statements there are
+  few : 2 + list_count u.statements < word_limit
+  few = let n = statements_are_few texts u read in omega (arith, n.counted, n.end, short)
+
+  abbrev All : List SourceBlock
+  All = unit_blocks u
+
+  -- how many blocks there are
+  size_is : length R.blocks ≡ 1 + source.blocks_among u.statements
+  size_is =
+      let same = ap length (blocks_are_of_tree u) in
+      let tree : length All ≡ suc (source.blocks_among u.statements) = ap suc (counted.list_count (enclosing 0 u.statements ∷ []) 1 u.statements) in
+      omega (arith, same, tree, length-map R.blocks block_in_unit, length-map All in_tree)
+
+  all_sit : Sits All 0 All
+  all_sit = sits_all All 0 All (λ i. ap (slice_get All) (next i))
+    where
+      next : (i : ℕ) → 0 + i ≡ i
+      next i = omega arith
+
+  facts : NameFacts (named_unit 31 R)
+  facts = facts_hold R (blocks_are_of_tree u)
+
+  abbrev Given : Result (WithProcedures TypedStatements) (List Fault)
+  Given = statements_typed U (in_unit (returned_of R 0) u.statements) first_inside u.statements
+
+  blocks_here : OnTyped (AreHere (λ k. length (parameters_of R k) + length (Automatic u none k)) blocks_among 1 (1 + source.blocks_among u.statements)) Given
+  blocks_here =
+      list_here u (λ at. means_later (meaning_at R at)) meaning (parameters_of R) (returned_of R)
+      (λ block. templates_of (is_automatic 31) (block_symbols R block)) (all_globals 31 (all_symbols R)) facts.begins
+      (in_unit (returned_of R 0) u.statements) first_inside u.statements all_sit.1
+
+  module _ (y : WithProcedures TypedStatements) (is : Given ≡ Ok y) where
+    abbrev T : TypedUnit
+    T = typing.unit_of U y
+
+    here : AreHere (λ k. length (parameters_of R k) + length (Automatic u none k)) blocks_among 1 (1 + source.blocks_among u.statements) y
+    here = on_given _ Given y is blocks_here
+
+    has : Has u none T
+    has = record {
+      globals = refl;
+      blocks = λ block lt. has_block u (λ at. means_later (meaning_at R at)) meaning (parameters_of R) (returned_of R)
+          (λ block. templates_of (is_automatic 31) (block_symbols R block)) (all_globals 31 (all_symbols R)) facts.begins y here block (omega (arith, lt, size_is));
+      slots = λ block slot lt within. has_slot u (λ at. means_later (meaning_at R at)) meaning (parameters_of R) (returned_of R)
+          (λ block. templates_of (is_automatic 31) (block_symbols R block)) (all_globals 31 (all_symbols R)) facts.begins y here block slot (omega (arith, lt, size_is)) within;
+    }
+
+    fits : UnitFits T meaning (parameters_of R) (returned_of R) (λ block. templates_of (is_automatic 31) (block_symbols R block)) (length R.blocks)
+    fits = record {
+      names = λ blocks at near inside. meanings_fit u none T has blocks at near inside;
+      few = parameters_few u none;
+      returned_fits = returned_described u none;
+      templates = automatic_fit u none;
+      blocks = has.blocks;
+    }
+
+    start : fitting.Sits (length R.blocks) 63 (in_unit (returned_of R 0) u.statements)
+    start = record {
+      deep = omega arith;
+      begins = omega arith;
+      block = omega (arith, size_is);
+      around = (omega (arith, size_is), tt);
+      value = returned_described u none 0;
+    }
+
+    statements_fit : OnTyped (Fit T (ListFits T (temporaries_among u.statements))) Given
+    statements_fit =
+        list_fits T u (λ at. means_later (meaning_at R at)) meaning (parameters_of R) (returned_of R)
+        (λ block. templates_of (is_automatic 31) (block_symbols R block)) (all_globals 31 (all_symbols R)) (length R.blocks) fits
+        true 63 (in_unit (returned_of R 0) u.statements) first_inside 2 u.statements start (unit_nests texts u read) (unit_numbered texts u read)
+        (omega (arith, few)) (omega (arith, size_is)) list_good
+
+    end_fits : (o : Option Description) (end : ℕ) → end < word_limit → IfThere (λ n. n < word_limit) (function_end o end)
+    end_fits None end lt = tt
+    end_fits (Some d) end lt = lt
+
+    well_formed : IsWellFormed T
+    well_formed =
+        let s = unit_reads texts u read in
+        let all = on_given (Fit T (ListFits T (temporaries_among u.statements))) Given y is statements_fit in
+        let first : u.heading.number < word_limit = omega (arith, s.7) in
+        let last : u.end < word_limit = omega (arith, s.11, few) in
+        record {
+          signature = (parameters_few u none 0, parameters_described u none 0, returned_described u none 0);
+          globals = all_globals_fit u none;
+          some = omega arith;
+          procedures = (
+            ((first, automatic_fit u none 0, all.0.1), tt, parameters_few u none 0, end_fits (returned_of R 0) u.end last, all.0.0),
+            all.1,
+          );
+        }
+
+  of_result : (t : TypedUnit) (r : Result (WithProcedures TypedStatements) (List Fault)) → Given ≡ r → typed_as U r ≡ Ok t → IsWellFormed t
+  of_result t (Ok y) is e = subst IsWellFormed (given_same (Ok (typing.unit_of U y)) refl e) (well_formed y is)
+  of_result t (Err fs) is e = absurd (error_given _ refl e)
+
+  of_built : (t : TypedUnit) (o : Option ℕ) → unless_unbuilt o (typed_as U Given) ≡ Ok t → IsWellFormed t
+  of_built t None e = of_result t Given refl e
+  of_built t (Some at) e = absurd (error_given _ refl e)
+
+  unit_fits : (t : TypedUnit) → checked_unit R ≡ Ok t → IsWellFormed t
+  unfolding checked_unit checked
+  unit_fits t e = of_built t _ e
+
+pub typed_units_are_well_formed : TypedUnitsAreWellFormed
+typed_units_are_well_formed texts u t short read none e =
+    unit_fits texts u read none short (constants_are_within_limits (resolved_unit_of u) t e) t e
