@@ -15,9 +15,9 @@ use Rattle.pli_members.specs.declared.refusal.EditError.TheVariants.{Refused, Ou
 use Rattle.pli_members.specs.declared.refusal.Refusal.{Refusal}
 use Rattle.pli_members.specs.declared.refusal.Refusal.TheVariants.{NoSuchMember}
 use Rattle.pli_unit_code.specs.Modules.{Module, program_of}
-use Rattle.pli_unit_code.specs.views.CodeView.{module_view}
-use Rattle.pli_unit_code.specs.declared.code.Module as declared_module
-use Rattle.pli_bench.specs.answers.Standing.{IsStanding}
+use Rattle.pli_bench.specs.answers.Standing.{IsOfMembers, IsStanding}
+use Rattle.pli_bench.specs.declared.stored.StoredModule.{StoredModule}
+use Rattle.pli_deck_load.specs.LinkedBytes.{IsLinked}
 use Rattle.pli_code.specs.declared.ending.Ending.{Ending}
 use Rattle.pli_code.specs.declared.ending.Ran.{Ran}
 use Rattle.pli_meaning.specs.Scratch.{Built, Made, scratch}
@@ -127,6 +127,10 @@ module _ (s : State) (n : ℕ) (m : Module) (stands : s.stands ≡ true) (built 
       let p = h means_at.outcome means_at.runs in
       (p.written ++ 10 ∷ no_memory, runs_with _ (inr (record { written = p.written; left = p.left; whole = p.whole; says = refl })), writes_then a b c _ _ r p.appended w)
 
+  -- one that was not begun for want of it
+  pub run_unbegun : {A E : Type 0} (a c : Option (List ℕ)) (r : Result A E) → Writes a c (10 ∷ no_memory) r → (x : List ℕ) × Runs s.stands n (exchange s x s) × Writes a c x r
+  run_unbegun a c r w = (10 ∷ no_memory, runs_with _ (inr (record { written = []; left = means_at.outcome.output; whole = refl; says = refl })), w)
+
   -- a run whose writer failed
   pub run_unwritten : (a b : Option (List ℕ)) → StoppedWithin m n a b → (x : List ℕ) × Runs s.stands n (exchange s x s) × AppendsPrefix a b x
   run_unwritten a b h =
@@ -159,10 +163,20 @@ pub end_broken : (a b : Option (List ℕ)) (column : ℕ) (e : Ending) → colum
 end_broken a b column e h p = subst (AppendsPrefix a b) (later_end column e h) (AppendsPrefix-more a b (10 ∷ []) (ending_line e) p)
 
 -- a module that stands is that of the members
-pub standing_built : (s : State) (store : Store) (standing : Option declared_module.Module) (steps : ℕ) (m : declared_module.Module) → state store (is_some standing) steps ≡ s
-    → standing ≡ Some m → IsStanding store.entries standing → (s.stands ≡ true) × (scratch s.store.entries ≡ Made (module_view m))
-standing_built s store standing steps m is some h =
-    (ap (λ t. t.stands) (sym is) ∙ ap is_some some, ap (λ t. scratch t.store.entries) (sym is) ∙ subst (IsStanding store.entries) some h)
+pub record Stands (s : State) (bytes : List ℕ) : Type 0 where
+  pub stands : s.stands ≡ true
+  pub of : IsOfMembers s.store.entries bytes
+
+pub standing_built : (s : State) (store : Store) (standing : Option StoredModule) (steps : ℕ) (m : StoredModule) → state store (is_some standing) steps ≡ s
+    → standing ≡ Some m → IsStanding store.entries standing → Stands s m.bytes.items
+standing_built s store standing steps m is some h = record {
+  stands = ap (λ t. t.stands) (sym is) ∙ ap is_some some;
+  of = subst (λ t. IsOfMembers t.store.entries m.bytes.items) is (subst (IsStanding store.entries) some h);
+}
+
+-- so is what is loaded of its bytes
+pub loaded_built : (s : State) (bytes slice : List ℕ) (m : Module) → Stands s bytes → slice ≡ bytes → ((n : Module) → IsLinked slice n → m ≡ n) → scratch s.store.entries ≡ Made m
+loaded_built s bytes slice m at same loads = at.of.is ∙ ap Made (sym (loads at.of.made (subst (λ bs. IsLinked bs at.of.made) (sym same) at.of.linked)))
 
 module _ (s : State) (n k : ℕ) (same : n ≡ k) (m : Module) (stands : s.stands ≡ true) (built : scratch s.store.entries ≡ Made m) where
   pub run_done_at : {A E : Type 0} (a b c : Option (List ℕ)) (ran : Ran) (r : Result A E) → RanTo m n ran a b → Writes b c (end_answer ran.column ran.ending) r
@@ -172,6 +186,9 @@ module _ (s : State) (n k : ℕ) (same : n ≡ k) (m : Module) (stands : s.stand
   pub run_broken_at : {A E : Type 0} (a b c : Option (List ℕ)) (r : Result A E) → StoppedWithin m n a b → Writes b c (10 ∷ no_memory) r
       → (x : List ℕ) × Runs s.stands k (exchange s x s) × Writes a c x r
   run_broken_at a b c r h w = subst (λ k. (x : List ℕ) × Runs s.stands k (exchange s x s) × Writes a c x r) same (run_broken s n m stands built a b c r h w)
+
+  pub run_unbegun_at : {A E : Type 0} (a c : Option (List ℕ)) (r : Result A E) → Writes a c (10 ∷ no_memory) r → (x : List ℕ) × Runs s.stands k (exchange s x s) × Writes a c x r
+  run_unbegun_at a c r w = subst (λ k. (x : List ℕ) × Runs s.stands k (exchange s x s) × Writes a c x r) same (run_unbegun s n m stands built a c r w)
 
   pub run_unwritten_at : (a b : Option (List ℕ)) → StoppedWithin m n a b → (x : List ℕ) × Runs s.stands k (exchange s x s) × AppendsPrefix a b x
   run_unwritten_at a b h = subst (λ k. (x : List ℕ) × Runs s.stands k (exchange s x s) × AppendsPrefix a b x) same (run_unwritten s n m stands built a b h)

@@ -1,21 +1,19 @@
 -- What DUMP answers is a case of the session.
-use Rattle.std.specs.Prelude.{◌≡◌, true, false, ◌++◌, refl}
-use Rattle.std.proofs.Common.{sym, subst, inl, inr}
-use Rattle.pli_meaning.specs.Scratch.{Made, scratch}
-use Rattle.pli_unit_code.specs.Modules.{Module}
-use Rattle.pli_bench.specs.Dumps.{dumped}
+use Rattle.std.specs.Prelude.{◌≡◌, ℕ, true, false, ◌++◌, List, refl}
+use Rattle.std.proofs.Common.{sym, subst, ap, ◌∙◌}
+use Rattle.pli_bench.specs.Dumps.{bytes_of, hex_from}
 use Rattle.pli_bench.specs.Exchanges.{exchange}
-use Rattle.pli_bench.specs.Session.{State, Dumps, okay, no_memory, not_built}
+use Rattle.pli_bench.specs.Session.{State, Dumps, okay, not_built}
+use Rattle.pli_bench.specs.answers.Standing.{IsOfMembers}
+use Rattle.pli_deck_load.specs.LinkedBytes.{IsLinked}
 
 -- no module stands
 pub dumps_not : (s : State) → s.stands ≡ false → Dumps s.stands (exchange s not_built s)
 dumps_not s e = subst (λ b. Dumps b (exchange s not_built s)) (sym e) (refl, refl)
 
-module _ (s : State) (m : Module) (stands : s.stands ≡ true) (built : scratch s.store.entries ≡ Made m) where
-  -- its bytes are shown
-  pub dumps : Dumps s.stands (exchange s (dumped m ++ okay) s)
-  dumps = subst (λ b. Dumps b (exchange s (dumped m ++ okay) s)) (sym stands) (m, built, inl (refl, refl))
-
-  -- or memory was refused
-  pub dumps_none : Dumps s.stands (exchange s no_memory s)
-  dumps_none = subst (λ b. Dumps b (exchange s no_memory s)) (sym stands) (m, built, inr (refl, refl))
+-- its bytes are shown
+pub dumps : (s : State) (bytes : List ℕ) → s.stands ≡ true → IsOfMembers s.store.entries bytes → Dumps s.stands (exchange s (hex_from 0 bytes ++ okay) s)
+dumps s bytes stands of =
+    let same = of.linked.spelled.spelled in
+    subst (λ b. Dumps b (exchange s (hex_from 0 bytes ++ okay) s)) (sym stands)
+    (of.made, of.is, subst (λ bs. IsLinked bs of.made) same of.linked, (ap (λ bs. hex_from 0 bs ++ okay) same, refl))

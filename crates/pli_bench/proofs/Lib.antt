@@ -6,5 +6,6 @@ pub mod HexLines
 pub mod LinesAnswered
 pub mod LinesListed
 pub mod LinesOfBytes
+pub mod ModulesStored
 pub mod PartsPut
 pub mod TypedCompiled

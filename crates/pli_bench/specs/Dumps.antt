@@ -24,5 +24,5 @@ hex_from column [] = if nat_eq column 0 then [] else 10 ∷ []
 hex_from column (b ∷ bs) = digits_of b ++ end_at column ++ hex_from (next_column column) bs
 
 -- the bytes of a module
-abbrev pub dumped : Module → List ℕ
-dumped m = hex_from 0 (module_bytes (module_of m))
+abbrev pub bytes_of : Module → List ℕ
+bytes_of m = module_bytes (module_of m)

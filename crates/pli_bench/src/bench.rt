@@ -1,12 +1,12 @@
 //! The workbench: members, the module that stands, and the commands on them.
-ghost use Rattle.std.specs.Prelude.{◌≡◌, ◌≤◌, ◌+◌, Err};
+ghost use Rattle.std.specs.Prelude.{◌≡◌, ◌≤◌, ◌+◌, ◌∷◌, Err};
 ghost use Rattle.pli_bench.specs.declared.serving.ServeFault.TheVariants.{TooManyReads};
 ghost use Rattle.pli_bench.specs.answers.Answering.{Writes};
 ghost use Rattle.pli_bench.specs.Commands as spelt;
 ghost use Rattle.pli_bench.specs.answers.Obeying.{Does, as_edit, edit_answer, end_answer, gone, standing_after};
 ghost use Rattle.pli_bench.specs.Exchanges.{span};
 ghost use Rattle.pli_bench.specs.Runs.{AnsweredOne, Marked, Served, Takes, Blames, piece_limit};
-ghost use Rattle.pli_bench.specs.Session.{Obeys, Step, quits, opened};
+ghost use Rattle.pli_bench.specs.Session.{Obeys, Step, no_memory, quits, opened};
 
 use crate::answer::{put_ending, put_parts, put_refusal};
 use crate::build::{Built, build};
@@ -14,13 +14,13 @@ use crate::command::{Command, read_command};
 use crate::dumping::put_dump;
 use crate::listing::{put_lines, put_members};
 use crate::serving::{Interpreter, Next, ServeFault, WriteFailed, serve};
+use crate::stored::StoredModule;
 use pli_base::{Failed, Name, Sink, Source};
 use pli_code::Ran;
-use pli_deck_code::linked_bytes;
+use pli_deck_load::load;
 use pli_include::Expander;
 use pli_members::{EditError, MemberKind, Members, Refusal};
 use pli_print::RunFault;
-use pli_unit_code::Module;
 use pli_unit_machine::run;
 use std::alloc::{AllocError, Global};
 use std::marker::Model;
@@ -35,7 +35,7 @@ pub struct Bench {
     alloc: Global,
     members: Members,
     expander: Expander,
-    standing: Option<Module>,
+    standing: Option<StoredModule>,
     steps: u64,
 }
 
@@ -241,10 +241,7 @@ impl Bench {
         let Some(module) = &self.standing else {
             return put_parts(writer, &[b"B2 NOT BUILT\n"]);
         };
-        match linked_bytes(self.alloc, module) {
-            Ok(bytes) => put_dump(writer, &bytes),
-            Err(AllocError) => put_parts(writer, &[b"NO MEMORY\n"]),
-        }
+        put_dump(writer, module.bytes.as_slice())
     }
 
     fn execute<W: Sink>(&self, steps: Option<u64>, writer: &mut W) -> Result<(), Failed>
@@ -254,9 +251,12 @@ impl Bench {
         let Some(module) = &self.standing else {
             return put_parts(writer, &[b"B2 NOT BUILT\n"]);
         };
-        match run(self.alloc, module, steps.unwrap_or(self.steps), writer) {
+        let Ok(loaded) = load(self.alloc, module.bytes.as_slice()) else {
+            return put_broken(writer);
+        };
+        match run(self.alloc, &loaded, steps.unwrap_or(self.steps), writer) {
             Ok(ran) => put_end(writer, ran),
-            Err(RunFault::OutOfMemory) => put_parts(writer, &[b"\nNO MEMORY\n"]),
+            Err(RunFault::OutOfMemory) => put_broken(writer),
             Err(RunFault::WriteFailed) => Err(Failed),
         }
     }
@@ -289,6 +289,14 @@ fn going_on(answered: Result<(), Failed>) -> Result<Next, WriteFailed>
     }
 }
 
+/// Puts what stands behind what a run printed for which memory was refused.
+fn put_broken<W: Sink>(writer: &mut W) -> Result<(), Failed>
+    ensures written { Writes (W.contents writer.old) (W.contents writer.new) (10 ∷ no_memory) result }
+    ensures mark { Marked (W.failed writer.old) (W.failed writer.new) result }
+{
+    put_parts(writer, &[b"\nNO MEMORY\n"])
+}
+
 /// Puts what stands behind the output of a run: a line end, unless the next column is the first, and how it ended.
 fn put_end<W: Sink>(writer: &mut W, ran: Ran) -> Result<(), Failed>
     ensures written { Writes (W.contents writer.old) (W.contents writer.new) (end_answer ran.column ran.ending) result }
@@ -310,7 +318,7 @@ fn as_edit(edited: Result<(), Refusal>) -> Result<(), EditError>
 
 /// Puts the answer to an edit. Where it was made, no module stands any more.
 fn answer_edit<W: Sink>(
-    standing: &mut Option<Module>,
+    standing: &mut Option<StoredModule>,
     edited: Result<(), EditError>,
     writer: &mut W,
 ) -> Result<(), Failed>

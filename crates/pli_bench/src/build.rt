@@ -2,37 +2,38 @@
 ghost use Rattle.std.specs.Prelude.{◌≡◌, ◌++◌, IfOk, OnOk, map};
 ghost use Rattle.std.specs.List.{flat_map};
 ghost use Rattle.pli_meaning.specs.Scratch.{scratch, link_line, all_text, all_units, text_in, units_in, code_line, name_line};
-ghost use Rattle.pli_bench.specs.answers.Building.{built_view};
+ghost use Rattle.pli_bench.specs.answers.Building.{IsBuilt};
 ghost use Rattle.pli_link.specs.views.UnitView.{compiled_view};
 
 use crate::answer::append_parts;
 use crate::compile::compile;
+use crate::stored::{StoredModule, stored};
 use pli_base::Code;
 use pli_include::Expander;
 use pli_link::{Compiled, LinkError, LinkFault, LinkedName, link};
 use pli_members::{MemberKind, Members, NamedMember};
-use pli_unit_code::Module;
 use std::alloc::{AllocError, Global};
 
-/// What a build gives: the text of its diagnostics, or a module.
+/// What a build gives: the text of its diagnostics, or the bytes of a module.
 #[derive(Drop)]
 pub enum Built {
     Diagnosed(Vec<u8>),
-    Made(Module),
+    Made(StoredModule),
 }
 
 /// Builds all source members anew.
-#[tactic(auto, unfolding(pli_meaning::specs::Scratch::scratch))]
+#[tactic(auto, unfolding(pli_meaning::specs::Scratch::scratch), using(crate::proofs::ModulesStored::is_of_members))]
 pub fn build(alloc: Global, expander: &mut Expander, members: &Members) -> Result<Built, AllocError>
-    ensures { IfOk result (λ built. built_view built ≡ scratch members.now.entries) }
+    ensures { IfOk result (IsBuilt members.now.entries) }
 {
+    members.are_few();
     let mut text = Vec::new(alloc);
     let units = compile_all(alloc, expander, members, &mut text)?;
     if !text.is_empty() {
         return Ok(Built::Diagnosed(text));
     }
     match link(alloc, units) {
-        Ok(module) => Ok(Built::Made(module)),
+        Ok(module) => Ok(Built::Made(stored(alloc, &module)?)),
         Err(LinkError::Faults(faults)) => Ok(Built::Diagnosed(link_text(alloc, &faults)?)),
         Err(LinkError::OutOfMemory) => Err(AllocError),
     }

@@ -11,6 +11,7 @@ mod dumping;
 mod listing;
 mod pending;
 mod serving;
+mod stored;
 
 pub use bench::Bench;
 pub use serving::{Next, ServeFault, WriteFailed};

@@ -1,10 +1,13 @@
 -- What a build answers, apart from where it lies in memory.
-use Rattle.pli_unit_code.specs.views.CodeView.{module_view}
+use Rattle.std.specs.Prelude.{◌≡◌, List}
+use Rattle.pli_base.specs.Name.{Name}
+use Rattle.pli_members.specs.Members.{Member}
 use Rattle.pli_meaning.specs.Scratch as scratch
+use Rattle.pli_bench.specs.answers.Standing.{IsOfMembers}
 use Rattle.pli_bench.specs.declared.build.Built.{Built}
 use Rattle.pli_bench.specs.declared.build.Built.TheVariants.{Diagnosed, Made}
 
--- a text of diagnostics, or a module
-abbrev pub built_view : Built → scratch.Built
-built_view (Diagnosed text) = scratch.Diagnosed text.items
-built_view (Made m) = scratch.Made (module_view m)
+-- a text of diagnostics, or the bytes of a module
+abbrev pub IsBuilt : List (Name × Member) → Built → Type 0
+IsBuilt entries (Diagnosed text) = scratch.scratch entries ≡ scratch.Diagnosed text.items
+IsBuilt entries (Made m) = IsOfMembers entries m.bytes.items

@@ -1,12 +1,19 @@
--- The module that stands is that of a build from scratch of the members.
-use Rattle.std.specs.Prelude.{◌≡◌, List, Option, Some, None}
+-- The module that stands is that of a build from scratch of the members, as its bytes.
+use Rattle.std.specs.Prelude.{◌≡◌, ℕ, List, Option, Some, None}
 use Rattle.pli_base.specs.Name.{Name}
-use Rattle.pli_unit_code.specs.views.CodeView.{module_view}
-use Rattle.pli_unit_code.specs.declared.code.Module.{Module}
+use Rattle.pli_deck_load.specs.LinkedBytes.{IsLinked}
 use Rattle.pli_members.specs.Members.{Member}
 use Rattle.pli_meaning.specs.Scratch.{scratch, Made}
+use Rattle.pli_unit_code.specs.Modules.{Module}
+use Rattle.pli_bench.specs.declared.stored.StoredModule.{StoredModule}
+
+-- bytes are the linked module that members give
+pub record IsOfMembers (entries : List (Name × Member)) (bytes : List ℕ) : Type 0 where
+  pub made : Module
+  pub is : scratch entries ≡ Made made
+  pub linked : IsLinked bytes made
 
 -- where one stands
-abbrev pub IsStanding : List (Name × Member) → Option Module → Type 0
+abbrev pub IsStanding : List (Name × Member) → Option StoredModule → Type 0
 IsStanding entries None = Unit {0}
-IsStanding entries (Some m) = scratch entries ≡ Made (module_view m)
+IsStanding entries (Some m) = IsOfMembers entries m.bytes.items
