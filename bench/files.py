@@ -44,9 +44,18 @@ TURN                            2               SUM                             
 TURN                            3               SUM                             6 
 """
 
+REPORTED = b"""
+MEAN OF                 FIRST                           7 
+MEAN OF                 SECOND                          8 
+REPORTS                              2          SUM                                 15 
+"""
+
+UNITS = [str(TOP / "examples" / name) for name in ("marks.pli", "mean.pli", "report.pli")]
+
 # the words, the status, standard output, and standard error
 TRIES = [
     ([str(TOP / "examples" / "count.pli")], 0, COUNTED, b""),
+    (UNITS, 0, REPORTED, b""),
     (["lines.pli"], 0, PRINTED, b""),
     (["lines.pli", "--", "LIST FIRST", "MEMBERS"], 0,
      b"1 PUT LIST('FROM FIRST');\nOK\nFIRST INCLUDE 1\nLINES SOURCE 7\nOK\n", b""),
