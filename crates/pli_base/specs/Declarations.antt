@@ -1,4 +1,5 @@
--- The trees of what stands behind DECLARE, as definitions speak of them: without where they lie in memory.
+-- The trees of what stands behind DECLARE, as definitions speak of them (X3.74): without where they lie in
+-- memory.
 use Rattle.std.specs.Prelude.{ℕ, List, Option}
 use Rattle.pli_base.specs.Name.{Name}
 use Rattle.pli_base.specs.declared.syntax.Identifier.{Identifier}

@@ -1,5 +1,5 @@
--- What a device does to the bytes that are left in it and to those written to it. Where these are not known,
--- nothing is claimed.
+-- What a device does to the bytes that are left in it and to those written to it (own). Where these are not
+-- known, nothing is claimed.
 use Rattle.std.specs.Prelude.{◌≡◌, ℕ, Bool, true, false, List, ◌++◌, length, take, ◌≤◌, Option, Result}
 use Rattle.std.specs.Prelude.{MatchResult}
 use Rattle.std.specs.Io.KnownBytes.{Appends, Consumes}

@@ -1,4 +1,4 @@
--- Where a fault of reading stands. Tokens are counted from 0.
+-- Where a fault of reading stands (own). Tokens are counted from 0.
 use Rattle.std.specs.Prelude.{◌≡◌, ℕ, ◌+◌, ◌-◌, ◌<◌, ◌≤◌, ◌⊎◌, [], ◌∷◌, length}
 use Rattle.pli_base.specs.Words.{Tokens}
 use Rattle.pli_base.specs.declared.code.Code.TheVariants.{EndMissing}
@@ -10,8 +10,7 @@ StandsAtToken [] f = f.at ≡ 0
 StandsAtToken (t ∷ ts) f = f.at < length (t ∷ ts)
 
 -- a fault met while tokens are read, the first of which is at p: it stands at one of them; or they have
--- ended, and it
--- stands at the last token, which is the one before p where there are none
+-- ended, and it stands at the last token, which is the one before p where there are none
 abbrev pub FaultStands : (p : ℕ) → Tokens → Fault → Type 0
 FaultStands p ts f =
     ((p ≤ f.at) × (f.at < p + length ts)) ⊎ ((f.code ≡ EndMissing) × (f.at ≡ p + length ts - 1))

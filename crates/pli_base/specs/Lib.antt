@@ -1,5 +1,6 @@
 pub mod Codes
 pub mod Devices
+pub mod Digits
 pub mod Name
 pub mod Reading
 pub mod Words

@@ -1,5 +1,5 @@
--- Reading tokens: what a reader gives, and how one goes on behind another. Tokens are counted from 0, and p
--- is the place of the first.
+-- Reading tokens (own): what a reader gives, and how one goes on behind another. Tokens are counted from 0,
+-- and p is the place of the first.
 use Rattle.std.specs.Prelude.{ℕ, ◌+◌, ◌-◌, Bool, Option, Some, None, Result, Ok, Err, List, [], ◌∷◌}
 use Rattle.std.specs.Prelude.{if◌then◌else◌}
 use Rattle.pli_base.specs.Words.{Tokens, is_procedure, is_close, behind}
@@ -25,6 +25,7 @@ unfoldable pub misfit : Code → ℕ → Tokens → Fault
 misfit code p [] = record { code = EndMissing; at = p - 1 }
 misfit code p (t ∷ ts) = record { code = code; at = p }
 
+-- no reading: the fault at the first token
 abbrev pub expected : {A : Type 0} → Code → ℕ → Tokens → Result A Fault
 expected code p ts = Err (misfit code p ts)
 
@@ -42,11 +43,12 @@ read_as value p ts = Ok (record { value = value; next = p; rest = ts })
 abbrev pub mapped : {A B : Type 0} → (A → B) → Result (Front A) Fault → Result (Front B) Fault
 mapped f read = read >>= λ x. read_as (f x.value) x.next x.rest
 
--- behind a token that must stand
+-- the tokens behind one that must stand, where they are known, or the fault at the first
 abbrev pub taken_or : Code → ℕ → Tokens → Option Tokens → Result Tokens Fault
 taken_or code p ts (Some us) = Ok us
 taken_or code p ts None = expected code p ts
 
+-- the tokens behind the first, which must fit, or the fault at it
 unfoldable pub taken : (TokenText → Bool) → Code → ℕ → Tokens → Result Tokens Fault
 taken fits code p ts = taken_or code p ts (behind fits ts)
 

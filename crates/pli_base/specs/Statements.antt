@@ -1,4 +1,4 @@
--- Trees of statements, as definitions speak of them: without where they lie in memory.
+-- Trees of statements, as definitions speak of them (X3.74): without where they lie in memory.
 use Rattle.std.specs.Prelude.{ℕ, ◌+◌, Bool, List, Option}
 use Rattle.pli_base.specs.Syntax.{Expression, Reference, Arguments}
 use Rattle.pli_base.specs.declared.syntax.Identifier.{Identifier}
@@ -41,6 +41,7 @@ mutual
   pub data Statement : Type 0 where
     Numbered : (number : ℕ) (label : Option Identifier) (at : ℕ) (body : Body) → Statement
 
+  -- what a statement is, apart from its number and its label
   pub data Body : Type 0 where
     Null : Body
     Assign : (target : Reference) (equals : ℕ) (value : Expression) → Body
@@ -59,10 +60,12 @@ mutual
     Return : (value : Option Expression) → Body
     Put : (skip : Bool) (items : List Expression) → Body
 
+  -- a list of statements
   pub data Statements : Type 0 where
     Ended : Statements
     Before : (first : Statement) (more : Statements) → Statements
 
+  -- the ELSE of an IF, if it has one
   pub data Alternative : Type 0 where
     NoElse : Alternative
     Else : (statement : Statement) → Alternative
@@ -78,6 +81,7 @@ abbrev mutual
   pub count : Statement → ℕ
   count (Numbered number label at body) = 1 + body_count body
 
+  -- how many begin in what a statement holds, the END of a block or a group included
   pub body_count : Body → ℕ
   body_count (Procedure heading statements end) = list_count statements + 1
   body_count (Begin statements end) = list_count statements + 1
@@ -86,10 +90,12 @@ abbrev mutual
   body_count (On condition unit) = count unit
   body_count body = 0
 
+  -- how many begin in the statements of a list
   pub list_count : Statements → ℕ
   list_count Ended = 0
   list_count (Before first more) = count first + list_count more
 
+  -- how many begin in an ELSE
   pub alternative_count : Alternative → ℕ
   alternative_count NoElse = 0
   alternative_count (Else statement) = count statement
@@ -99,10 +105,12 @@ abbrev mutual
   pub AwaitsElse : Statement → Type 0
   AwaitsElse (Numbered number label at body) = BodyAwaitsElse body
 
+  -- the same of what a statement is: only an IF awaits one
   pub BodyAwaitsElse : Body → Type 0
   BodyAwaitsElse (If condition consequence alternative) = AlternativeAwaitsElse alternative
   BodyAwaitsElse body = ⊥
 
+  -- an IF without ELSE awaits one; with ELSE, it does if the statement of its ELSE does
   pub AlternativeAwaitsElse : Alternative → Type 0
   AlternativeAwaitsElse NoElse = Unit {0}
   AlternativeAwaitsElse (Else statement) = AwaitsElse statement

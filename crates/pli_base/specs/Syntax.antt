@@ -1,4 +1,5 @@
--- Trees of expressions and references, as definitions speak of them: without where they lie in memory.
+-- Trees of expressions and references, as definitions speak of them (X3.74): without where they lie in
+-- memory.
 use Rattle.std.specs.Prelude.{ℕ}
 use Rattle.pli_base.specs.declared.syntax.Identifier.{Identifier}
 use Rattle.pli_base.specs.declared.syntax.ConstantValue.{ConstantValue}
@@ -19,6 +20,7 @@ mutual
   pub data Reference : Type 0 where
     Named : (name : Identifier) (arguments : Arguments) (more : JoinedParts) → Reference
 
+  -- the parts behind `.` or `->`, each with what joins it to the one before
   pub data JoinedParts : Type 0 where
     Alone : JoinedParts
     Joined : (joining : Joining) (name : Identifier) (arguments : Arguments) (more : JoinedParts)
@@ -29,6 +31,7 @@ mutual
     Absent : Arguments
     Given : (list : Expressions) → Arguments
 
+  -- a list of expressions
   pub data Expressions : Type 0 where
     Empty : Expressions
     Listed : (first : Expression) (more : Expressions) → Expressions

@@ -1,4 +1,4 @@
--- The words and signs of the language, and tests of tokens.
+-- The words and signs of the language, and tests of tokens (X3.74).
 use Rattle.std.specs.Prelude.{ℕ, Bool, true, false, ◌||◌, nat_eq, List, [], ◌∷◌, Option, Some, None, codes}
 use Rattle.std.specs.Prelude.{if◌then◌else◌}
 use Rattle.std.specs.Cmp.Lexicographic.{pointwise}
@@ -21,7 +21,7 @@ same_name = pointwise nat_eq
 abbrev pub is_among : Name → List Name → Bool
 is_among n names = list_any (same_name n) names
 
--- no word is reserved: these are names, and keywords only where the grammar reads them so
+-- PROCEDURE or PROC; no word is reserved: it is a name, and a keyword only where the grammar reads it so
 abbrev pub is_procedure : Name → Bool
 is_procedure n = same_name n (codes "PROCEDURE") || same_name n (codes "PROC")
 
@@ -50,10 +50,12 @@ abbrev pub is_comma : TokenText → Bool
 is_comma (Sign Comma) = true
 is_comma _ = false
 
+-- the sign `:`
 abbrev pub is_colon : TokenText → Bool
 is_colon (Sign Colon) = true
 is_colon _ = false
 
+-- the sign `.`
 abbrev pub is_period : TokenText → Bool
 is_period (Sign Period) = true
 is_period _ = false

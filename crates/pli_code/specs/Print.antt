@@ -1,6 +1,5 @@
 -- Printing: the bytes of an item at a column, and the column after it (own). A line has 120 columns, counted
--- from 1;
--- at column 121 the line is full.
+-- from 1; at column 121 the line is full.
 use Rattle.std.specs.Prelude.{ℕ, ◌+◌, ◌-◌, nat_le, nat_eq, Bool, ◌||◌, Option, Some, None, List, [], ◌∷◌}
 use Rattle.std.specs.Prelude.{◌++◌, length, replicate, if◌then◌else◌}
 

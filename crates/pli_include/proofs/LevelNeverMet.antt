@@ -7,7 +7,8 @@ use Rattle.pli_base.specs.declared.token.Origin.{Origin}
 use Rattle.pli_base.specs.declared.token.Token.{Token}
 use Rattle.pli_lex.specs.declared.answer.LexFault.{LexFault}
 use Rattle.pli_include.specs.Pieces.{Piece, Plain, Directive, Misplaced, pieces_of}
-use Rattle.pli_include.specs.Expansion.{Look, Progress, Outcome, Include, included, is_among, stopped, found, looking, entered, read_piece, read_pieces, unless, too_many, kept, directed, origin_of, ◌then◌}
+use Rattle.pli_base.specs.Words.{is_among}
+use Rattle.pli_include.specs.Expansion.{Look, Progress, Outcome, Include, included, stopped, found, looking, entered, read_piece, read_pieces, unless, too_many, kept, directed, origin_of, ◌then◌}
 use Rattle.pli_include.specs.laws.Laws.{LevelIsNeverMet}
 
 -- more is read, and no more than the limit

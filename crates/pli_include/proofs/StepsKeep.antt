@@ -9,7 +9,8 @@ use Rattle.pli_base.specs.declared.token.Token.{Token}
 use Rattle.pli_base.specs.declared.token.TokenText.{TokenText}
 use Rattle.pli_lex.specs.declared.answer.LexFault.{LexFault}
 use Rattle.pli_include.specs.Pieces.{Piece, Plain, Directive, Misplaced, piece_at, pieces_after, pieces_of, begun, directive, named_by, is_percent, further}
-use Rattle.pli_include.specs.Expansion.{Look, Progress, Outcome, Include, included, expanded_within, started, is_among, stopped, found, looking, read_piece, read_pieces, unless, too_many, kept, directed, origin_of, ◌then◌}
+use Rattle.pli_base.specs.Words.{is_among}
+use Rattle.pli_include.specs.Expansion.{Look, Progress, Outcome, Include, included, expanded_within, started, stopped, found, looking, read_piece, read_pieces, unless, too_many, kept, directed, origin_of, ◌then◌}
 use Rattle.pli_include.specs.laws.Laws.{TextsHaveOrigins}
 use Rattle.pli_include.proofs.LevelNeverMet.{past_end}
 

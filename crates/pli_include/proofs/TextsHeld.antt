@@ -9,7 +9,8 @@ use Rattle.pli_base.specs.Name.{Name}
 use Rattle.pli_base.specs.declared.token.Token.{Token}
 use Rattle.pli_members.specs.answers.Kept.{IsKept, IsKeptMember}
 use Rattle.pli_members.specs.Members.{Store, Member, lines_of, member_of, is_named}
-use Rattle.pli_include.specs.Expansion.{Look, Progress, looking, is_among}
+use Rattle.pli_base.specs.Words.{is_among}
+use Rattle.pli_include.specs.Expansion.{Look, Progress, looking}
 use Rattle.pli_include.specs.answers.Walking.{HoldsTexts}
 
 -- a member has at most 9,999 lines

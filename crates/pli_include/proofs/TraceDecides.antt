@@ -5,7 +5,7 @@ use Rattle.std.proofs.lemmas.List.Elements.{Contains-append_left, Contains-get_o
 use Rattle.indexmap.proofs.CallerLemmas.{Contains-insert_key}
 use Rattle.pli_base.specs.Name.{Name}
 use Rattle.pli_base.specs.laws.NameLaws.{equal_from_pointwise}
-use Rattle.pli_base.specs.Words.{same_name}
+use Rattle.pli_base.specs.Words.{same_name, is_among}
 use Rattle.pli_base.specs.declared.code.Code.TheVariants.{RecursiveInclude}
 use Rattle.pli_base.specs.declared.token.Origin.{Origin}
 use Rattle.pli_base.specs.declared.token.Token.{Token}
@@ -13,7 +13,7 @@ use Rattle.pli_lex.specs.Reading.{lexed}
 use Rattle.pli_lex.specs.declared.answer.LexFault.{LexFault}
 use Rattle.pli_members.specs.Members.{Store}
 use Rattle.pli_include.specs.Pieces.{Piece, Plain, Directive, Misplaced, pieces_of}
-use Rattle.pli_include.specs.Expansion.{Look, Progress, Outcome, Include, included, is_among, stopped, found, looking, entered, read_piece, read_pieces, unless, too_many, kept, directed, origin_of, started, expanded_within, token_limit, ◌then◌}
+use Rattle.pli_include.specs.Expansion.{Look, Progress, Outcome, Include, included, stopped, found, looking, entered, read_piece, read_pieces, unless, too_many, kept, directed, origin_of, started, expanded_within, token_limit, ◌then◌}
 use Rattle.pli_include.specs.Expanded.{look_in, outcome_of, answered, told, expansion_of}
 use Rattle.pli_include.specs.laws.Laws.{looked_in, Agree, TraceDecides, AnswersAlike, ExpansionStays}
 

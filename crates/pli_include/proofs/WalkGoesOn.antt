@@ -18,7 +18,8 @@ use Rattle.pli_include.specs.declared.walk.Walk.{Walk}
 use Rattle.pli_members.specs.Members.{Store}
 use Rattle.pli_include.specs.Expanded.{look_in, outcome_of}
 use Rattle.pli_include.specs.Pieces.{pieces_of}
-use Rattle.pli_include.specs.Expansion.{Look, Progress, Outcome, Include, included, expanded_within, is_among, stopped, found, looking, read_pieces, ◌then◌}
+use Rattle.pli_base.specs.Words.{is_among}
+use Rattle.pli_include.specs.Expansion.{Look, Progress, Outcome, Include, included, expanded_within, stopped, found, looking, read_pieces, ◌then◌}
 use Rattle.pli_include.specs.answers.Pausing.{Reads}
 use Rattle.pli_include.specs.answers.Walking.{HoldsTexts, IsFresh, IsUnderWay, going, ended, include_from, rest_of, tokens_in}
 use Rattle.pli_include.proofs.TextsHeld.{looked_stays}

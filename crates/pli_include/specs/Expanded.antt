@@ -1,4 +1,4 @@
--- The expansion of a member of a store, with its trace.
+-- The expansion of a member of a store, with its trace (own).
 use Rattle.std.specs.Prelude.{List, [], map, Option, None, Some, Ok, Err}
 use Rattle.std.specs.Map.{lookup}
 use Rattle.std.specs.Option.{option_map}

@@ -2,9 +2,8 @@
 -- names, or the first fault.
 use Rattle.std.specs.Prelude.{ℕ, zero, suc, ◌+◌, ◌-◌, Bool, List, [], ◌∷◌, ◌++◌, slice_get, Option, None}
 use Rattle.std.specs.Prelude.{Some, Result, Ok, Err, if◌then◌else◌}
-use Rattle.std.specs.List.{list_any}
 use Rattle.pli_base.specs.Name.{Name}
-use Rattle.pli_base.specs.Words.{same_name}
+use Rattle.pli_base.specs.Words.{is_among}
 use Rattle.pli_base.specs.declared.code.Code.{Code}
 use Rattle.pli_base.specs.declared.code.Code.TheVariants.{NoSuchMember, RecursiveInclude, TooManyTokens}
 use Rattle.pli_base.specs.declared.code.Code.TheVariants.{BadInclude}
@@ -37,9 +36,8 @@ pub record Stop : Type 0 where
 abbrev pub Outcome : Type 0
 Outcome = Result Progress Stop
 
--- one thing after another, unless the first stops
 infixl 10 ◌then◌
--- one after another, up to a stop
+-- one thing after another, unless the first stops
 abbrev pub ◌then◌ : Outcome → (Progress → Outcome) → Outcome
 (Ok s) then next = next s
 (Err stop) then next = Err stop
@@ -47,10 +45,6 @@ abbrev pub ◌then◌ : Outcome → (Progress → Outcome) → Outcome
 -- the fault stands at this place
 abbrev pub stopped : Code → Origin → Progress → Outcome
 stopped code at s = Err (record { looked = s.looked; fault = record { code = code; origin = at } })
-
--- the name is one of these
-abbrev pub is_among : Name → List Name → Bool
-is_among name names = list_any (same_name name) names
 
 -- the name is looked up
 abbrev pub looking : Name → Progress → Progress

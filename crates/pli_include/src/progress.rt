@@ -1,6 +1,7 @@
 //! How far an expansion has come.
 ghost use Rattle.std.specs.Prelude.{◌≡◌, ◌<◌, ◌≤◌, ◌-◌, ◌+◌, OnOk, IfOk, Some, slice_get, not};
-ghost use Rattle.pli_include.specs.Expansion.{started, kept, directed, looking, is_among};
+ghost use Rattle.pli_base.specs.Words.{is_among};
+ghost use Rattle.pli_include.specs.Expansion.{started, kept, directed, looking};
 
 use indexmap::IndexSet;
 use pli_base::{Name, Origin, Token, TokenText};

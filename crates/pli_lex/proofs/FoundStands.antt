@@ -11,7 +11,8 @@ use Rattle.pli_base.specs.declared.token.Sign.{Sign}
 use Rattle.pli_base.specs.declared.token.TokenText.TheVariants as texts
 use Rattle.pli_lex.specs.Characters.{is_quote, is_b, is_width_digit, on_one_line, continues_number, begins_with}
 use Rattle.pli_lex.specs.Signs.{sign_of}
-use Rattle.pli_lex.specs.Tokens.{value_in, is_constant, is_binary_constant, doubled, quoted, width_of, are_digits, bits_in, IsToken, EndsAt}
+use Rattle.pli_base.specs.Digits.{value_in}
+use Rattle.pli_lex.specs.Tokens.{is_constant, is_binary_constant, doubled, quoted, width_of, are_digits, bits_in, IsToken, EndsAt}
 use Rattle.pli_lex.specs.Reading.{Found, word, word_at, decimal, binary, number_at, string_from, suffix_width, bits, string, string_found, string_at, sign, sign_at, token_at}
 use Rattle.pli_lex.proofs.TakenApart.{chosen, ok_is, begins_split}
 use Rattle.pli_lex.proofs.LongestRuns.{run_stops}

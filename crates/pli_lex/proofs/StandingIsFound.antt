@@ -13,7 +13,8 @@ use Rattle.pli_base.specs.declared.token.TokenText.{TokenText}
 use Rattle.pli_base.specs.declared.token.TokenText.TheVariants as texts
 use Rattle.pli_lex.specs.Characters.{is_line_end, is_quote, is_b, is_binary_digit, is_width_digit, digit_value, on_one_line, continues_number, begins_with}
 use Rattle.pli_lex.specs.Signs.{sign_of}
-use Rattle.pli_lex.specs.Tokens.{value_in, is_constant, is_binary_constant, doubled, quoted, width_of, are_digits, bits_in, IsToken, EndsAt}
+use Rattle.pli_base.specs.Digits.{value_in}
+use Rattle.pli_lex.specs.Tokens.{is_constant, is_binary_constant, doubled, quoted, width_of, are_digits, bits_in, IsToken, EndsAt}
 use Rattle.pli_lex.specs.Reading.{Found, word, word_at, number_of, number_at, bits, string, string_found, string_at, sign, sign_at, token_at}
 use Rattle.pli_lex.proofs.TakenApart.{done, ok_is, chosen, some_is, none_some}
 use Rattle.pli_lex.proofs.KindsApart.{is_solid, letter_in_name, letter_solid, digit_solid, digit_no_letter, binary_digit_is_digit, b_no_digit, b_no_quote, b_continues, digit_continues, not_begun, begun_otherwise, begins_sign, sign_begins}

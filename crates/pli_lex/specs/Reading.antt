@@ -1,8 +1,10 @@
--- Reading a text from left to right: its tokens, or the fault of the first place where nothing can stand.
+-- Reading a text from left to right (own): its tokens, or the fault of the first place where nothing can
+-- stand.
 use Rattle.std.specs.Prelude.{ℕ, zero, suc, ◌+◌, ◌-◌, nat_eq, Bool, false, ◌&&◌, not, List, [], ◌∷◌, ◌++◌}
 use Rattle.std.specs.Prelude.{length, take, drop, Option, Some, None, Result, Ok, Err, if◌then◌else◌}
 use Rattle.std.specs.List.{prefix_len}
 use Rattle.std.specs.Option.{is_some, option_map}
+use Rattle.pli_base.specs.Digits.{value_in}
 use Rattle.pli_base.specs.Name.{Name, is_letter, is_digit, is_name_character, name_of}
 use Rattle.pli_base.specs.declared.code.Code.{Code}
 use Rattle.pli_base.specs.declared.code.Code.TheVariants.{UnendedComment, UnendedString, BadCharacter}
@@ -15,7 +17,7 @@ use Rattle.pli_lex.specs.declared.answer.LexFault.{LexFault}
 use Rattle.pli_lex.specs.Characters.{text_of, line_ends, is_line_end, is_blank, is_quote, is_b}
 use Rattle.pli_lex.specs.Characters.{is_width_digit, continues_number, begins_with, begins_comment}
 use Rattle.pli_lex.specs.Signs.{sign_of}
-use Rattle.pli_lex.specs.Tokens.{value_in, is_constant, is_binary_constant, width_of, are_digits, bits_in}
+use Rattle.pli_lex.specs.Tokens.{is_constant, is_binary_constant, width_of, are_digits, bits_in}
 
 infixl 10 ◌>>=◌
 -- goes on with what was read, or stays at the fault

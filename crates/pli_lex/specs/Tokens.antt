@@ -1,9 +1,10 @@
 -- What a text spells, apart from how it is read (X3.74; the limits of constants are own).
 use Rattle.std.specs.Prelude.{◌≡◌, ◌⊎◌, ℕ, ◌+◌, ◌-◌, ◌*◌, ◌/◌, ◌%◌, ◌^◌, nat_eq, nat_le, nat_lt, IsTrue}
-use Rattle.std.specs.Prelude.{IsFalse, Bool, ◌&&◌, ◌||◌, List, [], ◌∷◌, ◌++◌, map, drop, length, fold, Option}
+use Rattle.std.specs.Prelude.{IsFalse, Bool, ◌&&◌, ◌||◌, List, [], ◌∷◌, ◌++◌, map, drop, length, Option}
 use Rattle.std.specs.Prelude.{Some, None, codes, if◌then◌else◌}
 use Rattle.std.specs.List.{concat, list_all}
 use Rattle.std.specs.Option.{is_some}
+use Rattle.pli_base.specs.Digits.{value_in}
 use Rattle.pli_base.specs.Name.{is_digit, is_name_character, name_of}
 use Rattle.pli_base.specs.declared.token.TokenText.{TokenText}
 use Rattle.pli_base.specs.declared.token.TokenText.TheVariants as texts
@@ -35,10 +36,6 @@ abbrev pub IsGap : List ℕ → Type 0
 IsGap gap = (runs : List (List ℕ)) × (gap ≡ concat runs) × AreSeparators runs
 
 -- ---- numbers
-
--- the value of digits in this base
-abbrev pub value_in : ℕ → List ℕ → ℕ
-value_in base digits = fold (λ value digit. value * base + (digit - 48)) 0 digits
 
 -- one to ten digits, leading zeros counted, with a value of at most 2147483647
 abbrev pub is_constant : List ℕ → Bool

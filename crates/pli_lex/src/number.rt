@@ -1,9 +1,9 @@
 //! Decimal and binary constants.
 ghost use Rattle.std.specs.Prelude.{◌≡◌, ◌<◌, ◌≤◌, ◌^◌, IsTrue, Ok, Err, length, drop};
 ghost use Rattle.std.specs.List.{list_all, prefix_len};
+ghost use Rattle.pli_base.specs.Digits.{value_in};
 ghost use Rattle.pli_base.specs.Name.{is_digit};
 ghost use Rattle.pli_lex.specs.Characters.{is_binary_digit, begins_with};
-ghost use Rattle.pli_lex.specs.Tokens.{value_in};
 ghost use Rattle.pli_lex.specs.Reading.{number_at, decimal, binary};
 
 use crate::character::{begins_with_b, continues_number, is_binary_digit, is_digit};

@@ -1,11 +1,11 @@
--- Descriptions, as definitions speak of them: without where they lie in memory. Names do not stand in them,
--- so two descriptions are
--- equal where types, bounds and structure agree.
+-- Descriptions, as definitions speak of them (own): without where they lie in memory. Names do not stand in
+-- them, so two descriptions are equal where types, bounds and structure agree.
 use Rattle.std.specs.Prelude.{ℕ, List}
 use Rattle.std.specs.Int.{next_multiple_of}
 use Rattle.pli_map.specs.declared.description.Bounds.{Bounds}
 
 mutual
+  -- a type, an array of elements, or a structure of members
   pub data Description : Type 0 where
     FixedBinary : (precision : ℕ) → Description
     Character : (length : ℕ) → Description
@@ -17,6 +17,7 @@ mutual
     Array : (bounds : List Bounds) (element : Description) → Description
     Structure : (members : Members) → Description
 
+  -- the members of a structure, in their order
   pub data Members : Type 0 where
     NoMembers : Members
     MemberThen : (first : Description) (others : Members) → Members

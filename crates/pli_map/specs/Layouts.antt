@@ -1,4 +1,4 @@
--- What the function that measures descriptions answers.
+-- What the function that measures descriptions answers (own).
 use Rattle.std.specs.Prelude.{◌≡◌, ℕ, ◌<◌, ◌≤◌, Option, Some, None}
 use Rattle.pli_map.specs.declared.layout.Layout.{Layout}
 

@@ -1,4 +1,4 @@
--- Where the parts of a description stand in it.
+-- Where the parts of a description stand in it (row-major order X3.74, the rest own).
 use Rattle.std.specs.Prelude.{ℕ, zero, suc, ◌+◌, ◌*◌, ◌&&◌, int_le, ℤ, ◌-ℤ◌, unsigned_abs, Option, Some, None}
 use Rattle.std.specs.Prelude.{option_map, option_and_then, List, [], ◌∷◌, if◌then◌else◌}
 use Rattle.std.specs.Int.{next_multiple_of}

@@ -1,4 +1,4 @@
--- Equality of descriptions as a test.
+-- Equality of descriptions as a test (own).
 use Rattle.std.specs.Prelude.{Bool, true, false, ◌==◌, ◌&&◌, List, [], ◌∷◌}
 use Rattle.std.specs.Ordering.{int_eq}
 use Rattle.pli_map.specs.declared.description.Bounds.{Bounds}
@@ -25,6 +25,7 @@ abbrev mutual
   same (Structure ds) (Structure es) = same_members ds es
   same d e = false
 
+  -- equal members, as many of each structure
   pub same_members : Members → Members → Bool
   same_members NoMembers NoMembers = true
   same_members (MemberThen d ds) (MemberThen e es) = same d e && same_members ds es

@@ -1,5 +1,5 @@
 -- How many of the scalars of a description stand before the part that a path leads to, and descriptions of
--- which each part takes bytes.
+-- which each part takes bytes (own).
 use Rattle.std.specs.Prelude.{ℕ, zero, suc, ◌+◌, ◌*◌, nat_lt, Bool, true, false, ◌&&◌, Option, Some, None}
 use Rattle.std.specs.Prelude.{option_map, option_and_then, List, [], ◌∷◌}
 use Rattle.pli_map.specs.Description.{Description, FixedBinary, Character, Varying, Bit, Pointer, Offset}
@@ -45,6 +45,7 @@ abbrev mutual
   is_filled (Structure NoMembers) = false
   is_filled (Structure (MemberThen d ds)) = is_filled d && are_filled ds
 
+  -- so in each member
   pub are_filled : Members → Bool
   are_filled NoMembers = true
   are_filled (MemberThen d ds) = is_filled d && are_filled ds

@@ -1,5 +1,5 @@
--- The scalars of a description: the types that are no arrays and no structures, in the order in which they
--- stand, those of an array in row-major order. What an aggregate holds is the list of what they hold.
+-- The scalars of a description (own): the types that are no arrays and no structures, in the order in which
+-- they stand, those of an array in row-major order. What an aggregate holds is the list of what they hold.
 use Rattle.std.specs.Prelude.{ℕ, ◌+◌, ◌-◌, ◌*◌, ◌/◌, ◌%◌, nat_eq, nat_lt, ◌&&◌, Option, Some, None}
 use Rattle.std.specs.Prelude.{option_map}
 use Rattle.std.specs.Prelude.{Bool, true, false, if◌then◌else◌}
@@ -21,6 +21,7 @@ abbrev mutual
   scalars_in (Structure members) = scalars_among members
   scalars_in scalar = 1
 
+  -- how many the members of a structure have together
   pub scalars_among : Members → ℕ
   scalars_among NoMembers = 0
   scalars_among (MemberThen d ds) = scalars_in d + scalars_among ds

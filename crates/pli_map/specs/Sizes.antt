@@ -32,6 +32,7 @@ abbrev mutual
   alignment_of (Array bounds element) = alignment_of element
   alignment_of (Structure members) = greatest_alignment members
 
+  -- the greatest that a member has; 1 without members
   pub greatest_alignment : Members → ℕ
   greatest_alignment NoMembers = 1
   greatest_alignment (MemberThen d ds) = max (alignment_of d) (greatest_alignment ds)

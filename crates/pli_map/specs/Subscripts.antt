@@ -1,5 +1,5 @@
 -- The subscripts of a path, those of all levels in turn, and the path to the first element in place of the
--- one that they name. A part stands behind that first one by so many bytes for each subscript.
+-- one that they name (own). A part stands behind that first one by so many bytes for each subscript.
 use Rattle.std.specs.Prelude.{ℕ, ◌*◌, ◌==◌, Bool, true, ◌&&◌, ℤ, ◌-ℤ◌, ◌≤ℤ◌, unsigned_abs, List, [], ◌∷◌}
 use Rattle.std.specs.Prelude.{◌++◌, map, length, option_map}
 use Rattle.std.specs.Option.{unwrap_or}
@@ -15,6 +15,7 @@ pub record Subscript : Type 0 where
   pub multiplier : ℕ
   pub subscript : ℤ
 
+-- a subscript lies within the bounds of its dimension
 abbrev pub IsWithin : Subscript → Type 0
 IsWithin s = (s.bounds.low ≤ℤ s.subscript) × (s.subscript ≤ℤ s.bounds.high)
 

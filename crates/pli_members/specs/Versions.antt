@@ -1,4 +1,4 @@
--- No version is given twice, and an edit changes its member alone.
+-- No version is given twice, and an edit changes its member alone (own).
 use Rattle.std.specs.Prelude.{◌≡◌, ◌≢◌, ℕ, List, [], ◌∷◌, None, Some, Contains}
 use Rattle.pli_base.specs.Name.{Name}
 use Rattle.pli_members.specs.Members.{Store, Change, added, deleted, with_change, with_member, member_of}

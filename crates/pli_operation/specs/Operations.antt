@@ -1,6 +1,7 @@
--- The operations of expressions: prefix and infix operators, built-in functions of values, and conversions.
-use Rattle.std.specs.Prelude.{ℕ, nat_le, Bool, true, false, ◌||◌, ℤ, pos, neg_ℤ}
-use Rattle.std.specs.Prelude.{◌+ℤ◌, ◌-ℤ◌, ◌*ℤ◌, int_lt, int_le, unsigned_abs, Result, Ok, Err, Option, Some}
+-- The operations of expressions (X3.74, limits own): prefix and infix operators, built-in functions of
+-- values, and conversions.
+use Rattle.std.specs.Prelude.{ℕ, nat_le, Bool, true, false, ℤ, pos, neg_ℤ}
+use Rattle.std.specs.Prelude.{◌+ℤ◌, ◌-ℤ◌, ◌*ℤ◌, int_le, unsigned_abs, Result, Ok, Err, Option, Some}
 use Rattle.std.specs.Prelude.{None}
 use Rattle.std.specs.Prelude.{List, [], ◌∷◌, length, take, if◌then◌else◌}
 use Rattle.std.specs.Ordering.{int_cmp, nat_cmp, bool_cmp}
@@ -9,9 +10,10 @@ use Rattle.std.specs.declared.cmp.Ordering.{Ordering}
 use Rattle.std.specs.declared.cmp.Ordering.TheVariants as orders
 use Rattle.pli_map.specs.Description.{Description, FixedBinary, Character, Varying, Bit}
 use Rattle.pli_value.specs.Conversions.{number_characters, bit_characters}
-use Rattle.pli_value.specs.Numbers.{within, quotient, remainder}
+use Rattle.pli_value.specs.Numbers.{within, quotient, remainder, sign_of, greatest_of, least_of}
 use Rattle.pli_value.specs.Strings.{order_of, conjunction, disjunction, negation, concatenation, substring}
 use Rattle.pli_value.specs.Strings.{substring_from, fitted, index_of}
+pub use Rattle.pli_value.specs.Strings.{is_true}
 use Rattle.pli_value.specs.Value.{Value, Number, Characters, Bits}
 use Rattle.pli_value.specs.declared.number.Raised.{Raised}
 
@@ -71,11 +73,12 @@ abbrev pub as_number : Result ℤ Raised → Calculation
 as_number (Ok x) = Calculates (Number x)
 as_number (Err condition) = RaisesCondition condition
 
--- a string, where there is one
+-- characters, where there are some; else a string out of range
 abbrev pub as_characters : Option (List ℕ) → Calculation
 as_characters None = OutOfString
 as_characters (Some text) = Calculates (Characters text)
 
+-- bits, where there are some; else a string out of range
 abbrev pub as_bits : Option (List Bool) → Calculation
 as_bits None = OutOfString
 as_bits (Some bits) = Calculates (Bits bits)
@@ -83,10 +86,6 @@ as_bits (Some bits) = Calculates (Bits bits)
 -- a bit: the answer of a comparison
 abbrev pub as_bit : Bool → Calculation
 as_bit b = Calculates (Bits (b ∷ []))
-
--- a number from -1 to 1
-abbrev pub sign_of : ℤ → ℤ
-sign_of x = if int_lt x (pos 0) then neg_ℤ (pos 1) else if int_lt (pos 0) x then pos 1 else pos 0
 
 -- two strings, or numbers, stand so
 abbrev pub stands : Relation → Ordering → Bool
@@ -100,13 +99,6 @@ stands Greater orders.Greater = true
 stands AtLeast orders.Greater = true
 stands AtLeast orders.Equal = true
 stands relation order = false
-
--- the greater and the lesser of two numbers
-abbrev pub greatest_of : ℤ → ℤ → ℤ
-greatest_of x y = if int_le x y then y else x
-
-abbrev pub least_of : ℤ → ℤ → ℤ
-least_of x y = if int_le x y then x else y
 
 -- a number has not passed a limit: it is at most the limit where the step is not negative, else at least
 abbrev pub is_within_limit : (x limit step : ℤ) → Bool
@@ -177,8 +169,3 @@ calculated n operation (v ∷ []) = calculated_from operation v
 calculated n operation (v ∷ w ∷ []) = calculated_with n operation v w
 calculated n operation (u ∷ v ∷ w ∷ []) = calculated_by operation u v w
 calculated n operation other = Misfits
-
--- a condition of IF or WHILE: a bit of the string is one
-abbrev pub is_true : List Bool → Bool
-is_true [] = false
-is_true (b ∷ bits) = b || is_true bits

@@ -1,4 +1,4 @@
--- Items in the order of a key, which is a number or a text or whatever has an order.
+-- Items in the order of a key, which is a number or a text or whatever has an order (own).
 use Rattle.std.specs.Prelude.{List, [], ◌∷◌, if◌then◌else◌}
 use Rattle.std.specs.Ordering.{is_gt}
 use Rattle.std.specs.declared.cmp.Ordering.{Ordering}
@@ -14,5 +14,6 @@ module _ {X K : Type 0} (key : X → K) (cmp : K → K → Ordering) where
   in_order_after sorted [] = sorted
   in_order_after sorted (x ∷ xs) = in_order_after (inserted x sorted) xs
 
+  -- items in the order of their keys, those of equal keys in the order in which they were
   abbrev pub in_order : List X → List X
   in_order = in_order_after []

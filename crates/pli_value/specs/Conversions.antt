@@ -1,4 +1,4 @@
--- Numbers and bits as characters, by their codes.
+-- Numbers and bits as characters, by their codes (X3.74).
 use Rattle.std.specs.Prelude.{ℕ, ◌-◌, Bool, ℤ, List, [], ◌∷◌, ◌++◌, length, map, replicate, if◌then◌else◌}
 use Rattle.std.specs.Fmt.{signed_decimal}
 

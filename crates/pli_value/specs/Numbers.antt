@@ -1,5 +1,5 @@
--- Numbers of FIXED BINARY and the operations on them. A number of p binary digits lies from -(2^p - 1) to
--- 2^p - 1.
+-- Numbers of FIXED BINARY and the operations on them (X3.74, ranges and MOD own). A number of p binary digits
+-- lies from -(2^p - 1) to 2^p - 1.
 use Rattle.std.specs.Prelude.{◌≡◌, ℕ, zero, suc, ◌^◌, nat_lt, Bool, ℤ, pos, negsuc, ◌+ℤ◌, ◌*ℤ◌, ◌≤ℤ◌}
 use Rattle.std.specs.Prelude.{unsigned_abs, Result, Ok, Err, if◌then◌else◌}
 use Rattle.std.specs.Prelude.{int_div, int_lt, int_le, neg_ℤ}
@@ -33,10 +33,11 @@ remainder x y = unless_zero y (Ok (int_rem_euclid x y))
 abbrev pub sign_of : ℤ → ℤ
 sign_of x = if int_lt x (pos 0) then neg_ℤ (pos 1) else if int_lt (pos 0) x then pos 1 else pos 0
 
--- MAX(x, y) and MIN(x, y)
+-- MAX(x, y)
 abbrev pub greatest_of : ℤ → ℤ → ℤ
 greatest_of x y = if int_le x y then y else x
 
+-- MIN(x, y)
 abbrev pub least_of : ℤ → ℤ → ℤ
 least_of x y = if int_le x y then x else y
 

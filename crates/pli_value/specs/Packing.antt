@@ -1,4 +1,4 @@
--- Bit strings packed, eight bits to a byte, the first bit highest.
+-- Bit strings packed, eight bits to a byte, the first bit highest (own).
 use Rattle.std.specs.Prelude.{◌≡◌, ℕ, ◌+◌, ◌-◌, ◌*◌, ◌/◌, ◌%◌, ◌≤◌, nat_eq, Bool, false, List, length, map}
 use Rattle.std.specs.Prelude.{slice_index, slice_index_or, if◌then◌else◌}
 use Rattle.std.specs.Int.{bit_at}

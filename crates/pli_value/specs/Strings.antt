@@ -1,5 +1,5 @@
--- Strings as lists, of characters (each by its code) or of bits, and the operations on them. Places are
--- counted from 0 here, as the places of a list; the language counts them from 1.
+-- Strings as lists, of characters (each by its code) or of bits, and the operations on them (X3.74, limit
+-- own). Places are counted from 0 here, as the places of a list; the language counts them from 1.
 use Rattle.std.specs.Prelude.{◌≡◌, ◌<◌, ℕ, zero, suc, ◌+◌, ◌-◌, max, nat_le, nat_eq, Bool, false, not, ◌&&◌}
 use Rattle.std.specs.Prelude.{◌||◌, ℤ, pos, negsuc, List, [], ◌∷◌, ◌++◌, length, map, take, drop, replicate}
 use Rattle.std.specs.Prelude.{slice_index_or, Option, None, Some, if◌then◌else◌}
@@ -25,13 +25,15 @@ first_unequal (o ∷ os) = ordering_then o (first_unequal os)
 abbrev pub order_of : {A : Type 0} → (extension : A) → (A → A → Ordering) → List A → List A → Ordering
 order_of extension order s t = first_unequal (by_place extension order s t)
 
--- `&` and `|` of bit strings, the shorter extended with zeros; `^`
+-- `&` of bit strings, the shorter extended with zeros
 abbrev pub conjunction : List Bool → List Bool → List Bool
 conjunction s t = by_place false (λ a b. a && b) s t
 
+-- `|` of bit strings, the shorter extended with zeros
 abbrev pub disjunction : List Bool → List Bool → List Bool
 disjunction s t = by_place false (λ a b. a || b) s t
 
+-- `^` of a bit string
 abbrev pub negation : List Bool → List Bool
 negation s = map not s
 
@@ -64,10 +66,11 @@ rest_of elements (negsuc n) = None
 abbrev pub piece : {A : Type 0} → List A → (ℕ × ℕ) → List A
 piece s part = take part.1 (drop part.0 s)
 
--- SUBSTR(s, i, n) and SUBSTR(s, i)
+-- SUBSTR(s, i, n)
 abbrev pub substring : {A : Type 0} → List A → (first count : ℤ) → Option (List A)
 substring s first count = option_map (piece s) (part_of (length s) first count)
 
+-- SUBSTR(s, i)
 abbrev pub substring_from : {A : Type 0} → List A → (first : ℤ) → Option (List A)
 substring_from s first = option_map (piece s) (rest_of (length s) first)
 
@@ -86,11 +89,12 @@ first_place sought [] = 0
 first_place sought (x ∷ xs) =
     if starts_with nat_eq (x ∷ xs) sought then 1 else one_behind (first_place sought xs)
 
--- a string stands in another at a place, and at none before it; it stands at none
+-- a string stands in another at a place, and at none before it
 abbrev pub StandsFirstAt : (s sought : List ℕ) → (place : ℕ) → Type 0
 StandsFirstAt s sought place =
     OccursAt s sought place × ((earlier : ℕ) → earlier < place → ¬ (OccursAt s sought earlier))
 
+-- a string stands in another at no place
 abbrev pub StandsNowhere : (s sought : List ℕ) → Type 0
 StandsNowhere s sought = (place : ℕ) → ¬ (OccursAt s sought place)
 

@@ -1,4 +1,4 @@
--- A value of the language, apart from where it lies in memory.
+-- A value of the language, apart from where it lies in memory (X3.74).
 use Rattle.std.specs.Prelude.{ℕ, Bool, ℤ, List}
 use Rattle.pli_value.specs.declared.value.Value as code
 use Rattle.pli_value.specs.declared.value.Value.TheVariants as variants

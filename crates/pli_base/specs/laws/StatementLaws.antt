@@ -41,6 +41,7 @@ pub do_made : (control : Option Control) (statements : Vec Statement Global) (en
 do_made control statements end =
     ap (λ x. tree.Do (option_map control_view control) x end) (list_made statements)
 
+-- the heading of a name, the number of its PROCEDURE, parameters and options
 abbrev pub heading_made : Identifier → ℕ → Vec Identifier Global → Vec ProcedureOption Global → tree.Heading
 heading_made name number parameters options =
     record {

@@ -14,6 +14,7 @@ use Rattle.pli_base.specs.declared.declaration.Attribute.{Attribute}
 use Rattle.pli_base.specs.declared.declaration.Attribute.TheVariants as attributes
 use Rattle.pli_base.specs.declared.declaration.Item.{Item}
 
+-- an attribute other than ENTRY and RETURNS
 abbrev pub simple_view : SimpleAttribute → tree.SimpleAttribute
 simple_view (Fixed n) = tree.Fixed n
 simple_view (Binary n) = tree.Binary n
@@ -32,21 +33,25 @@ simple_view Internal = tree.Internal
 simple_view Builtin = tree.Builtin
 simple_view (Initial values) = tree.Initial values.items
 
+-- an attribute of a parameter in ENTRY, or of a result
 abbrev pub described_view : DescribedAttribute → tree.DescribedAttribute
 described_view (described.Simple a) = tree.Plain (simple_view a)
 described_view described.Entry = tree.AnyEntry
 described_view described.Returns = tree.AnyReturns
 
+-- a parameter in ENTRY: its dimensions and attributes
 abbrev pub parameter_view : ParameterDescription → tree.ParameterDescription
 parameter_view d =
     record { dimensions = d.dimensions.items; attributes = map described_view d.attributes.items }
 
+-- an attribute of a declared item
 abbrev pub attribute_view : Attribute → tree.Attribute
 attribute_view (attributes.Simple a) = tree.Simple (simple_view a)
 attribute_view (attributes.Entry parameters) =
     tree.Entry (option_map (λ v. map parameter_view v.items) parameters)
 attribute_view (attributes.Returns result) = tree.Returns (map described_view result.items)
 
+-- an item of DECLARE
 abbrev pub item_view : Item → tree.Item
 item_view i =
     record {

@@ -18,22 +18,26 @@ use Rattle.pli_base.specs.declared.statement.Body.{Return, Put, Held-Body-If-2, 
 use Rattle.pli_base.specs.declared.statement.Body.{Row_of-Statement, end_of-Statement, more_of-Statement}
 use Rattle.pli_base.specs.declared.statement.Body.TheBlock.{struct-Procedure}
 
+-- an option of PROCEDURE
 abbrev pub option_view : ProcedureOption → tree.ProcedureOption
 option_view options.Main = tree.Main
 option_view (options.Returns attributes) = tree.Returns (map described_view attributes.items)
 option_view options.Recursive = tree.Recursive
 
+-- TO and BY, or REPEAT
 abbrev pub range_view : Range → tree.Range
 range_view (ranges.To to by) = tree.To (expression_view to) (option_map expression_view by)
 range_view (ranges.By by to) = tree.By (expression_view by) (option_map expression_view to)
 range_view (ranges.Repeat next) = tree.Repeat (expression_view next)
 
+-- what stands between DO and `;`
 abbrev pub control_view : Control → tree.Control
 control_view (controls.While condition) = tree.While (expression_view condition)
 control_view (controls.Iterate variable equals first range condition) =
     tree.Iterate (reference_view variable) equals (expression_view first) (option_map range_view range)
     (option_map expression_view condition)
 
+-- one variable of ALLOCATE
 abbrev pub allocation_view : Allocation → tree.Allocation
 allocation_view a =
     record {
@@ -43,6 +47,7 @@ allocation_view a =
     }
 
 abbrev mutual
+  -- what a statement is, apart from its number and its label
   pub body_view : Body → tree.Body
   body_view Null = tree.Null
   body_view (Assign target equals value) = tree.Assign (reference_view target) equals (expression_view value)
@@ -72,15 +77,18 @@ abbrev mutual
   body_view (Return value) = tree.Return (option_map expression_view value)
   body_view (Put skip items) = tree.Put skip (map expression_view items.items)
 
+  -- the ELSE of an IF, if it has one
   pub alternative_view : Held-Body-If-2 → tree.Alternative
   alternative_view None' = tree.NoElse
   alternative_view (Some' p number label at body) = tree.Else (tree.Numbered number label at (body_view body))
 
+  -- statements as they lie in a list
   pub statement_row : {m : _} → Row_of-Statement m → tree.Statements
   statement_row end_of-Statement = tree.Ended
   statement_row (more_of-Statement number label at body more) =
       tree.Before (tree.Numbered number label at (body_view body)) (statement_row more)
 
+-- a statement
 abbrev pub statement_view : Statement → tree.Statement
 statement_view s = tree.Numbered s.number s.label s.at (body_view s.body)
 

@@ -5,7 +5,8 @@ use Rattle.pli_base.specs.Name.{Name}
 use Rattle.pli_base.specs.declared.code.Code.TheVariants.{RecursiveInclude}
 use Rattle.pli_base.specs.declared.token.Origin.{Origin}
 use Rattle.pli_members.specs.Members.{Store, lines_of, version_of}
-use Rattle.pli_include.specs.Expansion.{Look, Progress, Outcome, included, expanded_within, is_among, stopped}
+use Rattle.pli_base.specs.Words.{is_among}
+use Rattle.pli_include.specs.Expansion.{Look, Progress, Outcome, included, expanded_within, stopped}
 use Rattle.pli_include.specs.Expansion.{found, looking}
 use Rattle.pli_include.specs.Expanded.{expansion_of, outcome_of}
 

@@ -15,6 +15,7 @@ abbrev pub all_of : List Description → Members
 all_of [] = NoMembers
 all_of (d ∷ ds) = MemberThen d (all_of ds)
 
+-- a structure of these members
 abbrev pub structure : List Description → Description
 structure ds = Structure (all_of ds)
 

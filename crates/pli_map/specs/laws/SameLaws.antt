@@ -40,6 +40,7 @@ all_bounds-Decides (b ∷ bs) (c ∷ cs) =
     cc) (λ e. (cc, cc)) (Decides-and _ _ (bounds-Decides b c) (all_bounds-Decides bs cs))
 
 mutual
+  -- the test tells whether two descriptions are equal
   pub same_decides : (d e : Description) → Decides (same d e) (d ≡ e)
   same_decides (FixedBinary p) (FixedBinary q) = numbers FixedBinary p q (λ e. cc)
   same_decides (Character n) (Character m) = numbers Character n m (λ e. cc)
@@ -54,6 +55,7 @@ mutual
   same_decides (Structure ds) (Structure es) = Decides-like _ (ap Structure) (λ e. cc) (members_decide ds es)
   same_decides d e = differ d e (λ h. cc)
 
+  -- the same of members
   members_decide : (ds es : Members) → Decides (same_members ds es) (ds ≡ es)
   members_decide NoMembers NoMembers = equal NoMembers
   members_decide (MemberThen d ds) (MemberThen e es) =

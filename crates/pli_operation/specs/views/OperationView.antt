@@ -6,6 +6,7 @@ use Rattle.pli_operation.specs.declared.operation.Operation.TheVariants as code
 use Rattle.pli_operation.specs.declared.operation.Relation.{Relation}
 use Rattle.pli_operation.specs.declared.operation.Relation.TheVariants as relation
 
+-- what a comparison asks
 abbrev pub relation_view : Relation → plain.Relation
 relation_view relation.Equal = plain.Equal
 relation_view relation.Unequal = plain.Unequal
@@ -14,6 +15,7 @@ relation_view relation.AtMost = plain.AtMost
 relation_view relation.Greater = plain.Greater
 relation_view relation.AtLeast = plain.AtLeast
 
+-- an operation
 abbrev pub operation_view : Operation → plain.Operation
 operation_view code.Negate = plain.Negate
 operation_view code.Absolute = plain.Absolute

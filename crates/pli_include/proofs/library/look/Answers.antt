@@ -4,7 +4,7 @@ use Rattle.std.specs.Prelude.{not}
 use Rattle.pli_base.specs.declared.token.Token.{Token}
 use Rattle.pli_lex.specs.Reading.{lexed}
 use Rattle.pli_include.specs.Expanded.{look_in}
-use Rattle.pli_include.specs.Expansion.{is_among}
+use Rattle.pli_base.specs.Words.{is_among}
 use Rattle.pli_include.specs.answers.Walking.{HoldsTexts}
 use Rattle.pli_include.proofs.TextsHeld.{lines_are_few, holds_more, comes_last}
 use Rattle.pli_include.proofs.library.look.Goals as goal

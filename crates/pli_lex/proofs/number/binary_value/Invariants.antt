@@ -1,5 +1,5 @@
 use Rattle.std.proofs.Common.{◌≡◌, ◌<◌, ◌^◌, take}
-use Rattle.pli_lex.specs.Tokens.{value_in}
+use Rattle.pli_base.specs.Digits.{value_in}
 use Rattle.pli_lex.proofs.number.binary_value.Given as goal
 
 abbrev pub invariant-loop-digit : goal.invariant-loop-digit
