@@ -26,3 +26,4 @@ pub mod StatementSpelledStarts
 pub mod StatementSpelledTools
 pub mod StatementSpelledUnits
 pub mod UnitFaults
+pub mod WordsFirst

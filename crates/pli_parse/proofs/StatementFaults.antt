@@ -13,7 +13,7 @@ use Rattle.pli_base.specs.declared.token.Sign.TheVariants.{OpenParenthesis}
 use Rattle.pli_base.specs.declared.token.TokenText.TheVariants.{Word, Sign}
 use Rattle.pli_base.specs.declared.syntax.Identifier.{Identifier}
 use Rattle.pli_base.specs.declared.statement.Condition.{Condition}
-use Rattle.pli_base.specs.Statements.{ProcedureOption, Main, Returns, Recursive, Heading, Range, To, By, Repeat, Control, While, Iterate, Allocation, Body}
+use Rattle.pli_base.specs.Statements.{ProcedureOption, Main, Returns, Recursive, To, By, Repeat, While, Iterate, Allocation, Body}
 use Rattle.pli_base.specs.Statements as body
 use Rattle.pli_parse_expression.specs.Expressions.{SpellsOutermost}
 use Rattle.pli_parse_expression.specs.Reading as expressions
@@ -25,10 +25,10 @@ use Rattle.pli_parse_declaration.specs.DeclarationReading.{identifier_at, list_a
 use Rattle.pli_parse_declaration.specs.declared.list.Separator.TheVariants.{Commas}
 use Rattle.pli_base.specs.Reading.{read_as, mapped, taken, enclosed, if_open, or_none}
 use Rattle.pli_parse_declaration.specs.DeclarationGrammar.{SpellsListed}
-use Rattle.pli_parse_fault.proofs.Steps.{some_same}
 use Rattle.pli_parse_declaration.proofs.DeclarationFaults.{identifier_sound, Stands, IsSound, misfit_stands, at_least, stands_behind, stands_then, stands_made, mapped_stands, taken_then, enclosed_stands, optional_stands, list_sound, returned_stands}
+use Rattle.pli_parse.proofs.WordsFirst.{range_less, place_less, put_less, option_less}
 use Rattle.pli_parse_statement.specs.StatementWords.{condition_of, behind_word}
-use Rattle.pli_parse_statement.specs.StatementReading.{uncounted, expression_in, reference_in, stopped, closing, parenthesized, is_equals, assignment_at, condition_from, condition_at, if_word, optional_at, paired, known_first, RangeWord, ToWord, ByWord, RepeatWord, range_word, range_first, range_from, range_at, Specified, Unspecified, Conditioned, Iterated, specified, control_from, control_at, PlaceWord, InWord, SetWord, place_word, place_first, placed_by, places_from, allocation_at, PutWord, SkipWord, ListWord, put_word, put_first, put_by, put_from, put_begun, put_at, call_at, OptionWord, OptionsWord, ReturnsWord, RecursiveWord, option_word, option_first, main_at, options_by, options_from, heading_at}
+use Rattle.pli_parse_statement.specs.StatementReading.{uncounted, expression_in, reference_in, stopped, closing, parenthesized, is_equals, assignment_at, condition_from, condition_at, if_word, optional_at, RangeWord, ToWord, ByWord, RepeatWord, range_first, range_from, range_at, Specified, Unspecified, Conditioned, Iterated, specified, control_from, control_at, PlaceWord, InWord, SetWord, place_first, placed_by, places_from, allocation_at, PutWord, SkipWord, ListWord, put_first, put_by, put_from, put_begun, put_at, call_at, OptionWord, OptionsWord, ReturnsWord, RecursiveWord, option_first, main_at, options_by, options_from, heading_at}
 use Rattle.pli_parse.proofs.StatementReadTools.{expression_reads, parenthesized_reads, list_reads, behind_is}
 
 uncounted_stands : {A : Type 0} (least p : ℕ) (ts : Tokens) (r : Result (expressions.Front A) Fault) → found.Stands least p ts r → Stands least p ts (uncounted r)
@@ -93,34 +93,6 @@ optional_stand {A = A} w one sound p ts = by (behind_word w ts) refl
     by (Some us) e =
         at_least 1 0 p ts (mapped Some (one (p + 1) us)) (omega arith)
         (behind_first 1 p ts us (mapped Some (one (p + 1) us)) (ap length (behind_is w ts us e)) (mapped_stands 1 (p + 1) us Some (one (p + 1) us) (sound (p + 1) us)))
-
--- a word was passed over
-paired_less : {A : Type 0} (n : Name) (us : Tokens) (o : Option A) (x : A × Tokens) → paired us o ≡ Some x → length (Word n ∷ us) ≡ suc (length x.1)
-paired_less {A = A} n us (Some w) x h =
-    let e : us ≡ x.1 = ap (λ (y : A × Tokens). y.1) (some_same h) in
-    ap (λ (vs : Tokens). suc (length vs)) e
-paired_less n us None x h = cc
-
-known_less : {A : Type 0} (known : Name → Option A) (ts : Tokens) (x : A × Tokens) → known_first known ts ≡ Some x → length ts ≡ suc (length x.1)
-known_less known [] x h = cc
-known_less known (Word n ∷ us) x h = paired_less n us (known n) x h
-known_less known (t ∷ us) x h = cc
-
-range_less : (ts : Tokens) (x : RangeWord × Tokens) → range_first ts ≡ Some x → length ts ≡ suc (length x.1)
-unfolding range_first
-range_less = known_less range_word
-
-place_less : (ts : Tokens) (x : PlaceWord × Tokens) → place_first ts ≡ Some x → length ts ≡ suc (length x.1)
-unfolding place_first
-place_less = known_less place_word
-
-put_less : (ts : Tokens) (x : PutWord × Tokens) → put_first ts ≡ Some x → length ts ≡ suc (length x.1)
-unfolding put_first
-put_less = known_less put_word
-
-option_less : (ts : Tokens) (x : OptionWord × Tokens) → option_first ts ≡ Some x → length ts ≡ suc (length x.1)
-unfolding option_first
-option_less = known_less option_word
 
 -- an expression, and behind it another behind a word
 two_stand : {A : Type 0} (levels : ℕ) (w : Name) (value : Expression → Option Expression → A) (p : ℕ) (ts : Tokens)

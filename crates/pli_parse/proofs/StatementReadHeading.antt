@@ -1,8 +1,6 @@
 -- What is read is spelled so: what stands behind CALL and PROCEDURE, labels and the ends of blocks.
-use Rattle.std.proofs.Common.{◌≡◌, ◌+◌, ◌≤◌, ⊎_elim, ℕ, suc, zero, true, List, [], ◌∷◌, ◌++◌, Option, Some, None, Result, Ok, option_map, length, codes, refl, ap, ◌∙◌, sym, subst, arith}
-use Rattle.pli_base.specs.Name.{Name}
-use Rattle.pli_base.specs.laws.NameLaws.{equal_from_pointwise}
-use Rattle.pli_base.specs.Words.{Tokens, same_name, is_open, is_word, behind}
+use Rattle.std.proofs.Common.{◌≡◌, ◌+◌, ℕ, suc, zero, true, List, [], ◌∷◌, ◌++◌, Option, Some, None, Result, Ok, option_map, length, codes, refl, ap, ◌∙◌, sym, subst, arith}
+use Rattle.pli_base.specs.Words.{Tokens, is_open, is_word, behind}
 use Rattle.pli_base.specs.Reading.{◌>>=◌, Front, read_as, taken, if_open, or_none}
 use Rattle.pli_base.specs.Syntax.{Arguments}
 use Rattle.pli_base.specs.declared.code.Code.TheVariants.{BadOption}
@@ -10,9 +8,8 @@ use Rattle.pli_base.specs.declared.token.Fault.{Fault}
 use Rattle.pli_base.specs.declared.token.Sign.TheVariants as signs
 use Rattle.pli_base.specs.declared.token.TokenText.TheVariants.{Word, Sign}
 use Rattle.pli_base.specs.declared.syntax.Identifier.{Identifier}
-use Rattle.pli_parse_expression.specs.Operators.{operator_limit}
-use Rattle.pli_parse_expression.specs.Expressions.{operators, SpellsArguments, SpellsExpression, GivenFits, Every, OutermostFits, Deeper}
-use Rattle.pli_parse_expression.specs.Reading.{arguments_at, argument_of, inside, expression_at, expression_of, list_at, outermost}
+use Rattle.pli_parse_expression.specs.Expressions.{SpellsArguments, GivenFits, Every, OutermostFits, Deeper}
+use Rattle.pli_parse_expression.specs.Reading.{arguments_at, argument_of, inside, expression_at, list_at, outermost}
 use Rattle.pli_parse_expression.specs.Reading as expressions
 use Rattle.pli_parse_expression.proofs.ReadIsSpelled.{list_reads, outermost_read, expression_at_read}
 use Rattle.pli_parse_declaration.specs.DeclarationReading.{returned_at, identifier_at}
@@ -23,11 +20,12 @@ use Rattle.pli_parse_fault.proofs.Steps.{same_ok, bind_ok}
 use Rattle.pli_parse_declaration.proofs.DeclarationRead.{Reads}
 use Rattle.pli_parse_declaration.proofs.DeclarationItemsRead.{returned_reads}
 use Rattle.pli_base.specs.Statements.{ProcedureOption, Main, Returns, Recursive, Heading, Body, Call}
-use Rattle.pli_parse_statement.specs.StatementReading.{uncounted, call_at, OptionWord, OptionsWord, ReturnsWord, RecursiveWord, option_word, option_first, main_at, options_by, options_from, heading_at}
+use Rattle.pli_parse_statement.specs.StatementReading.{uncounted, call_at, OptionWord, OptionsWord, ReturnsWord, RecursiveWord, option_first, main_at, options_by, options_from, heading_at}
 use Rattle.pli_parse_statement.specs.StatementGrammar.{SpellsIdentifier, SpellsCall, SpellsParameters, SpellsOption, SpellsOptions, SpellsHeading}
 use Rattle.pli_parse.proofs.StatementReadTools as tools
-use Rattle.pli_parse.proofs.StatementReadTools.{uncounted_ok, stopped_ok, identifier_reads, parenthesized_reads, known_begins, word_first}
-use Rattle.pli_parse.proofs.StatementReadParts.{MaybeEnclosed, open_reads, one_of_three}
+use Rattle.pli_parse.proofs.StatementReadTools.{uncounted_ok, stopped_ok, identifier_reads, parenthesized_reads, word_first}
+use Rattle.pli_parse.proofs.StatementReadParts.{MaybeEnclosed, open_reads}
+use Rattle.pli_parse.proofs.WordsFirst.{option_begins}
 use Rattle.pli_parse_declaration.specs.declared.list.Separator.TheVariants.{Commas}
 
 -- the arguments of CALL are outermost expressions
@@ -78,19 +76,6 @@ call_reads levels p ts y h =
     )
 
 -- options of PROCEDURE
-abbrev option_spelling : OptionWord → Name
-option_spelling OptionsWord = codes "OPTIONS"
-option_spelling ReturnsWord = codes "RETURNS"
-option_spelling RecursiveWord = codes "RECURSIVE"
-
-option_is : (n : Name) (w : OptionWord) → option_word n ≡ Some w → n ≡ option_spelling w
-unfolding option_word
-option_is n w h = one_of_three option_spelling n OptionsWord ReturnsWord RecursiveWord w h
-
-option_begins : (ts us : Tokens) (w : OptionWord) → option_first ts ≡ Some (w, us) → ts ≡ Word (option_spelling w) ∷ us
-unfolding option_first
-option_begins = known_begins option_word option_spelling option_is
-
 -- behind OPTIONS
 abbrev SpellsMain : Tokens → ProcedureOption → Type 0
 SpellsMain ts o = (ts ≡ Sign signs.OpenParenthesis ∷ Word (codes "MAIN") ∷ Sign signs.CloseParenthesis ∷ []) × (o ≡ Main)

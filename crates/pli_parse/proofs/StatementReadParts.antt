@@ -1,9 +1,10 @@
 -- What is read is spelled so: the parts of statements.
-use Rattle.std.proofs.Common.{◌≡◌, ◌+◌, ◌⊎◌, ⊎_elim, inl, inr, ℕ, Bool, true, false, cond, [], ◌∷◌, ◌++◌, Option, Some, None, Result, Ok, length, codes, refl, ap, ◌∙◌, subst, arith}
+use Rattle.std.proofs.Common.{◌≡◌, ◌+◌, ℕ, Bool, true, false, cond, [], ◌∷◌, ◌++◌, Option, Some, None, Result, Ok, length, codes, refl, ap, ◌∙◌, subst, arith}
 use Rattle.pli_base.specs.Name.{Name}
 use Rattle.pli_base.specs.laws.NameLaws.{equal_from_pointwise}
 use Rattle.pli_base.specs.Words.{Tokens, same_name, is_open, behind}
-use Rattle.pli_base.specs.Reading.{Front, taken, enclosed, if_open}
+use Rattle.pli_base.specs.Reading.{◌>>=◌, Front, read_as, taken, enclosed, if_open}
+use Rattle.pli_base.specs.Syntax.{Expression}
 use Rattle.pli_base.specs.declared.code.Code.TheVariants.{BadDo}
 use Rattle.pli_base.specs.declared.token.Fault.{Fault}
 use Rattle.pli_base.specs.declared.token.Sign.TheVariants.{OpenParenthesis, Equals}
@@ -11,14 +12,15 @@ use Rattle.pli_base.specs.declared.token.TokenText.TheVariants.{Word, Sign}
 use Rattle.pli_parse_expression.specs.Expressions.{SpellsOutermost}
 use Rattle.pli_parse_declaration.specs.DeclarationGrammar.{SpellsFront}
 use Rattle.pli_parse_declaration.proofs.DeclarationSteps.{mapped_ok, open_first, taken_ok, two}
-use Rattle.pli_parse_fault.proofs.Steps.{same_ok, some_same, bind_ok}
+use Rattle.pli_parse_fault.proofs.Steps.{same_ok, bind_ok}
 use Rattle.pli_parse_declaration.proofs.DeclarationRead.{Reads, enclosed_spelled}
-use Rattle.pli_base.specs.Statements.{Control}
+use Rattle.pli_base.specs.Statements.{Range, To, By, Control}
 use Rattle.pli_parse_statement.specs.StatementWords.{condition_of}
-use Rattle.pli_parse_statement.specs.StatementReading.{expression_in, reference_in, parenthesized, is_equals, condition_from, condition_at, optional_at, RangeWord, ToWord, ByWord, RepeatWord, range_word, range_first, range_from, range_at, Specified, Unspecified, Conditioned, Iterated, specified, control_from, control_at}
+use Rattle.pli_parse_statement.specs.StatementReading.{expression_in, reference_in, parenthesized, is_equals, condition_from, condition_at, optional_at, RangeWord, ToWord, ByWord, RepeatWord, range_first, range_from, range_at, Specified, Unspecified, Conditioned, Iterated, specified, control_from, control_at}
 use Rattle.pli_parse_statement.specs.StatementGrammar.{SpellsCondition, SpellsEnclosed, SpellsOptional, SpellsRange, BeginsWithWhile, SpellsControl}
 use Rattle.pli_base.specs.declared.statement.Condition.{Condition}
-use Rattle.pli_parse.proofs.StatementReadTools.{expression_reads, reference_reads, parenthesized_reads, optional_reads, known_begins, equals_first}
+use Rattle.pli_parse.proofs.StatementReadTools.{expression_reads, reference_reads, parenthesized_reads, optional_reads, equals_first}
+use Rattle.pli_parse.proofs.WordsFirst.{range_spelling, range_begins}
 
 -- in parentheses, or not there
 abbrev pub MaybeEnclosed : {A : Type 0} → (ℕ → Tokens → A → Type 0) → ℕ → Tokens → Option A → Type 0
@@ -46,36 +48,26 @@ condition_reads p (Word n ∷ us) y h = by (condition_of n) refl h
     by None e g = cc
 condition_reads p (t ∷ us) y h = cc
 
--- a name that is one of two or three words is spelled as that word
-pub one_of_two : {A : Type 0} (spelling : A → Name) (n : Name) (x y w : A) → cond (same_name n (spelling x)) (Some x) (cond (same_name n (spelling y)) (Some y) None) ≡ Some w → n ≡ spelling w
-one_of_two spelling n x y w h = by (same_name n (spelling x)) (same_name n (spelling y)) refl refl h
-  where
-    by : (b c : Bool) → same_name n (spelling x) ≡ b → same_name n (spelling y) ≡ c → cond b (Some x) (cond c (Some y) None) ≡ Some w → n ≡ spelling w
-    by true c e f h = equal_from_pointwise n (spelling x) e ∙ ap spelling (some_same h)
-    by false true e f h = equal_from_pointwise n (spelling y) f ∙ ap spelling (some_same h)
-    by false false e f h = cc
-
-pub one_of_three : {A : Type 0} (spelling : A → Name) (n : Name) (x y z w : A)
-    → cond (same_name n (spelling x)) (Some x) (cond (same_name n (spelling y)) (Some y) (cond (same_name n (spelling z)) (Some z) None)) ≡ Some w → n ≡ spelling w
-one_of_three spelling n x y z w h = by (same_name n (spelling x)) refl h
-  where
-    by : (b : Bool) → same_name n (spelling x) ≡ b → cond b (Some x) (cond (same_name n (spelling y)) (Some y) (cond (same_name n (spelling z)) (Some z) None)) ≡ Some w → n ≡ spelling w
-    by true e h = equal_from_pointwise n (spelling x) e ∙ ap spelling (some_same h)
-    by false e h = one_of_two spelling n y z w h
-
 -- the range of an iteration
-abbrev range_spelling : RangeWord → Name
-range_spelling ToWord = codes "TO"
-range_spelling ByWord = codes "BY"
-range_spelling RepeatWord = codes "REPEAT"
-
-range_is : (n : Name) (w : RangeWord) → range_word n ≡ Some w → n ≡ range_spelling w
-unfolding range_word
-range_is n w h = one_of_three range_spelling n ToWord ByWord RepeatWord w h
-
-range_begins : (ts us : Tokens) (w : RangeWord) → range_first ts ≡ Some (w, us) → ts ≡ Word (range_spelling w) ∷ us
-unfolding range_first
-range_begins = known_begins range_word range_spelling range_is
+-- an expression behind the word, and behind it another behind the other word
+range_two : (levels : ℕ) (w : RangeWord) (other : Name) (make : Expression → Option Expression → Range)
+    → ((p : ℕ) (front rest : Tokens) (x : Expression) (y : Option Expression) → SpellsOutermost levels (p + 1) front x
+    → SpellsOptional other (SpellsOutermost levels) (p + 1 + length front) rest y → SpellsRange levels p (Word (range_spelling w) ∷ (front ++ rest)) (Some (make x y)))
+    → (p : ℕ) (ts us : Tokens) (y : Front (Option Range)) → range_first ts ≡ Some (w, us)
+    → (expression_in levels (p + 1) us >>= λ x. optional_at other (expression_in levels) x.next x.rest >>= λ z. read_as (Some (make x.value z.value)) z.next z.rest) ≡ Ok y
+    → SpellsFront (SpellsRange levels) p ts y
+range_two levels w other make spells p ts us y e g =
+    let a = bind_ok (expression_in levels (p + 1) us) _ y g in
+    let f = expression_reads levels (p + 1) us a.0 a.1 in
+    let m = bind_ok (optional_at other (expression_in levels) a.0.next a.0.rest) _ y a.2 in
+    let o = optional_reads other (expression_in levels) (SpellsOutermost levels) (expression_reads levels) a.0.next a.0.rest m.0 m.1 in
+    let t = two (p + 1) a.0.next m.0.next us a.0.rest m.0.rest f.0 o.0 f.1 f.2 o.1 o.2 in
+    subst (SpellsFront (SpellsRange levels) p ts) (same_ok m.2) (
+      Word (range_spelling w) ∷ (f.0 ++ o.0),
+      range_begins ts us w e ∙ ap (λ vs. Word (range_spelling w) ∷ vs) t.0,
+      omega (arith, t.1),
+      spells p f.0 o.0 a.0.value m.0.value f.3 (subst (λ q. SpellsOptional other (SpellsOutermost levels) q o.0 m.0.value) f.2 o.3),
+    )
 
 pub range_reads : (levels : ℕ) → Reads (range_at levels) (SpellsRange levels)
 unfolding range_at
@@ -83,30 +75,8 @@ range_reads levels p ts y h = by (range_first ts) refl h
   where
     by : (o : Option (RangeWord × Tokens)) → range_first ts ≡ o → range_from levels p ts o ≡ Ok y → SpellsFront (SpellsRange levels) p ts y
     by None e g = subst (SpellsFront (SpellsRange levels) p ts) (same_ok g) ([], refl, omega arith, refl)
-    by (Some (ToWord, us)) e g =
-        let a = bind_ok (expression_in levels (p + 1) us) _ y g in
-        let f = expression_reads levels (p + 1) us a.0 a.1 in
-        let m = bind_ok (optional_at (codes "BY") (expression_in levels) a.0.next a.0.rest) _ y a.2 in
-        let o = optional_reads (codes "BY") (expression_in levels) (SpellsOutermost levels) (expression_reads levels) a.0.next a.0.rest m.0 m.1 in
-        let t = two (p + 1) a.0.next m.0.next us a.0.rest m.0.rest f.0 o.0 f.1 f.2 o.1 o.2 in
-        subst (SpellsFront (SpellsRange levels) p ts) (same_ok m.2) (
-          Word (codes "TO") ∷ (f.0 ++ o.0),
-          range_begins ts us ToWord e ∙ ap (λ vs. Word (codes "TO") ∷ vs) t.0,
-          omega (arith, t.1),
-          (f.0, o.0, refl, f.3, subst (λ q. SpellsOptional (codes "BY") (SpellsOutermost levels) q o.0 m.0.value) f.2 o.3),
-        )
-    by (Some (ByWord, us)) e g =
-        let a = bind_ok (expression_in levels (p + 1) us) _ y g in
-        let f = expression_reads levels (p + 1) us a.0 a.1 in
-        let m = bind_ok (optional_at (codes "TO") (expression_in levels) a.0.next a.0.rest) _ y a.2 in
-        let o = optional_reads (codes "TO") (expression_in levels) (SpellsOutermost levels) (expression_reads levels) a.0.next a.0.rest m.0 m.1 in
-        let t = two (p + 1) a.0.next m.0.next us a.0.rest m.0.rest f.0 o.0 f.1 f.2 o.1 o.2 in
-        subst (SpellsFront (SpellsRange levels) p ts) (same_ok m.2) (
-          Word (codes "BY") ∷ (f.0 ++ o.0),
-          range_begins ts us ByWord e ∙ ap (λ vs. Word (codes "BY") ∷ vs) t.0,
-          omega (arith, t.1),
-          (f.0, o.0, refl, f.3, subst (λ q. SpellsOptional (codes "TO") (SpellsOutermost levels) q o.0 m.0.value) f.2 o.3),
-        )
+    by (Some (ToWord, us)) e g = range_two levels ToWord (codes "BY") To (λ p front rest x y a b. (front, rest, refl, a, b)) p ts us y e g
+    by (Some (ByWord, us)) e g = range_two levels ByWord (codes "TO") By (λ p front rest x y a b. (front, rest, refl, a, b)) p ts us y e g
     by (Some (RepeatWord, us)) e g =
         let m = mapped_ok _ (expression_in levels (p + 1) us) y g in
         let f = expression_reads levels (p + 1) us m.0 m.1 in

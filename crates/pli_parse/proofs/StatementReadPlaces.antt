@@ -1,8 +1,6 @@
 -- What is read is spelled so: allocations, and what stands behind PUT and CALL.
-use Rattle.std.proofs.Common.{◌≡◌, ◌+◌, ⊎_elim, inl, inr, ℕ, suc, [], ◌∷◌, ◌++◌, Option, Some, None, Ok, length, codes, refl, ap, ◌∙◌, sym, subst, arith}
-use Rattle.pli_base.specs.Name.{Name}
-use Rattle.pli_base.specs.laws.NameLaws.{equal_from_pointwise}
-use Rattle.pli_base.specs.Words.{Tokens, same_name}
+use Rattle.std.proofs.Common.{◌≡◌, ◌+◌, inl, inr, ℕ, suc, [], ◌∷◌, ◌++◌, Option, Some, None, Ok, length, codes, refl, ap, ◌∙◌, sym, subst, arith}
+use Rattle.pli_base.specs.Words.{Tokens}
 use Rattle.pli_base.specs.Reading.{Front}
 use Rattle.pli_base.specs.Syntax.{Reference}
 use Rattle.pli_base.specs.declared.token.TokenText.TheVariants.{Word}
@@ -13,24 +11,11 @@ use Rattle.pli_parse_declaration.proofs.DeclarationSteps.{two}
 use Rattle.pli_parse_fault.proofs.Steps.{same_ok, bind_ok}
 use Rattle.pli_parse_declaration.proofs.DeclarationRead.{Reads}
 use Rattle.pli_base.specs.Statements.{Allocation}
-use Rattle.pli_parse_statement.specs.StatementReading.{reference_in, parenthesized, PlaceWord, InWord, SetWord, place_word, place_first, placed_by, places_from, allocation_at}
+use Rattle.pli_parse_statement.specs.StatementReading.{reference_in, parenthesized, PlaceWord, InWord, SetWord, place_first, placed_by, places_from, allocation_at}
 use Rattle.pli_parse_statement.specs.StatementGrammar.{SpellsEnclosed, SpellsOptional, SpellsPlaced, SpellsAllocation}
-use Rattle.pli_parse.proofs.StatementReadTools.{reference_reads, identifier_reads, parenthesized_reads, known_begins}
-use Rattle.pli_parse.proofs.StatementReadParts.{one_of_two}
+use Rattle.pli_parse.proofs.StatementReadTools.{reference_reads, identifier_reads, parenthesized_reads}
+use Rattle.pli_parse.proofs.WordsFirst.{place_begins}
 use Rattle.pli_parse_declaration.specs.DeclarationReading.{identifier_at}
-
--- the places of an allocation
-abbrev place_spelling : PlaceWord → Name
-place_spelling InWord = codes "IN"
-place_spelling SetWord = codes "SET"
-
-place_is : (n : Name) (w : PlaceWord) → place_word n ≡ Some w → n ≡ place_spelling w
-unfolding place_word
-place_is n w h = one_of_two place_spelling n InWord SetWord w h
-
-place_begins : (ts us : Tokens) (w : PlaceWord) → place_first ts ≡ Some (w, us) → ts ≡ Word (place_spelling w) ∷ us
-unfolding place_first
-place_begins = known_begins place_word place_spelling place_is
 
 abbrev SpellsPlace : (levels p : ℕ) → Tokens → Reference → Type 0
 SpellsPlace levels = SpellsEnclosed (SpellsReferenceAlone levels)

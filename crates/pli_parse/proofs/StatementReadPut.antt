@@ -1,8 +1,6 @@
 -- What is read is spelled so: what stands behind PUT and CALL.
-use Rattle.std.proofs.Common.{◌≡◌, ◌+◌, ⊎_elim, inl, inr, ℕ, suc, Bool, true, false, List, [], ◌∷◌, ◌++◌, Option, Some, None, Ok, length, codes, refl, ap, ◌∙◌, subst, arith}
-use Rattle.pli_base.specs.Name.{Name}
-use Rattle.pli_base.specs.laws.NameLaws.{equal_from_pointwise}
-use Rattle.pli_base.specs.Words.{Tokens, same_name}
+use Rattle.std.proofs.Common.{◌≡◌, ◌+◌, inl, inr, ℕ, suc, Bool, true, false, List, [], ◌∷◌, ◌++◌, Option, Some, None, Ok, length, codes, refl, ap, ◌∙◌, subst, arith}
+use Rattle.pli_base.specs.Words.{Tokens}
 use Rattle.pli_base.specs.Reading.{Front}
 use Rattle.pli_base.specs.Syntax.{Expression}
 use Rattle.pli_base.specs.declared.token.TokenText.TheVariants.{Word}
@@ -13,23 +11,11 @@ use Rattle.pli_parse_declaration.proofs.DeclarationSteps.{two}
 use Rattle.pli_parse_fault.proofs.Steps.{same_ok, bind_ok}
 use Rattle.pli_parse_declaration.proofs.DeclarationRead.{Reads}
 use Rattle.pli_base.specs.Statements.{Body, Put}
-use Rattle.pli_parse_statement.specs.StatementReading.{expression_in, parenthesized, PutWord, SkipWord, ListWord, put_word, put_first, put_by, put_from, put_begun, put_at}
+use Rattle.pli_parse_statement.specs.StatementReading.{expression_in, parenthesized, PutWord, SkipWord, ListWord, put_first, put_by, put_from, put_begun, put_at}
 use Rattle.pli_parse_statement.specs.StatementGrammar.{SpellsEnclosed, SpellsSkip, SpellsItems, SpellsPut}
-use Rattle.pli_parse.proofs.StatementReadTools.{expression_reads, parenthesized_reads, list_reads, known_begins}
-use Rattle.pli_parse.proofs.StatementReadParts.{one_of_two}
+use Rattle.pli_parse.proofs.StatementReadTools.{expression_reads, parenthesized_reads, list_reads}
+use Rattle.pli_parse.proofs.WordsFirst.{put_begins}
 use Rattle.pli_parse_declaration.specs.declared.list.Separator.TheVariants.{Commas}
-
-abbrev put_spelling : PutWord → Name
-put_spelling SkipWord = codes "SKIP"
-put_spelling ListWord = codes "LIST"
-
-put_is : (n : Name) (w : PutWord) → put_word n ≡ Some w → n ≡ put_spelling w
-unfolding put_word
-put_is n w h = one_of_two put_spelling n SkipWord ListWord w h
-
-put_begins : (ts us : Tokens) (w : PutWord) → put_first ts ≡ Some (w, us) → ts ≡ Word (put_spelling w) ∷ us
-unfolding put_first
-put_begins = known_begins put_word put_spelling put_is
 
 abbrev SpellsItemList : (levels p : ℕ) → Tokens → List Expression → Type 0
 SpellsItemList levels = SpellsEnclosed (SpellsListed Commas (SpellsOutermost levels))

@@ -18,7 +18,7 @@ use Rattle.pli_parse_declaration.proofs.DeclarationSteps.{mapped_ok, first_is, o
 use Rattle.pli_parse_fault.proofs.Steps.{same_ok, some_same, bind_ok}
 use Rattle.pli_parse_declaration.proofs.DeclarationRead.{Reads, enclosed_spelled, listed_reads}
 use Rattle.pli_parse_statement.specs.StatementWords.{behind_word}
-use Rattle.pli_parse_statement.specs.StatementReading.{uncounted, expression_in, reference_in, stopped, parenthesized, is_equals, if_word, optional_at, paired, known_first}
+use Rattle.pli_parse_statement.specs.StatementReading.{uncounted, expression_in, reference_in, stopped, parenthesized, is_equals, if_word, optional_at}
 use Rattle.pli_parse_statement.specs.StatementGrammar.{SpellsIdentifier, SpellsEnclosed, SpellsOptional}
 use Rattle.pli_parse_declaration.specs.declared.list.Separator.TheVariants.{Commas}
 
@@ -88,21 +88,6 @@ optional_reads w one Spells reads p ts y h = by (behind_word w ts) refl h
 
 pub list_reads : {A : Type 0} (one : ℕ → Tokens → Result (Front A) Fault) (Spells : ℕ → Tokens → A → Type 0) → Reads one Spells → Reads (list_at Commas one) (SpellsListed Commas Spells)
 list_reads one Spells reads p ts y h = listed_reads Commas one Spells reads (length ts + 1) p ts y h
-
-paired_is : {A : Type 0} (o : Option A) (ts us : Tokens) (w : A) → paired ts o ≡ Some (w, us) → (o ≡ Some w) × (ts ≡ us)
-paired_is {A = A} (Some v) ts us w h =
-    let pair : ◌≡◌ {A = A × Tokens} (v, ts) (w, us) = some_same h in
-    (ap (λ (x : A × Tokens). Some x.0) pair, ap (λ (x : A × Tokens). x.1) pair)
-paired_is None ts us w h = cc
-
--- a known word in front
-pub known_begins : {A : Type 0} (known : Name → Option A) (spelling : A → Name) → ((n : Name) (w : A) → known n ≡ Some w → n ≡ spelling w)
-    → (ts us : Tokens) (w : A) → known_first known ts ≡ Some (w, us) → ts ≡ Word (spelling w) ∷ us
-known_begins known spelling is [] us w h = cc
-known_begins known spelling is (Word n ∷ ts) us w h =
-    let e = paired_is (known n) ts us w h in
-    ap (λ m. Word m ∷ ts) (is n w e.0) ∙ ap (λ vs. Word (spelling w) ∷ vs) e.1
-known_begins known spelling is (t ∷ ts) us w h = cc
 
 -- a token that must stand
 pub equals_first : (ts us : Tokens) → behind is_equals ts ≡ Some us → ts ≡ Sign Equals ∷ us

@@ -12,9 +12,10 @@ use Rattle.pli_parse_expression.specs.Expressions.{SpellsOutermost, SpellsRefere
 use Rattle.pli_parse_declaration.proofs.DeclarationReadAgain.{Anyhow, placed}
 use Rattle.pli_base.specs.Statements.{Range, To, By, Repeat, Control, While, Iterate}
 use Rattle.pli_parse_statement.specs.StatementGrammar.{SpellsOptional, SpellsEnclosed, SpellsRange, BeginsWithWhile, SpellsControl}
-use Rattle.pli_parse_statement.specs.StatementReading.{expression_in, parenthesized, is_equals, optional_at, ToWord, ByWord, RepeatWord, range_word, range_first, range_from, range_at, Conditioned, Iterated, specified, control_from, control_at}
+use Rattle.pli_parse_statement.specs.StatementReading.{expression_in, parenthesized, is_equals, optional_at, RangeWord, ToWord, ByWord, RepeatWord, range_word, range_first, range_from, range_at, Conditioned, Iterated, specified, control_from, control_at}
 use Rattle.pli_parse_statement.specs.StatementWords.{behind_word}
 use Rattle.pli_parse.proofs.StatementSpelledTools.{name_is}
+use Rattle.pli_parse.proofs.WordsFirst.{range_spelling, range_there}
 use Rattle.pli_parse.proofs.StatementSpelledParts.{expression_again, reference_again, optional_again, enclosed_expression}
 
 -- where a range ends: at a `;`, or at WHILE
@@ -39,50 +40,40 @@ no_to : (more : Tokens) → EndsRange more → behind_word (codes "TO") more ≡
 unfolding behind_word
 no_to = ends_both (λ more. behind_word (codes "TO") more ≡ None) (λ zs. refl) (λ zs. refl)
 
-to_first : (us : Tokens) → range_first (Word (codes "TO") ∷ us) ≡ Some (ToWord, us)
-unfolding range_first range_word
-to_first us = refl
-
-by_first : (us : Tokens) → range_first (Word (codes "BY") ∷ us) ≡ Some (ByWord, us)
-unfolding range_first range_word
-by_first us = refl
-
-repeat_first : (us : Tokens) → range_first (Word (codes "REPEAT") ∷ us) ≡ Some (RepeatWord, us)
-unfolding range_first range_word
-repeat_first us = refl
-
 -- an optional part ends an expression, as what stands behind it does
 optional_ends : {A : Type 0} (word : Name) (Spells : ℕ → Tokens → A → Type 0) (p : ℕ) (ts more : Tokens) (o : Option A) → SpellsOptional word Spells p ts o → EndsExpression more → EndsExpression (ts ++ more)
 optional_ends word Spells p ts more None shape ends = subst (λ us. EndsExpression (us ++ more)) (sym shape) ends
 optional_ends word Spells p ts more (Some x) (us, shape, spelled) ends = subst (λ us. EndsExpression (us ++ more)) (sym shape) (refl, refl)
+
+-- an expression behind the word, and behind it another behind the other word
+two_again : (levels : ℕ) (w : RangeWord) (other : Name) (make : Expression → Option Expression → Range) (p : ℕ) (ts front rest more : Tokens) (x : Expression) (y : Option Expression)
+    → ((us vs : Tokens) → range_from levels p us (Some (w, vs))
+    ≡ (expression_in levels (p + 1) vs >>= λ a. optional_at other (expression_in levels) a.next a.rest >>= λ z. read_as (Some (make a.value z.value)) z.next z.rest))
+    → ts ≡ Word (range_spelling w) ∷ front ++ rest → SpellsOutermost levels (p + 1) front x → SpellsOptional other (SpellsOutermost levels) (p + 1 + length front) rest y
+    → behind_word other more ≡ None → EndsExpression more → range_at levels p (ts ++ more) ≡ read_as (Some (make x y)) (p + length ts) more
+unfolding range_at
+two_again levels w other make p ts front rest more x y step shape first second none stops =
+    let whole : ts ++ more ≡ Word (range_spelling w) ∷ front ++ (rest ++ more) = ap (λ us. us ++ more) shape ∙ ap (λ us. Word (range_spelling w) ∷ us) (append_assoc front rest more) in
+    ap (range_at levels p) whole
+    ∙ ap (range_from levels p (Word (range_spelling w) ∷ front ++ (rest ++ more))) (range_there w (front ++ (rest ++ more)))
+    ∙ step (Word (range_spelling w) ∷ front ++ (rest ++ more)) (front ++ (rest ++ more))
+    ∙ ap (λ r. r >>= λ a. optional_at other (expression_in levels) a.next a.rest >>= λ z. read_as (Some (make a.value z.value)) z.next z.rest)
+    (expression_again levels (p + 1) front (rest ++ more) x first (optional_ends other (SpellsOutermost levels) (p + 1 + length front) rest more y second stops))
+    ∙ ap (λ r. r >>= λ z. read_as (Some (make x z.value)) z.next z.rest)
+    (optional_again other (expression_in levels) (SpellsOutermost levels) EndsExpression (expression_again levels) (p + 1 + length front) rest more y second (none, stops))
+    ∙ placed (Some (make x y)) (p + 1 + length front + length rest) (p + length ts) more (omega (arith, ap length shape, length-append front rest))
 
 pub range_again : (levels p : ℕ) (ts more : Tokens) (r : Option Range) → SpellsRange levels p ts r → EndsRange more → range_at levels p (ts ++ more) ≡ read_as r (p + length ts) more
 unfolding range_at
 range_again levels p ts more None shape ends =
     ap (λ us. range_at levels p (us ++ more)) shape ∙ ap (range_from levels p more) (no_range more ends) ∙ placed None p (p + length ts) more (omega (arith, ap length shape))
 range_again levels p ts more (Some (To to by)) (front, rest, shape, first, second) ends =
-    let whole : ts ++ more ≡ Word (codes "TO") ∷ front ++ (rest ++ more) = ap (λ us. us ++ more) shape ∙ ap (λ us. Word (codes "TO") ∷ us) (append_assoc front rest more) in
-    let stops = range_ends_expression more ends in
-    ap (range_at levels p) whole
-    ∙ ap (range_from levels p (Word (codes "TO") ∷ front ++ (rest ++ more))) (to_first (front ++ (rest ++ more)))
-    ∙ ap (λ r. r >>= λ x. optional_at (codes "BY") (expression_in levels) x.next x.rest >>= λ y. read_as (Some (To x.value y.value)) y.next y.rest)
-    (expression_again levels (p + 1) front (rest ++ more) to first (optional_ends (codes "BY") (SpellsOutermost levels) (p + 1 + length front) rest more by second stops))
-    ∙ ap (λ r. r >>= λ y. read_as (Some (To to y.value)) y.next y.rest)
-    (optional_again (codes "BY") (expression_in levels) (SpellsOutermost levels) EndsExpression (expression_again levels) (p + 1 + length front) rest more by second (no_by more ends, stops))
-    ∙ placed (Some (To to by)) (p + 1 + length front + length rest) (p + length ts) more (omega (arith, ap length shape, length-append front rest))
+    two_again levels ToWord (codes "BY") To p ts front rest more to by (λ us vs. refl) shape first second (no_by more ends) (range_ends_expression more ends)
 range_again levels p ts more (Some (By by to)) (front, rest, shape, first, second) ends =
-    let whole : ts ++ more ≡ Word (codes "BY") ∷ front ++ (rest ++ more) = ap (λ us. us ++ more) shape ∙ ap (λ us. Word (codes "BY") ∷ us) (append_assoc front rest more) in
-    let stops = range_ends_expression more ends in
-    ap (range_at levels p) whole
-    ∙ ap (range_from levels p (Word (codes "BY") ∷ front ++ (rest ++ more))) (by_first (front ++ (rest ++ more)))
-    ∙ ap (λ r. r >>= λ x. optional_at (codes "TO") (expression_in levels) x.next x.rest >>= λ y. read_as (Some (By x.value y.value)) y.next y.rest)
-    (expression_again levels (p + 1) front (rest ++ more) by first (optional_ends (codes "TO") (SpellsOutermost levels) (p + 1 + length front) rest more to second stops))
-    ∙ ap (λ r. r >>= λ y. read_as (Some (By by y.value)) y.next y.rest)
-    (optional_again (codes "TO") (expression_in levels) (SpellsOutermost levels) EndsExpression (expression_again levels) (p + 1 + length front) rest more to second (no_to more ends, stops))
-    ∙ placed (Some (By by to)) (p + 1 + length front + length rest) (p + length ts) more (omega (arith, ap length shape, length-append front rest))
+    two_again levels ByWord (codes "TO") By p ts front rest more by to (λ us vs. refl) shape first second (no_to more ends) (range_ends_expression more ends)
 range_again levels p ts more (Some (Repeat next)) (us, shape, spelled) ends =
     ap (λ vs. range_at levels p (vs ++ more)) shape
-    ∙ ap (range_from levels p (Word (codes "REPEAT") ∷ (us ++ more))) (repeat_first (us ++ more))
+    ∙ ap (range_from levels p (Word (codes "REPEAT") ∷ (us ++ more))) (range_there RepeatWord (us ++ more))
     ∙ ap (mapped (λ next. Some (Repeat next))) (expression_again levels (p + 1) us more next spelled (range_ends_expression more ends))
     ∙ placed (Some (Repeat next)) (p + 1 + length us) (p + length ts) more (omega (arith, ap length shape))
 

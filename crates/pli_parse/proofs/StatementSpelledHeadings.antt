@@ -13,8 +13,9 @@ use Rattle.pli_parse_declaration.proofs.DeclarationReadAgain.{Anyhow, NoOpen, Li
 use Rattle.pli_parse_declaration.proofs.DeclarationItemsAgain.{returned_again}
 use Rattle.pli_base.specs.Statements.{ProcedureOption, Main, Returns, Recursive, Heading}
 use Rattle.pli_parse_statement.specs.StatementGrammar.{SpellsIdentifier, SpellsParameters, SpellsOption, SpellsOptions, SpellsHeading}
-use Rattle.pli_parse_statement.specs.StatementReading.{stopped, parenthesized, OptionsWord, ReturnsWord, RecursiveWord, option_word, option_first, main_at, options_by, options_from, heading_at, named_end, ending_at}
+use Rattle.pli_parse_statement.specs.StatementReading.{stopped, parenthesized, OptionsWord, ReturnsWord, RecursiveWord, option_first, main_at, options_by, options_from, heading_at, named_end, ending_at}
 use Rattle.pli_parse.proofs.StatementSpelledTools.{same_again}
+use Rattle.pli_parse.proofs.WordsFirst.{option_there}
 use Rattle.pli_parse.proofs.StatementSpelledParts.{identifier_again, commas_again, stopped_again}
 use Rattle.pli_parse_declaration.specs.declared.list.Separator.TheVariants.{Commas}
 
@@ -39,18 +40,6 @@ parameters_again p ts more (i ∷ is) (us, shape, spelled) stops = (
       ∙ placed (Some (i ∷ is)) (p + length (Sign OpenParenthesis ∷ us ++ Sign CloseParenthesis ∷ [])) (p + length ts) more (ap (λ (vs : Tokens). p + length vs) (sym shape)),
 )
 
-options_first : (us : Tokens) → option_first (Word (codes "OPTIONS") ∷ us) ≡ Some (OptionsWord, us)
-unfolding option_first option_word
-options_first us = refl
-
-returns_first : (us : Tokens) → option_first (Word (codes "RETURNS") ∷ us) ≡ Some (ReturnsWord, us)
-unfolding option_first option_word
-returns_first us = refl
-
-recursive_first : (us : Tokens) → option_first (Word (codes "RECURSIVE") ∷ us) ≡ Some (RecursiveWord, us)
-unfolding option_first option_word
-recursive_first us = refl
-
 no_option : (more : Tokens) → option_first (Sign Semicolon ∷ more) ≡ None
 unfolding option_first
 no_option more = refl
@@ -65,19 +54,19 @@ one_option : (more : ℕ → Tokens → Result (Front (List ProcedureOption)) Fa
 one_option more p Main ts rest shape =
     let place : p + 1 + 1 + 1 + 1 ≡ p + length ts = omega (arith, ap length shape) in
     ap (λ us. options_by more p (us ++ rest) (option_first (us ++ rest))) shape
-    ∙ ap (options_by more p ((Word (codes "OPTIONS") ∷ Sign OpenParenthesis ∷ Word (codes "MAIN") ∷ Sign CloseParenthesis ∷ []) ++ rest)) (options_first (Sign OpenParenthesis ∷ Word (codes "MAIN") ∷ Sign CloseParenthesis ∷ rest))
+    ∙ ap (options_by more p ((Word (codes "OPTIONS") ∷ Sign OpenParenthesis ∷ Word (codes "MAIN") ∷ Sign CloseParenthesis ∷ []) ++ rest)) (option_there OptionsWord (Sign OpenParenthesis ∷ Word (codes "MAIN") ∷ Sign CloseParenthesis ∷ rest))
     ∙ ap (λ r. r >>= λ x. mapped (λ xs. x.value ∷ xs) (more x.next x.rest)) (main_read (p + 1) rest)
     ∙ ap (λ q. mapped (λ xs. Main ∷ xs) (more q rest)) place
 one_option more p (Returns attributes) ts rest (us, shape, spelled) =
     let place : p + 1 + length us ≡ p + length ts = omega (arith, ap length shape) in
     ap (λ vs. options_by more p (vs ++ rest) (option_first (vs ++ rest))) shape
-    ∙ ap (options_by more p (Word (codes "RETURNS") ∷ (us ++ rest))) (returns_first (us ++ rest))
+    ∙ ap (options_by more p (Word (codes "RETURNS") ∷ (us ++ rest))) (option_there ReturnsWord (us ++ rest))
     ∙ ap (λ r. r >>= λ x. mapped (λ xs. Returns x.value ∷ xs) (more x.next x.rest)) (returned_again (p + 1) us rest attributes spelled tt)
     ∙ ap (λ q. mapped (λ xs. Returns attributes ∷ xs) (more q rest)) place
 one_option more p Recursive ts rest shape =
     let place : p + 1 ≡ p + length ts = omega (arith, ap length shape) in
     ap (λ us. options_by more p (us ++ rest) (option_first (us ++ rest))) shape
-    ∙ ap (options_by more p (Word (codes "RECURSIVE") ∷ rest)) (recursive_first rest)
+    ∙ ap (options_by more p (Word (codes "RECURSIVE") ∷ rest)) (option_there RecursiveWord rest)
     ∙ ap (λ q. mapped (λ xs. Recursive ∷ xs) (more q rest)) place
 
 -- an option begins with a word

@@ -23,17 +23,10 @@ use Rattle.pli_parse_declaration.proofs.DeclarationReadAgain.{placed}
 use Rattle.pli_base.specs.Statements.{Allocation, Body}
 use Rattle.pli_base.specs.Statements as body
 use Rattle.pli_parse_statement.specs.StatementGrammar.{SpellsOptional, SpellsEnclosed, SpellsPlaced, SpellsAllocation, SpellsSkip, SpellsItems, SpellsPut, SpellsCall}
-use Rattle.pli_parse_statement.specs.StatementReading.{expression_in, parenthesized, uncounted, InWord, SetWord, place_word, place_first, placed_by, places_from, allocation_at, PutWord, SkipWord, ListWord, put_word, put_first, put_by, put_from, put_begun, put_at, call_at}
+use Rattle.pli_parse_statement.specs.StatementReading.{expression_in, parenthesized, uncounted, InWord, SetWord, place_first, placed_by, places_from, allocation_at, PutWord, SkipWord, ListWord, put_first, put_by, put_from, put_begun, put_at, call_at}
 use Rattle.pli_parse.proofs.StatementSpelledParts.{enclosed_reference, expressions_again}
+use Rattle.pli_parse.proofs.WordsFirst.{place_there, put_there}
 use Rattle.pli_parse_declaration.specs.declared.list.Separator.TheVariants.{Commas}
-
-in_first : (us : Tokens) → place_first (Word (codes "IN") ∷ us) ≡ Some (InWord, us)
-unfolding place_first place_word
-in_first us = refl
-
-set_first : (us : Tokens) → place_first (Word (codes "SET") ∷ us) ≡ Some (SetWord, us)
-unfolding place_first place_word
-set_first us = refl
 
 abbrev InSpelled : (levels p : ℕ) → Tokens → Option Reference → Type 0
 InSpelled levels = SpellsOptional (codes "IN") (SpellsEnclosed (SpellsReferenceAlone levels))
@@ -66,7 +59,7 @@ module _ (levels : ℕ) (n : Identifier) where
         bound,
         omega arith,
         ap (λ vs. places_from levels (suc bound) (allocated n None target) p (vs ++ more)) shape
-            ∙ ap (λ o. placed_by levels (places_from levels bound) (allocated n None target) p (Word (codes "IN") ∷ (us ++ more)) o None target) (in_first (us ++ more))
+            ∙ ap (λ o. placed_by levels (places_from levels bound) (allocated n None target) p (Word (codes "IN") ∷ (us ++ more)) o None target) (place_there InWord (us ++ more))
             ∙ ap (λ r. r >>= λ x. places_from levels bound (allocated n (Some x.value) target) x.next x.rest) (enclosed_reference levels (p + 1) us more r spelled tt)
             ∙ ap (λ q. places_from levels bound (allocated n (Some r) target) q more) place,
       )
@@ -83,7 +76,7 @@ module _ (levels : ℕ) (n : Identifier) where
         bound,
         omega arith,
         ap (λ vs. places_from levels (suc bound) (allocated n area None) p (vs ++ more)) shape
-            ∙ ap (λ o. placed_by levels (places_from levels bound) (allocated n area None) p (Word (codes "SET") ∷ (us ++ more)) o area None) (set_first (us ++ more))
+            ∙ ap (λ o. placed_by levels (places_from levels bound) (allocated n area None) p (Word (codes "SET") ∷ (us ++ more)) o area None) (place_there SetWord (us ++ more))
             ∙ ap (λ r. r >>= λ x. places_from levels bound (allocated n area (Some x.value)) x.next x.rest) (enclosed_reference levels (p + 1) us more r spelled tt)
             ∙ ap (λ q. places_from levels bound (allocated n area (Some r)) q more) place,
       )
@@ -196,14 +189,6 @@ call_again levels p ts more name a (us, shape, at, spelled, fits) ends =
     ∙ placed (body.Call name a) (p + length (Word name.name ∷ us)) (p + length ts) more (ap (λ (vs : Tokens). p + length vs) (sym shape))
 
 -- SKIP and LIST
-skip_first : (us : Tokens) → put_first (Word (codes "SKIP") ∷ us) ≡ Some (SkipWord, us)
-unfolding put_first put_word
-skip_first us = refl
-
-list_first : (us : Tokens) → put_first (Word (codes "LIST") ∷ us) ≡ Some (ListWord, us)
-unfolding put_first put_word
-list_first us = refl
-
 no_put : (more : Tokens) → put_first (Sign Semicolon ∷ more) ≡ None
 unfolding put_first
 no_put more = refl
@@ -225,7 +210,7 @@ module _ (levels : ℕ) where
         bound,
         omega arith,
         ap (λ us. put_from levels (suc bound) false items p (us ++ more)) shape
-            ∙ ap (λ o. put_by levels (put_from levels bound) false items p (Word (codes "SKIP") ∷ more) o) (skip_first more)
+            ∙ ap (λ o. put_by levels (put_from levels bound) false items p (Word (codes "SKIP") ∷ more) o) (put_there SkipWord more)
             ∙ ap (λ q. put_from levels bound true items q more) place,
       )
 
@@ -240,7 +225,7 @@ module _ (levels : ℕ) where
         bound,
         omega arith,
         ap (λ vs. put_from levels (suc bound) skip [] p (vs ++ more)) shape
-            ∙ ap (λ o. put_by levels (put_from levels bound) skip [] p (Word (codes "LIST") ∷ (us ++ more)) o) (list_first (us ++ more))
+            ∙ ap (λ o. put_by levels (put_from levels bound) skip [] p (Word (codes "LIST") ∷ (us ++ more)) o) (put_there ListWord (us ++ more))
             ∙ list_step levels (put_from levels bound) skip p (Word (codes "LIST") ∷ (us ++ more)) (us ++ more)
             ∙ ap (λ r. r >>= λ x. put_from levels bound skip x.value x.next x.rest) (expressions_again levels (p + 1) us more (e ∷ es) spelled tt)
             ∙ ap (λ q. put_from levels bound skip (e ∷ es) q more) place,
@@ -265,11 +250,11 @@ module _ (levels : ℕ) where
 
   skip_begins : (skip : Bool) (ts : Tokens) → SpellsSkip ts skip → PutBegins ts
   skip_begins false ts shape = inl shape
-  skip_begins true ts shape = inr (SkipWord, [], λ more. ap (λ us. put_first (us ++ more)) shape ∙ skip_first more)
+  skip_begins true ts shape = inr (SkipWord, [], λ more. ap (λ us. put_first (us ++ more)) shape ∙ put_there SkipWord more)
 
   items_begin : (p : ℕ) (items : List Expression) (ts : Tokens) → SpellsItems levels p ts items → PutBegins ts
   items_begin p [] ts shape = inl shape
-  items_begin p (e ∷ es) ts spelled = inr (ListWord, spelled.0, λ more. ap (λ us. put_first (us ++ more)) spelled.1 ∙ list_first (spelled.0 ++ more))
+  items_begin p (e ∷ es) ts spelled = inr (ListWord, spelled.0, λ more. ap (λ us. put_first (us ++ more)) spelled.1 ∙ put_there ListWord (spelled.0 ++ more))
 
   both_begin : (ts front rest : Tokens) → ts ≡ front ++ rest → (ts ≡ [] → ⊥) → PutBegins front → PutBegins rest → (more : Tokens) → (w : PutWord) × (us : Tokens) × (put_first (ts ++ more) ≡ Some (w, us))
   both_begin ts front rest shape some first second more =

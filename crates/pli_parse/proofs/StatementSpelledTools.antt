@@ -1,14 +1,15 @@
 -- Tests of tokens: what begins an assignment, and where the first `;` stands.
-use Rattle.std.proofs.Common.{⊎_elim, ◌⊎◌, inl, inr, ◌≡◌, ℕ, Bool, true, false, ◌||◌, List, [], ◌∷◌, ◌++◌, Some, option_map, refl, ap, ◌∙◌, sym, subst, append_assoc}
+use Rattle.std.proofs.Common.{⊎_elim, ◌⊎◌, inl, inr, ◌≡◌, ℕ, Bool, true, false, ◌||◌, [], ◌∷◌, ◌++◌, Some, option_map, refl, ap, ◌∙◌, sym, subst, append_assoc}
+use Rattle.std.specs.List.{AllByRecursion}
 use Rattle.pli_base.specs.Name.{Name}
 use Rattle.pli_base.specs.laws.NameLaws.{equal_from_pointwise, pointwise-refl}
 use Rattle.pli_base.specs.Words.{Tokens, same_name, is_semicolon}
 use Rattle.pli_base.specs.declared.token.Sign.TheVariants as signs
 use Rattle.pli_base.specs.declared.token.TokenText.{TokenText}
 use Rattle.pli_base.specs.declared.token.TokenText.TheVariants as tokens
-use Rattle.pli_parse_expression.specs.Assignments.{IsAssignment, State, NameWanted, OperandWanted, ListBegun, BehindName, BehindList, BehindOperand, Frame, Target, Whole, Group, Arguments, Move, Stops, Goes, Enters, Leaves, Turns, kind_of, Kind, move, moved, behind_frame, accepts, is_assignment}
-use Rattle.pli_parse_expression.specs.Assignments as kinds
+use Rattle.pli_parse_expression.specs.Assignments.{is_assignment}
 use Rattle.pli_parse_expression.proofs.AcceptedIsSpelled.{accepted_is_assignment}
+use Rattle.pli_parse_expression.proofs.NoSemicolons.{no_semicolon}
 use Rattle.pli_parse_expression.proofs.SpelledIsAccepted.{assignment_accepted}
 use Rattle.pli_parse_statement.specs.StatementGrammar.{BeginsAssignment}
 use Rattle.pli_parse_statement.specs.StatementReading.{has_semicolon}
@@ -77,55 +78,19 @@ first_semicolon (t ∷ ts) more h = by (is_semicolon t) refl h (first_semicolon 
     by true e g later = subst (λ u. FirstSemicolon (u ∷ ts) more) (sym (semicolon_is t e)) (first_here ts more)
     by false e g later = first_later t ts more e (later g)
 
--- no `;` is accepted in an assignment
-foreign_stops : (s : State) (f : Frame) → move s f kinds.Foreign ≡ Stops
-foreign_stops NameWanted f = refl
-foreign_stops OperandWanted f = refl
-foreign_stops ListBegun f = refl
-foreign_stops BehindName Target = refl
-foreign_stops BehindName Whole = refl
-foreign_stops BehindName Group = refl
-foreign_stops BehindName Arguments = refl
-foreign_stops BehindList Target = refl
-foreign_stops BehindList Whole = refl
-foreign_stops BehindList Group = refl
-foreign_stops BehindList Arguments = refl
-foreign_stops BehindOperand Target = refl
-foreign_stops BehindOperand Whole = refl
-foreign_stops BehindOperand Group = refl
-foreign_stops BehindOperand Arguments = refl
-
-later_accepted : (m : Move) (f : Frame) (fs : List Frame) (ts : Tokens) → moved m (λ s f fs. accepts s f fs ts) f fs ≡ true → (s : State) × (g : Frame) × (gs : List Frame) × (accepts s g gs ts ≡ true)
-later_accepted Stops f fs ts h = cc
-later_accepted (Goes s) f fs ts h = (s, f, fs, h)
-later_accepted (Enters g s) f fs ts h = (s, g, f ∷ fs, h)
-later_accepted Leaves f [] ts h = cc
-later_accepted Leaves f (g ∷ fs) ts h = (behind_frame f, g, fs, h)
-later_accepted Turns f fs ts h = (OperandWanted, Whole, fs, h)
-
-semicolon_refused : (s : State) (f : Frame) (fs : List Frame) (ts : Tokens) → accepts s f fs (tokens.Sign signs.Semicolon ∷ ts) ≡ true → ⊥
-unfolding accepts
-semicolon_refused s f fs ts h = let e = sym (ap (λ m. moved m (λ s f fs. accepts s f fs ts) f fs) (foreign_stops s f)) ∙ h in cc
-
--- up to the first `;` stands what is accepted before it
-pub accepted_up_to : (s : State) (f : Frame) (fs : List Frame) (front rest : Tokens) → accepts s f fs front ≡ true → up_to_semicolon (front ++ tokens.Sign signs.Semicolon ∷ rest) ≡ Some front
-unfolding accepts up_to_semicolon
-accepted_up_to s f fs [] rest h = refl
-accepted_up_to s f fs (t ∷ front) rest h =
-    let l = later_accepted (move s f (kind_of t)) f fs front h in
-    by (is_semicolon t) refl (accepted_up_to l.0 l.1 l.2 front rest l.3)
-  where
-    by : (b : Bool) → is_semicolon t ≡ b → up_to_semicolon (front ++ tokens.Sign signs.Semicolon ∷ rest) ≡ Some front → up_to_semicolon (t ∷ front ++ tokens.Sign signs.Semicolon ∷ rest) ≡ Some (t ∷ front)
-    by true e later = absurd (semicolon_refused s f fs front (ap (λ u. accepts s f fs (u ∷ front)) (sym (semicolon_is t e)) ∙ h))
-    by false e later = other_first t (front ++ tokens.Sign signs.Semicolon ∷ rest) e ∙ ap (option_map (λ us. t ∷ us)) later
+-- up to the first `;` stand the tokens before it
+up_to_first : (front rest : Tokens) → AllByRecursion (λ t. is_semicolon t ≡ false) front → up_to_semicolon (front ++ tokens.Sign signs.Semicolon ∷ rest) ≡ Some front
+unfolding up_to_semicolon
+up_to_first [] rest h = refl
+up_to_first (t ∷ front) rest h = other_first t (front ++ tokens.Sign signs.Semicolon ∷ rest) h.0 ∙ ap (option_map (λ us. t ∷ us)) (up_to_first front rest h.1)
 
 -- what begins an assignment is found to, whatever stands behind
 pub assignment_begins : (p : ℕ) (ts more : Tokens) → BeginsAssignment p ts → begins_assignment (ts ++ more) ≡ true
-unfolding begins_assignment is_assignment
+unfolding begins_assignment
 assignment_begins p ts more (front, rest, shape, assigns) =
     let accepted = assignment_accepted p front assigns in
     ap (λ us. is_assigned (up_to_semicolon us)) (ap (λ us. us ++ more) shape ∙ append_assoc front (tokens.Sign signs.Semicolon ∷ rest) more)
-    ∙ ap is_assigned (accepted_up_to NameWanted Target [] front (rest ++ more) accepted) ∙ accepted
+    ∙ ap is_assigned (up_to_first front (rest ++ more) (no_semicolon front accepted)) ∙ accepted
 
 -- what begins none is found to begin none
 pub no_assignment_begins : (p : ℕ) (ts more : Tokens) → HasSemicolon ts → (BeginsAssignment p ts → ⊥) → begins_assignment (ts ++ more) ≡ false

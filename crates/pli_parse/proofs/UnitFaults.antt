@@ -102,24 +102,40 @@ begun_stands : (name : Identifier) (t : TokenText) (ts : Tokens) (f : Fault) →
     → IsToldOf 2 (t ∷ ts) f ⊎ IsBehindUnit 2 (t ∷ ts) f
 begun_stands name t ts f h = subst (UnitStands 2 (t ∷ ts)) h (external_stands name t ts)
 
+ended_no_head : EndMissing ≡ NoProcedure → ⊥
+ended_no_head e = cc
+
+text_no_head : TextAfterEnd ≡ NoProcedure → ⊥
+text_no_head e = cc
+
+ended_no_text : EndMissing ≡ TextAfterEnd → ⊥
+ended_no_text e = cc
+
+-- at a fault of a unit there is no procedure, the text ends, or what stands behind PROCEDURE is at fault
+unit_fault_by : (X : Tokens → Type 0) (f : Fault)
+    → ((us : Tokens) (p : ℕ) → misplaced us ≡ Some p → record { code = NoProcedure; at = p } ≡ f → X us)
+    → ((us : Tokens) → record { code = EndMissing; at = length us - 1 } ≡ f → X us)
+    → ((n : Name) (t : TokenText) (us : Tokens) → misplaced (Word n ∷ Sign Colon ∷ t ∷ us) ≡ None → external_at (record { name = n; at = 0 }) us ≡ Err f
+    → X (Word n ∷ Sign Colon ∷ t ∷ us))
+    → (ts : Tokens) → unit_of ts ≡ Err f → X ts
+unfolding unit_of misplaced has_semicolon
+unit_fault_by X f head end begun ts h = by (misplaced ts) (has_semicolon ts) ts refl refl h
+  where
+    by : (o : Option ℕ) (b : Bool) (us : Tokens) → misplaced us ≡ o → has_semicolon us ≡ b → unit_from o b us ≡ Err f → X us
+    by (Some p) b us e s g = head us p e (err_same g)
+    by None false us e s g = end us (err_same g)
+    by None true (Word n ∷ Sign Colon ∷ t ∷ us) e s g = begun n t us e g
+    by None true us e s g = cc
+
 pub no_procedure_met : (ts : Tokens) (f : Fault) → unit_of ts ≡ Err f → f.code ≡ NoProcedure
     → HasNoProcedure ts f.at
-unfolding unit_of misplaced has_semicolon
-no_procedure_met ts f h code = by (misplaced ts) (has_semicolon ts) ts refl refl h
-  where
-    ended : EndMissing ≡ NoProcedure → ⊥
-    ended e = cc
-
-    behind : TextAfterEnd ≡ NoProcedure → ⊥
-    behind e = cc
-
-    by : (o : Option ℕ) (b : Bool) (us : Tokens) → misplaced us ≡ o → has_semicolon us ≡ b → unit_from o b us ≡ Err f
-        → HasNoProcedure us f.at
-    by (Some p) b us e s g = subst (λ (x : Fault). HasNoProcedure us x.at) (err_same g) (misplaced_here us p e)
-    by None false us e s g = absurd (ended (ap (λ (x : Fault). x.code) (err_same g) ∙ code))
-    by None true (Word n ∷ Sign Colon ∷ t ∷ us) e s g =
-        absurd (not_of_part NoProcedure 2 (t ∷ us) f refl ended behind code (begun_stands (record { name = n; at = 0 }) t us f g))
-    by None true us e s g = cc
+no_procedure_met ts f h code =
+    unit_fault_by (λ us. HasNoProcedure us f.at) f
+    (λ us p e g. subst (λ (x : Fault). HasNoProcedure us x.at) g (misplaced_here us p e))
+    (λ us g. absurd (ended_no_head (ap (λ (x : Fault). x.code) g ∙ code)))
+    (λ n t us e g.
+    absurd (not_of_part NoProcedure 2 (t ∷ us) f refl ended_no_head text_no_head code (begun_stands (record { name = n; at = 0 }) t us f g)))
+    ts h
 
 -- where the text ends too early
 told_end : (p : ℕ) (ts : Tokens) (f : Fault) → f.code ≡ EndMissing → IsToldOf p ts f → f.at ≡ p + length ts - 1
@@ -129,26 +145,16 @@ told_end p ts f code told = ⊎_elim (λ here. absurd (differ (ap is_of_part (sy
     differ g = cc
 
 pub end_missing_met : (ts : Tokens) (f : Fault) → unit_of ts ≡ Err f → f.code ≡ EndMissing → f.at ≡ length ts - 1
-unfolding unit_of misplaced has_semicolon
-end_missing_met ts f h code = by (misplaced ts) (has_semicolon ts) ts refl refl h
-  where
-    head : NoProcedure ≡ EndMissing → ⊥
-    head e = cc
-
-    behind : TextAfterEnd ≡ EndMissing → ⊥
-    behind e = cc
-
-    by : (o : Option ℕ) (b : Bool) (us : Tokens) → misplaced us ≡ o → has_semicolon us ≡ b → unit_from o b us ≡ Err f
-        → f.at ≡ length us - 1
-    by (Some p) b us e s g = absurd (head (ap (λ (x : Fault). x.code) (err_same g) ∙ code))
-    by None false us e s g = ap (λ (x : Fault). x.at) (sym (err_same g))
-    by None true (Word n ∷ Sign Colon ∷ t ∷ us) e s g =
-        ⊎_elim
-        (λ told.
-        let whole : 2 + length (t ∷ us) ≡ length (Word n ∷ Sign Colon ∷ t ∷ us) = omega arith in
-        told_end 2 (t ∷ us) f code told ∙ ap (λ m. m - 1) whole)
-        (λ after. absurd (behind (sym after.0 ∙ code))) (begun_stands (record { name = n; at = 0 }) t us f g)
-    by None true us e s g = cc
+end_missing_met ts f h code =
+    unit_fault_by (λ us. f.at ≡ length us - 1) f (λ us p e g. absurd (ended_no_head (sym code ∙ ap (λ (x : Fault). x.code) (sym g))))
+    (λ us g. ap (λ (x : Fault). x.at) (sym g))
+    (λ n t us e g.
+    ⊎_elim
+    (λ told.
+    let whole : 2 + length (t ∷ us) ≡ length (Word n ∷ Sign Colon ∷ t ∷ us) = omega arith in
+    told_end 2 (t ∷ us) f code told ∙ ap (λ m. m - 1) whole)
+    (λ after. absurd (ended_no_text (sym code ∙ after.0))) (begun_stands (record { name = n; at = 0 }) t us f g))
+    ts h
 
 pub end_missing_of_statement : (c : Context) (levels p k : ℕ) (ts : Tokens) (f : Fault) → statement_at levels c p k ts ≡ Err f
     → f.code ≡ EndMissing → f.at ≡ p + length ts - 1
@@ -172,13 +178,10 @@ bind_err (Err g) f e h = inl (ap Err (err_same h))
 -- the code is no part's
 told_no_text : (p : ℕ) (ts : Tokens) (f : Fault) → IsToldOf p ts f → f.code ≡ TextAfterEnd → ⊥
 told_no_text p ts f told code =
-    ⊎_elim (λ here. differ (ap is_of_part (sym code) ∙ here.2)) (λ end. ended (sym end.0 ∙ code)) told
+    ⊎_elim (λ here. differ (ap is_of_part (sym code) ∙ here.2)) (λ end. ended_no_text (sym end.0 ∙ code)) told
   where
     differ : false ≡ true → ⊥
     differ g = cc
-
-    ended : EndMissing ≡ TextAfterEnd → ⊥
-    ended e = cc
 
 finished_met : (unit : ExternalProcedure) (p : ℕ) (ts : Tokens) (f : Fault) → finished unit p ts ≡ Err f
     → (t : TokenText) × (rest : Tokens) × (ts ≡ t ∷ rest) × (f.at ≡ p)
@@ -221,18 +224,7 @@ external_met n t ts f procedure h code =
     (bind_err (heading_at name 1 3 ts) _ f (sym there ∙ h))
 
 pub text_behind_met : (ts : Tokens) (f : Fault) → unit_of ts ≡ Err f → f.code ≡ TextAfterEnd → HasTextBehind ts f.at
-unfolding unit_of misplaced has_semicolon
-text_behind_met ts f h code = by (misplaced ts) (has_semicolon ts) ts refl refl h
-  where
-    head : NoProcedure ≡ TextAfterEnd → ⊥
-    head e = cc
-
-    ended : EndMissing ≡ TextAfterEnd → ⊥
-    ended e = cc
-
-    by : (o : Option ℕ) (b : Bool) (us : Tokens) → misplaced us ≡ o → has_semicolon us ≡ b → unit_from o b us ≡ Err f
-        → HasTextBehind us f.at
-    by (Some p) b us e s g = absurd (head (ap (λ (x : Fault). x.code) (err_same g) ∙ code))
-    by None false us e s g = absurd (ended (ap (λ (x : Fault). x.code) (err_same g) ∙ code))
-    by None true (Word n ∷ Sign Colon ∷ t ∷ us) e s g = external_met n t us f (procedure_stands n t us e) g code
-    by None true us e s g = cc
+text_behind_met ts f h code =
+    unit_fault_by (λ us. HasTextBehind us f.at) f (λ us p e g. absurd (text_no_head (sym code ∙ ap (λ (x : Fault). x.code) (sym g))))
+    (λ us g. absurd (ended_no_text (ap (λ (x : Fault). x.code) g ∙ code)))
+    (λ n t us e g. external_met n t us f (procedure_stands n t us e) g code) ts h

@@ -1,5 +1,5 @@
--- The grammar of what stands behind DECLARE: which tokens spell which tree. Tokens are counted from 0; p,
--- where it is given, is the place of the first.
+-- The grammar of what stands behind DECLARE (X3.74): which tokens spell which tree. Tokens are counted from
+-- 0; p, where it is given, is the place of the first.
 use Rattle.std.specs.Prelude.{◌≡◌, ℕ, ◌+◌, ◌⊎◌, Bool, true, false, Option, Some, None, List, [], ◌∷◌, ◌++◌}
 use Rattle.std.specs.Prelude.{length, codes}
 use Rattle.pli_base.specs.Name.{Name}

@@ -1,6 +1,6 @@
--- Reading what stands behind DECLARE: items, or the one fault. Tokens are counted from 0, and p is the place
--- of the first.
--- A part that need not stand is passed over, so a fault is about what must stand next.
+-- Reading what stands behind DECLARE (X3.74): items, or the one fault. Tokens are counted from 0, and p is
+-- the place of the first. A part that need not stand is passed over, so a fault is about what must stand
+-- next.
 use Rattle.std.specs.Prelude.{ℕ, zero, suc, ◌+◌, nat_eq, Bool, true, false, Option, Some, None, Result}
 use Rattle.std.specs.Prelude.{Ok, List, [], ◌∷◌, length, codes, if◌then◌else◌}
 use Rattle.pli_base.specs.Name.{Name}

@@ -1,4 +1,4 @@
--- The keywords of attributes, and tests of tokens.
+-- The keywords of attributes, and tests of tokens (X3.74).
 use Rattle.std.specs.Prelude.{Bool, false, ◌||◌, ◌&&◌, is_some, nat_eq, ◌∷◌, codes, Option, Some}
 use Rattle.std.specs.Prelude.{None, if◌then◌else◌}
 use Rattle.pli_base.specs.Name.{Name}
@@ -59,12 +59,12 @@ word_or None other = other
 unfoldable pub attribute_word : Name → Option AttributeWord
 attribute_word n = word_or (data_word n) (word_or (storage_word n) (nesting_word n))
 
--- the attribute whose keyword the first token is, and the tokens behind it
+-- the keyword, if it is one, with the tokens behind it
 abbrev pub with_rest : Tokens → Option AttributeWord → Option (AttributeWord × Tokens)
 with_rest us (Some w) = Some (w, us)
 with_rest us None = None
 
--- the word of an attribute in front
+-- the attribute whose keyword the first token is, and the tokens behind it
 unfoldable pub attribute_first : Tokens → Option (AttributeWord × Tokens)
 attribute_first (Word n ∷ us) = with_rest us (attribute_word n)
 attribute_first _ = None

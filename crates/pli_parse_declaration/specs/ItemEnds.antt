@@ -1,4 +1,4 @@
--- What continues items of DECLARE that may end before it: told by how the last of them ends.
+-- What continues items of DECLARE that may end before it (X3.74): told by how the last of them ends.
 use Rattle.std.specs.Prelude.{◌≡◌, List, [], ◌∷◌, Option, Some, None}
 use Rattle.pli_base.specs.Words.{Tokens, is_open, is_comma}
 use Rattle.pli_base.specs.Declarations as tree
@@ -11,6 +11,7 @@ abbrev pub OptionEnds : {A : Type 0} → Option A → Tokens → Type 0
 OptionEnds None ts = behind is_open ts ≡ None
 OptionEnds (Some x) ts = Unit {0}
 
+-- an attribute that may have a number or names in parentheses ends so; the others end as they stand
 abbrev pub SimpleEnds : tree.SimpleAttribute → Tokens → Type 0
 SimpleEnds (tree.Fixed n) ts = OptionEnds n ts
 SimpleEnds (tree.Binary n) ts = OptionEnds n ts
@@ -21,11 +22,13 @@ SimpleEnds (tree.Offset n) ts = OptionEnds n ts
 SimpleEnds (tree.Based names) ts = OptionEnds names ts
 SimpleEnds a ts = Unit {0}
 
+-- ENTRY ends so as well; RETURNS has its parentheses
 abbrev pub AttributeEnds : tree.Attribute → Tokens → Type 0
 AttributeEnds (tree.Simple a) ts = SimpleEnds a ts
 AttributeEnds (tree.Entry parameters) ts = OptionEnds parameters ts
 AttributeEnds (tree.Returns attributes) ts = Unit {0}
 
+-- where dimensions may stand and do not, `(` goes on
 abbrev pub DimensionsEnd : List Bounds → Tokens → Type 0
 DimensionsEnd [] ts = behind is_open ts ≡ None
 DimensionsEnd (b ∷ bs) ts = Unit {0}
@@ -36,6 +39,7 @@ LastEnds Ends [] ts = Unit {0}
 LastEnds Ends (x ∷ []) ts = Ends x ts
 LastEnds Ends (x ∷ y ∷ more) ts = LastEnds Ends (y ∷ more) ts
 
+-- an item ends by its last attribute, and without one by its dimensions
 abbrev pub AttributesEnd : List Bounds → List tree.Attribute → Tokens → Type 0
 AttributesEnd dimensions [] ts = DimensionsEnd dimensions ts
 AttributesEnd dimensions (a ∷ more) ts = LastEnds AttributeEnds (a ∷ more) ts

@@ -2,7 +2,7 @@
 use Rattle.std.proofs.Common.{◌≡◌, ◌+◌, ◌<◌, ◌≤◌, ℕ, suc, zero, nat_lt, Bool, true, false, List, [], ◌∷◌, ◌++◌, Option, Some, None, length, refl, ap, ◌∙◌, sym, subst, arith, append_assoc, length-append, ◌⊎◌, ⊎_elim, inl, inr}
 use Rattle.std.proofs.lemmas.List.{append-nil}
 use Rattle.std.proofs.lemmas.Bool.{ltb-true, ltb-false}
-use Rattle.pli_base.specs.Syntax.{Expression, Referred, Constant, Parenthesized, Prefix, Infix, Reference, Named, JoinedParts, Alone, Joined, Absent, Given, Expressions, Empty, Listed}
+use Rattle.pli_base.specs.Syntax.{Expression, Referred, Constant, Parenthesized, Prefix, Infix, Named, JoinedParts, Alone, Joined, Absent, Given, Expressions, Empty, Listed}
 use Rattle.pli_base.specs.Syntax as tree
 use Rattle.pli_base.specs.declared.syntax.ConstantValue.{ConstantValue}
 use Rattle.pli_base.specs.declared.syntax.ConstantValue.TheVariants as constants
@@ -16,7 +16,10 @@ use Rattle.pli_base.specs.declared.token.TokenText.{TokenText}
 use Rattle.pli_base.specs.declared.token.TokenText.TheVariants as tokens
 use Rattle.pli_parse_expression.specs.Operators.{operand_level, level, level_of, prefix_sign, infix_sign, joining_sign, constant_token, infix_of}
 use Rattle.pli_parse_expression.specs.Expressions.{SpellsExpression, SpellsJoined, SpellsArguments, SpellsListed, SpellsFurther}
-use Rattle.pli_parse_expression.specs.Assignments.{IsAssignment, NameWanted, OperandWanted, ListBegun, BehindName, BehindList, BehindOperand, Frame, Target, Whole, Group, Arguments, may_end, accepts, is_assignment}
+use Rattle.pli_parse_expression.specs.Assignments.{IsAssignment, may_end, accepts, is_assignment}
+use Rattle.pli_parse_expression.specs.declared.assignment.State.TheVariants.{NameWanted, OperandWanted, ListBegun, BehindName, BehindList, BehindOperand}
+use Rattle.pli_parse_expression.specs.declared.assignment.Frame.{Frame}
+use Rattle.pli_parse_expression.specs.declared.assignment.Frame.TheVariants.{Target, Whole, Group, Arguments}
 use Rattle.pli_parse_expression.proofs.ReadingTools.{infix_is, level_small}
 use Rattle.pli_parse_expression.proofs.SpelledIsAccepted.{InExpression, infix_on}
 use Rattle.pli_base.specs.Words.{Tokens}

@@ -5,6 +5,7 @@ pub mod SpelledIsRead
 pub mod SpelledIsAccepted
 pub mod AcceptedIsSpelled
 pub mod Frames
+pub mod NoSemicolons
 pub mod Loops
 pub mod ReadFaults
 pub mod ReadEnds

@@ -5,7 +5,7 @@ use Rattle.pli_base.specs.Name.{Name}
 use Rattle.pli_base.specs.declared.code.Code.{Code}
 use Rattle.pli_base.specs.declared.code.Code.TheVariants.{NestedTooDeep, ParenthesisExpected}
 use Rattle.pli_base.specs.declared.syntax.InfixOperator.{InfixOperator}
-use Rattle.pli_base.specs.declared.syntax.InfixOperator.TheVariants.{Or, And, Equal, NotEqual, Less, LessOrEqual, Greater, GreaterOrEqual, Concatenate, Add, Subtract, Multiply}
+use Rattle.pli_base.specs.declared.syntax.InfixOperator.TheVariants.{Or, And, NotEqual, Less, LessOrEqual, Greater, GreaterOrEqual, Concatenate}
 use Rattle.pli_base.specs.declared.syntax.Joining.{Joining}
 use Rattle.pli_base.specs.declared.token.Fault.{Fault}
 use Rattle.pli_base.specs.declared.token.Sign.TheVariants as signs
@@ -14,7 +14,7 @@ use Rattle.pli_base.specs.declared.token.TokenText.TheVariants.{Word, Sign}
 use Rattle.pli_parse_expression.specs.Operators.{operator_limit, operand_level, level_of, infix_sign, joining_sign, infix_of, not_below, operator_at, joining_at}
 use Rattle.pli_parse_expression.specs.Reading.{Front, limited, closed}
 use Rattle.pli_base.specs.Words.{Tokens, name_first, behind, is_comma, is_close}
-use Rattle.pli_base.specs.Reading.{◌>>=◌, expected, taken}
+use Rattle.pli_base.specs.Reading.{expected, taken}
 use Rattle.pli_parse_fault.proofs.Steps.{same_ok, some_same, bind_ok}
 
 -- a test passed
@@ -91,32 +91,12 @@ operator_below min top (t ∷ ts) x h g = not_below_least min top (infix_of t) t
 
 pub level_small : (o : InfixOperator) → level_of o < operand_level
 level_small Or = omega arith
-level_small And = omega arith
-level_small Equal = omega arith
-level_small NotEqual = omega arith
-level_small Less = omega arith
-level_small LessOrEqual = omega arith
-level_small Greater = omega arith
-level_small GreaterOrEqual = omega arith
-level_small Concatenate = omega arith
-level_small Add = omega arith
-level_small Subtract = omega arith
-level_small Multiply = omega arith
+level_small o = omega arith
 
 not_below_all : (o : Option InfixOperator) (ts : Tokens) → not_below (suc operand_level) o ts ≡ None
 not_below_all None ts = refl
 not_below_all (Some Or) ts = refl
-not_below_all (Some And) ts = refl
-not_below_all (Some Equal) ts = refl
-not_below_all (Some NotEqual) ts = refl
-not_below_all (Some Less) ts = refl
-not_below_all (Some LessOrEqual) ts = refl
-not_below_all (Some Greater) ts = refl
-not_below_all (Some GreaterOrEqual) ts = refl
-not_below_all (Some Concatenate) ts = refl
-not_below_all (Some Add) ts = refl
-not_below_all (Some Subtract) ts = refl
-not_below_all (Some Multiply) ts = refl
+not_below_all (Some o) ts = refl
 
 -- no infix operator is above an operand
 pub none_above : (ts : Tokens) → operator_at (suc operand_level) ts ≡ None

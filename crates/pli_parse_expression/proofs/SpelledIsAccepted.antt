@@ -16,7 +16,15 @@ use Rattle.pli_base.specs.declared.token.TokenText.{TokenText}
 use Rattle.pli_base.specs.declared.token.TokenText.TheVariants as tokens
 use Rattle.pli_parse_expression.specs.Operators.{prefix_sign, infix_sign, joining_sign, constant_token}
 use Rattle.pli_parse_expression.specs.Expressions.{SpellsExpression, SpellsReference, SpellsJoined, SpellsArguments, SpellsListed, SpellsFurther}
-use Rattle.pli_parse_expression.specs.Assignments.{IsAssignment, Kind, Name, Value, Opens, Closes, Separates, Joins, Equal, Sign, Negates, Operates, Foreign, kind_of, State, NameWanted, OperandWanted, ListBegun, BehindName, BehindList, BehindOperand, Frame, Target, Whole, Group, Arguments, Move, Goes, Enters, Leaves, Turns, move, may_end, moved, accepts, is_assignment}
+use Rattle.pli_parse_expression.specs.Assignments.{IsAssignment, kind_of, move, may_end, moved, accepts, is_assignment}
+use Rattle.pli_parse_expression.specs.declared.assignment.Kind.{Kind}
+use Rattle.pli_parse_expression.specs.declared.assignment.Kind.TheVariants.{Name, Value, Opens, Closes, Separates, Joins, Equal, Sign, Operates}
+use Rattle.pli_parse_expression.specs.declared.assignment.State.{State}
+use Rattle.pli_parse_expression.specs.declared.assignment.State.TheVariants.{NameWanted, OperandWanted, ListBegun, BehindName, BehindList, BehindOperand}
+use Rattle.pli_parse_expression.specs.declared.assignment.Frame.{Frame}
+use Rattle.pli_parse_expression.specs.declared.assignment.Frame.TheVariants.{Target, Whole, Group, Arguments}
+use Rattle.pli_parse_expression.specs.declared.assignment.Move.{Move}
+use Rattle.pli_parse_expression.specs.declared.assignment.Move.TheVariants.{Goes, Enters, Leaves, Turns}
 use Rattle.pli_base.specs.Words.{Tokens}
 
 -- behind an operand
@@ -48,251 +56,101 @@ abbrev pub InExpression : Frame → Type 0
 InExpression Target = ⊥
 InExpression f = Unit {0}
 
-abbrev IsInfixKind : Kind → Type 0
-IsInfixKind Equal = Unit {0}
-IsInfixKind Sign = Unit {0}
-IsInfixKind Operates = Unit {0}
-IsInfixKind k = ⊥
+-- what holds behind each kind of operand
+behind_each : (P : State → Type 0) → P BehindName → P BehindList → P BehindOperand → (s : State) → IsBehind s → P s
+behind_each P a b c BehindName h = a
+behind_each P a b c BehindList h = b
+behind_each P a b c BehindOperand h = c
+behind_each P a b c s h = absurd h
+
+-- behind a name and behind a list
+part_each : (P : State → Type 0) → P BehindName → P BehindList → (s : State) → IsBehindPart s → P s
+part_each P a b BehindName h = a
+part_each P a b BehindList h = b
+part_each P a b s h = absurd h
+
+-- wherever an operand may come
+start_each : (P : State → Type 0) → P OperandWanted → P ListBegun → (s : State) → IsStart s → P s
+start_each P a b OperandWanted h = a
+start_each P a b ListBegun h = b
+start_each P a b s h = absurd h
+
+-- and in each part of an expression
+frame_each : (P : Frame → Type 0) → P Whole → P Group → P Arguments → (f : Frame) → InExpression f → P f
+frame_each P a b c Whole h = a
+frame_each P a b c Group h = b
+frame_each P a b c Arguments h = c
+frame_each P a b c Target h = absurd h
 
 part_is_behind : (s : State) → IsBehindPart s → IsBehind s
-part_is_behind BehindName h = tt
-part_is_behind BehindList h = tt
-part_is_behind BehindOperand h = absurd h
-part_is_behind NameWanted h = absurd h
-part_is_behind OperandWanted h = absurd h
-part_is_behind ListBegun h = absurd h
+part_is_behind = part_each IsBehind tt tt
 
 start_is_name : (s : State) → IsStart s → IsNameStart s
-start_is_name OperandWanted h = tt
-start_is_name ListBegun h = tt
-start_is_name NameWanted h = absurd h
-start_is_name BehindName h = absurd h
-start_is_name BehindList h = absurd h
-start_is_name BehindOperand h = absurd h
+start_is_name = start_each IsNameStart tt tt
 
-infix_kind : (o : InfixOperator) → IsInfixKind (kind_of (tokens.Sign (infix_sign o)))
-infix_kind infixes.Or = tt
-infix_kind infixes.And = tt
-infix_kind infixes.Equal = tt
-infix_kind infixes.NotEqual = tt
-infix_kind infixes.Less = tt
-infix_kind infixes.LessOrEqual = tt
-infix_kind infixes.Greater = tt
-infix_kind infixes.GreaterOrEqual = tt
-infix_kind infixes.Concatenate = tt
-infix_kind infixes.Add = tt
-infix_kind infixes.Subtract = tt
-infix_kind infixes.Multiply = tt
+-- behind an operand of an expression such a token leads to the next one
+abbrev JoinsOperands : Kind → Type 0
+JoinsOperands k = (f : Frame) → InExpression f → (s : State) → IsBehind s → move s f k ≡ Goes OperandWanted
 
-infix_move : (s : State) (f : Frame) (k : Kind) → IsBehind s → InExpression f → IsInfixKind k → move s f k ≡ Goes OperandWanted
-infix_move BehindName Whole Name a b c = absurd c
-infix_move BehindName Whole Value a b c = absurd c
-infix_move BehindName Whole Opens a b c = absurd c
-infix_move BehindName Whole Closes a b c = absurd c
-infix_move BehindName Whole Separates a b c = absurd c
-infix_move BehindName Whole Joins a b c = absurd c
-infix_move BehindName Whole Equal a b c = refl
-infix_move BehindName Whole Sign a b c = refl
-infix_move BehindName Whole Negates a b c = absurd c
-infix_move BehindName Whole Operates a b c = refl
-infix_move BehindName Whole Foreign a b c = absurd c
-infix_move BehindName Group Name a b c = absurd c
-infix_move BehindName Group Value a b c = absurd c
-infix_move BehindName Group Opens a b c = absurd c
-infix_move BehindName Group Closes a b c = absurd c
-infix_move BehindName Group Separates a b c = absurd c
-infix_move BehindName Group Joins a b c = absurd c
-infix_move BehindName Group Equal a b c = refl
-infix_move BehindName Group Sign a b c = refl
-infix_move BehindName Group Negates a b c = absurd c
-infix_move BehindName Group Operates a b c = refl
-infix_move BehindName Group Foreign a b c = absurd c
-infix_move BehindName Arguments Name a b c = absurd c
-infix_move BehindName Arguments Value a b c = absurd c
-infix_move BehindName Arguments Opens a b c = absurd c
-infix_move BehindName Arguments Closes a b c = absurd c
-infix_move BehindName Arguments Separates a b c = absurd c
-infix_move BehindName Arguments Joins a b c = absurd c
-infix_move BehindName Arguments Equal a b c = refl
-infix_move BehindName Arguments Sign a b c = refl
-infix_move BehindName Arguments Negates a b c = absurd c
-infix_move BehindName Arguments Operates a b c = refl
-infix_move BehindName Arguments Foreign a b c = absurd c
-infix_move BehindName Target k a b c = absurd b
-infix_move BehindList Whole Name a b c = absurd c
-infix_move BehindList Whole Value a b c = absurd c
-infix_move BehindList Whole Opens a b c = absurd c
-infix_move BehindList Whole Closes a b c = absurd c
-infix_move BehindList Whole Separates a b c = absurd c
-infix_move BehindList Whole Joins a b c = absurd c
-infix_move BehindList Whole Equal a b c = refl
-infix_move BehindList Whole Sign a b c = refl
-infix_move BehindList Whole Negates a b c = absurd c
-infix_move BehindList Whole Operates a b c = refl
-infix_move BehindList Whole Foreign a b c = absurd c
-infix_move BehindList Group Name a b c = absurd c
-infix_move BehindList Group Value a b c = absurd c
-infix_move BehindList Group Opens a b c = absurd c
-infix_move BehindList Group Closes a b c = absurd c
-infix_move BehindList Group Separates a b c = absurd c
-infix_move BehindList Group Joins a b c = absurd c
-infix_move BehindList Group Equal a b c = refl
-infix_move BehindList Group Sign a b c = refl
-infix_move BehindList Group Negates a b c = absurd c
-infix_move BehindList Group Operates a b c = refl
-infix_move BehindList Group Foreign a b c = absurd c
-infix_move BehindList Arguments Name a b c = absurd c
-infix_move BehindList Arguments Value a b c = absurd c
-infix_move BehindList Arguments Opens a b c = absurd c
-infix_move BehindList Arguments Closes a b c = absurd c
-infix_move BehindList Arguments Separates a b c = absurd c
-infix_move BehindList Arguments Joins a b c = absurd c
-infix_move BehindList Arguments Equal a b c = refl
-infix_move BehindList Arguments Sign a b c = refl
-infix_move BehindList Arguments Negates a b c = absurd c
-infix_move BehindList Arguments Operates a b c = refl
-infix_move BehindList Arguments Foreign a b c = absurd c
-infix_move BehindList Target k a b c = absurd b
-infix_move BehindOperand Whole Name a b c = absurd c
-infix_move BehindOperand Whole Value a b c = absurd c
-infix_move BehindOperand Whole Opens a b c = absurd c
-infix_move BehindOperand Whole Closes a b c = absurd c
-infix_move BehindOperand Whole Separates a b c = absurd c
-infix_move BehindOperand Whole Joins a b c = absurd c
-infix_move BehindOperand Whole Equal a b c = refl
-infix_move BehindOperand Whole Sign a b c = refl
-infix_move BehindOperand Whole Negates a b c = absurd c
-infix_move BehindOperand Whole Operates a b c = refl
-infix_move BehindOperand Whole Foreign a b c = absurd c
-infix_move BehindOperand Group Name a b c = absurd c
-infix_move BehindOperand Group Value a b c = absurd c
-infix_move BehindOperand Group Opens a b c = absurd c
-infix_move BehindOperand Group Closes a b c = absurd c
-infix_move BehindOperand Group Separates a b c = absurd c
-infix_move BehindOperand Group Joins a b c = absurd c
-infix_move BehindOperand Group Equal a b c = refl
-infix_move BehindOperand Group Sign a b c = refl
-infix_move BehindOperand Group Negates a b c = absurd c
-infix_move BehindOperand Group Operates a b c = refl
-infix_move BehindOperand Group Foreign a b c = absurd c
-infix_move BehindOperand Arguments Name a b c = absurd c
-infix_move BehindOperand Arguments Value a b c = absurd c
-infix_move BehindOperand Arguments Opens a b c = absurd c
-infix_move BehindOperand Arguments Closes a b c = absurd c
-infix_move BehindOperand Arguments Separates a b c = absurd c
-infix_move BehindOperand Arguments Joins a b c = absurd c
-infix_move BehindOperand Arguments Equal a b c = refl
-infix_move BehindOperand Arguments Sign a b c = refl
-infix_move BehindOperand Arguments Negates a b c = absurd c
-infix_move BehindOperand Arguments Operates a b c = refl
-infix_move BehindOperand Arguments Foreign a b c = absurd c
-infix_move BehindOperand Target k a b c = absurd b
-infix_move NameWanted f k a b c = absurd a
-infix_move OperandWanted f k a b c = absurd a
-infix_move ListBegun f k a b c = absurd a
+equal_joins : JoinsOperands Equal
+equal_joins = frame_each _ (behind_each _ refl refl refl) (behind_each _ refl refl refl) (behind_each _ refl refl refl)
 
-open_move : (s : State) (f : Frame) → IsStart s → move s f Opens ≡ Enters Group OperandWanted
-open_move NameWanted f h = absurd h
-open_move OperandWanted f h = refl
-open_move ListBegun f h = refl
-open_move BehindName f h = absurd h
-open_move BehindList f h = absurd h
-open_move BehindOperand f h = absurd h
+sign_joins : JoinsOperands Sign
+sign_joins = frame_each _ (behind_each _ refl refl refl) (behind_each _ refl refl refl) (behind_each _ refl refl refl)
+
+operates_joins : JoinsOperands Operates
+operates_joins = frame_each _ (behind_each _ refl refl refl) (behind_each _ refl refl refl) (behind_each _ refl refl refl)
+
+infix_joins : (o : InfixOperator) → JoinsOperands (kind_of (tokens.Sign (infix_sign o)))
+infix_joins infixes.Equal = equal_joins
+infix_joins infixes.Add = sign_joins
+infix_joins infixes.Subtract = sign_joins
+infix_joins o = operates_joins
+
+open_move : (f : Frame) (s : State) → IsStart s → move s f Opens ≡ Enters Group OperandWanted
+open_move f = start_each _ refl refl
 
 name_move : (s : State) (f : Frame) → IsNameStart s → move s f Name ≡ Goes BehindName
 name_move NameWanted f h = refl
 name_move OperandWanted f h = refl
 name_move ListBegun f h = refl
-name_move BehindName f h = absurd h
-name_move BehindList f h = absurd h
-name_move BehindOperand f h = absurd h
+name_move s f h = absurd h
 
-value_move : (s : State) (f : Frame) → IsStart s → move s f Value ≡ Goes BehindOperand
-value_move NameWanted f h = absurd h
-value_move OperandWanted f h = refl
-value_move ListBegun f h = refl
-value_move BehindName f h = absurd h
-value_move BehindList f h = absurd h
-value_move BehindOperand f h = absurd h
+value_move : (f : Frame) (s : State) → IsStart s → move s f Value ≡ Goes BehindOperand
+value_move f = start_each _ refl refl
 
-join_move : (s : State) (f : Frame) → IsBehindPart s → move s f Joins ≡ Goes NameWanted
-join_move NameWanted f h = absurd h
-join_move OperandWanted f h = absurd h
-join_move ListBegun f h = absurd h
-join_move BehindName f h = refl
-join_move BehindList f h = refl
-join_move BehindOperand f h = absurd h
-
-sign_move : (s : State) (f : Frame) → IsStart s → move s f Sign ≡ Goes OperandWanted
-sign_move NameWanted f h = absurd h
-sign_move OperandWanted f h = refl
-sign_move ListBegun f h = refl
-sign_move BehindName f h = absurd h
-sign_move BehindList f h = absurd h
-sign_move BehindOperand f h = absurd h
-
-negate_move : (s : State) (f : Frame) → IsStart s → move s f Negates ≡ Goes OperandWanted
-negate_move NameWanted f h = absurd h
-negate_move OperandWanted f h = refl
-negate_move ListBegun f h = refl
-negate_move BehindName f h = absurd h
-negate_move BehindList f h = absurd h
-negate_move BehindOperand f h = absurd h
+join_move : (f : Frame) (s : State) → IsBehindPart s → move s f Joins ≡ Goes NameWanted
+join_move f = part_each _ refl refl
 
 group_move : (s : State) → IsBehind s → move s Group Closes ≡ Leaves
-group_move NameWanted h = absurd h
-group_move OperandWanted h = absurd h
-group_move ListBegun h = absurd h
-group_move BehindName h = refl
-group_move BehindList h = refl
-group_move BehindOperand h = refl
+group_move = behind_each _ refl refl refl
 
 list_move : (s : State) → IsBehind s → move s Arguments Closes ≡ Leaves
-list_move NameWanted h = absurd h
-list_move OperandWanted h = absurd h
-list_move ListBegun h = absurd h
-list_move BehindName h = refl
-list_move BehindList h = refl
-list_move BehindOperand h = refl
+list_move = behind_each _ refl refl refl
 
 comma_move : (s : State) → IsBehind s → move s Arguments Separates ≡ Goes OperandWanted
-comma_move NameWanted h = absurd h
-comma_move OperandWanted h = absurd h
-comma_move ListBegun h = absurd h
-comma_move BehindName h = refl
-comma_move BehindList h = refl
-comma_move BehindOperand h = refl
+comma_move = behind_each _ refl refl refl
 
 target_move : (s : State) → IsBehind s → move s Target Equal ≡ Turns
-target_move NameWanted h = absurd h
-target_move OperandWanted h = absurd h
-target_move ListBegun h = absurd h
-target_move BehindName h = refl
-target_move BehindList h = refl
-target_move BehindOperand h = refl
+target_move = behind_each _ refl refl refl
 
 whole_ends : (s : State) → IsBehind s → may_end s Whole ≡ true
-whole_ends NameWanted h = absurd h
-whole_ends OperandWanted h = absurd h
-whole_ends ListBegun h = absurd h
-whole_ends BehindName h = refl
-whole_ends BehindList h = refl
-whole_ends BehindOperand h = refl
+whole_ends = behind_each _ refl refl refl
 
-prefix_move : (s : State) (f : Frame) (o : PrefixOperator) → IsStart s → move s f (kind_of (tokens.Sign (prefix_sign o))) ≡ Goes OperandWanted
-prefix_move s f prefixes.Plus h = sign_move s f h
-prefix_move s f prefixes.Minus h = sign_move s f h
-prefix_move s f prefixes.Not h = negate_move s f h
+prefix_move : (f : Frame) (o : PrefixOperator) (s : State) → IsStart s → move s f (kind_of (tokens.Sign (prefix_sign o))) ≡ Goes OperandWanted
+prefix_move f prefixes.Plus = start_each _ refl refl
+prefix_move f prefixes.Minus = start_each _ refl refl
+prefix_move f prefixes.Not = start_each _ refl refl
 
-constant_move : (s : State) (f : Frame) (v : ConstantValue) → IsStart s → move s f (kind_of (constant_token v)) ≡ Goes BehindOperand
-constant_move s f (constants.Decimal v d) h = value_move s f h
-constant_move s f (constants.Binary v d) h = value_move s f h
-constant_move s f (constants.Characters v) h = value_move s f h
-constant_move s f (constants.Bits v) h = value_move s f h
+constant_move : (f : Frame) (v : ConstantValue) (s : State) → IsStart s → move s f (kind_of (constant_token v)) ≡ Goes BehindOperand
+constant_move f (constants.Decimal v d) = value_move f
+constant_move f (constants.Binary v d) = value_move f
+constant_move f (constants.Characters v) = value_move f
+constant_move f (constants.Bits v) = value_move f
 
-joining_move : (s : State) (f : Frame) (j : Joining) → IsBehindPart s → move s f (kind_of (tokens.Sign (joining_sign j))) ≡ Goes NameWanted
-joining_move s f Member h = join_move s f h
-joining_move s f Located h = join_move s f h
+joining_move : (f : Frame) (j : Joining) (s : State) → IsBehindPart s → move s f (kind_of (tokens.Sign (joining_sign j))) ≡ Goes NameWanted
+joining_move f Member = join_move f
+joining_move f Located = join_move f
 
 -- one token on
 pub one_on : (s : State) (f : Frame) (fs : List Frame) (t : TokenText) (ts : Tokens) (m : Move) → move s f (kind_of t) ≡ m → accepts s f fs (t ∷ ts) ≡ moved m (λ s f fs. accepts s f fs ts) f fs
@@ -300,7 +158,7 @@ unfolding accepts
 one_on s f fs t ts m is = ap (λ m. moved m (λ s f fs. accepts s f fs ts) f fs) is
 
 pub infix_on : (s : State) (f : Frame) (fs : List Frame) (o : InfixOperator) (ts : Tokens) → IsBehind s → InExpression f → accepts s f fs (tokens.Sign (infix_sign o) ∷ ts) ≡ accepts OperandWanted f fs ts
-infix_on s f fs o ts behind within = one_on s f fs (tokens.Sign (infix_sign o)) ts (Goes OperandWanted) (infix_move s f (kind_of (tokens.Sign (infix_sign o))) behind within (infix_kind o))
+infix_on s f fs o ts behind within = one_on s f fs (tokens.Sign (infix_sign o)) ts (Goes OperandWanted) (infix_joins o f within s behind)
 
 -- the tokens are passed over, and the test stands behind an operand
 abbrev Passes : (Stands : State → Type 0) → State → Frame → List Frame → Tokens → Tokens → Type 0
@@ -310,14 +168,14 @@ mutual
   expression_passes : (e : Expression) (p : ℕ) (ts more : Tokens) (s : State) (f : Frame) (fs : List Frame) → SpellsExpression p ts e → IsStart s → InExpression f → Passes IsBehind s f fs ts more
   expression_passes (Referred r) p ts more s f fs spelled start within = reference_passes r p ts more s f fs spelled (start_is_name s start)
   expression_passes (Constant at v) p ts more s f fs spelled start within =
-      (BehindOperand, tt, ap (λ us. accepts s f fs (us ++ more)) spelled.0 ∙ one_on s f fs (constant_token v) more (Goes BehindOperand) (constant_move s f v start))
+      (BehindOperand, tt, ap (λ us. accepts s f fs (us ++ more)) spelled.0 ∙ one_on s f fs (constant_token v) more (Goes BehindOperand) (constant_move f v s start))
   expression_passes (Parenthesized at e) p ts more s f fs (us, shape, place, spelled) start within =
       let i = expression_passes e (p + 1) us (tokens.Sign signs.CloseParenthesis ∷ more) OperandWanted Group (f ∷ fs) spelled tt tt in (
         BehindOperand,
         tt,
         ap (λ vs. accepts s f fs (vs ++ more)) shape
             ∙ ap (λ vs. accepts s f fs (tokens.Sign signs.OpenParenthesis ∷ vs)) (append_assoc us (tokens.Sign signs.CloseParenthesis ∷ []) more)
-            ∙ one_on s f fs (tokens.Sign signs.OpenParenthesis) (us ++ tokens.Sign signs.CloseParenthesis ∷ more) (Enters Group OperandWanted) (open_move s f start)
+            ∙ one_on s f fs (tokens.Sign signs.OpenParenthesis) (us ++ tokens.Sign signs.CloseParenthesis ∷ more) (Enters Group OperandWanted) (open_move f s start)
             ∙ i.2
             ∙ one_on i.0 Group (f ∷ fs) (tokens.Sign signs.CloseParenthesis) more Leaves (group_move i.0 i.1),
       )
@@ -325,7 +183,7 @@ mutual
       let i = expression_passes e (p + 1) us more OperandWanted f fs spelled tt within in (
         i.0,
         i.1,
-        ap (λ vs. accepts s f fs (vs ++ more)) shape ∙ one_on s f fs (tokens.Sign (prefix_sign o)) (us ++ more) (Goes OperandWanted) (prefix_move s f o start) ∙ i.2,
+        ap (λ vs. accepts s f fs (vs ++ more)) shape ∙ one_on s f fs (tokens.Sign (prefix_sign o)) (us ++ more) (Goes OperandWanted) (prefix_move f o s start) ∙ i.2,
       )
   expression_passes (Infix o at l r) p ts more s f fs (ls, rs, shape, place, left, low, right, above) start within =
       let i = expression_passes l p ls (tokens.Sign (infix_sign o) ∷ (rs ++ more)) s f fs left start within in
@@ -357,7 +215,7 @@ mutual
         j.1,
         ap (λ vs. accepts s f fs (vs ++ more)) shape
             ∙ ap (λ vs. accepts s f fs (tokens.Sign (joining_sign joining) ∷ tokens.Word name.name ∷ vs)) (append_assoc front rest more)
-            ∙ one_on s f fs (tokens.Sign (joining_sign joining)) (tokens.Word name.name ∷ (front ++ (rest ++ more))) (Goes NameWanted) (joining_move s f joining behind)
+            ∙ one_on s f fs (tokens.Sign (joining_sign joining)) (tokens.Word name.name ∷ (front ++ (rest ++ more))) (Goes NameWanted) (joining_move f joining s behind)
             ∙ one_on NameWanted f fs (tokens.Word name.name) (front ++ (rest ++ more)) (Goes BehindName) (name_move NameWanted f tt)
             ∙ i.2
             ∙ j.2,

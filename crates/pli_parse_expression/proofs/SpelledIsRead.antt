@@ -8,7 +8,7 @@ use Rattle.pli_base.specs.declared.syntax.ConstantValue.TheVariants as constants
 use Rattle.pli_base.specs.declared.syntax.PrefixOperator.{PrefixOperator}
 use Rattle.pli_base.specs.declared.syntax.PrefixOperator.TheVariants as prefixes
 use Rattle.pli_base.specs.declared.syntax.InfixOperator.{InfixOperator}
-use Rattle.pli_base.specs.declared.syntax.InfixOperator.TheVariants.{Or, And, Equal, NotEqual, Less, LessOrEqual, Greater, GreaterOrEqual, Concatenate, Add, Subtract, Multiply}
+use Rattle.pli_base.specs.declared.syntax.InfixOperator.TheVariants.{Or}
 use Rattle.pli_base.specs.declared.syntax.Joining.{Joining}
 use Rattle.pli_base.specs.declared.syntax.Joining.TheVariants.{Member, Located}
 use Rattle.pli_base.specs.declared.token.Fault.{Fault}
@@ -54,31 +54,11 @@ infix_is_none min (t ∷ ts) h = ap (λ o. not_below min o ts) h
 
 infix_of_sign : (o : InfixOperator) → infix_of (Sign (infix_sign o)) ≡ Some o
 infix_of_sign Or = refl
-infix_of_sign And = refl
-infix_of_sign Equal = refl
-infix_of_sign NotEqual = refl
-infix_of_sign Less = refl
-infix_of_sign LessOrEqual = refl
-infix_of_sign Greater = refl
-infix_of_sign GreaterOrEqual = refl
-infix_of_sign Concatenate = refl
-infix_of_sign Add = refl
-infix_of_sign Subtract = refl
-infix_of_sign Multiply = refl
+infix_of_sign o = refl
 
 infix_is_no_part : (o : InfixOperator) → continues_reference (Sign (infix_sign o)) ≡ false
 infix_is_no_part Or = refl
-infix_is_no_part And = refl
-infix_is_no_part Equal = refl
-infix_is_no_part NotEqual = refl
-infix_is_no_part Less = refl
-infix_is_no_part LessOrEqual = refl
-infix_is_no_part Greater = refl
-infix_is_no_part GreaterOrEqual = refl
-infix_is_no_part Concatenate = refl
-infix_is_no_part Add = refl
-infix_is_no_part Subtract = refl
-infix_is_no_part Multiply = refl
+infix_is_no_part o = refl
 
 pub operator_there : (min : ℕ) (o : InfixOperator) (ts : Tokens) → min ≤ level_of o → operator_at min (Sign (infix_sign o) ∷ ts) ≡ Some (o, ts)
 unfolding operator_at

@@ -1,4 +1,4 @@
--- The kind of a statement: it is an assignment exactly where its tokens are a reference, `=` and one
+-- The kind of a statement (own): it is an assignment exactly where its tokens are a reference, `=` and one
 -- expression. The test knows no limits.
 use Rattle.std.specs.Prelude.{◌≡◌, ℕ, ◌+◌, Bool, true, false, List, [], ◌∷◌, ◌++◌, length}
 use Rattle.pli_base.specs.Syntax.{Expression, Reference}
@@ -7,6 +7,19 @@ use Rattle.pli_base.specs.declared.token.TokenText.{TokenText}
 use Rattle.pli_base.specs.declared.token.TokenText.TheVariants as tokens
 use Rattle.pli_parse_expression.specs.Expressions.{SpellsReference, SpellsExpression}
 use Rattle.pli_base.specs.Words.{Tokens}
+use Rattle.pli_parse_expression.specs.declared.assignment.Kind.{Kind}
+use Rattle.pli_parse_expression.specs.declared.assignment.Kind.TheVariants.{Name, Value, Opens, Closes}
+use Rattle.pli_parse_expression.specs.declared.assignment.Kind.TheVariants.{Separates, Joins, Equal, Sign}
+use Rattle.pli_parse_expression.specs.declared.assignment.Kind.TheVariants.{Negates, Operates, Foreign}
+use Rattle.pli_parse_expression.specs.declared.assignment.State.{State}
+use Rattle.pli_parse_expression.specs.declared.assignment.State.TheVariants.{NameWanted, OperandWanted}
+use Rattle.pli_parse_expression.specs.declared.assignment.State.TheVariants.{ListBegun, BehindName}
+use Rattle.pli_parse_expression.specs.declared.assignment.State.TheVariants.{BehindList, BehindOperand}
+use Rattle.pli_parse_expression.specs.declared.assignment.Frame.{Frame}
+use Rattle.pli_parse_expression.specs.declared.assignment.Frame.TheVariants.{Target, Whole, Group, Arguments}
+use Rattle.pli_parse_expression.specs.declared.assignment.Move.{Move}
+use Rattle.pli_parse_expression.specs.declared.assignment.Move.TheVariants.{Stops, Goes, Enters}
+use Rattle.pli_parse_expression.specs.declared.assignment.Move.TheVariants.{Leaves, Turns}
 
 -- the tokens are a reference, `=` and one expression; no word is reserved
 abbrev pub IsAssignment : ℕ → Tokens → Type 0
@@ -15,22 +28,8 @@ IsAssignment p ts =
     × (ts ≡ ls ++ tokens.Sign signs.Equals ∷ rs)
     × SpellsReference p ls target × SpellsExpression (p + length ls + 1) rs value
 
--- what a token can be in an expression
-pub data Kind : Type 0 where
-  Name : Kind
-  Value : Kind
-  Opens : Kind
-  Closes : Kind
-  Separates : Kind
-  Joins : Kind
-  Equal : Kind
-  Sign : Kind
-  Negates : Kind
-  Operates : Kind
-  Foreign : Kind
-
--- a constant is a value; `+` and `-` are signs, prefix or infix; `^` negates; the other infix operators
--- operate
+-- what a token can be in an expression: a constant is a value; `+` and `-` are signs, prefix or infix; `^`
+-- negates; the other infix operators operate
 abbrev pub kind_of : TokenText → Kind
 kind_of (tokens.Word n) = Name
 kind_of (tokens.Sign signs.OpenParenthesis) = Opens
@@ -54,33 +53,10 @@ kind_of (tokens.Sign signs.Times) = Operates
 kind_of (tokens.Sign s) = Foreign
 kind_of t = Value
 
--- where the test stands: a name must come; an operand must; an operand or `)` must, right behind the `(` of a
--- list;
--- or it is behind a name, behind a list of arguments, or behind another operand
-pub data State : Type 0 where
-  NameWanted : State
-  OperandWanted : State
-  ListBegun : State
-  BehindName : State
-  BehindList : State
-  BehindOperand : State
-
--- what it stands in: the target, the expression behind `=`, the parentheses of an expression, or those of a
--- list
-pub data Frame : Type 0 where
-  Target : Frame
-  Whole : Frame
-  Group : Frame
-  Arguments : Frame
-
--- what a token does: it cannot stand there; the test goes on; parentheses begin; they end; or the expression
--- begins
-pub data Move : Type 0 where
-  Stops : Move
-  Goes : (state : State) → Move
-  Enters : (frame : Frame) (state : State) → Move
-  Leaves : Move
-  Turns : Move
+-- Where the test stands: a name must come; an operand must; an operand or `)` must, right behind the `(` of a
+-- list; or it is behind a name, behind a list of arguments, or behind another operand. What it stands in: the
+-- target, the expression behind `=`, the parentheses of an expression, or those of a list. What a token does:
+-- it cannot stand there; the test goes on; parentheses begin; they end; or the expression begins.
 
 -- where an operand must come
 abbrev pub operand_move : Kind → Move

@@ -1,4 +1,4 @@
--- What continues an expression or a reference that may end before it: told by how it ends.
+-- What continues an expression or a reference that may end before it (X3.74): told by how it ends.
 use Rattle.std.specs.Prelude.{◌≡◌, Bool, true, false, None, [], ◌∷◌}
 use Rattle.pli_base.specs.Syntax.{Expression, Referred, Constant, Parenthesized, Prefix, Infix, Reference}
 use Rattle.pli_base.specs.Syntax.{Named, JoinedParts, Alone, Joined, Arguments, Absent, Given}
@@ -8,6 +8,7 @@ use Rattle.pli_base.specs.declared.token.TokenText.TheVariants.{Sign}
 use Rattle.pli_parse_expression.specs.Operators.{infix_of, continues_reference}
 use Rattle.pli_base.specs.Words.{Tokens}
 
+-- the signs that join a further name to a reference
 abbrev pub joins : TokenText → Bool
 joins (Sign Period) = true
 joins (Sign Arrow) = true
@@ -23,6 +24,7 @@ abbrev pub parts_go_on : Arguments → JoinedParts → TokenText → Bool
 parts_go_on arguments Alone t = goes_on_behind arguments t
 parts_go_on arguments (Joined joining name later more) t = parts_go_on later more t
 
+-- behind a reference, by its last part
 abbrev pub reference_goes_on : Reference → TokenText → Bool
 reference_goes_on (Named name arguments more) t = parts_go_on arguments more t
 

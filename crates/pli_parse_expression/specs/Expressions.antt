@@ -32,11 +32,13 @@ abbrev mutual
       × SpellsExpression p ls left × (level_of operator ≤ level left)
       × SpellsExpression (p + length ls + 1) rs right × (level_of operator < level right)
 
+  -- a name, its arguments if it has any, and the parts that are joined to it
   pub SpellsReference : ℕ → Tokens → Reference → Type 0
   SpellsReference p ts (Named name arguments more) =
       (front : Tokens) × (rest : Tokens) × (ts ≡ Word name.name ∷ front ++ rest) × (name.at ≡ p)
       × SpellsArguments (p + 1) front arguments × SpellsJoined (p + 1 + length front) rest more
 
+  -- each part behind its sign, with its arguments if it has any
   pub SpellsJoined : ℕ → Tokens → JoinedParts → Type 0
   SpellsJoined p ts Alone = ts ≡ []
   SpellsJoined p ts (Joined joining name arguments more) =
@@ -44,6 +46,7 @@ abbrev mutual
       × (name.at ≡ p + 1)
       × SpellsArguments (p + 2) front arguments × SpellsJoined (p + 2 + length front) rest more
 
+  -- nothing, or a list in parentheses
   pub SpellsArguments : ℕ → Tokens → Arguments → Type 0
   SpellsArguments p ts Absent = ts ≡ []
   SpellsArguments p ts (Given list) =
@@ -73,17 +76,21 @@ abbrev mutual
   operators (Prefix operator at operand) = 1 + operators operand
   operators (Infix operator at left right) = operators left + (1 + operators right)
 
+  -- how many its lists of arguments have
   pub reference_operators : Reference → ℕ
   reference_operators (Named name arguments more) = argument_operators arguments + joined_operators more
 
+  -- how many the arguments of joined parts have
   pub joined_operators : JoinedParts → ℕ
   joined_operators Alone = 0
   joined_operators (Joined joining name arguments more) = argument_operators arguments + joined_operators more
 
+  -- how many a list of arguments has, if it stands
   pub argument_operators : Arguments → ℕ
   argument_operators Absent = 0
   argument_operators (Given list) = listed_operators list
 
+  -- how many the expressions of a list have together
   pub listed_operators : Expressions → ℕ
   listed_operators Empty = 0
   listed_operators (Listed e more) = operators e + listed_operators more
@@ -103,17 +110,21 @@ abbrev mutual
   NestsWithin n (Prefix operator at operand) = Deeper (λ m. NestsWithin m operand) n
   NestsWithin n (Infix operator at left right) = NestsWithin n left × NestsWithin n right
 
+  -- each list of arguments of a reference nests so
   pub ReferenceNests : ℕ → Reference → Type 0
   ReferenceNests n (Named name arguments more) = ArgumentsNest n arguments × JoinedNest n more
 
+  -- each list of arguments of the joined parts nests so
   pub JoinedNest : ℕ → JoinedParts → Type 0
   JoinedNest n Alone = Unit {0}
   JoinedNest n (Joined joining name arguments more) = ArgumentsNest n arguments × JoinedNest n more
 
+  -- a list of arguments opens a level
   pub ArgumentsNest : ℕ → Arguments → Type 0
   ArgumentsNest n Absent = Unit {0}
   ArgumentsNest n (Given list) = Deeper (λ m. ListNests m list) n
 
+  -- each expression of a list nests so
   pub ListNests : ℕ → Expressions → Type 0
   ListNests n Empty = Unit {0}
   ListNests n (Listed e more) = NestsWithin n e × ListNests n more

@@ -17,7 +17,7 @@ use Rattle.pli_base.specs.declared.token.TokenText.{TokenText}
 use Rattle.pli_base.specs.declared.token.TokenText.TheVariants as tokens
 use Rattle.pli_base.specs.Words.{Tokens}
 
--- the greatest number of operators in an expression, and of levels of nesting (own)
+-- the greatest number of operators in an expression (own)
 abbrev pub operator_limit : ℕ
 operator_limit = 1000
 

@@ -1,5 +1,5 @@
--- Reading expressions and references at the front of tokens: the tree, the place behind it and the rest, or
--- the one fault. Tokens are counted from 0, and p is the place of the first.
+-- Reading expressions and references at the front of tokens (X3.74, limits own): the tree, the place behind
+-- it and the rest, or the one fault. Tokens are counted from 0, and p is the place of the first.
 use Rattle.std.specs.Prelude.{ℕ, zero, suc, ◌+◌, nat_lt, Bool, true, false, Option, Some, None, Result}
 use Rattle.std.specs.Prelude.{Ok, ◌∷◌, length, option_map, if◌then◌else◌}
 use Rattle.pli_base.specs.Name.{Name}

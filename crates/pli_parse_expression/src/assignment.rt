@@ -2,8 +2,9 @@
 //! parentheses that are open, so that no number of them is a depth of calls.
 ghost use Rattle.std.specs.Prelude.{◌≡◌, IfOk, List, [], Bool};
 ghost use Rattle.pli_parse_expression.specs.Assignments.{kind_of, move, operand_move, behind_move, behind_frame, may_end, moved, is_assignment};
-ghost use Rattle.pli_parse_expression.specs.Assignments as test;
-ghost use Rattle.pli_parse_expression.specs.answers.Tests.{kind_view, state_view, frame_view, move_view, onto, answered};
+ghost use Rattle.pli_parse_expression.specs.declared.assignment.Frame as frames;
+ghost use Rattle.pli_parse_expression.specs.declared.assignment.State as states;
+ghost use Rattle.pli_parse_expression.specs.answers.Tests.{onto, answered};
 
 use pli_base::{Sign, TokenText};
 use std::alloc::{AllocError, AllocFailed, Global};
@@ -62,7 +63,7 @@ enum Move {
 
 /// What the token can be.
 fn kind_of(text: &TokenText) -> Kind
-    ensures { kind_view result ≡ kind_of text.now }
+    ensures { result ≡ kind_of text.now }
 {
     match text {
         TokenText::Word(_) => Kind::Name,
@@ -91,7 +92,7 @@ fn kind_of(text: &TokenText) -> Kind
 
 /// What a token does where an operand must come.
 fn operand_move(kind: Kind) -> Move
-    ensures { move_view result ≡ operand_move (kind_view kind) }
+    ensures { result ≡ operand_move kind }
 {
     match kind {
         Kind::Name => Move::Goes(State::BehindName),
@@ -104,7 +105,7 @@ fn operand_move(kind: Kind) -> Move
 
 /// What a token does behind an operand that nothing joins any more.
 fn behind_move(frame: Frame, kind: Kind) -> Move
-    ensures { move_view result ≡ behind_move (frame_view frame) (kind_view kind) }
+    ensures { result ≡ behind_move frame kind }
 {
     match (frame, kind) {
         (Frame::Target, Kind::Equal) => Move::Turns,
@@ -118,7 +119,7 @@ fn behind_move(frame: Frame, kind: Kind) -> Move
 
 /// What a token does.
 fn movement(state: State, frame: Frame, kind: Kind) -> Move
-    ensures { move_view result ≡ move (state_view state) (frame_view frame) (kind_view kind) }
+    ensures { result ≡ move state frame kind }
 {
     match (state, kind) {
         (State::NameWanted, Kind::Name) => Move::Goes(State::BehindName),
@@ -133,7 +134,7 @@ fn movement(state: State, frame: Frame, kind: Kind) -> Move
 
 /// Where the test stands behind the parenthesis that ends the frame.
 fn behind_frame(frame: Frame) -> State
-    ensures { state_view result ≡ behind_frame (frame_view frame) }
+    ensures { result ≡ behind_frame frame }
 {
     match frame {
         Frame::Arguments => State::BehindList,
@@ -143,7 +144,7 @@ fn behind_frame(frame: Frame) -> State
 
 /// Whether the tokens may end here.
 fn may_end(state: State, frame: Frame) -> bool
-    ensures { result ≡ may_end (state_view state) (frame_view frame) }
+    ensures { result ≡ may_end state frame }
 {
     matches!(
         (state, frame),
@@ -160,8 +161,8 @@ fn moved(
     frame: Frame,
     around: &mut Vec<Frame>,
 ) -> Result<Option<(State, Frame)>, AllocFailed<Frame>>
-    ensures { (more : test.State → test.Frame → List test.Frame → Bool) → IfOk result
-        (λ o. moved (move_view step) more (frame_view frame) (onto around.old.items []) ≡ answered more (onto around.new.items []) o) }
+    ensures { (more : states.State → frames.Frame → List frames.Frame → Bool) → IfOk result
+        (λ o. moved step more frame (onto around.old.items []) ≡ answered more (onto around.new.items []) o) }
 {
     match step {
         Move::Stops => Ok(None),

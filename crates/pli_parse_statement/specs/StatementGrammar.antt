@@ -1,6 +1,6 @@
--- The grammar of statements: which tokens spell which tree. Tokens are counted from 0, and p is the place of
--- the first;
--- statements are numbered from 1, and k is the number of the first. No word is reserved.
+-- The grammar of statements (X3.74, the rule of assignments own): which tokens spell which tree. Tokens are
+-- counted from 0, and p is the place of the first; statements are numbered from 1, and k is the number of the
+-- first. No word is reserved.
 use Rattle.std.specs.Prelude.{◌≡◌, ℕ, ◌+◌, ◌⊎◌, Bool, true, false, Option, Some, None, List, [], ◌∷◌, ◌++◌}
 use Rattle.std.specs.Prelude.{length, codes}
 use Rattle.pli_base.specs.Name.{Name}
@@ -226,9 +226,8 @@ MayReturn true (Return value) = ⊥
 MayReturn in_unit body = Unit {0}
 
 -- where so many levels may still be opened. PROCEDURE, BEGIN, DO, IF and ON open one, up to their ends; so do
--- prefix operators and the parentheses
--- of expressions and of lists of arguments. The statements of a list stand one behind another, and each takes
--- as many numbers as statements begin in it
+-- prefix operators and the parentheses of expressions and of lists of arguments. The statements of a list
+-- stand one behind another, and each takes as many numbers as statements begin in it
 abbrev mutual
   pub SpellsStatement : Context → (levels p k : ℕ) → Tokens → Statement → Type 0
   SpellsStatement c levels p k ts (Numbered number label at body) =
@@ -292,6 +291,7 @@ abbrev mutual
   SpellsBody c levels label p k ts (Put skip items) =
       SpellsKeyed words.Put (SpellsClosed (λ us. SpellsPut levels (p + 1) us skip items)) ts
 
+  -- statements one behind another, numbered on
   pub SpellsStatements : Context → (levels p k : ℕ) → Tokens → Statements → Type 0
   SpellsStatements c levels p k ts Ended = ts ≡ []
   SpellsStatements c levels p k ts (Before first more) =

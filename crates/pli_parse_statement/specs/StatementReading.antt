@@ -1,7 +1,7 @@
--- Reading statements, blocks, groups and the unit: the tree, or the one fault. Tokens are counted from 0, and
--- p is the place of the first;
--- statements are numbered from 1, and k is the number of the next. A part that need not stand is passed over,
--- so a fault is about what must stand next.
+-- Reading statements, blocks, groups and the unit (X3.74, the rule of assignments own): the tree, or the one
+-- fault. Tokens are counted from 0, and p is the place of the first; statements are numbered from 1, and k is
+-- the number of the next. A part that need not stand is passed over, so a fault is about what must stand
+-- next.
 use Rattle.std.specs.Prelude.{ℕ, zero, suc, ◌+◌, ◌-◌, Bool, true, false, ◌||◌, Option, Some, None, Result, Ok}
 use Rattle.std.specs.Prelude.{Err, List, [], ◌∷◌, length, option_map, is_some, codes, if◌then◌else◌}
 use Rattle.pli_base.specs.Name.{Name}
@@ -360,7 +360,7 @@ abbrev pub is_labelled : Option Identifier → Bool
 is_labelled None = false
 is_labelled (Some l) = true
 
--- the label that may not stand: behind THEN, ELSE and ON the first, elsewhere a second
+-- the place of a second label, if there is one
 abbrev pub second_label : ℕ → Option Identifier → Option ℕ
 second_label p None = None
 second_label p (Some l) = Some p

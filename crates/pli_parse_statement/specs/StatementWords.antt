@@ -1,4 +1,5 @@
--- The keywords of statements, where statements stand, and the test of what makes an assignment.
+-- The keywords of statements, where statements stand, and the test of what makes an assignment (X3.74, the
+-- rule of assignments own).
 use Rattle.std.specs.Prelude.{Bool, true, false, [], ◌∷◌, codes, Option, Some, None, option_map}
 use Rattle.std.specs.Prelude.{if◌then◌else◌}
 use Rattle.pli_base.specs.Name.{Name}

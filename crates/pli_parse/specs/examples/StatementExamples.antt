@@ -23,21 +23,27 @@ use Rattle.pli_parse_statement.specs.StatementWords.{standing, a_procedure}
 use Rattle.pli_parse_statement.specs.declared.keyword.Standing.TheVariants.{InGroup}
 use Rattle.pli_base.specs.declared.statement.Condition.TheVariants as conditions
 
+-- the token of a name
 abbrev pub w : Name → TokenText
 w n = Word n
 
+-- the sign `(`
 abbrev pub left : TokenText
 left = Sign OpenParenthesis
 
+-- the sign `)`
 abbrev pub right : TokenText
 right = Sign CloseParenthesis
 
+-- the sign `:`
 abbrev pub colon : TokenText
 colon = Sign Colon
 
+-- the sign `=`
 abbrev pub equals : TokenText
 equals = Sign Equals
 
+-- the sign `;`
 abbrev pub stop : TokenText
 stop = Sign Semicolon
 
@@ -45,15 +51,19 @@ stop = Sign Semicolon
 abbrev pub digit : ℕ → TokenText
 digit v = Decimal v 1
 
+-- a decimal constant of one digit, at a token
 abbrev pub number : ℕ → ℕ → Expression
 number at v = Constant at (constants.Decimal v 1)
 
+-- a name at a token
 abbrev pub named : Name → ℕ → Identifier
 named n p = record { name = n; at = p }
 
+-- a reference that is a name alone
 abbrev pub variable : Name → ℕ → Reference
 variable n p = Named (named n p) Absent Alone
 
+-- such a reference as an expression
 abbrev pub plain : Name → ℕ → Expression
 plain n p = Referred (variable n p)
 

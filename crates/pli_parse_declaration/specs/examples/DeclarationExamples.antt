@@ -14,18 +14,23 @@ use Rattle.pli_base.specs.Declarations as tree
 use Rattle.pli_base.specs.declared.syntax.Identifier.{Identifier}
 use Rattle.pli_base.specs.declared.declaration.InitialValue.TheVariants as initial
 
+-- the token of a name
 abbrev pub w : List ℕ → TokenText
 w n = Word n
 
+-- the sign `(`
 abbrev pub left : TokenText
 left = Sign OpenParenthesis
 
+-- the sign `)`
 abbrev pub right : TokenText
 right = Sign CloseParenthesis
 
+-- the sign `,`
 abbrev pub comma : TokenText
 comma = Sign Comma
 
+-- a `;` that is the last token
 abbrev pub semicolon : Tokens
 semicolon = Sign Semicolon ∷ []
 
@@ -125,6 +130,7 @@ NoDescription =
     declaration_at 1 (w (codes "F") ∷ w (codes "ENTRY") ∷ left ∷ w (codes "FOO") ∷ right ∷ semicolon)
     ≡ at_fault ParenthesisExpected 4
 
+-- `F ENTRY(BIT, FOO);`: behind a comma a description must stand
 abbrev pub NoDescriptionBehindComma : Type 0
 NoDescriptionBehindComma =
     declaration_at 1 (w (codes "F") ∷ w (codes "ENTRY") ∷ left ∷ w (codes "BIT") ∷ comma ∷ w (codes "FOO")

@@ -131,6 +131,7 @@ fn show_simple(shown: &mut Shown, attribute: &SimpleAttribute) {
     }
 }
 
+/// The attributes of a parameter or a result, with blanks between.
 pub fn show_described(shown: &mut Shown, attributes: &[DescribedAttribute]) {
     let mut before = "";
     for attribute in attributes {
