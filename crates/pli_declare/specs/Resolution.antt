@@ -129,8 +129,7 @@ least [] = None
 least (c ∷ cs) = lesser c (least cs)
 
 -- RETURNS stands once; MAIN, which has no effect on an internal procedure, stands without parameters and
--- without RETURNS; the result; names of areas in it, which
--- are good or not; at most 64 parameters
+-- without RETURNS; the result; names of areas in it, which are good or not; at most 64 parameters
 abbrev pub heading_code : (are_good : Bool) → Heading → Option Code
 heading_code are_good h =
     let returned = returned_by h.options in
@@ -155,8 +154,8 @@ abbrev pub parameters_of : Outline → ℕ → List Name
 parameters_of o block = flat_map (λ p. headed block p.mark) o.marks
 
 -- the codes of a name that is declared as an entity, apart from A2: for an item those of its own attributes,
--- of its level, of the names in them and of the size of the
--- whole variable; for a procedure those of its heading
+-- of its level, of the names in them and of the size of the whole variable; for a procedure those of its
+-- heading
 abbrev pub entity_codes : Outline → (block : ℕ) → (own : Option Code) → (is_too_large : Bool) → Entity
     → List (Option Code)
 entity_codes o block own is_too_large (AsItem item is_bad) =
@@ -184,8 +183,7 @@ codes_from o block number [] = []
 codes_from o block number (e ∷ es) =
     at_token e.identifier.at (item_code o block number) ++ codes_from o block (number + 1) es
 
--- a parameter's name is declared twice where a parameter before it has it, and is missing where its block
--- declares no item of it that belongs to no item
+-- an item
 abbrev pub is_item : Entity → Bool
 is_item (AsItem item is_bad) = true
 is_item (AsLabel region) = false
@@ -195,7 +193,8 @@ is_item (AsProcedure heading region) = false
 abbrev pub is_item_named : Name → tables.Entry → Bool
 is_item_named name e = same_name e.identifier.name name && stands_alone e && is_item e.entity
 
--- the code of a parameter in its list: A2 where one before has its name, A4 where no item declares it
+-- the code of a parameter in its list: A2 where one before has its name, A4 where its block declares no item
+-- of it that belongs to no item
 abbrev pub parameter_code : Outline → (block : ℕ) → (before : List Name) → Name → Option Code
 parameter_code o block before name =
     first_of ((list_any (same_name name) before, DeclaredTwice)
@@ -239,7 +238,7 @@ faults_after o before (p ∷ ps) =
     mark_faults o (declared_by o (block_of o.regions p.region) before) p
     ++ faults_after o (before ++ p ∷ []) ps
 
--- the unit's own heading: an area that its RETURNS names is found nowhere
+-- an attribute names no area: the one that the RETURNS of the unit's own heading names is found nowhere
 abbrev pub names_nothing : DescribedAttribute → Bool
 names_nothing (Plain (Offset (Some name))) = false
 names_nothing attribute = true

@@ -26,9 +26,8 @@ pub record Block : Type 0 where
   pub declarations : List Declaration
 
 -- the outermost block, which declares the unit's own name; for each region what it declares, if it is a
--- block; what each use means; for each
--- declared name the area of its OFFSET, or of that in its RETURNS, and the locator of its BASED; all in the
--- order of the text
+-- block; what each use means; for each declared name the area of its OFFSET, or of that in its RETURNS, and
+-- the locator of its BASED; all in the order of the text
 pub record Resolved : Type 0 where
   pub regions : List Region
   pub outermost : List Declaration

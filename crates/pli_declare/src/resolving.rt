@@ -165,13 +165,19 @@ fn resolve_told<'a>(
     }
 }
 
-/// The resolved unit, or all faults of its declarations and uses: for each declared name and each reference the least code, in the
-/// order of their tokens.
-pub fn resolve(alloc: Global, unit: &Procedure) -> Result<Resolved<'_>, ResolveError>
+/// The resolved unit of a tree whose outline is given, or all faults of its declarations and uses: for each declared name and
+/// each reference the least code, in the order of their tokens.
+pub fn resolve<'a>(
+    alloc: Global,
+    unit: &'a Procedure,
+    outline: &Outline<'a>,
+) -> Result<Resolved<'a>, ResolveError>
+    requires { outline_view outline.now ≡ outline_of (unit_view unit.now) }
     ensures { IsResolved result (unit_view unit.now) }
 {
-    let outline = pli_declare_outline::outline(alloc, unit)?;
     let nesting = Nesting::new(alloc, &outline.regions)?;
-    let tables = searched_tables(alloc, &outline, &nesting)?;
-    resolve_told(alloc, unit, &outline, &nesting, &tables)
+    let tables = searched_tables(alloc, outline, &nesting)?;
+    let told = resolve_told(alloc, unit, outline, &nesting, &tables);
+    drop(tables);
+    told
 }

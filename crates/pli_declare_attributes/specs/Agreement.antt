@@ -34,8 +34,7 @@ may_have_members Parameter = false
 may_have_members Result = false
 
 -- what may not stand there: storage and scope stand at level 1 only, parameters and results begin with no
--- value, and no function
--- returns an area
+-- value, and no function returns an area
 abbrev pub excluded_at : Position → ℕ
 excluded_at AtLevelOne = 0
 excluded_at Member = storage_attributes + scope_attributes
@@ -62,8 +61,8 @@ abbrev pub agrees_as_built_in : Place → (is_array : Bool) → ℕ → Bool
 agrees_as_built_in p is_array s = is_plain p is_array && p.built_in_name && s == built_in
 
 -- one data type, at most one storage class and one scope, EXTERNAL without AUTOMATIC and BASED, RETURNS
--- without ENTRY beside no
--- data attribute and no members, what may stand at its place, and no data attribute beside members
+-- without ENTRY beside no data attribute and no members, what may stand at its place, and no data attribute
+-- beside members
 abbrev pub agrees_as_variable : Place → ℕ → Bool
 agrees_as_variable p s =
     none_of s (entry + built_in)
@@ -85,8 +84,7 @@ abbrev pub attributes_agree : Place → (is_array : Bool) → List tree.Describe
 attributes_agree p is_array attributes = each_once 0 attributes && set_agrees p is_array (set_of attributes)
 
 -- an attribute is missing: RETURNS stands without ENTRY; or no data attribute or only one of FIXED and BINARY
--- stands where there are
--- neither members nor ENTRY nor BUILTIN
+-- stands where there are neither members nor ENTRY nor BUILTIN
 unfoldable pub is_missing : Place → ℕ → Bool
 is_missing p s =
     has s returns && none_of s entry

@@ -80,7 +80,7 @@ own_fault p i =
     ) ∷ []))
     (area_fault p i.dimensions (set_of attributes)))
 
--- the description of a parameter or of a result stands nowhere else, and a result is a scalar
+-- where what ENTRY describes of a parameter stands
 abbrev pub parameter_place : Place
 parameter_place =
     record {
@@ -91,7 +91,7 @@ parameter_place =
       built_in_name = false;
     }
 
--- where what RETURNS describes stands
+-- where what RETURNS describes stands: a result is a scalar
 abbrev pub result_place : Place
 result_place =
     record {

@@ -30,7 +30,7 @@ fits map.Pointer initial.Null = true
 fits map.Offset initial.Null = true
 fits d value = false
 
--- how many elements have a value: a factor of 0 gives none
+-- how many elements a factor gives a value: one where it does not stand, none where it is 0
 abbrev pub factor_or_one : Option ℕ → ℕ
 factor_or_one None = 1
 factor_or_one (Some n) = n

@@ -1,11 +1,11 @@
--- The attributes that stand beside a name, as a set. A set is the sum of its attributes' numbers, each a
--- power of 2.
+-- The attributes that stand beside a name, as a set (X3.74, the rule own). A set is the sum of its
+-- attributes' numbers, each a power of 2.
 use Rattle.std.specs.Prelude.{ℕ, ◌+◌, Bool, true, ◌==◌, ◌&&◌, List, [], ◌∷◌, Option, Some, None}
 use Rattle.std.specs.Int.RustNames.{bit_and, bit_or}
 use Rattle.std.specs.List.{list_any}
 use Rattle.pli_base.specs.Declarations as tree
 
--- data attributes
+-- FIXED, a data attribute as the seven behind it
 abbrev pub fixed : ℕ
 fixed = 1
 
@@ -37,7 +37,7 @@ offset = 64
 abbrev pub area : ℕ
 area = 128
 
--- storage
+-- AUTOMATIC, a storage class as the three behind it
 abbrev pub automatic : ℕ
 automatic = 256
 
@@ -53,7 +53,7 @@ based = 1024
 abbrev pub controlled : ℕ
 controlled = 2048
 
--- scope
+-- INTERNAL, a scope as the one behind it
 abbrev pub internal : ℕ
 internal = 4096
 
@@ -61,7 +61,7 @@ internal = 4096
 abbrev pub external : ℕ
 external = 8192
 
--- the others
+-- INITIAL
 abbrev pub initial : ℕ
 initial = 16384
 

@@ -1,4 +1,4 @@
--- The type that a set of data attributes says, with its defaults.
+-- The type that a set of data attributes says, with its defaults (X3.74, limits own).
 use Rattle.std.specs.Prelude.{ℕ, Bool, true, not, nat_le, ◌&&◌, ◌||◌, if◌then◌else◌, List, [], ◌∷◌, Option}
 use Rattle.std.specs.Prelude.{Some, None}
 use Rattle.std.specs.Option.{option_or}

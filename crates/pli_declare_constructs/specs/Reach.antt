@@ -1,7 +1,6 @@
 -- Which labels a GOTO reaches (X3.74): those of the statement lists that enclose it. But out of an ON-unit no
--- label in a
--- group of the block in which the ON stands is reached (own), since the unit may run when that group does
--- not.
+-- label in a group of the block in which the ON stands is reached (own), since the unit may run when that
+-- group does not.
 use Rattle.std.specs.Prelude.{ℕ, Bool, true, false, not, ◌&&◌, ◌==◌, List, [], ◌∷◌, if◌then◌else◌}
 use Rattle.std.specs.List.{list_any}
 use Rattle.pli_declare_outline.specs.Outlines.{Region}

@@ -1,4 +1,4 @@
--- The regions round a place, and the blocks among them.
+-- The regions round a place, and the blocks among them (X3.74, the rule of ON-units own).
 use Rattle.std.specs.Prelude.{ℕ, Bool, true, false, Option, Some, None, List, [], ◌∷◌, ◌++◌, length, get_or}
 use Rattle.std.specs.List.{filter}
 use Rattle.pli_declare_outline.specs.Outlines.{Region}
@@ -12,7 +12,7 @@ is_block kinds.Begin = true
 is_block kinds.Group = false
 is_block kinds.Unit = false
 
--- the regions round a place, the innermost first: for each region itself and those round it
+-- the regions round what stands in this one, if it stands in any, the innermost first
 abbrev pub round : List (List ℕ) → Option ℕ → List ℕ
 round rounds None = []
 round rounds (Some outer) = get_or rounds outer []

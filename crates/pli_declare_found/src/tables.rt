@@ -20,6 +20,9 @@ pub fn searched_tables<'a>(
     ensures { IfOk result (λ tables. AreOf tables (outline_view outline.now)) }
 {
     let mut tables = Tables::new(alloc, outline, nesting)?;
-    remember_marks(alloc, nesting, &mut tables.blocks, &outline.marks)?;
+    if remember_marks(alloc, nesting, &mut tables.blocks, &outline.marks).is_err() {
+        drop(tables);
+        return Err(AllocError);
+    }
     Ok(tables)
 }

@@ -1,7 +1,6 @@
 -- The outline of a unit: its regions, and what is declared and used in each, in the order of the text. A
--- region is a procedure, a BEGIN block,
--- a DO group or an ON-unit. Regions are numbered from 0 in the order in which they begin, and the external
--- procedure is region 0.
+-- region is a procedure, a BEGIN block, a DO group or an ON-unit. Regions are numbered from 0 in the order in
+-- which they begin, and the external procedure is region 0.
 use Rattle.std.specs.Prelude.{ℕ, ◌+◌, nat_lt, Option, Some, None, List, [], ◌∷◌, ◌++◌, map, if◌then◌else◌}
 use Rattle.std.specs.List.{flat_map}
 use Rattle.pli_base.specs.Syntax.{Expression, Referred, Constant, Parenthesized, Prefix, Infix, Reference}
@@ -23,8 +22,7 @@ pub record Region : Type 0 where
   pub outer : Option ℕ
 
 -- what the text declares or uses. Entered has the number of the procedure's own region; the names of Used are
--- those of a reference between
--- its arrows, of which each locator is a reference of its own
+-- those of a reference between its arrows, of which each locator is a reference of its own
 pub data Mark : Type 0 where
   Declared : (items : List Item) → Mark
   Labelled : (label : Identifier) → Mark
@@ -51,6 +49,7 @@ member_names (Joined Member name arguments more) = name ∷ member_names more
 member_names (Joined Located name arguments more) = []
 
 abbrev mutual
+  -- a use of the names up to the first `->`, then those of its arguments and of what is joined to it
   pub reference_marks : Reference → List Mark
   reference_marks (Named name arguments more) =
       Used (name ∷ member_names more) ∷ argument_marks arguments ++ joined_marks more
@@ -62,14 +61,17 @@ abbrev mutual
   joined_marks (Joined Located name arguments more) =
       Used (name ∷ member_names more) ∷ argument_marks arguments ++ joined_marks more
 
+  -- the marks of a list of arguments, if it stands
   pub argument_marks : Arguments → List Mark
   argument_marks Absent = []
   argument_marks (Given list) = list_marks list
 
+  -- the marks of each expression of a list
   pub list_marks : Expressions → List Mark
   list_marks Empty = []
   list_marks (Listed e es) = expression_marks e ++ list_marks es
 
+  -- the marks of the references in an expression, in the order of the text
   pub expression_marks : Expression → List Mark
   expression_marks (Referred r) = reference_marks r
   expression_marks (Constant at value) = []
@@ -137,6 +139,7 @@ abbrev mutual
   pub regions_in : Statement → ℕ
   regions_in (Numbered number label at body) = regions_of body
 
+  -- how many begin in what a statement is: itself, if it is a region, and those inside
   pub regions_of : Body → ℕ
   regions_of (body.Procedure heading statements end) = 1 + regions_among statements
   regions_of (body.Begin statements end) = 1 + regions_among statements
@@ -145,10 +148,12 @@ abbrev mutual
   regions_of (body.On condition unit) = 1 + regions_in unit
   regions_of other = 0
 
+  -- how many begin in the statements of a list
   pub regions_among : Statements → ℕ
   regions_among Ended = 0
   regions_among (Before first more) = regions_in first + regions_among more
 
+  -- how many begin in an ELSE
   pub regions_else : Alternative → ℕ
   regions_else NoElse = 0
   regions_else (Else statement) = regions_in statement
@@ -162,6 +167,7 @@ abbrev mutual
   pub statement_regions : (here next : ℕ) → Statement → List Region
   statement_regions here next (Numbered number label at body) = body_regions here next body
 
+  -- the regions of what a statement is: itself, if it is one, and then those inside it
   pub body_regions : (here next : ℕ) → Body → List Region
   body_regions here next (body.Procedure heading statements end) =
       region_in kinds.Procedure here ∷ statements_regions next (next + 1) statements
@@ -176,23 +182,25 @@ abbrev mutual
       region_in kinds.Unit here ∷ statement_regions next (next + 1) unit
   body_regions here next other = []
 
+  -- the regions of each statement of a list, numbered on
   pub statements_regions : (here next : ℕ) → Statements → List Region
   statements_regions here next Ended = []
   statements_regions here next (Before first more) =
       statement_regions here next first ++ statements_regions here (next + regions_in first) more
 
+  -- the regions of an ELSE
   pub alternative_regions : (here next : ℕ) → Alternative → List Region
   alternative_regions here next NoElse = []
   alternative_regions here next (Else statement) = statement_regions here next statement
 
 -- the marks of a statement of the region here; the first region that begins in it has the number next. The
--- control of a DO group stands
--- outside the group
+-- control of a DO group stands outside the group
 abbrev mutual
   pub statement_marks : (here next : ℕ) → Statement → List Placed
   statement_marks here next (Numbered number label at body) =
       placed here (label_marks label body) ++ body_marks here next body
 
+  -- the marks of a statement behind its label
   pub body_marks : (here next : ℕ) → Body → List Placed
   body_marks here next (body.Procedure heading statements end) =
       placed here (Entered heading next ∷ []) ++ statements_marks next (next + 1) statements
@@ -205,11 +213,13 @@ abbrev mutual
   body_marks here next (body.On condition unit) = statement_marks next (next + 1) unit
   body_marks here next other = placed here (head_marks other)
 
+  -- the marks of each statement of a list
   pub statements_marks : (here next : ℕ) → Statements → List Placed
   statements_marks here next Ended = []
   statements_marks here next (Before first more) =
       statement_marks here next first ++ statements_marks here (next + regions_in first) more
 
+  -- the marks of an ELSE
   pub alternative_marks : (here next : ℕ) → Alternative → List Placed
   alternative_marks here next NoElse = []
   alternative_marks here next (Else statement) = statement_marks here next statement

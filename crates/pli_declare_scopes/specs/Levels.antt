@@ -1,4 +1,4 @@
--- Levels: which item each declared item belongs to.
+-- Levels (X3.74): which item each declared item belongs to.
 use Rattle.std.specs.Prelude.{ℕ, ◌+◌, Bool, ◌||◌, ◌&&◌, nat_eq, nat_lt, List, [], ◌∷◌, ◌++◌, map, Option}
 use Rattle.std.specs.Prelude.{None, Some, if◌then◌else◌}
 use Rattle.std.specs.Option.{is_none, unwrap_or}

@@ -137,7 +137,10 @@ impl Block {
         ensures { IfOk result (λ block. block ≡ []) }
     {
         let mut block = Block::new(alloc);
-        block.reserve(count)?;
+        if block.reserve(count).is_err() {
+            drop(block);
+            return Err(AllocError);
+        }
         Ok(block)
     }
 

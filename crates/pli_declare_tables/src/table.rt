@@ -124,15 +124,15 @@ fn verdicts_on(alloc: Global, entries: &[Entry<'_>]) -> Result<Vec<Verdict>, All
     verdicts(alloc, &items)
 }
 
-/// The items of a block that declares nothing yet, as names are looked up in it.
-fn declared_in(
-    mut block: Block,
+/// Declares the items of a block that declares nothing yet, as names are looked up in it.
+fn declare_names(
+    block: &mut Block,
     entries: &[Entry<'_>],
     verdicts: &[Verdict],
-) -> Result<Block, AllocError>
-    requires empty { block ≡ [] }
+) -> Result<(), AllocError>
+    requires empty { block.old ≡ [] }
     requires behind { AreBehindOwners (entries_view entries.now) }
-    ensures { IfOk result (λ block. block ≡ with_verdicts (entries_view entries.now) verdicts.now) }
+    ensures { OnOk result (block.new ≡ with_verdicts (entries_view entries.now) verdicts.now) }
 {
     for (entry, verdict) in entries.iter().zip(verdicts) {
         block.declare(Declared {
@@ -141,7 +141,7 @@ fn declared_in(
             counts: *verdict == Verdict::Counts,
         })?;
     }
-    Ok(block)
+    Ok(())
 }
 
 /// The block, as names are looked up in it.
@@ -153,8 +153,12 @@ fn block_with(
     requires { AreBehindOwners (entries_view entries.now) }
     ensures { IfOk result (λ block. block ≡ with_verdicts (entries_view entries.now) verdicts.now) }
 {
-    let block = Block::with_room(alloc, entries.len())?;
-    declared_in(block, entries, verdicts)
+    let mut block = Block::with_room(alloc, entries.len())?;
+    if declare_names(&mut block, entries, verdicts).is_err() {
+        drop(block);
+        return Err(AllocError);
+    }
+    Ok(block)
 }
 
 impl<'a> Table<'a> {

@@ -94,7 +94,10 @@ fn put_resolved(
     asked: Asked,
     unit: &Procedure,
 ) -> Result<(), AllocError> {
-    match resolve(alloc, unit) {
+    let outline = outline(alloc, unit)?;
+    let resolved = resolve(alloc, unit, &outline);
+    drop(outline);
+    match resolved {
         Ok(resolved) => {
             let put = put_names(shown, alloc, asked, &resolved);
             drop(resolved);

@@ -14,9 +14,9 @@ use Rattle.pli_declare_tables.specs.Tables.{numbers_from}
 use Rattle.pli_declare_variables.specs.Places.{place_in, own_code, is_variable}
 use Rattle.pli_declare_variables.specs.Descriptions.{description_of}
 
--- an item, completed, with its description if it is a variable of its own: a member's is a part of it; a
--- label of a statement in a region;
--- a procedure, with what it returns, if it does, and the number of its own region
+-- what a name is declared as: an item, completed, with its description if it is a variable of its own (a
+-- member's is a part of it); a label of a statement in a region; a procedure, with what it returns, if it
+-- does, and the number of its own region
 pub data Kind : Type 0 where
   OfItem : (completed : Completed) (description : Option Description) → Kind
   OfLabel : (region : ℕ) → Kind

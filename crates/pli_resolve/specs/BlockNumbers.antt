@@ -1,5 +1,6 @@
--- The blocks of a unit and their numbers. Procedures, BEGIN blocks and ON-units are blocks; they are numbered
--- from 0 in the order in which they begin in the text, so the unit itself is block 0. A DO group is none.
+-- The blocks of a unit and their numbers (X3.74, numbers own). Procedures, BEGIN blocks and ON-units are
+-- blocks; they are numbered from 0 in the order in which they begin in the text, so the unit itself is block
+-- 0. A DO group is none.
 use Rattle.std.specs.Prelude.{ℕ, ◌+◌, Option, Some, None, List, [], ◌∷◌, ◌++◌, get_or}
 use Rattle.pli_declare_outline.specs.Outlines.{Region}
 use Rattle.pli_declare_outline.specs.declared.region.RegionKind.{RegionKind}

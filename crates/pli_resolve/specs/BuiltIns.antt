@@ -1,4 +1,4 @@
--- The built-in functions and their names.
+-- The built-in functions and their names (X3.74).
 use Rattle.std.specs.Prelude.{Option, Some, None, List, [], ◌∷◌, if◌then◌else◌, codes}
 use Rattle.pli_base.specs.Name.{Name}
 use Rattle.pli_base.specs.Words.{same_name}

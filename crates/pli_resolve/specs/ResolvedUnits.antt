@@ -78,6 +78,7 @@ abbrev pub function_at : Identifier → Option BuiltInFunction → List (ℕ × 
 function_at i None = []
 function_at i (Some function) = (i.at, function) ∷ []
 
+-- a reference of one name may name one; nothing else does
 abbrev pub functions_at : Mark → List (ℕ × BuiltInFunction)
 functions_at (Used (i ∷ [])) = function_at i (function_named i.name)
 functions_at mark = []
@@ -122,6 +123,7 @@ abbrev pub kind_meaning : SymbolKey → (name : Name) → Kind → Option NameMe
 kind_meaning key name (OfItem OfBuiltIn description) = option_map meanings.BuiltIn (function_named name)
 kind_meaning key name other = Some (meanings.Symbol key)
 
+-- the same, of a declaration that may not be there
 abbrev pub declared_meaning : SymbolKey → Option Declaration → Option NameMeaning
 declared_meaning key None = None
 declared_meaning key (Some d) = kind_meaning key d.identifier.name d.kind

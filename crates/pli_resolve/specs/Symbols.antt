@@ -55,6 +55,7 @@ pub record Way : Type 0 where
   pub root : ℕ
   pub path : List ℕ
 
+-- a way for a number that has none
 abbrev pub no_way : Way
 no_way = record { root = 0; path = [] }
 
@@ -119,10 +120,11 @@ key_of numbers outermost (Some AFunction) = None
 key_of numbers outermost (Some (AName region number)) =
     Some (record { block = block_under numbers outermost region; number = number })
 
--- the area and the locator that the declaration of the name at a token names
+-- the area that OFFSET names in the declaration of the name at a token
 abbrev pub area_of : SymbolFacts → (at : ℕ) → Option SymbolKey
 area_of f at = key_of f.numbers f.outermost (meaning_at f.areas at)
 
+-- the locator that BASED names in the declaration of the name at a token
 abbrev pub locator_of : SymbolFacts → (at : ℕ) → Option SymbolKey
 locator_of f at = key_of f.numbers f.outermost (meaning_at f.locators at)
 
@@ -150,6 +152,7 @@ symbol_kind f parameters w i owner (OfLabel region) = Label (unwrap_or (found_in
 symbol_kind f parameters w i owner (OfProcedure returned region) =
     Procedure (get_or f.numbers region 0) returned (area_of f i.at)
 
+-- what a name is declared as, with the name
 abbrev pub symbol_of : SymbolFacts → (parameters : List Name) → Way → Declaration → Symbol
 symbol_of f parameters w d =
     record { identifier = d.identifier; kind = symbol_kind f parameters w d.identifier d.owner d.kind }

@@ -1,5 +1,5 @@
--- The blocks of a source tree, by a walk over it. A PROCEDURE, a BEGIN and an ON begin one block each; a
--- group begins none. Blocks are numbered in the order in which they begin in the text.
+-- The blocks of a source tree, by a walk over it (own). A PROCEDURE, a BEGIN and an ON begin one block each;
+-- a group begins none. Blocks are numbered in the order in which they begin in the text.
 use Rattle.std.specs.Prelude.{ℕ, suc, ◌+◌, Option, Some, None, List, [], ◌∷◌, ◌++◌, length}
 use Rattle.pli_base.specs.Statements.{Statement, Numbered, Body, Procedure, Begin, Do, If, On}
 use Rattle.pli_base.specs.Statements.{Statements, Ended, Before, Alternative, NoElse, Else, ExternalProcedure}
@@ -11,6 +11,7 @@ abbrev mutual
   pub blocks_in : Statement → ℕ
   blocks_in (Numbered number label at body) = blocks_of body
 
+  -- how many begin in what a statement is: itself, if it is one, and those inside
   pub blocks_of : Body → ℕ
   blocks_of (Procedure heading statements end) = suc (blocks_among statements)
   blocks_of (Begin statements end) = suc (blocks_among statements)
@@ -19,10 +20,12 @@ abbrev mutual
   blocks_of (On condition unit) = suc (blocks_in unit)
   blocks_of body = 0
 
+  -- how many begin in the statements of a list
   pub blocks_among : Statements → ℕ
   blocks_among Ended = 0
   blocks_among (Before first more) = blocks_in first + blocks_among more
 
+  -- how many begin in an ELSE
   pub blocks_behind : Alternative → ℕ
   blocks_behind NoElse = 0
   blocks_behind (Else statement) = blocks_in statement
@@ -46,6 +49,7 @@ abbrev mutual
   pub statement_blocks : (outer next : ℕ) → Statement → List TreeBlock
   statement_blocks outer next (Numbered number label at body) = body_blocks outer next number body
 
+  -- the blocks of what a statement is: itself, if it is one, and then those inside it
   pub body_blocks : (outer next : ℕ) → (statement : ℕ) → Body → List TreeBlock
   body_blocks outer next statement (Procedure heading statements end) =
       inner_block kinds.Procedure outer statement (length heading.parameters)
@@ -60,11 +64,13 @@ abbrev mutual
       inner_block kinds.OnUnit outer statement 0 ∷ statement_blocks next (suc next) unit
   body_blocks outer next statement body = []
 
+  -- the blocks of each statement of a list, numbered on
   pub statements_blocks : (outer next : ℕ) → Statements → List TreeBlock
   statements_blocks outer next Ended = []
   statements_blocks outer next (Before first more) =
       statement_blocks outer next first ++ statements_blocks outer (next + blocks_in first) more
 
+  -- the blocks of an ELSE
   pub alternative_blocks : (outer next : ℕ) → Alternative → List TreeBlock
   alternative_blocks outer next NoElse = []
   alternative_blocks outer next (Else statement) = statement_blocks outer next statement

@@ -36,17 +36,6 @@ fn marks_behind<'a, 'b>(outline: &'a Outline<'b>) -> &'a [Placed<'b>]
     marks
 }
 
-/// The built-in functions that a unit names, by their tokens.
-fn unit_functions(
-    alloc: Global,
-    unit: &Procedure,
-) -> Result<IndexMap<u32, BuiltInFunction>, AllocError>
-    ensures { IfOk result (λ functions. (at : ℕ) → get nat_eq functions at ≡ found_in (functions_in (inner_marks (outline_of (unit_view unit.now)).marks)) at) }
-{
-    let outline = pli_declare_outline::outline(alloc, unit)?;
-    functions(alloc, marks_behind(&outline))
-}
-
 /// Which regions of a unit are blocks.
 fn region_numbers(alloc: Global, declared: &Resolved) -> Result<RegionNumbers, AllocError>
     ensures { IfOk result (λ regions. AreNumbersOf regions (unit_view declared.now)) }
@@ -82,13 +71,15 @@ fn unit_maps(
     declared: &Resolved,
     regions: &RegionNumbers,
     places: &[StatementPlace],
+    marks: &[Placed],
 ) -> Result<UnitMaps, AllocError>
     requires are_numbers { AreNumbersOf regions.now (unit_view declared.now) }
+    requires are_marks { marks_view marks.now ≡ inner_marks (outline_of (unit_view declared.now)).marks }
     requires are_places { places.now ≡ unit_places (unit_view declared.now) }
     ensures { IfOk result (λ maps. AreMapsOf maps (unit_view declared.now)) }
 {
     Ok(UnitMaps {
-        functions: unit_functions(alloc, declared.unit())?,
+        functions: functions(alloc, marks)?,
         statements: statement_regions(alloc, places)?,
         labels: labels(alloc, places)?,
         procedures: unit_procedures(alloc, declared, regions)?,
@@ -96,12 +87,17 @@ fn unit_maps(
 }
 
 /// What is found once for a unit.
-fn unit_tables(alloc: Global, declared: &Resolved) -> Result<UnitTables, AllocError>
+fn unit_tables(
+    alloc: Global,
+    declared: &Resolved,
+    marks: &[Placed],
+) -> Result<UnitTables, AllocError>
+    requires are_marks { marks_view marks.now ≡ inner_marks (outline_of (unit_view declared.now)).marks }
     ensures { IfOk result (λ tables. AreTablesOf tables (unit_view declared.now)) }
 {
     let list = statement_list(alloc, declared.unit())?;
     let regions = region_numbers(alloc, declared)?;
-    let maps = unit_maps(alloc, declared, &regions, &list.places)?;
+    let maps = unit_maps(alloc, declared, &regions, &list.places, marks)?;
     let tables = block_tables(alloc, declared.blocks())?;
     let ways = ways(alloc, declared.outermost())?;
     Ok(UnitTables {
@@ -113,23 +109,17 @@ fn unit_tables(alloc: Global, declared: &Resolved) -> Result<UnitTables, AllocEr
     })
 }
 
-/// The resolved unit of what its tree declares.
-fn resolved_unit<'a>(alloc: Global, declared: Resolved<'a>) -> Result<ResolvedUnit<'a>, AllocError>
-    ensures { IfOk result (λ unit. unit ≡ declared.entry) }
-{
-    let tables = unit_tables(alloc, &declared)?;
-    Ok(ResolvedUnit {
-        declared,
-        tables,
-        undescribed: Description::Pointer,
-    })
-}
-
 /// The resolved unit of a tree, or all faults of its declarations and uses: for each declared name and each reference the least
 /// code, in the order of their tokens.
 pub fn resolve_unit(alloc: Global, unit: &Procedure) -> Result<ResolvedUnit<'_>, ResolveError>
     ensures { IsResolvedUnit result (unit_view unit.now) }
 {
-    let declared = pli_declare::resolve(alloc, unit)?;
-    Ok(resolved_unit(alloc, declared)?)
+    let outline = pli_declare_outline::outline(alloc, unit)?;
+    let declared = pli_declare::resolve(alloc, unit, &outline)?;
+    let tables = unit_tables(alloc, &declared, marks_behind(&outline))?;
+    Ok(ResolvedUnit {
+        declared,
+        tables,
+        undescribed: Description::Pointer,
+    })
 }

@@ -1,5 +1,5 @@
--- The typed unit, or all its faults of types: one for each statement, in the order of the text. A unit with a
--- form that is not compiled yet has Z1 in their place.
+-- The typed unit, or all its faults of types (X3.74, Z1 own): one for each statement, in the order of the
+-- text. A unit with a form that is not compiled yet has Z1 in their place.
 use Rattle.std.specs.Prelude.{ℕ, Bool, true, false, ◌&&◌, Option, Some, None, List, [], ◌∷◌, length}
 use Rattle.std.specs.Prelude.{Result, Ok, Err}
 use Rattle.pli_base.specs.Statements.{ExternalProcedure, Statements}
@@ -17,9 +17,11 @@ use Rattle.pli_type_tree.specs.TypedTree.{Signature, TypedUnit, TypedProcedure, 
 abbrev pub in_unit : (value : Option Description) → Statements → Surroundings
 in_unit value statements = record { blocks = enclosing 0 statements ∷ []; begins = 0; value = value }
 
+-- the external procedure is block 0, so the next one is block 1; its temporaries begin with 0
 abbrev pub first_inside : Next
 first_inside = record { block = 1; temporary = 0 }
 
+-- the external procedure as a typed one, with its statements
 abbrev pub external_of : NamedUnit → TypedStatements → TypedProcedure
 external_of u list = record {
   head = record {
@@ -38,18 +40,21 @@ external_of u list = record {
 abbrev pub outer_signature : NamedUnit → Signature
 outer_signature u = record { parameters = u.parameters 0; result = u.returned 0 }
 
--- a program may begin with a unit that has OPTIONS(MAIN): its procedure has no parameters and no RETURNS, as
--- is asked of its declaration
+-- no parameters and no RETURNS
 abbrev pub is_nothing : List Description → Option Description → Bool
 is_nothing [] None = true
 is_nothing parameters result = false
 
+-- such a procedure takes and gives nothing
 abbrev pub takes_nothing : Signature → Bool
 takes_nothing s = is_nothing s.parameters s.result
 
+-- a program may begin with a unit that has OPTIONS(MAIN): its procedure has no parameters and no RETURNS, as
+-- is asked of its declaration
 abbrev pub may_begin : ExternalProcedure → Signature → Bool
 may_begin u s = is_main u && takes_nothing s
 
+-- the typed unit: its external procedure, and behind it those inside
 abbrev pub unit_of : NamedUnit → WithProcedures TypedStatements → TypedUnit
 unit_of u list = record {
   name = u.tree.heading.name.name;
@@ -60,11 +65,13 @@ unit_of u list = record {
   procedures = external_of u list.part ∷ list.procedures;
 }
 
+-- the unit, where its statements have no faults
 abbrev pub typed_as : NamedUnit → Result (WithProcedures TypedStatements) (List Fault)
     → Result TypedUnit (List Fault)
 typed_as u (Ok list) = Ok (unit_of u list)
 typed_as u (Err faults) = Err faults
 
+-- Z1 at the first form that is not compiled yet, in place of all else
 abbrev pub unless_unbuilt : Option ℕ → Result TypedUnit (List Fault) → Result TypedUnit (List Fault)
 unless_unbuilt None typed = typed
 unless_unbuilt (Some at) typed = Err (record { code = NotYetBuilt; at = at } ∷ [])

@@ -42,10 +42,11 @@ decimal_digits precision = 1 + div_ceil (100 * precision) 332
 abbrev pub columns : (digits : ℕ) → ℕ
 columns digits = min 255 (digits + 3)
 
--- of the operands of `+` or `-`, and of `*`
+-- of what `+` or `-` gives, by those of its operands
 abbrev pub sum_precision : (greatest p q : ℕ) → ℕ
 sum_precision greatest p q = min greatest (max p q + 1)
 
+-- of what `*` gives
 abbrev pub product_precision : (greatest p q : ℕ) → ℕ
 product_precision greatest p q = min greatest (p + q + 1)
 
@@ -88,13 +89,16 @@ constant (constants.Bits bits) = record { expression = Literal (Bits bits); kind
 
 -- operations on typed expressions
 
+-- operands in a row, from left to right
 abbrev pub all_operands : List TypedExpression → Operands
 all_operands [] = NoOperand
 all_operands (e ∷ es) = OperandThen e (all_operands es)
 
+-- an operation with one operand
 abbrev pub with_one : Operation → TypedExpression → TypedExpression
 with_one operation e = Calculated operation (all_operands (e ∷ []))
 
+-- an operation with two operands
 abbrev pub with_two : Operation → (left right : TypedExpression) → TypedExpression
 with_two operation left right = Calculated operation (all_operands (left ∷ right ∷ []))
 
@@ -110,6 +114,7 @@ abbrev pub with_minus : TypedValue → Option ℕ → Option TypedValue
 with_minus v (Some p) = Some (record { expression = with_one Negate v.expression; kind = v.kind })
 with_minus v None = None
 
+-- `^` takes bits
 abbrev pub with_not : TypedExpression → ExpressionType → Option TypedValue
 with_not e types.Bits = Some (record { expression = with_one Not e; kind = types.Bits })
 with_not e other = None
@@ -162,7 +167,7 @@ on_strings operation left right kind =
 abbrev pub as_bits : TypedExpression → TypedValue
 as_bits e = record { expression = e; kind = types.Bits }
 
--- it takes two strings, or else two numbers
+-- two strings are compared in the type in which they stand beside one another, or else two numbers
 abbrev pub compared : (greatest : ℕ) → Relation → (left right : TypedValue) → Option ExpressionType
     → Option TypedValue
 compared greatest relation left right (Some kind) =
@@ -171,6 +176,7 @@ compared greatest relation left right None =
     option_map (λ v. as_bits v.expression)
     (on_numbers greatest (Compare relation) (sum_precision greatest) left right)
 
+-- a comparison takes two strings, or else two numbers
 abbrev pub comparison : (greatest : ℕ) → Relation → (left right : TypedValue) → Option TypedValue
 comparison greatest relation left right =
     compared greatest relation left right (string_type left.kind right.kind)
@@ -181,12 +187,13 @@ concatenation left right =
     option_map (λ kind. record { expression = on_strings Concatenate left right kind; kind = kind })
     (string_type left.kind right.kind)
 
--- `&` and `|` take two strings of bits
+-- an operation on two strings of bits
 abbrev pub of_bits_alone : Operation → (left right : TypedExpression) → (one other : ExpressionType)
     → Option TypedValue
 of_bits_alone operation left right types.Bits types.Bits = Some (as_bits (with_two operation left right))
 of_bits_alone operation left right one other = None
 
+-- `&` and `|` take two strings of bits
 abbrev pub logical : Operation → (left right : TypedValue) → Option TypedValue
 logical operation left right =
     of_bits_alone operation left.expression right.expression left.kind right.kind
@@ -208,20 +215,22 @@ infix_value greatest infixes.Or = logical Or
 
 -- conversions
 
--- characters of a string or a number: a constant that is all that is converted is FIXED DECIMAL
+-- a number as characters: a constant that is all that is converted is FIXED DECIMAL
 abbrev pub number_as_characters : TypedExpression → Option ℕ → Option TypedExpression
 number_as_characters e (Some width) = Some (with_one (ToCharacters width) e)
 number_as_characters e None = None
 
+-- characters of a string or a number
 abbrev pub as_characters : TypedExpression → ExpressionType → Option TypedExpression
 as_characters e types.Characters = Some e
 as_characters e types.Bits = Some (with_one FromBits e)
 as_characters e other = number_as_characters e (width_of other)
 
--- a number stands where a number is assigned, and bits where bits are
+-- a number stands where a number is assigned
 abbrev pub as_number : (greatest : ℕ) → TypedExpression → ExpressionType → Option TypedExpression
 as_number greatest e kind = option_map (λ p. e) (precision_of greatest kind)
 
+-- bits stand where bits are assigned
 abbrev pub only_bits : TypedExpression → ExpressionType → Option TypedExpression
 only_bits e types.Bits = Some e
 only_bits e other = None
@@ -235,20 +244,22 @@ suited greatest (described.Varying n) e kind = as_characters e kind
 suited greatest (described.Bit n) e kind = only_bits e kind
 suited greatest other e kind = None
 
--- and fitted to it, also where it has the type already
+-- a value that suits a variable is fitted to its description, also where it has the type already
 abbrev pub converted : (greatest : ℕ) → Description → TypedValue → Option TypedExpression
 converted greatest d v = option_map (with_one (Fit d)) (suited greatest d v.expression v.kind)
 
--- the operations of this conversion, one after the other: where it is needed, to characters
+-- the operations that make characters of a value of this type, one after the other, where it needs any
 abbrev pub string_conversions : ExpressionType → Option (List Operation)
 string_conversions types.Characters = Some []
 string_conversions types.Bits = Some (FromBits ∷ [])
 string_conversions other = option_map (λ width. ToCharacters width ∷ []) (width_of other)
 
+-- those that make bits of it: none, and only bits
 abbrev pub bit_conversions : ExpressionType → Option (List Operation)
 bit_conversions types.Bits = Some []
 bit_conversions other = None
 
+-- those that make what a variable of this description takes
 abbrev pub suiting : (greatest : ℕ) → Description → ExpressionType → Option (List Operation)
 suiting greatest (described.FixedBinary precision) kind = option_map (λ p. []) (precision_of greatest kind)
 suiting greatest (described.Character n) kind = string_conversions kind
@@ -256,15 +267,17 @@ suiting greatest (described.Varying n) kind = string_conversions kind
 suiting greatest (described.Bit n) kind = bit_conversions kind
 suiting greatest other kind = None
 
--- and then to the variable's range or length
+-- and behind them the one that fits to the variable's range or length
 abbrev pub conversions : (greatest : ℕ) → Description → ExpressionType → Option (List Operation)
 conversions greatest d kind = option_map (λ operations. operations ++ Fit d ∷ []) (suiting greatest d kind)
 
--- what PUT prints: characters and bits as they stand, a number as characters; no locator and no area
+-- what PUT prints of a value of this type: characters and bits as they stand, a number as characters; no
+-- locator and no area
 abbrev pub printed_from : TypedExpression → ExpressionType → Option TypedExpression
 printed_from e types.Characters = Some e
 printed_from e types.Bits = Some e
 printed_from e other = number_as_characters e (width_of other)
 
+-- what PUT prints of an expression
 abbrev pub printed : TypedValue → Option TypedExpression
 printed v = printed_from v.expression v.kind

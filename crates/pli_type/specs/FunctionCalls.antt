@@ -42,6 +42,7 @@ meant_by r = held (type_of r.description)
     held None = WholeAggregate r
     held (Some kind) = OneValue (record { expression = Held r.reference; kind = kind })
 
+-- what an expression denotes, as one value or a whole aggregate
 abbrev pub meant_as : Denoted → Meant
 meant_as (DenotesVariable r) = meant_by r
 meant_as (DenotesResult value) = OneValue value
@@ -64,13 +65,15 @@ number_written expression = None
 abbrev pub exactly : (given : ℕ) → List Role → Option (List Role)
 exactly given roles = if nat_eq given (length roles) then Some roles else None
 
--- so many values
+-- one value
 abbrev pub one : List Role
 one = AsValue ∷ []
 
+-- two values
 abbrev pub two : List Role
 two = AsValue ∷ AsValue ∷ []
 
+-- three values
 abbrev pub three : List Role
 three = AsValue ∷ AsValue ∷ AsValue ∷ []
 
@@ -96,6 +99,7 @@ roles_of function given = None
 abbrev pub a_count : ExpressionType
 a_count = types.FixedBinary count_precision
 
+-- FIXED BINARY of so many digits
 abbrev pub number_type : (precision : ℕ) → ExpressionType
 number_type precision = types.FixedBinary precision
 
@@ -174,6 +178,7 @@ the_quotient greatest x y (Some precision) =
     calculation (Some (DivideTo precision)) (quotient_type greatest x.kind y.kind precision)
     (x.expression ∷ y.expression ∷ [])
 
+-- a bound is a number that counts
 abbrev pub bound_value : ℤ → TypedValue
 bound_value bound = record { expression = Literal (Number bound); kind = a_count }
 
@@ -185,6 +190,7 @@ bound_in which number (Array bounds element) =
     else None
 bound_in which number other = None
 
+-- a bound of an array, in the dimension that is written
 abbrev pub the_bound : (Bounds → ℤ) → Meant → (written : Option ℕ) → Option TypedValue
 the_bound which (WholeAggregate r) (Some number) = bound_in which number r.description
 the_bound which meant written = None

@@ -35,6 +35,7 @@ abbrev mutual
   scalars_on (Structure ds) (i ∷ path) first = scalars_in_member ds i path first
   scalars_on scalar path first = record { scalar = first; description = scalar } ∷ []
 
+  -- those of the member of this number, by the way that is left
   pub scalars_in_member : Members → (number : ℕ) → (path : List ℕ) → (first : ℕ) → List NumberedScalar
   scalars_in_member NoMembers i path first = []
   scalars_in_member (MemberThen d ds) zero path first = scalars_on d path first
@@ -78,6 +79,7 @@ pub record InitialItem : Type 0 where
   pub path : List ℕ
   pub values : List InitialValue
 
+-- the scalars that an item with INITIAL gives values
 abbrev pub initial_scalars : Description → InitialItem → List InitialScalar
 initial_scalars d i = each_with (scalars_on d i.path 0) (values_written i.values)
 

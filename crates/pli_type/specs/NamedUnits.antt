@@ -35,19 +35,20 @@ use Rattle.pli_type_tree.specs.TypedTree.{Root, InSlot, OfProgram, TypedUnit}
 
 -- which variables there are
 
--- a description of numbers and strings alone, within the language's limits, as all variables of these stages
--- have: numbers of so many digits at most, strings of 1 to 32,767 elements, arrays with elements, and
--- structures with members
+-- a length of a string: 1 to 32,767 elements
 abbrev pub is_length : ℕ → Bool
 is_length n = nat_lt 0 n && nat_le n 32767
 
--- bounds of 16 binary digits, as subscripts of these stages have
+-- bounds of 16 binary digits
 abbrev pub are_bounds : List Bounds → Bool
 are_bounds [] = true
 are_bounds (b ∷ bs) =
     nat_le (unsigned_abs b.low) 32768 && nat_le (unsigned_abs b.high) 32768 && are_bounds bs
 
 abbrev mutual
+  -- a description of numbers and strings alone, within the language's limits, as all variables have that are
+  -- compiled: numbers of so many digits at most, strings of such lengths, arrays with elements and such
+  -- bounds, and structures with members
   pub is_plain : (greatest : ℕ) → Description → Bool
   is_plain greatest (FixedBinary precision) = nat_le precision greatest
   is_plain greatest (Character n) = is_length n
@@ -58,18 +59,21 @@ abbrev mutual
   is_plain greatest (Structure (MemberThen d ds)) = is_plain greatest d && all_plain greatest ds
   is_plain greatest other = false
 
+  -- such members
   pub all_plain : (greatest : ℕ) → Members → Bool
   all_plain greatest NoMembers = true
   all_plain greatest (MemberThen d ds) = is_plain greatest d && all_plain greatest ds
 
--- and of at most 1,000,000 bytes
+-- such a description, of at most 1,000,000 bytes
 abbrev pub is_stored : (greatest : ℕ) → Description → Bool
 is_stored greatest d = is_plain greatest d && nat_le (size_of d) 1000000
 
+-- an AUTOMATIC variable of it
 abbrev pub is_automatic : (greatest : ℕ) → StorageClass → Description → Bool
 is_automatic greatest classes.Automatic d = is_stored greatest d
 is_automatic greatest class d = false
 
+-- a STATIC variable of it
 abbrev pub is_static : (greatest : ℕ) → StorageClass → Description → Bool
 is_static greatest classes.Static d = is_stored greatest d
 is_static greatest class d = false
@@ -80,15 +84,17 @@ is_static greatest class d = false
 abbrev pub block_symbols : ResolvedUnit → (block : ℕ) → List Symbol
 block_symbols r block = get_or (all_symbols r) block []
 
+-- a part of a block, or something else where there is no such block
 abbrev pub of_block : {A : Type 0} → (ResolvedBlock → A) → (otherwise : A) → Option ResolvedBlock → A
 of_block part otherwise None = otherwise
 of_block part otherwise (Some b) = part b
 
+-- the block is a procedure
 abbrev pub is_procedure : ResolvedBlockKind → Bool
 is_procedure kinds.Procedure = true
 is_procedure other = false
 
--- the numbers of its parameters among its symbols, each under its slot
+-- the numbers of a procedure's parameters among its symbols, each under its slot
 abbrev pub parameter_numbers : ResolvedUnit → (block : ℕ) → List ℕ
 parameter_numbers r block =
     of_block (λ b. if is_procedure b.kind then b.parameters else []) [] (slice_get r.blocks block)
@@ -107,7 +113,7 @@ abbrev pub parameters_of : ResolvedUnit → (block : ℕ) → List Description
 parameters_of r block =
     map (λ number. description_in (slice_get (block_symbols r block) number)) (parameter_numbers r block)
 
--- what a procedure gives, by the symbol of its name
+-- what the procedure of this symbol gives
 abbrev pub returned_by : Option Symbol → Option Description
 returned_by None = None
 returned_by (Some s) = of_kind s.kind
@@ -116,6 +122,7 @@ returned_by (Some s) = of_kind s.kind
     of_kind (Procedure block returned area) = returned
     of_kind other = None
 
+-- what a procedure gives, by the symbol of its name
 abbrev pub returned_of : ResolvedUnit → (block : ℕ) → Option Description
 returned_of r block =
     option_and_then (λ key. returned_by (symbol_at r key))
@@ -141,13 +148,14 @@ one_global greatest (Variable description class scope initial area) =
 one_global greatest (Entry parameters returned) = 1
 one_global greatest kind = 0
 
--- how many globals there are before the symbol of this number, and in all these blocks
+-- how many globals there are before the symbol of this number
 abbrev pub globals_before : (greatest : ℕ) → List Symbol → (number : ℕ) → ℕ
 globals_before greatest [] number = 0
 globals_before greatest (s ∷ ss) zero = 0
 globals_before greatest (s ∷ ss) (suc number) =
     one_global greatest s.kind + globals_before greatest ss number
 
+-- how many globals there are in all these blocks
 abbrev pub globals_in : (greatest : ℕ) → List (List Symbol) → ℕ
 globals_in greatest [] = 0
 globals_in greatest (ss ∷ more) = globals_before greatest ss (length ss) + globals_in greatest more
@@ -158,12 +166,13 @@ number_in_blocks greatest r key =
     globals_in greatest (take key.block (all_symbols r))
     + globals_before greatest (block_symbols r key.block) key.number
 
--- the tokens of the names of globals, symbol after symbol and block after block
+-- the tokens of the names of globals, symbol after symbol
 abbrev pub global_tokens : (greatest : ℕ) → List Symbol → List ℕ
 global_tokens greatest [] = []
 global_tokens greatest (s ∷ ss) =
     replicate (one_global greatest s.kind) s.identifier.at ++ global_tokens greatest ss
 
+-- the same, block after block
 abbrev pub all_tokens : (greatest : ℕ) → List (List Symbol) → List ℕ
 all_tokens greatest blocks = flat_map (global_tokens greatest) blocks
 
@@ -209,6 +218,7 @@ root_of greatest r blocks key class d = None
 
 -- what names mean
 
+-- a variable, or a member of it, where it begins somewhere
 abbrev pub variable_from : Option Root → (whole : Description) → (path : List ℕ) → NamedAs
 variable_from None whole path = Untyped
 variable_from (Some root) whole path = AVariable (record { root = root; whole = whole; path = path })
@@ -224,7 +234,7 @@ variable_at greatest r blocks key path (Some s) = of_kind s.kind
         variable_from (root_of greatest r blocks key class description) description path
     of_kind other = Untyped
 
--- a procedure is reached that stands directly in a block around; so is the external one
+-- what stands directly in a block around, or in none
 abbrev pub stands_around : (blocks : List ℕ) → Option ℕ → Bool
 stands_around blocks None = true
 stands_around blocks (Some outer) = not_none (outward_to blocks outer)
@@ -233,19 +243,22 @@ stands_around blocks (Some outer) = not_none (outward_to blocks outer)
     not_none None = false
     not_none (Some outward) = true
 
+-- a procedure is reached that stands directly in a block around; so is the external one
 abbrev pub is_reached : (blocks : List ℕ) → Option ResolvedBlock → Bool
 is_reached blocks None = false
 is_reached blocks (Some b) = is_procedure b.kind && stands_around blocks b.outer
 
--- a function gives what a variable could hold
+-- a procedure gives nothing, or what a variable could hold
 abbrev pub gives_stored : (greatest : ℕ) → Option Description → Bool
 gives_stored greatest None = true
 gives_stored greatest (Some d) = is_stored greatest d
 
+-- the procedure that is this block, with what it takes and gives
 abbrev pub named_procedure : ResolvedUnit → (block : ℕ) → NamedProcedure
 named_procedure r block =
     record { callee = OfBlock block; parameters = parameters_of r block; returned = returned_of r block }
 
+-- its name means it where it is reached and gives what a variable could hold
 abbrev pub procedure_named : (greatest : ℕ) → ResolvedUnit → (blocks : List ℕ) → (block : ℕ) → NamedAs
 procedure_named greatest r blocks block =
     if is_reached blocks (slice_get r.blocks block) && gives_stored greatest (returned_of r block)
@@ -258,7 +271,7 @@ entry_named greatest number parameters returned =
     then AProcedure (record { callee = OfEntry number; parameters = parameters; returned = returned })
     else Untyped
 
--- by the symbols of its block
+-- what a name means, by what its symbol is
 abbrev pub symbol_meant : (greatest : ℕ) → ResolvedUnit → (blocks : List ℕ) → SymbolKey → SymbolKind → NamedAs
 symbol_meant greatest r blocks key (Variable description class scope initial area) =
     variable_from (root_of greatest r blocks key class description) description []
@@ -271,6 +284,7 @@ symbol_meant greatest r blocks key (Entry parameters returned) =
     entry_named greatest (global_number greatest r key) parameters returned
 symbol_meant greatest r blocks key BuiltIn = Untyped
 
+-- what a declared name means, by its symbol
 abbrev pub declared_as : (greatest : ℕ) → ResolvedUnit → (blocks : List ℕ) → SymbolKey → NamedAs
 declared_as greatest r blocks key = of_symbol (symbol_at r key)
   where
@@ -278,11 +292,13 @@ declared_as greatest r blocks key = of_symbol (symbol_at r key)
     of_symbol None = Untyped
     of_symbol (Some s) = symbol_meant greatest r blocks key s.kind
 
+-- what a name means that is declared, or is that of a built-in function
 abbrev pub named_as : (greatest : ℕ) → ResolvedUnit → (blocks : List ℕ) → Option NameMeaning → NamedAs
 named_as greatest r blocks None = Untyped
 named_as greatest r blocks (Some (meanings.BuiltIn function)) = AFunction function
 named_as greatest r blocks (Some (meanings.Symbol key)) = declared_as greatest r blocks key
 
+-- what names mean, seen from the blocks around
 abbrev pub naming_of : (greatest : ℕ) → ResolvedUnit → (blocks : List ℕ) → Naming
 naming_of greatest r blocks =
     record { greatest = greatest; meaning = λ at. named_as greatest r blocks (meaning_at r at) }
@@ -293,6 +309,7 @@ means_later None = false
 means_later (Some (meanings.BuiltIn function)) = is_later_function function
 means_later (Some (meanings.Symbol key)) = false
 
+-- which names are those of functions that are not compiled yet
 abbrev pub compiled_of : (greatest : ℕ) → ResolvedUnit → Compiled
 compiled_of greatest r = record { greatest = greatest; is_later = λ at. means_later (meaning_at r at) }
 
@@ -317,13 +334,14 @@ template_at is_such symbols number (Variable description class scope initial are
     else []
 template_at is_such symbols number kind = []
 
--- those among symbols, the first of which has this number
+-- those among symbols, the first of which has this number; all are the symbols of the block
 abbrev pub templates_from : (StorageClass → Description → Bool) → (all : List Symbol) → (number : ℕ)
     → List Symbol → List Template
 templates_from is_such all number [] = []
 templates_from is_such all number (s ∷ ss) =
     template_at is_such all number s.kind ++ templates_from is_such all (suc number) ss
 
+-- what the variables of such a class among the symbols of a block are made from
 abbrev pub templates_of : (StorageClass → Description → Bool) → List Symbol → List Template
 templates_of is_such symbols = templates_from is_such symbols 0 symbols
 
@@ -344,25 +362,28 @@ global_with greatest all number name (Entry parameters returned) =
     EntryPoint name (record { parameters = parameters; result = returned }) ∷ []
 global_with greatest all number name kind = []
 
--- with the token of its name
+-- a global, and the token of its name
 pub record PlacedGlobal : Type 0 where
   pub at : ℕ
   pub global : Global
 
+-- a global, with the token of its name
 abbrev pub placed : (at : ℕ) → Global → PlacedGlobal
 placed at global = record { at = at; global = global }
 
+-- the global that a symbol is, if it is one, with the token of its name
 abbrev pub global_at : (greatest : ℕ) → (all : List Symbol) → (number : ℕ) → Symbol → List PlacedGlobal
 global_at greatest all number s =
     map (placed s.identifier.at) (global_with greatest all number s.identifier.name s.kind)
 
--- those among symbols, the first of which has this number
+-- the globals among symbols, the first of which has this number; all are the symbols of the block
 abbrev pub globals_from : (greatest : ℕ) → (all : List Symbol) → (number : ℕ) → List Symbol
     → List PlacedGlobal
 globals_from greatest all number [] = []
 globals_from greatest all number (s ∷ ss) =
     global_at greatest all number s ++ globals_from greatest all (suc number) ss
 
+-- the globals among the symbols of a block
 abbrev pub globals_of : (greatest : ℕ) → List Symbol → List PlacedGlobal
 globals_of greatest symbols = globals_from greatest symbols 0 symbols
 
@@ -375,6 +396,7 @@ abbrev pub all_globals : (greatest : ℕ) → List (List Symbol) → List Global
 all_globals greatest blocks =
     map (λ p. p.global) (in_order (λ p. p.at) (block_globals greatest blocks))
 
+-- the unit as types see it, numbers having at most so many binary digits
 abbrev pub named_unit : (greatest : ℕ) → ResolvedUnit → NamedUnit
 named_unit greatest r = record {
   tree = r.tree;

@@ -26,6 +26,7 @@ abbrev pub passed_value : (greatest : ℕ) → Description → Meant → Option 
 passed_value greatest d (OneValue v) = converted greatest d v
 passed_value greatest d (WholeAggregate r) = None
 
+-- an argument is handed over by its place, if it can be, or else by its value
 abbrev pub passed : Description → Option TypedReference → Option TypedExpression → TypedArguments
     → Option TypedArguments
 passed d (Some place) value more = Some (ByPlace place more)
@@ -64,6 +65,7 @@ abbrev pub result_of : (at : ℕ) → Callee → TypedArguments → Option Expre
 result_of at callee arguments None = at_fault NotCallableHere at
 result_of at callee arguments (Some kind) = Ok (record { expression = Called callee arguments; kind = kind })
 
+-- the type of what a procedure gives; one that gives nothing, or an aggregate, has none
 abbrev pub type_returned : Option Description → Option ExpressionType
 type_returned None = None
 type_returned (Some d) = type_of d

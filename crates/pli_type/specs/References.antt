@@ -71,6 +71,7 @@ abbrev pub part_on : StridedPart → (path : List ℕ) → Option StridedPart
 part_on p [] = Some p
 part_on p (i ∷ path) = option_and_then (λ m. part_on m path) (member_of p i)
 
+-- the part that a name leads to, all its subscripts being the lowest
 abbrev pub part_of : NamedVariable → Option StridedPart
 part_of v = part_on (record { offset = 0; description = v.whole; strides = [] }) v.path
 
@@ -114,6 +115,7 @@ settled role located at v xs (Some p) =
       description = p.description;
     })
 
+-- a reference to a variable or a part of one, with its subscripts
 abbrev pub variable_meant : Role → (located : Bool) → (at : ℕ) → NamedVariable → List TypedExpression
     → Result Referent Fault
 variable_meant role located at v xs =

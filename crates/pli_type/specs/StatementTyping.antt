@@ -66,7 +66,7 @@ assignment n at target equals e = do
 
 -- conditions and items
 
--- a condition is a string of bits, else T4 at its first token
+-- a string of bits
 abbrev pub truth_of : TypedValue → Option TypedExpression
 truth_of v = truth v.kind
   where
@@ -74,17 +74,19 @@ truth_of v = truth v.kind
     truth types.Bits = Some v.expression
     truth other = None
 
+-- a condition is a string of bits, else T4 at its first token
 abbrev pub condition : Naming → Expression → Result TypedExpression Fault
 condition n e = do
   v ← value_of n e
   or_fault WrongOperandType (first_token e) (truth_of v)
 
--- an item of PUT, which is T14 at its first token where it can't be printed; one after the other
+-- an item of PUT, which is T14 at its first token where it can't be printed
 abbrev pub item : Naming → Expression → Result TypedExpression Fault
 item n e = do
   v ← value_of n e
   or_fault CannotPrint (first_token e) (printed v)
 
+-- items of PUT, one after the other
 abbrev pub items : Naming → List Expression → Result (List TypedExpression) Fault
 items n [] = Ok []
 items n (e ∷ es) = do
@@ -124,20 +126,22 @@ leaves_nothing (Declare declared) = true
 leaves_nothing (tree.Procedure heading statements end) = true
 leaves_nothing body = false
 
--- the labels of a list are the numbers of its statements that have one
+-- the label of a statement is its number, if it has one; that of a DECLARE or a procedure is none here
 abbrev pub label_of : Statement → List ℕ
 label_of (Numbered number None at body) = []
 label_of (Numbered number (Some label) at body) = if leaves_nothing body then [] else number ∷ []
 
+-- the labels of a list
 abbrev pub labels_of : Statements → List ℕ
 labels_of Ended = []
 labels_of (Before first more) = label_of first ++ labels_of more
 
--- in a group
+-- the innermost block knows these labels too
 abbrev pub with_labels : List ℕ → List Enclosing → List Enclosing
 with_labels labels [] = []
 with_labels labels (b ∷ bs) = record { number = b.number; labels = labels ++ b.labels } ∷ bs
 
+-- in a group: the labels of its list are known too
 abbrev pub in_group : Statements → Surroundings → Surroundings
 in_group statements s = record {
   blocks = with_labels (labels_of statements) s.blocks;
@@ -145,6 +149,7 @@ in_group statements s = record {
   value = s.value;
 }
 
+-- a block of this number, whose list this is
 abbrev pub enclosing : (number : ℕ) → Statements → Enclosing
 enclosing number statements = record { number = number; labels = labels_of statements }
 
@@ -173,6 +178,7 @@ label_found [] label = None
 label_found (b ∷ bs) label =
     if list_any (nat_eq label) b.labels then Some 0 else option_map suc (label_found bs label)
 
+-- a jump to the label of a statement in the block so many static links outward, if it is found there
 abbrev pub jump_to : (label : ℕ) → Option ℕ → Option Form
 jump_to label None = None
 jump_to label (Some outward) = Some (typed.Goto outward label)
@@ -183,6 +189,7 @@ abbrev pub jump : Surroundings → NamedAs → Option Form
 jump s (ALabel statement) = jump_to statement (label_found s.blocks statement)
 jump s other = None
 
+-- GOTO: Z1 at the label where the jump is not compiled
 abbrev pub goto_typed : Naming → Surroundings → (label : Identifier) → Result Form Fault
 goto_typed n s label = or_fault NotYetBuilt label.at (jump s (n.meaning label.at))
 
@@ -191,16 +198,18 @@ abbrev pub arguments_typed : Naming → Arguments → Result (List Argument) Fau
 arguments_typed n Absent = Ok []
 arguments_typed n (Given list) = all_arguments n [] list
 
--- a call of what is no function: T6, T7 or T8 at the name, in this order
+-- a call of what is no function; else T8 at the name
 abbrev pub no_function : (at : ℕ) → Callee → Option Description → TypedArguments → Result Form Fault
 no_function at callee None arguments = Ok (typed.Call callee arguments)
 no_function at callee (Some d) arguments = at_fault NotCallableHere at
 
+-- a call of a procedure; T8 at the name of what is none
 abbrev pub call_of : (greatest : ℕ) → (at : ℕ) → NamedAs → List Argument → Result Form Fault
 call_of greatest at (AProcedure p) gs =
     arguments_passed greatest p at gs >>= no_function at p.callee p.returned
 call_of greatest at other gs = at_fault NotCallableHere at
 
+-- CALL: the faults of its arguments, then T6, T7 or T8 at the name, in this order
 abbrev pub call_typed : Naming → (name : Identifier) → Arguments → Result Form Fault
 call_typed n name arguments = do
   gs ← arguments_typed n arguments
@@ -215,7 +224,7 @@ returned_value greatest at first begins (Some d) v = do
   x ← or_fault CannotAssign first (converted greatest d v)
   Ok (typed.ReturnValue begins x)
 
--- and without one: T9 there where it is a function
+-- RETURN; without a value it is T9 in a function
 abbrev pub return_typed : Naming → Surroundings → (at : ℕ) → Option Expression → Result Form Fault
 return_typed n s at None =
     if is_none s.value then Ok (typed.Return s.begins) else at_fault WrongReturn at
@@ -225,22 +234,24 @@ return_typed n s at (Some e) = do
 
 -- groups with a control variable
 
--- TO and BY take a number, else T4 at its first token
+-- the value, if it is a number
 abbrev pub number_of : (greatest : ℕ) → TypedValue → Option TypedExpression
 number_of greatest v = option_map (λ p. v.expression) (precision_of greatest v.kind)
 
+-- TO and BY take a number, else T4 at its first token
 abbrev pub limit : Naming → Expression → Result TypedExpression Fault
 limit n e = do
   v ← value_of n e
   or_fault WrongOperandType (first_token e) (number_of n.greatest v)
 
+-- the one that may be left out
 abbrev pub possible_limit : Naming → Option Expression → Result (Option TypedExpression) Fault
 possible_limit n None = Ok None
 possible_limit n (Some e) = do
   x ← limit n e
   Ok (Some x)
 
--- TO and BY as they stand; what REPEAT says is looked at behind the variable
+-- TO and BY in the order in which they stand; what REPEAT says is looked at behind the variable
 abbrev pub limits : Naming → Option Range → Result TypedRange Fault
 limits n (Some (tree.To to by)) = do
   x ← limit n to
@@ -252,12 +263,13 @@ limits n (Some (tree.By by to)) = do
   Ok (typed.ByTo x y)
 limits n other = Ok typed.Once
 
--- the variable has no subscripts, and is a number where TO or BY stands
+-- the variable has no subscripts
 abbrev pub without_subscripts : TypedReference → Bool
 without_subscripts (Whole root) = true
 without_subscripts (Part root offset d NoSubscript) = true
 without_subscripts (Part root offset d (SubscriptThen stride value more)) = false
 
+-- the variable is a number where TO or BY stands
 abbrev pub suits_range : Description → TypedRange → Bool
 suits_range d typed.Once = true
 suits_range (FixedBinary p) range = true
@@ -268,26 +280,28 @@ abbrev pub suited_control : (at : ℕ) → Referent → Bool → Result Referent
 suited_control at r true = Ok r
 suited_control at r false = at_fault BadControlVariable at
 
+-- the variable that controls a group: T1 where it is none, T12 where it may not
 abbrev pub controls : (at : ℕ) → TypedRange → Denoted → Result Referent Fault
 controls at range (DenotesResult value) = at_fault NotAVariable at
 controls at range (DenotesVariable r) =
     if without_subscripts r.reference then suited_control at r (suits_range r.description range)
     else at_fault BadControlVariable at
 
--- WHILE behind them
+-- WHILE behind them, which may be left out
 abbrev pub possible_condition : Naming → Option Expression → Result (Option TypedExpression) Fault
 possible_condition n None = Ok None
 possible_condition n (Some e) = do
   x ← condition n e
   Ok (Some x)
 
--- and REPEAT: T5 at its expression where that does not suit the variable
+-- what REPEAT says: T5 at its expression where that does not suit the variable
 abbrev pub next_value : Naming → Description → Expression → Result TypedRange Fault
 next_value n d e = do
   v ← value_of n e
   x ← or_fault CannotAssign (first_token e) (converted n.greatest d v)
   Ok (typed.Repeated x)
 
+-- and with REPEAT, if it stands
 abbrev pub with_repeat : Naming → Description → TypedRange → Option Range → Result TypedRange Fault
 with_repeat n d range (Some (tree.Repeat next)) = next_value n d next
 with_repeat n d range other = Ok range
@@ -319,6 +333,7 @@ pub record WithProcedures (A : Type 0) : Type 0 where
   pub part : A
   pub procedures : List TypedProcedure
 
+-- a part without procedures in it
 abbrev pub alone : {A : Type 0} → A → WithProcedures A
 alone x = record { part = x; procedures = [] }
 
@@ -355,11 +370,12 @@ if_form tested consequence alternative =
     together (λ s otherwise. (s, otherwise)) consequence alternative in
     together (λ x both. typed.If x both.0 both.1) (of_own tested) parts
 
--- a group: what controls it, then its list
+-- a group with WHILE: what controls it, then its list
 abbrev pub while_form : Result TypedExpression Fault → Result (WithProcedures TypedStatements) (List Fault)
     → Result (WithProcedures Form) (List Fault)
 while_form tested list = together typed.While (of_own tested) list
 
+-- a group with a control variable: what controls it, then its list
 abbrev pub iterate_form : Result Iteration Fault → Result (WithProcedures TypedStatements) (List Fault)
     → Result (WithProcedures Form) (List Fault)
 iterate_form controlled list = together typed.Iterate (of_own controlled) list
@@ -378,6 +394,7 @@ abbrev pub function_end : Option Description → (end : ℕ) → Option ℕ
 function_end None end = None
 function_end (Some d) end = Some end
 
+-- a procedure with its typed statements
 abbrev pub procedure_of : NamedUnit → (parent : Option ℕ) → (number statement end : ℕ) → Statements
     → TypedStatements → TypedProcedure
 procedure_of u parent number statement end statements list = record {
@@ -395,14 +412,16 @@ as_procedure make (Ok x) =
     Ok (record { part = typed.Null; procedures = x.procedures ++ make x.part ∷ [] })
 as_procedure make (Err fs) = Err fs
 
--- in a list
+-- a statement before others, unless it leaves nothing
 abbrev pub put_before : (nothing : Bool) → TypedStatement → TypedStatements → TypedStatements
 put_before true first more = more
 put_before false first more = StatementThen first more
 
+-- a statement leaves nothing among the statements
 abbrev pub says_nothing : Statement → Bool
 says_nothing (Numbered number label at body) = leaves_nothing body
 
+-- a statement before others, with the procedures and the faults of both
 abbrev pub listed : Statement → Result (WithProcedures TypedStatement) (List Fault)
     → Result (WithProcedures TypedStatements) (List Fault)
     → Result (WithProcedures TypedStatements) (List Fault)
@@ -416,13 +435,15 @@ inside x = record { block = suc x.block; temporary = 0 }
 abbrev pub behind_limits : Option Range → Next → Next
 behind_limits range x = record { block = x.block; temporary = x.temporary + suc (limits_kept range) }
 
--- forms that are not compiled yet are Z1, which is found before types are asked for
+-- a statement, with the procedures in it. Forms that are not compiled yet are Z1, which is found before types
+-- are asked for
 abbrev mutual
   pub statement_typed : NamedUnit → Surroundings → Next → Statement
       → Result (WithProcedures TypedStatement) (List Fault)
   statement_typed u s x (Numbered number label at body) =
       made (typed.Statement number) (body_typed u s x number at body)
 
+  -- what a statement is, by its number and its first token
   pub body_typed : NamedUnit → Surroundings → Next → (number at : ℕ) → Body
       → Result (WithProcedures Form) (List Fault)
   body_typed u s x number at tree.Null = Ok (alone typed.Null)
@@ -457,11 +478,13 @@ abbrev mutual
       put_form skip (items (naming_at u s) printed_items)
   body_typed u s x number at other = of_own (at_fault NotYetBuilt at)
 
+  -- an ELSE
   pub alternative_typed : NamedUnit → Surroundings → Next → Alternative
       → Result (WithProcedures OtherWise) (List Fault)
   alternative_typed u s x tree.NoElse = Ok (alone NoElse)
   alternative_typed u s x (tree.Else statement) = made Else (statement_typed u s x statement)
 
+  -- the statements of a list
   pub statements_typed : NamedUnit → Surroundings → Next → Statements
       → Result (WithProcedures TypedStatements) (List Fault)
   statements_typed u s x Ended = Ok (alone NoStatement)

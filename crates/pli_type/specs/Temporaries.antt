@@ -23,16 +23,19 @@ abbrev mutual
   pub temporaries_in : Statement → ℕ
   temporaries_in (Numbered number label at body) = temporaries_of body
 
+  -- how many it has by what it is; those of blocks in it are their own
   pub temporaries_of : Body → ℕ
   temporaries_of (Do control statements end) = kept_by control + temporaries_among statements
   temporaries_of (If condition consequence alternative) =
       temporaries_in consequence + temporaries_behind alternative
   temporaries_of body = 0
 
+  -- how many the statements of a list have
   pub temporaries_among : Statements → ℕ
   temporaries_among Ended = 0
   temporaries_among (Before first more) = temporaries_in first + temporaries_among more
 
+  -- how many an ELSE has
   pub temporaries_behind : Alternative → ℕ
   temporaries_behind NoElse = 0
   temporaries_behind (Else statement) = temporaries_in statement

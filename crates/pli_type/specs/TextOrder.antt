@@ -1,4 +1,4 @@
--- The order of the text: items in the order of the tokens at which they stand.
+-- The order of the text (own): items in the order of the tokens at which they stand.
 use Rattle.std.specs.Prelude.{ℕ, zero, suc, nat_eq, List, [], ◌∷◌, get_or, length, map, if◌then◌else◌}
 use Rattle.std.specs.Ordering.{nat_cmp}
 use Rattle.pli_sort.specs.Sorting as sorting

@@ -78,7 +78,7 @@ ended role (OfVariable located at v xs) =
 ended role (OfFunction value) = Ok (DenotesResult value)
 ended role (OfNoVariable at) = at_fault NotAVariable at
 
--- a call of a function: T6, T7 or T8 at its name, in this order
+-- a call of a function with its arguments: T6, T7 or T8 at its name, in this order
 abbrev pub procedure_called : (greatest : ℕ) → NamedProcedure → (at : ℕ) → List Argument
     → Result Segment Fault
 procedure_called greatest p at gs = do
@@ -86,6 +86,7 @@ procedure_called greatest p at gs = do
   v ← result_of at p.callee passed (type_returned p.returned)
   Ok (OfFunction v)
 
+-- no roles where the number of arguments is wrong
 abbrev pub roles_or_none : Option (List Role) → List Role
 roles_or_none None = []
 roles_or_none (Some roles) = roles
@@ -152,11 +153,12 @@ abbrev mutual
     Ok (OfNoVariable at)
   begun n other call located at Absent = Ok (OfNoVariable at)
 
-  -- subscripts from left to right
+  -- the subscripts behind a name, if parentheses stand there
   pub subscripts_in : Naming → Arguments → Result (List TypedExpression) Fault
   subscripts_in n Absent = Ok []
   subscripts_in n (Given list) = all_subscripts n list
 
+  -- subscripts from left to right
   pub all_subscripts : Naming → Expressions → Result (List TypedExpression) Fault
   all_subscripts n Empty = Ok []
   all_subscripts n (Listed first more) = do

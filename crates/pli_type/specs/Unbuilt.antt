@@ -55,6 +55,7 @@ is_of_language greatest (constants.Characters text) = nat_le (length text) 32767
 is_of_language greatest (constants.Bits bits) = nat_le (length bits) 32767
 
 abbrev mutual
+  -- an expression has a function that is not compiled yet, or a constant over the limits
   pub later_expression : Compiled → Expression → Bool
   later_expression n (Referred reference) = later_reference n reference
   later_expression n (Constant at value) = not (is_of_language n.greatest value)
@@ -62,30 +63,33 @@ abbrev mutual
   later_expression n (Prefix operator at operand) = later_expression n operand
   later_expression n (Infix operator at left right) = later_expression n left || later_expression n right
 
+  -- a reference has: by a name in it or in its arguments
   pub later_reference : Compiled → Reference → Bool
   later_reference n (Named name arguments more) =
       n.is_later name.at || later_arguments n arguments || later_joined n more
 
-  -- only the first name between arrows has a meaning of its own
+  -- the parts that are joined to one have; only the first name between arrows has a meaning of its own
   pub later_joined : Compiled → JoinedParts → Bool
   later_joined n Alone = false
   later_joined n (Joined joining name arguments more) =
       n.is_later name.at || later_arguments n arguments || later_joined n more
 
+  -- a list of arguments has, if it stands
   pub later_arguments : Compiled → Arguments → Bool
   later_arguments n Absent = false
   later_arguments n (Given list) = later_list n list
 
+  -- an expression of a list has
   pub later_list : Compiled → Expressions → Bool
   later_list n Empty = false
   later_list n (Listed first more) = later_expression n first || later_list n more
 
--- of what there may be, such a part
+-- a part that may be left out has such a thing, if it stands
 abbrev pub later_part : {A : Type 0} → (A → Bool) → Option A → Bool
 later_part is_later None = false
 later_part is_later (Some x) = is_later x
 
--- locators, areas, and storage that is allocated
+-- attributes of locators and areas, and of storage that is allocated
 abbrev pub later_simple : SimpleAttribute → Bool
 later_simple declared.Pointer = true
 later_simple (declared.Offset area) = true
@@ -94,25 +98,27 @@ later_simple (declared.Based locator) = true
 later_simple declared.Controlled = true
 later_simple attribute = false
 
--- in what is said of a parameter or of a result
+-- an attribute of a parameter or a result is such, or is ENTRY or RETURNS there
 abbrev pub later_described : DescribedAttribute → Bool
 later_described (Plain attribute) = later_simple attribute
 later_described other = true
 
+-- what ENTRY says of a parameter has such an attribute
 abbrev pub later_parameter : ParameterDescription → Bool
 later_parameter p = list_any later_described p.attributes
 
--- of ENTRY and RETURNS what they say of parameters and results
+-- an attribute of an item is such; of ENTRY and RETURNS what they say of parameters and results is
 abbrev pub later_attribute : Attribute → Bool
 later_attribute (Simple attribute) = later_simple attribute
 later_attribute (declared.Entry parameters) = later_part (list_any later_parameter) parameters
 later_attribute (declared.Returns attributes) = list_any later_described attributes
 
--- BUILTIN of a function that is not compiled yet
+-- BUILTIN
 abbrev pub is_builtin : Attribute → Bool
 is_builtin (Simple declared.Builtin) = true
 is_builtin attribute = false
 
+-- an item has such an attribute, or is BUILTIN and has the name of a function that is not compiled yet
 abbrev pub later_item : Item → Bool
 later_item item =
     list_any later_attribute item.attributes
@@ -134,19 +140,20 @@ token_if later at = if later then Some at else None
 
 -- statements
 
--- what limits or continues a group
+-- what limits or continues a group has such an expression
 abbrev pub later_range : Compiled → Range → Bool
 later_range n (tree.To to by) = later_expression n to || later_part (later_expression n) by
 later_range n (tree.By by to) = later_expression n by || later_part (later_expression n) to
 later_range n (tree.Repeat next) = later_expression n next
 
+-- what controls a group has
 abbrev pub later_control : Compiled → Control → Bool
 later_control n (tree.While condition) = later_expression n condition
 later_control n (tree.Iterate variable equals first range condition) =
     later_reference n variable || later_expression n first || later_part (later_range n) range
     || later_part (later_expression n) condition
 
--- what a function gives
+-- a procedure gives what is not compiled yet
 abbrev pub later_option : ProcedureOption → Bool
 later_option (Returns attributes) = list_any later_described attributes
 later_option option = false
@@ -156,6 +163,7 @@ abbrev mutual
   pub later_statement : Compiled → Statement → Option ℕ
   later_statement n (Numbered number label at body) = later_body n (first_of label at) body
 
+  -- a statement by what it is, at its first token; then those inside it
   pub later_body : Compiled → (at : ℕ) → Body → Option ℕ
   later_body n at tree.Null = None
   later_body n at (tree.Assign target equals value) =
@@ -177,10 +185,12 @@ abbrev mutual
   later_body n at (tree.Put skip items) = token_if (list_any (later_expression n) items) at
   later_body n at other = Some at
 
+  -- the statement of an ELSE
   pub later_alternative : Compiled → Alternative → Option ℕ
   later_alternative n tree.NoElse = None
   later_alternative n (tree.Else statement) = later_statement n statement
 
+  -- the first of a list
   pub later_statements : Compiled → Statements → Option ℕ
   later_statements n Ended = None
   later_statements n (Before first more) =
@@ -188,14 +198,16 @@ abbrev mutual
 
 -- a unit
 
+-- MAIN in OPTIONS
 abbrev pub is_main_option : ProcedureOption → Bool
 is_main_option Main = true
 is_main_option option = false
 
+-- the unit has OPTIONS(MAIN)
 abbrev pub is_main : ExternalProcedure → Bool
 is_main u = list_any is_main_option u.heading.options
 
--- its PROCEDURE
+-- its PROCEDURE, at the name
 abbrev pub later_heading : Heading → Option ℕ
 later_heading h = token_if (list_any later_option h.options) h.name.at
 

@@ -26,7 +26,10 @@ fn number_as_characters(
             let made = with_one(alloc, Operation::ToCharacters { width }, value.expression)?;
             Ok(Some(made))
         }
-        None => Ok(None),
+        None => {
+            drop(value);
+            Ok(None)
+        }
     }
 }
 
@@ -58,11 +61,17 @@ fn suited(
     match (description, value.kind) {
         (Description::FixedBinary(_), kind) => match kind.precision(greatest) {
             Some(_) => Ok(Some(value.expression)),
-            None => Ok(None),
+            None => {
+                drop(value);
+                Ok(None)
+            }
         },
         (Description::Character(_) | Description::Varying(_), _) => as_characters(alloc, value),
         (Description::Bit(_), ExpressionType::Bits) => Ok(Some(value.expression)),
-        _ => Ok(None),
+        _ => {
+            drop(value);
+            Ok(None)
+        }
     }
 }
 
@@ -79,8 +88,14 @@ pub fn converted(
 {
     match suited(alloc, greatest, description, value)? {
         Some(expression) => {
-            let fit = Operation::Fit(description.copy(alloc)?);
-            let made = with_one(alloc, fit, expression)?;
+            let description = match description.copy(alloc) {
+                Ok(description) => description,
+                Err(error) => {
+                    drop(expression);
+                    return Err(error);
+                }
+            };
+            let made = with_one(alloc, Operation::Fit(description), expression)?;
             Ok(Some(made))
         }
         None => Ok(None),

@@ -7,7 +7,7 @@ ghost use Rattle.pli_type.specs.views.ValueView.{value_view};
 ghost use Rattle.pli_type_tree.specs.views.TypedView.{expression_view};
 
 use crate::expression_type::{ExpressionType, precisions};
-use crate::typed_value::{TypedValue, with_two};
+use crate::typed_value::{TypedValue, refused, with_two};
 use pli_operation::Operation;
 use pli_resolve::BuiltInFunction;
 use pli_type_tree::TypedExpression;
@@ -155,10 +155,10 @@ pub fn quotient(
         ≡ spec.the_quotient greatest (value_view left) (value_view right) written) }
 {
     let Some(written) = written else {
-        return Ok(None);
+        return Ok(refused(left, right));
     };
     let Some(kind) = quotient_type(greatest, left.kind, right.kind, written) else {
-        return Ok(None);
+        return Ok(refused(left, right));
     };
     let operation = Operation::Divide {
         precision: written as u8,

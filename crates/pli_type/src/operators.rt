@@ -1,12 +1,13 @@
 //! What operators give of typed operands.
 ghost use Rattle.std.specs.Prelude.{◌≡◌, Some, IfOk, option_map};
+ghost use Rattle.pli_operation.specs.Operations.{Multiply};
 ghost use Rattle.pli_operation.specs.views.OperationView.{operation_view, relation_view};
 ghost use Rattle.pli_type.specs.ExpressionTypes as spec;
 ghost use Rattle.pli_type.specs.views.ValueView.{value_view};
 ghost use Rattle.pli_type_tree.specs.views.TypedView.{expression_view};
 
 use crate::expression_type::{ExpressionType, precisions, product_precision, sum_precision};
-use crate::typed_value::{TypedValue, with_one, with_two};
+use crate::typed_value::{TypedValue, refused, with_one, with_two};
 use pli_base::syntax::{InfixOperator, PrefixOperator};
 use pli_operation::{Operation, Relation};
 use pli_type_tree::TypedExpression;
@@ -27,7 +28,10 @@ pub fn prefix_value(
         (PrefixOperator::Plus, _, Some(_)) => return Ok(Some(operand)),
         (PrefixOperator::Minus, _, Some(_)) => Operation::Negate,
         (PrefixOperator::Not, ExpressionType::Bits, _) => Operation::Not,
-        _ => return Ok(None),
+        _ => {
+            drop(operand);
+            return Ok(None);
+        }
     };
     let expression = with_one(alloc, operation, operand.expression)?;
     Ok(Some(TypedValue { expression, kind }))
@@ -61,8 +65,22 @@ fn on_strings(
     ensures { IfOk result (λ made. expression_view made
         ≡ spec.on_strings (operation_view operation) (value_view left) (value_view right) kind) }
 {
-    let left = string_as(alloc, left.expression, left.kind, kind)?;
-    let right = string_as(alloc, right.expression, right.kind, kind)?;
+    let left = match string_as(alloc, left.expression, left.kind, kind) {
+        Ok(left) => left,
+        Err(error) => {
+            drop(operation);
+            drop(right);
+            return Err(error);
+        }
+    };
+    let right = match string_as(alloc, right.expression, right.kind, kind) {
+        Ok(right) => right,
+        Err(error) => {
+            drop(operation);
+            drop(left);
+            return Err(error);
+        }
+    };
     with_two(alloc, operation, left, right)
 }
 
@@ -77,14 +95,18 @@ fn comparison(
     ensures { IfOk result (λ given. option_map value_view given
         ≡ spec.comparison greatest (relation_view relation) (value_view left) (value_view right)) }
 {
-    let operation = Operation::Compare(relation);
     let expression = match (
         left.kind.beside(right.kind),
         precisions(greatest, left.kind, right.kind),
     ) {
-        (Some(kind), _) => on_strings(alloc, operation, left, right, kind)?,
-        (None, Some(_)) => with_two(alloc, operation, left.expression, right.expression)?,
-        (None, None) => return Ok(None),
+        (Some(kind), _) => on_strings(alloc, Operation::Compare(relation), left, right, kind)?,
+        (None, Some(_)) => with_two(
+            alloc,
+            Operation::Compare(relation),
+            left.expression,
+            right.expression,
+        )?,
+        (None, None) => return Ok(refused(left, right)),
     };
     Ok(Some(TypedValue {
         expression,
@@ -101,7 +123,7 @@ fn concatenation(
     ensures { IfOk result (λ given. option_map value_view given ≡ spec.concatenation (value_view left) (value_view right)) }
 {
     match left.kind.beside(right.kind) {
-        None => Ok(None),
+        None => Ok(refused(left, right)),
         Some(kind) => {
             let expression = on_strings(alloc, Operation::Concatenate, left, right, kind)?;
             Ok(Some(TypedValue { expression, kind }))
@@ -127,7 +149,10 @@ fn logical(
                 kind: ExpressionType::Bits,
             }))
         }
-        _ => Ok(None),
+        _ => {
+            drop(operation);
+            Ok(refused(left, right))
+        }
     }
 }
 
@@ -149,6 +174,45 @@ fn arithmetic(
         expression,
         kind: ExpressionType::FixedBinary { precision },
     }))
+}
+
+/// What `+` or `-` gives.
+fn sum(
+    alloc: Global,
+    greatest: u8,
+    operation: Operation,
+    left: TypedValue,
+    right: TypedValue,
+) -> Result<Option<TypedValue>, AllocError>
+    ensures { IfOk result (λ given. option_map value_view given
+        ≡ spec.on_numbers greatest (operation_view operation) (spec.sum_precision greatest) (value_view left) (value_view right)) }
+{
+    match precisions(greatest, left.kind, right.kind) {
+        Some((p, q)) => arithmetic(alloc, operation, sum_precision(greatest, p, q), left, right),
+        None => {
+            drop(operation);
+            Ok(refused(left, right))
+        }
+    }
+}
+
+/// What `*` gives.
+fn product(
+    alloc: Global,
+    greatest: u8,
+    left: TypedValue,
+    right: TypedValue,
+) -> Result<Option<TypedValue>, AllocError>
+    ensures { IfOk result (λ given. option_map value_view given
+        ≡ spec.on_numbers greatest Multiply (spec.product_precision greatest) (value_view left) (value_view right)) }
+{
+    match precisions(greatest, left.kind, right.kind) {
+        Some((p, q)) => {
+            let precision = product_precision(greatest, p, q);
+            arithmetic(alloc, Operation::Multiply, precision, left, right)
+        }
+        None => Ok(refused(left, right)),
+    }
 }
 
 /// What an infix operator gives, or none where it does not take the operands: `+`, `-` and `*` take numbers, `&` and
@@ -179,41 +243,8 @@ pub fn infix_value(
             left,
             right,
         ),
-        InfixOperator::Add => {
-            let Some((p, q)) = precisions(greatest, left.kind, right.kind) else {
-                return Ok(None);
-            };
-            arithmetic(
-                alloc,
-                Operation::Add,
-                sum_precision(greatest, p, q),
-                left,
-                right,
-            )
-        }
-        InfixOperator::Subtract => {
-            let Some((p, q)) = precisions(greatest, left.kind, right.kind) else {
-                return Ok(None);
-            };
-            arithmetic(
-                alloc,
-                Operation::Subtract,
-                sum_precision(greatest, p, q),
-                left,
-                right,
-            )
-        }
-        InfixOperator::Multiply => {
-            let Some((p, q)) = precisions(greatest, left.kind, right.kind) else {
-                return Ok(None);
-            };
-            arithmetic(
-                alloc,
-                Operation::Multiply,
-                product_precision(greatest, p, q),
-                left,
-                right,
-            )
-        }
+        InfixOperator::Add => sum(alloc, greatest, Operation::Add, left, right),
+        InfixOperator::Subtract => sum(alloc, greatest, Operation::Subtract, left, right),
+        InfixOperator::Multiply => product(alloc, greatest, left, right),
     }
 }

@@ -1,5 +1,5 @@
 //! Expressions with their types.
-ghost use Rattle.std.specs.Prelude.{◌≡◌, IfOk, option_map};
+ghost use Rattle.std.specs.Prelude.{◌≡◌, None, IfOk, option_map};
 ghost use Rattle.pli_map.specs.views.DescriptionView.{description_view};
 ghost use Rattle.pli_operation.specs.views.OperationView.{operation_view};
 ghost use Rattle.pli_type.specs.ExpressionTypes as spec;
@@ -27,12 +27,16 @@ pub(crate) fn with_one(
 ) -> Result<TypedExpression, AllocError>
     ensures { IfOk result (λ made. expression_view made ≡ spec.with_one (operation_view operation) (expression_view operand)) }
 {
-    let mut operands = Vec::new(alloc);
-    operands.push(operand)?;
-    Ok(TypedExpression::Calculated {
-        operation,
-        operands,
-    })
+    match vec![in alloc; operand] {
+        Ok(operands) => Ok(TypedExpression::Calculated {
+            operation,
+            operands,
+        }),
+        Err(error) => {
+            drop(operation);
+            Err(error.into())
+        }
+    }
 }
 
 /// An operation on two operands.
@@ -46,11 +50,23 @@ pub(crate) fn with_two(
     ensures { IfOk result (λ made. expression_view made
         ≡ spec.with_two (operation_view operation) (expression_view left) (expression_view right)) }
 {
-    let mut operands = Vec::new(alloc);
-    operands.push(left)?;
-    operands.push(right)?;
-    Ok(TypedExpression::Calculated {
-        operation,
-        operands,
-    })
+    match vec![in alloc; left, right] {
+        Ok(operands) => Ok(TypedExpression::Calculated {
+            operation,
+            operands,
+        }),
+        Err(error) => {
+            drop(operation);
+            Err(error.into())
+        }
+    }
+}
+
+/// Lets go of two operands that are not taken: there is no value of them.
+pub(crate) fn refused(left: TypedValue, right: TypedValue) -> Option<TypedValue>
+    ensures { result ≡ None }
+{
+    drop(left);
+    drop(right);
+    None
 }

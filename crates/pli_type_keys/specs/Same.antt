@@ -7,13 +7,14 @@ use Rattle.pli_map.specs.Same.{same}
 use Rattle.pli_value.specs.Value.{Value, Number, Characters, Bits}
 use Rattle.pli_type_tree.specs.Templates.{InitialScalar, Template}
 
--- values, and initial values as they are written
+-- equal values
 abbrev pub same_value : Value → Value → Bool
 same_value (Number x) (Number y) = int_eq x y
 same_value (Characters s) (Characters t) = pointwise nat_eq s t
 same_value (Bits s) (Bits t) = pointwise beq s t
 same_value v w = false
 
+-- equal initial values, of the same scalar
 abbrev pub same_initial : InitialScalar → InitialScalar → Bool
 same_initial a b = nat_eq a.scalar b.scalar && same_value a.value b.value
 

@@ -16,6 +16,7 @@ pub record BlockEntry : Type 0 where
   pub parameters : List Description
   pub returned : Option Description
 
+-- what is found for a block
 abbrev pub entry_at : ResolvedUnit → (number : ℕ) → ResolvedBlock → BlockEntry
 entry_at r number b = record {
   is_named = is_procedure b.kind && gives_stored 31 (returned_of r number);
@@ -29,20 +30,22 @@ abbrev pub name_of : ResolvedUnit → (block : ℕ) → Option SymbolKey
 name_of r block =
     of_block (λ b. if is_procedure b.kind then b.name else None) None (slice_get r.blocks block)
 
--- what a variable of its own is, and what a procedure gives
+-- what a variable of its own is
 abbrev pub description_of : SymbolKind → Description
 description_of (Variable description class scope initial area) = description
 description_of other = described.Pointer
 
+-- what a procedure gives
 abbrev pub returned_with : SymbolKind → Option Description
 returned_with (Procedure block returned area) = returned
 returned_with other = None
 
--- the parts of an entry that may not be there
+-- the parameters of an entry that may not be there
 abbrev pub parameters_in : Option BlockEntry → List Description
 parameters_in None = []
 parameters_in (Some e) = e.parameters
 
+-- what it gives
 abbrev pub returned_in : Option BlockEntry → Option Description
 returned_in None = None
 returned_in (Some e) = e.returned

@@ -13,6 +13,7 @@ pub record BlockFacts : Type 0 where
   pub globals : ℕ
   pub symbols : List Symbol
 
+-- the block of this number of a unit
 abbrev pub facts_of : ResolvedUnit → (block : ℕ) → BlockFacts
 facts_of r block = record {
   parameters = parameter_numbers r block;

@@ -64,11 +64,12 @@ own_behind parameters slots global number (Variable description class scope init
     then begun (place_behind parameters slots global number class) description else None
 own_behind parameters slots global number other = None
 
--- how many slots behind the parameters a variable of this class takes, and how many globals it is
+-- how many slots behind the parameters a variable of this class takes
 abbrev pub slots_of : StorageClass → ℕ
 slots_of classes.Automatic = 1
 slots_of class = 0
 
+-- how many globals it is
 abbrev pub globals_of : StorageClass → ℕ
 globals_of classes.Static = 1
 globals_of class = 0

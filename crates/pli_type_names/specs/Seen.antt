@@ -17,7 +17,8 @@ use Rattle.pli_type_tree.specs.TypedTree.{OfBlock, OfEntry, Root, OfProgram}
 
 -- where a name is used
 
--- a variable: where it begins, whether members stand on the way, and the part that they lead to
+-- what a name means where it is used: a variable, by where it begins, whether members stand on the way, and
+-- the part that they lead to; a built-in function; a procedure; a label; or what has no type
 pub data Seen : Type 0 where
   SeenVariable : (root : Root) (is_member : Bool) (part : Option StridedPart) → Seen
   SeenFunction : (function : BuiltInFunction) → Seen
@@ -25,6 +26,7 @@ pub data Seen : Type 0 where
   SeenLabel : (statement : ℕ) → Seen
   SeenUntyped : Seen
 
+-- what a name means, with the part that it leads to
 abbrev pub seen : NamedAs → Seen
 seen (AVariable v) = SeenVariable v.root (is_way v.path) (part_of v)
 seen (AFunction function) = SeenFunction function
@@ -77,6 +79,7 @@ abbrev pub root_from : (blocks : List ℕ) → (block : ℕ) → Place → Optio
 root_from blocks block (InBlock slot) = in_slot (outward_to blocks block) slot
 root_from blocks block (BeforeProgram number) = Some (OfProgram number)
 
+-- a variable, where it begins somewhere
 abbrev pub variable_seen : Option Root → (is_member : Bool) → (part : Option StridedPart) → Seen
 variable_seen None is_member part = SeenUntyped
 variable_seen (Some root) is_member part = SeenVariable root is_member part

@@ -14,15 +14,17 @@ pub record Names : Type 0 where
   pub unit : Procedure
   pub blocks : List ℕ
 
+-- they are told by the unit and the blocks
 abbrev pub names_code : Coded Names
 names_code =
     code_by (Procedure × List ℕ) (coded× coded-Procedure (coded_list coded_ℕ)) (λ n. (n.unit, n.blocks))
     (λ p. record { unit = p.0; blocks = p.1 }) (λ _. refl)
 
--- inside one more block, and outside of the innermost
+-- inside one more block
 abbrev pub inside : Names → (block : ℕ) → Names
 inside n block = record { unit = n.unit; blocks = block ∷ n.blocks }
 
+-- outside of the innermost
 abbrev pub outside : Names → Names
 outside n = record { unit = n.unit; blocks = drop 1 n.blocks }
 
@@ -34,6 +36,7 @@ naming_in n = (named_unit 31 (resolved_unit_of (unit_view n.unit))).naming n.blo
 unfoldable pub unit_compiled : Procedure → Compiled
 unit_compiled u = (named_unit 31 (resolved_unit_of (unit_view u))).compiled
 
+-- what is compiled, in the unit of these names
 abbrev pub compiled_in : Names → Compiled
 compiled_in n = unit_compiled n.unit
 

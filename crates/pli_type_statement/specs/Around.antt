@@ -8,6 +8,8 @@ pub record Listing : Type 0 where
   pub block : Option ℕ
   pub labels : List ℕ
 
+-- the lists round a place; how many of its blocks are BEGIN blocks of the procedure; and what that gives, if
+-- it is a function
 pub record Around : Type 0 where
   pub lists : List Listing
   pub begins : ℕ
@@ -23,9 +25,11 @@ abbrev pub blocks_from : List Enclosing → List Listing → List Enclosing
 blocks_from around [] = around
 blocks_from around (l ∷ ls) = blocks_from (blocks_with l.block l.labels around) ls
 
+-- the blocks round what stands in these lists
 abbrev pub blocks_of : List Listing → List Enclosing
 blocks_of lists = blocks_from [] lists
 
+-- where a statement stands that stands in these lists
 abbrev pub surroundings_of : Around → Surroundings
 surroundings_of a = record { blocks = blocks_of a.lists; begins = a.begins; value = a.value }
 

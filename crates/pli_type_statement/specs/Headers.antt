@@ -9,11 +9,13 @@ use Rattle.pli_type.specs.StatementTyping.{condition, iteration}
 use Rattle.pli_type_tree.specs.TypedTree as typed
 use Rattle.pli_type_tree.specs.TypedTree.{Form, Iteration, TypedExpression, TypedStatements}
 
+-- nothing, WHILE, or a control variable
 pub data Header : Type 0 where
   Plain : Header
   While : (condition : TypedExpression) → Header
   Iterate : (iteration : Iteration) → Header
 
+-- what stands between DO and `;`, or its first fault
 abbrev pub header_typed : Naming → (temporary : ℕ) → Option Control → Result Header Fault
 header_typed n temporary None = Ok Plain
 header_typed n temporary (Some (tree.While tested)) = do

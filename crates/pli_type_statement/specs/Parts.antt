@@ -34,11 +34,12 @@ abbrev pub Adds : {A : Type 0} → Result (WithProcedures A) (List Fault)
 Adds (Ok x) old new = new ≡ old ++ x.procedures
 Adds (Err fs) old new = Unit {0}
 
--- the same of what typing answered
+-- what typing answered, where it has no fault
 abbrev pub part_in : {A : Type 0} → Result A TypeError → Option A
 part_in (Ok x) = Some x
 part_in (Err e) = None
 
+-- the fault that it told
 abbrev pub faults_in : {A : Type 0} → Result A TypeError → List Fault
 faults_in (Err (errors.Fault f)) = f ∷ []
 faults_in answer = []
@@ -65,14 +66,16 @@ listed_if nothing None = []
 listed_if true (Some x) = []
 listed_if false (Some x) = x ∷ []
 
--- behind parts of a statement
+-- behind what a statement is
 abbrev pub behind_body : Next → source.Body → Next
 behind_body x b = record { block = x.block + blocks_of b; temporary = x.temporary + temporaries_of b }
 
+-- behind a list
 abbrev pub behind_list : Next → source.Statements → Next
 behind_list x ss =
     record { block = x.block + blocks_among ss; temporary = x.temporary + temporaries_among ss }
 
+-- behind an ELSE
 abbrev pub behind_other : Next → source.Alternative → Next
 behind_other x a =
     record { block = x.block + blocks_behind a; temporary = x.temporary + temporaries_behind a }

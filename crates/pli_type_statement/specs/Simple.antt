@@ -11,11 +11,13 @@ use Rattle.pli_type.specs.StatementTyping.{items, return_typed}
 use Rattle.pli_type_tree.specs.TypedTree as typed
 use Rattle.pli_type_tree.specs.TypedTree.{Form}
 
+-- PUT with its items
 abbrev pub put_typed : Naming → (skip : Bool) → List Expression → Result Form Fault
 put_typed n skip printed = do
   xs ← items n printed
   Ok (typed.Put skip xs)
 
+-- such a statement; any other is not compiled yet
 abbrev pub simple_typed : Naming → Surroundings → (at : ℕ) → tree.Body → Result Form Fault
 simple_typed n s at tree.Null = Ok typed.Null
 simple_typed n s at (tree.Declare declared) = Ok typed.Null

@@ -25,16 +25,19 @@ use Rattle.pli_type_statement.specs.declared.walk.OpenBlock.{OpenBlock}
 use Rattle.pli_type_statement.specs.declared.walk.Walk.{Walk}
 use Rattle.pli_type_statement.specs.views.AroundView.{around_view, lists_view}
 
--- where it is
+-- the unit that it walks over
 abbrev pub unit_at : Walk → NamedUnit
 unit_at w = unit_named w.naming.unit
 
+-- where it is
 abbrev pub around : Walk → Surroundings
 around w = surroundings_of (around_view w.surroundings)
 
+-- the next block and temporary
 abbrev pub next_at : Walk → Next
 next_at w = record { block = w.next.block; temporary = w.next.temporary }
 
+-- the procedures that it has walked over
 abbrev pub finished : Walk → List TypedProcedure
 finished w = map procedure_view w.procedures.items
 
@@ -147,6 +150,7 @@ Ends w end head None new form = form ≡ None
 Ends w end head (Some list) new form =
     (form ≡ Some typed.Null) × (new ≡ finished w ++ ended_as w end head list ∷ [])
 
+-- it has walked over a procedure, whose list it has left: nothing else has changed
 pub record Finishes (old new : Walk) (end : ℕ) (head : BlockHead) (list : Option TypedStatements)
     (form : Option Form) : Type 0 where
   pub naming : new.naming ≡ old.naming

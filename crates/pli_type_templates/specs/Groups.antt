@@ -24,6 +24,7 @@ pub record Made : Type 0 where
   pub description : Description
   pub values : List InitialValue
 
+-- the variable of this class that a symbol is, if it is made
 abbrev pub made_in : (wanted : StorageClass) → SymbolKind → Option Made
 made_in wanted (Variable description class scope initial area) =
     if is_such wanted class description then Some (record { description = description; values = initial })
@@ -35,6 +36,7 @@ pub record Owned : Type 0 where
   pub root : ℕ
   pub item : InitialItem
 
+-- the member that a symbol is, with its variable
 abbrev pub member_in : SymbolKind → Option Owned
 member_in (Member root path initial area) =
     Some (record { root = root; item = record { path = path; values = initial } })

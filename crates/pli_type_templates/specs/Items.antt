@@ -7,11 +7,12 @@ use Rattle.pli_type_templates.specs.Plans.{Plan, scalars_planned}
 use Rattle.pli_type_tree.specs.Templates.{InitialScalar}
 use Rattle.pli_value.specs.Value.{Value, Number, Characters, Bits}
 
--- for how many elements a value stands
+-- for how many elements a value with this factor stands
 abbrev pub factor_of : Option ℕ → ℕ
 factor_of None = 1
 factor_of (Some factor) = factor
 
+-- for how many elements a value stands
 abbrev pub elements_of : InitialValue → ℕ
 elements_of (initial.Integer factor value) = factor_of factor
 elements_of (initial.Characters text) = 1

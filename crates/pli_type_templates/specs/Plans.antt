@@ -20,6 +20,7 @@ mutual
     OfArray : (level : Level) (element : Plan) → Plan
     OfStructure : (members : Plans) → Plan
 
+  -- the plans of the members of a structure
   pub data Plans : Type 0 where
     NoPlans : Plans
     PlanThen : (first : Plan) (others : Plans) → Plans
@@ -32,6 +33,7 @@ abbrev mutual
   plan_from first (Structure ds) = OfStructure (plans_from first ds)
   plan_from first scalar = OfScalar (record { first = first; description = scalar })
 
+  -- the plans of members, the first scalar of the first having this number
   pub plans_from : (first : ℕ) → Members → Plans
   plans_from first NoMembers = NoPlans
   plans_from first (MemberThen d ds) = PlanThen (plan_from first d) (plans_from (first + scalars_in d) ds)
@@ -44,6 +46,7 @@ abbrev mutual
   leaf_in (OfStructure ps) [] = None
   leaf_in (OfStructure ps) (i ∷ path) = leaf_in_member ps i path
 
+  -- the same from the member of this number on
   pub leaf_in_member : Plans → (number : ℕ) → (path : List ℕ) → Option Leaf
   leaf_in_member NoPlans i path = None
   leaf_in_member (PlanThen p ps) zero path = leaf_in p path
@@ -57,6 +60,7 @@ abbrev mutual
   levels_in (OfStructure ps) [] = []
   levels_in (OfStructure ps) (i ∷ path) = levels_in_member ps i path
 
+  -- the same from the member of this number on
   pub levels_in_member : Plans → (number : ℕ) → (path : List ℕ) → List Level
   levels_in_member NoPlans i path = []
   levels_in_member (PlanThen p ps) zero path = levels_in p path

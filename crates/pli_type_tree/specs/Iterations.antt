@@ -16,7 +16,7 @@ kept_by (Repeated next) = []
 abbrev pub temporaries_of : TypedRange → ℕ
 temporaries_of range = suc (length (kept_by range))
 
--- the numbers of the limit, where there is one, and of the step among what is kept, the start being 0
+-- the number of the limit among what is kept, where there is one, the start being 0
 abbrev pub limit_number : TypedRange → Option ℕ
 limit_number Once = None
 limit_number (ToBy to by) = Some 1
@@ -24,6 +24,7 @@ limit_number (ByTo by None) = None
 limit_number (ByTo by (Some to)) = Some 2
 limit_number (Repeated next) = None
 
+-- the number of the step among what is kept, where there is one
 abbrev pub step_number : TypedRange → ℕ
 step_number Once = 0
 step_number (ToBy to by) = 2

@@ -1,5 +1,5 @@
--- Templates: what a variable is made from. Initial values stand as they are written, also where they equal
--- the value with which their scalar would begin without them.
+-- Templates (own): what a variable is made from. Initial values stand as they are written, also where they
+-- equal the value with which their scalar would begin without them.
 use Rattle.std.specs.Prelude.{ℕ, List, [], ◌∷◌, slice_set}
 use Rattle.pli_map.specs.Description.{Description}
 use Rattle.pli_value.specs.Value.{Value}

@@ -41,10 +41,12 @@ mutual
     Whole : (root : Root) → TypedReference
     Part : (root : Root) (offset : ℕ) (description : Description) (subscripts : Subscripts) → TypedReference
 
+  -- the operands of an operation, from left to right
   pub data Operands : Type 0 where
     NoOperand : Operands
     OperandThen : (first : TypedExpression) (more : Operands) → Operands
 
+  -- the subscripts of a part, each with its stride
   pub data Subscripts : Type 0 where
     NoSubscript : Subscripts
     SubscriptThen : (stride : Stride) (value : TypedExpression) (more : Subscripts) → Subscripts
@@ -104,10 +106,12 @@ mutual
     ReturnValue : (outward : ℕ) (value : TypedExpression) → Form
     Stop : Form
 
+  -- the ELSE of an IF, if it has one
   pub data OtherWise : Type 0 where
     NoElse : OtherWise
     Else : (statement : TypedStatement) → OtherWise
 
+  -- a list of statements
   pub data TypedStatements : Type 0 where
     NoStatement : TypedStatements
     StatementThen : (first : TypedStatement) (more : TypedStatements) → TypedStatements

@@ -1,4 +1,4 @@
--- Types of the values that expressions give, and what operations take and give of them.
+-- Types of the values that expressions give, and what operations take and give of them (own).
 use Rattle.std.specs.Prelude.{◌≡◌, ℕ, suc, ◌≤◌, ◌<◌, ◌^◌, ◌+◌, min, max, Bool, ℤ, unsigned_abs, Option}
 use Rattle.std.specs.Prelude.{Some, None, List, []}
 use Rattle.std.specs.Prelude.{◌∷◌, ◌⊎◌, length}
@@ -33,6 +33,7 @@ IsOf (Numbers p) v = (x : ℤ) × (v ≡ Number x) × (unsigned_abs x < 2 ^ p)
 IsOf (Strings OfCharacters a b) v = (s : List ℕ) × (v ≡ Characters s) × (a ≤ length s) × (length s ≤ b)
 IsOf (Strings OfBits a b) v = (s : List Bool) × (v ≡ Bits s) × (a ≤ length s) × (length s ≤ b)
 
+-- values are of types, one for one
 abbrev pub AreOf : List ValueType → List Value → Type 0
 AreOf [] [] = Unit {0}
 AreOf (t ∷ ts) (v ∷ vs) = IsOf t v × AreOf ts vs
@@ -58,10 +59,11 @@ IsFitted (Varying n) (Strings OfCharacters a b) = Unit {0}
 IsFitted (Bit n) (Strings OfBits a b) = Unit {0}
 IsFitted d t = ⊥
 
--- no string is longer, and the precision of a length
+-- no string is longer
 abbrev pub longest : ℕ
 longest = 32767
 
+-- the precision of a length
 abbrev pub length_precision : ℕ
 length_precision = 15
 
@@ -69,19 +71,23 @@ length_precision = 15
 abbrev pub HaveColumns : (width digits : ℕ) → Type 0
 HaveColumns width p = (p ≤ 31) × (n : ℕ) × (width ≡ suc n) × (2 ^ p ≤ 10 ^ n)
 
--- the operands are one number, two numbers, three numbers, one string, or two strings of one kind
+-- the operands are one number, of a precision that is such
 abbrev pub OnNumber : List ValueType → (ℕ → Type 0) → Type 0
 OnNumber ts Of = (p : ℕ) × (ts ≡ Numbers p ∷ []) × Of p
 
+-- they are two numbers, of precisions that are such
 abbrev pub OnNumbers : List ValueType → (ℕ → ℕ → Type 0) → Type 0
 OnNumbers ts Of = (p : ℕ) × (q : ℕ) × (ts ≡ Numbers p ∷ Numbers q ∷ []) × Of p q
 
+-- they are three numbers
 abbrev pub OnThreeNumbers : List ValueType → Type 0
 OnThreeNumbers ts = (p : ℕ) × (q : ℕ) × (r : ℕ) × (ts ≡ Numbers p ∷ Numbers q ∷ Numbers r ∷ [])
 
+-- they are one string, whose kind and lengths are such
 abbrev pub OnString : List ValueType → (StringKind → ℕ → ℕ → Type 0) → Type 0
 OnString ts Of = (k : StringKind) × (a : ℕ) × (b : ℕ) × (ts ≡ Strings k a b ∷ []) × Of k a b
 
+-- they are two strings of one kind, whose kind and greatest lengths are such
 abbrev pub OnStrings : List ValueType → (StringKind → ℕ → ℕ → Type 0) → Type 0
 OnStrings ts Of =
     (k : StringKind) × (a : ℕ) × (b : ℕ) × (c : ℕ) × (d : ℕ)

@@ -39,6 +39,7 @@ abbrev mutual
   scalars_of (Structure members) = scalars_of_members members
   scalars_of scalar = scalar ∷ []
 
+  -- those of members, one member after another
   pub scalars_of_members : Members → List Description
   scalars_of_members NoMembers = []
   scalars_of_members (MemberThen d ds) = scalars_of d ++ scalars_of_members ds
@@ -79,10 +80,12 @@ pub record TypingContext : Type 0 where
 
 -- references
 
+-- what the variable in a slot of a block is
 abbrev pub slot_of : Option BlockAround → (slot : ℕ) → Option Description
 slot_of None slot = None
 slot_of (Some b) slot = slice_get b.slots slot
 
+-- what the variable is at which a reference begins
 abbrev pub root_of : TypingContext → Root → Option Description
 root_of s (InSlot outward slot) = slot_of (slice_get s.blocks outward) slot
 root_of s (OfProgram number) = description_of (slice_get s.globals number)
@@ -146,12 +149,14 @@ abbrev mutual
       (part ≡ d) × ((whole : Description) × (root_of s root ≡ Some whole) × LeadTo whole offset subscripts d)
       × AreSubscripts n s subscripts
 
+  -- operands give values of these types
   pub AreTyped : (greatest : ℕ) → TypingContext → Operands → List ValueType → Type 0
   AreTyped n s NoOperand ts = ts ≡ []
   AreTyped n s (OperandThen e more) ts =
       (t : ValueType) × (others : List ValueType) × (ts ≡ t ∷ others) × IsTyped n s e t
       × AreTyped n s more others
 
+  -- each subscript gives numbers
   pub AreSubscripts : (greatest : ℕ) → TypingContext → Subscripts → Type 0
   AreSubscripts n s NoSubscript = Unit {0}
   AreSubscripts n s (SubscriptThen stride e more) =
@@ -175,6 +180,7 @@ IsValueFor n s d e = (t : ValueType) × IsTyped n s e t × IsHeldBy d t
 abbrev pub IsString : (greatest : ℕ) → TypingContext → StringKind → TypedExpression → Type 0
 IsString n s kind e = (least : ℕ) × (most : ℕ) × IsTyped n s e (Strings kind least most)
 
+-- each item of PUT gives strings of a kind
 abbrev pub AreItems : (greatest : ℕ) → TypingContext → List TypedExpression → Type 0
 AreItems n s [] = Unit {0}
 AreItems n s (e ∷ es) = ((kind : StringKind) × IsString n s kind e) × AreItems n s es
@@ -187,9 +193,11 @@ Convert n [] t d = IsHeldBy d t
 Convert n (operation ∷ more) t d =
     (u : ValueType) × Operates n operation (t ∷ []) u × Convert n more u d
 
+-- an expression gives numbers
 abbrev pub IsNumber : (greatest : ℕ) → TypingContext → TypedExpression → Type 0
 IsNumber n s e = (p : ℕ) × IsTyped n s e (Numbers p)
 
+-- so does one that may be left out
 abbrev pub IsPossibleNumber : (greatest : ℕ) → TypingContext → Option TypedExpression → Type 0
 IsPossibleNumber n s None = Unit {0}
 IsPossibleNumber n s (Some e) = IsNumber n s e
@@ -208,6 +216,7 @@ IsRange n s conversion d (ByTo by to) =
     Counts n conversion d × IsNumber n s by × IsPossibleNumber n s to
 IsRange n s conversion d (Repeated next) = IsValueFor n s d next
 
+-- a condition that may be left out gives bits
 abbrev pub IsPossibleCondition : (greatest : ℕ) → TypingContext → Option TypedExpression → Type 0
 IsPossibleCondition n s None = Unit {0}
 IsPossibleCondition n s (Some e) = IsString n s OfBits e
@@ -226,11 +235,12 @@ abbrev pub labels_of : TypedStatements → List ℕ
 labels_of NoStatement = []
 labels_of (StatementThen (Statement number form) more) = number ∷ labels_of more
 
--- in a group, its labels are known too
+-- the innermost block, with these labels too
 abbrev pub with_labels : List ℕ → List BlockAround → List BlockAround
 with_labels labels [] = []
 with_labels labels (b ∷ bs) = record b { labels = labels ++ b.labels } ∷ bs
 
+-- in a group, its labels are known too
 abbrev pub in_group : TypedStatements → TypingContext → TypingContext
 in_group statements s = record s { blocks = with_labels (labels_of statements) s.blocks }
 
@@ -247,14 +257,17 @@ abbrev pub in_begin : BlockHead → TypedStatements → TypingContext → Typing
 in_begin head statements s =
     record s { blocks = block_of head [] statements ∷ s.blocks; begins = suc s.begins }
 
+-- the labels of a block, if there is one, include this one
 abbrev pub knows_label : Option BlockAround → (label : ℕ) → Type 0
 knows_label None label = ⊥
 knows_label (Some b) label = IsTrue (list_any (nat_eq label) b.labels)
 
 abbrev mutual
+  -- a statement is well typed
   pub IsTypedStatement : (greatest : ℕ) → TypingContext → TypedStatement → Type 0
   IsTypedStatement n s (Statement number form) = IsTypedForm n s form
 
+  -- a form is: its values suit what takes them, and its GOTO, RETURN and calls lead to what is there
   pub IsTypedForm : (greatest : ℕ) → TypingContext → Form → Type 0
   IsTypedForm n s Null = Unit {0}
   IsTypedForm n s (Assign target e) = (d : Description) × IsPlaced n s target d × IsValueFor n s d e
@@ -279,10 +292,12 @@ abbrev mutual
       (outward ≡ s.begins) × ((d : Description) × (s.value ≡ Some d) × IsValueFor n s d e)
   IsTypedForm n s Stop = Unit {0}
 
+  -- an ELSE is
   pub IsTypedElse : (greatest : ℕ) → TypingContext → OtherWise → Type 0
   IsTypedElse n s NoElse = Unit {0}
   IsTypedElse n s (Else statement) = IsTypedStatement n s statement
 
+  -- each statement of a list is
   pub AreTypedStatements : (greatest : ℕ) → TypingContext → TypedStatements → Type 0
   AreTypedStatements n s NoStatement = Unit {0}
   AreTypedStatements n s (StatementThen first more) = IsTypedStatement n s first × AreTypedStatements n s more

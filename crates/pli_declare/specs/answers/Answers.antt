@@ -20,6 +20,7 @@ abbrev pub entries_at : Outline → Option ℕ → List Entry
 entries_at o None = unit_entries o.marks
 entries_at o (Some block) = entries_in o block
 
+-- a block of the unit, or the outermost one
 abbrev pub IsWithin : Outline → Option ℕ → Type 0
 IsWithin o None = Unit {0}
 IsWithin o (Some block) = block < length o.regions

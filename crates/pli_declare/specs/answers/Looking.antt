@@ -5,6 +5,7 @@ use Rattle.pli_declare_scopes.specs.declared.found.Found.TheVariants.{Nothing, O
 use Rattle.pli_declare.specs.declared.look_up.Looked.{Looked}
 use Rattle.pli_declare.specs.declared.look_up.Looked.TheVariants as looked
 
+-- one item is found, or several, or none
 abbrev pub looked_there : (block : Option ℕ) → Found → Looked
 looked_there block Nothing = looked.NotDeclared
 looked_there block (One number) = looked.Found block number

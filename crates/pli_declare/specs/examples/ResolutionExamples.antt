@@ -20,32 +20,41 @@ use Rattle.pli_declare_outline.specs.declared.region.RegionKind.{RegionKind}
 use Rattle.pli_declare_outline.specs.declared.region.RegionKind.TheVariants as kinds
 use Rattle.pli_declare.specs.Resolution.{outline_faults}
 
+-- a name at a token
 abbrev pub at : Name → ℕ → Identifier
 at name token = record { name = name; at = token }
 
+-- the heading of a procedure that is statement 1
 abbrev pub heading : Name → ℕ → List Identifier → List ProcedureOption → Heading
 heading name token parameters options =
     record { name = at name token; number = 1; parameters = parameters; options = options }
 
+-- an item of one name
 abbrev pub item : Option ℕ → Identifier → List Bounds → List Attribute → Item
 item level name dimensions attributes =
     record { level = level; names = name ∷ []; dimensions = dimensions; attributes = attributes }
 
+-- an item of one name without a level and without dimensions
 abbrev pub plain : Identifier → List Attribute → Item
 plain name attributes = item None name [] attributes
 
+-- BIT
 abbrev pub bit : List Attribute
 bit = Simple (Bit None) ∷ []
 
+-- FIXED BINARY(p)
 abbrev pub binary : ℕ → List Attribute
 binary p = Simple (Fixed None) ∷ Simple (Binary (Some p)) ∷ []
 
+-- the bounds of a dimension from 1 to n, as `n` is written
 abbrev pub up_to : ℕ → Bounds
 up_to n = record { low = None; high = record { negative = false; value = n } }
 
+-- a region of a kind within another
 abbrev pub region : RegionKind → ℕ → Region
 region kind outer = record { kind = kind; outer = Some outer }
 
+-- a mark in a region
 abbrev pub in_region : ℕ → Mark → Placed
 in_region r m = record { region = r; mark = m }
 
@@ -58,12 +67,15 @@ unit regions marks =
       marks = in_region 0 (Entered (heading (codes "M") 0 [] []) 0) ∷ marks;
     }
 
+-- a code at a token
 abbrev pub fault : Code → ℕ → Fault
 fault code token = record { code = code; at = token }
 
+-- an outline has these faults
 abbrev pub Answers : Outline → List Fault → Type 0
 Answers o faults = outline_faults o o.marks ≡ faults
 
+-- the marks of one DECLARE in region 0
 abbrev pub declares : List Item → List Placed
 declares items = in_region 0 (Declared items) ∷ []
 

@@ -21,16 +21,19 @@ use Rattle.pli_declare.specs.Resolved.{use_of, resolution_of, resolved_of}
 use Rattle.pli_declare.specs.declared.block.Use.{Use}
 use Rattle.pli_declare.specs.declared.block.Target.TheVariants.{Function}
 
--- the name of this number in a block; the unit's own name; a built-in function
+-- the use of the name of this number in a block
 abbrev pub in_block : (at block number : ℕ) → Use
 in_block at block number = use_of at (Some block) number
 
+-- the use of the unit's own name
 abbrev pub own_name : (at : ℕ) → Use
 own_name at = use_of at None 0
 
+-- the use of a built-in function
 abbrev pub function : (at : ℕ) → Use
 function at = record { at = at; target = Function }
 
+-- a declared name with its owner and what it is declared as
 abbrev pub declared : Identifier → (owner : Option ℕ) → Kind → Declaration
 declared name owner kind = record { identifier = name; owner = owner; kind = kind }
 
@@ -45,9 +48,11 @@ variable type storage whole =
       initial = [];
     })) whole
 
+-- a statement without a label, before others
 abbrev pub statement : (number at : ℕ) → Body → Statements → Statements
 statement number at body more = Before (Numbered number None at body) more
 
+-- a reference that is a name alone
 abbrev pub reference : Identifier → Reference
 reference name = Named name Absent Alone
 
@@ -91,6 +96,7 @@ hiding = unit (region kinds.Begin 0 ∷ [])
     ∷ in_region 1 (Used (at (codes "X") 18 ∷ [])) ∷ in_region 1 (Used (at (codes "Y") 20 ∷ []))
     ∷ in_region 0 (Used (at (codes "X") 24 ∷ [])) ∷ in_region 0 (Used (at (codes "Y") 26 ∷ [])) ∷ [])
 
+-- within the block Y is its own; behind its end Y is the outer one again
 abbrev pub Hiding : Type 0
 Hiding =
     Answers hiding []
@@ -105,6 +111,7 @@ jump = unit (region kinds.Group 0 ∷ [])
     ∷ in_region 0 (Used (at (codes "LENGTH") 19 ∷ [])) ∷ in_region 0 (Used (at (codes "X") 21 ∷ []))
     ∷ in_region 0 (Declared (plain (at (codes "X") 25) bit ∷ [])) ∷ [])
 
+-- the label and X are of the procedure, M is the unit's own name, LENGTH the built-in function
 abbrev pub Jump : Type 0
 Jump =
     Answers jump []
@@ -127,6 +134,7 @@ located = unit []
     ∷ in_region 0 (Used (at (codes "P") 18 ∷ [])) ∷ in_region 0 (Used (at (codes "B") 20 ∷ []))
     ∷ in_region 0 (Used (at (codes "B") 22 ∷ [])) ∷ [])
 
+-- BASED names P, and each name of the assignment means what is declared
 abbrev pub Located : Type 0
 Located =
     Answers located []
@@ -142,6 +150,7 @@ areas = unit (region kinds.Procedure 0 ∷ [])
     ∷ in_region 0 (Entered (heading (codes "F") 17 [] (Returns (Plain (Offset (Some (codes "A"))) ∷ [])
     ∷ [])) 1) ∷ [])
 
+-- OFFSET of the item and of RETURNS name the area, whose size is rounded up to 16
 abbrev pub Areas : Type 0
 Areas =
     Answers areas []
@@ -169,6 +178,7 @@ members = unit (region kinds.Procedure 0 ∷ [])
     ∷ in_region 1 (Used (at (codes "S") 29 ∷ at (codes "B") 31 ∷ []))
     ∷ in_region 1 (Used (at (codes "B") 33 ∷ [])) ∷ [])
 
+-- S.B and B are the same member
 abbrev pub OfMembers : Type 0
 OfMembers =
     Answers members []

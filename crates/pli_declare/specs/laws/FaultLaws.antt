@@ -19,6 +19,7 @@ pub record AtName (o : Outline) (f : Fault) : Type 0 where
   pub at : (get_or (entries_in o block) number no_entry).identifier.at ≡ f.at
   pub code : item_code o block number ≡ Some f.code
 
+-- a name for a number that has none
 abbrev pub no_identifier : Identifier
 no_identifier = record { name = []; at = 0 }
 
@@ -33,6 +34,7 @@ HasParameter o (Labelled label) n f = ⊥
 HasParameter o (Used names) n f = ⊥
 HasParameter o (Jumped label) n f = ⊥
 
+-- a parameter in the text has them
 pub record AtParameter (o : Outline) (f : Fault) : Type 0 where
   pub placed : Placed
   pub stands : Contains o.marks placed
@@ -50,6 +52,7 @@ HasUse o here (Declared items) f = ⊥
 HasUse o here (Labelled label) f = ⊥
 HasUse o here (Entered heading region) f = ⊥
 
+-- something in the text that uses a name has them
 pub record AtUse (o : Outline) (f : Fault) : Type 0 where
   pub placed : Placed
   pub stands : Contains (inner_marks o.marks) placed
@@ -65,6 +68,7 @@ HasHeading (Labelled label) f = ⊥
 HasHeading (Used names) f = ⊥
 HasHeading (Jumped label) f = ⊥
 
+-- the first mark, which declares the unit's own name, has them
 abbrev pub AtUnit : List Placed → Fault → Type 0
 AtUnit [] f = ⊥
 AtUnit (p ∷ ps) f = HasHeading p.mark f

@@ -32,6 +32,7 @@ alone =
       built_in_name = false;
     }
 
+-- the place of a level 1 that has members
 abbrev pub above_members : Place
 above_members =
     record {
@@ -42,6 +43,7 @@ above_members =
       built_in_name = false;
     }
 
+-- the place of a member that has none
 abbrev pub member : Place
 member =
     record {
@@ -52,6 +54,7 @@ member =
       built_in_name = false;
     }
 
+-- the place of a parameter
 abbrev pub parameter : Place
 parameter =
     record {
@@ -78,6 +81,7 @@ abbrev pub item : List Bounds → List Attribute → Item
 item dimensions attributes =
     record { level = None; names = []; dimensions = dimensions; attributes = attributes }
 
+-- an item of these attributes, without dimensions
 abbrev pub simple : List SimpleAttribute → Item
 simple attributes = item [] (map Simple attributes)
 
@@ -85,9 +89,11 @@ simple attributes = item [] (map Simple attributes)
 abbrev pub up_to : ℕ → Bounds
 up_to n = record { low = None; high = record { negative = false; value = n } }
 
+-- an item at a place has this fault
 abbrev pub Faulty : Place → Item → Code → Type 0
 Faulty p i code = item_fault p i ≡ Some code
 
+-- an item at a place has no fault, and is completed to this
 abbrev pub Is : Place → Item → Completed → Type 0
 Is p i completed = (item_fault p i ≡ None) × (completed_of p i ≡ completed)
 
@@ -95,6 +101,7 @@ Is p i completed = (item_fault p i ≡ None) × (completed_of p i ≡ completed)
 abbrev pub times : Option ℕ → ℕ → InitialValue
 times factor n = initial.Integer factor (record { negative = false; value = n })
 
+-- a variable of this type without dimensions and first values, with a storage class and a scope
 abbrev pub variable : type.Description → Option Storage → Scope → Completed
 variable d where_from known =
     OfVariable (record {
@@ -208,6 +215,7 @@ Missing =
     × Faulty alone (item [] (Returns (Plain Pointer ∷ []) ∷ Simple Pointer ∷ [])) AttributesConflict
     × Faulty above_members (item [] (Returns (Plain Pointer ∷ []) ∷ [])) AttributesConflict
 
+-- a precision, a size and a bound over their limits; a length and an upper bound of 0; nine dimensions
 abbrev pub BadNumbers : Type 0
 BadNumbers =
     Faulty alone (simple (Fixed (Some 32) ∷ Binary None ∷ [])) BadPrecision

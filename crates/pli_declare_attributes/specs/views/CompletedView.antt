@@ -14,6 +14,7 @@ use Rattle.pli_declare_attributes.specs.declared.completed.Completed.{Completed}
 use Rattle.pli_declare_attributes.specs.declared.completed.Completed.TheVariants as variants
 use Rattle.pli_declare_attributes.specs.declared.completed.Variable.{Variable}
 
+-- the attributes of a variable
 abbrev pub variable_view : Variable → complete.Variable
 variable_view v =
     record {
@@ -24,6 +25,7 @@ variable_view v =
       initial = v.initial.now;
     }
 
+-- what a name is, when its attributes are completed
 abbrev pub completed_view : Completed → complete.Completed
 completed_view (variants.Variable v) = complete.OfVariable (variable_view v)
 completed_view (variants.Entry parameters result) =

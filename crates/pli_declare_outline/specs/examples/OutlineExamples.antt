@@ -13,21 +13,27 @@ use Rattle.pli_declare_outline.specs.Outlines.{outline_of}
 use Rattle.pli_declare_outline.specs.declared.region.RegionKind.{RegionKind}
 use Rattle.pli_declare_outline.specs.declared.region.RegionKind.TheVariants as kinds
 
+-- a name at a token
 abbrev pub at : Name → ℕ → Identifier
 at n k = record { name = n; at = k }
 
+-- a reference that is a name alone
 abbrev pub plain : Name → ℕ → Reference
 plain n k = Named (at n k) Absent Alone
 
+-- the heading of a procedure of this name and number, without parameters and options
 abbrev pub heading : Name → ℕ → ℕ → Heading
 heading n k number = record { name = at n k; number = number; parameters = []; options = [] }
 
+-- the unit M of these statements
 abbrev pub unit : Statements → ExternalProcedure
 unit ss = record { heading = heading (codes "M") 0 1; statements = ss; end = 9 }
 
+-- a region of a kind within another
 abbrev pub region : RegionKind → Option ℕ → Region
 region kind outer = record { kind = kind; outer = outer }
 
+-- a mark in a region
 abbrev pub marked : ℕ → Mark → Placed
 marked r m = record { region = r; mark = m }
 

@@ -9,9 +9,11 @@ use Rattle.pli_declare_outline.specs.declared.region.Mark.TheVariants as marks
 use Rattle.pli_declare_outline.specs.declared.region.Placed.{Placed}
 use Rattle.pli_declare_outline.specs.declared.region.Outline.{Outline}
 
+-- a region
 abbrev pub region_view : Region → plain.Region
 region_view r = record { kind = r.kind; outer = r.outer }
 
+-- what the text declares or uses
 abbrev pub mark_view : Mark → plain.Mark
 mark_view (marks.Declared items) = plain.Declared (map item_view items.now)
 mark_view (marks.Labelled label) = plain.Labelled label
@@ -19,14 +21,18 @@ mark_view (marks.Entered procedure region) = plain.Entered (unit_view procedure.
 mark_view (marks.Used names) = plain.Used names.items
 mark_view (marks.Jumped label) = plain.Jumped label
 
+-- a mark with its region
 abbrev pub placed_view : Placed → plain.Placed
 placed_view p = record { region = p.region; mark = mark_view p.mark }
 
+-- the regions
 abbrev pub regions_view : List Region → List plain.Region
 regions_view rs = map region_view rs
 
+-- the marks
 abbrev pub marks_view : List Placed → List plain.Placed
 marks_view ps = map placed_view ps
 
+-- an outline
 abbrev pub outline_view : Outline → plain.Outline
 outline_view o = record { regions = regions_view o.regions.items; marks = marks_view o.marks.items }

@@ -9,9 +9,11 @@ abbrev pub rank : Option ℕ → ℕ
 rank None = 0
 rank (Some n) = n + 1
 
+-- a leap for a number that has none
 abbrev pub no_leap : Leap
 no_leap = record { to = 0; place = 0 }
 
+-- the item to which the leap of an item leads
 abbrev pub leap_at : List Leap → ℕ → ℕ
 leap_at leaps n = (get_or leaps n no_leap).to
 

@@ -7,9 +7,11 @@ use Rattle.pli_declare_scopes.specs.declared.found.Found.{Found}
 use Rattle.pli_declare_scopes.specs.declared.found.Found.TheVariants.{Nothing}
 use Rattle.pli_declare_scopes.specs.declared.path.Step.{Step}
 
+-- a step for a number that has none
 abbrev pub no_step : Step
 no_step = record { name = []; above = None }
 
+-- the last step of a path of this number
 abbrev pub step_at : List Step → ℕ → Step
 step_at steps p = get_or steps p no_step
 

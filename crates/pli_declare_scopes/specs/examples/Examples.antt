@@ -10,6 +10,7 @@ use Rattle.pli_declare_scopes.specs.Repeats.{verdicts_of}
 use Rattle.pli_declare_scopes.specs.Levels.{standings_of}
 use Rattle.pli_declare_scopes.specs.Scopes.{Block, meant}
 
+-- how an item stands that has this owner
 abbrev pub at : Option ℕ → Bool → Standing
 at owner is_bad = record { owner = owner; is_bad = is_bad }
 
@@ -41,9 +42,11 @@ LevelsOver255 =
     standings_of (Some 1 ∷ Some 255 ∷ Some 256 ∷ []) ≡ at None false ∷ at (Some 0) false ∷ at (Some 1) true
     ∷ []
 
+-- an item that counts
 abbrev pub item : Name → Option ℕ → Declared
 item name owner = record { name = name; owner = owner; counts = true }
 
+-- an item that does not count
 abbrev pub uncounted : Name → Option ℕ → Declared
 uncounted name owner = record { name = name; owner = owner; counts = false }
 
@@ -96,6 +99,7 @@ ItemsThatCount =
     × (meant (block ∷ []) (codes "Y" ∷ []) ≡ NotDeclared)
     × (meant (block ∷ (item (codes "Y") None ∷ []) ∷ []) (codes "Y" ∷ []) ≡ Item 0 1)
 
+-- an item as it is written, for the rule on names that are declared twice
 abbrev pub written : Name → Option ℕ → Written
 written name owner = record { name = name; owner = owner }
 

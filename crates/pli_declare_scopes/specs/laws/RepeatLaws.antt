@@ -5,9 +5,11 @@ use Rattle.pli_declare_scopes.specs.declared.repeat.Verdict.{Verdict}
 use Rattle.pli_declare_scopes.specs.declared.repeat.Verdict.TheVariants.{Counts, Twice, Beneath}
 use Rattle.pli_declare_scopes.specs.Repeats.{verdicts_of}
 
+-- the item of a number
 abbrev pub written_at : List Written → ℕ → Written
 written_at items n = get_or items n (record { name = []; owner = None })
 
+-- what becomes of the item of a number
 abbrev pub verdict_at : List Written → ℕ → Verdict
 verdict_at items n = get_or (verdicts_of items) n Beneath
 

@@ -60,6 +60,7 @@ pub record Declares (block : Block) (name : Name) : Type 0 where
   pub counts : (item_at block number).counts ≡ true
   pub named : (item_at block number).name ≡ name
 
+-- a block declares an item of the first of these names
 abbrev pub DeclaresFirst : Block → List Name → Type 0
 DeclaresFirst block [] = ⊥
 DeclaresFirst block (n ∷ ns) = Declares block n
@@ -78,6 +79,7 @@ MeansFrom out (b ∷ bs) names m =
     (DeclaresFirst b names × Decides out b names m)
     ⊎ ((DeclaresFirst b names → ⊥) × MeansFrom (out + 1) bs names m)
 
+-- the same, of the whole scope
 abbrev pub Means : Scope → List Name → Meant → Type 0
 Means scope names m = MeansFrom 0 scope names m
 

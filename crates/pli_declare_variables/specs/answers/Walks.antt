@@ -18,6 +18,7 @@ use Rattle.pli_declare_variables.specs.declared.places.Surroundings.{Surrounding
 use Rattle.pli_declare_variables.specs.declared.locators.Chain.{Chain}
 use Rattle.pli_declare_variables.specs.declared.locators.Nameable.{Nameable}
 
+-- whether an item has members
 abbrev pub has_members_at : List Entry → ℕ → Bool
 has_members_at entries n = not (length (members_of entries n) == 0)
 
@@ -29,9 +30,11 @@ made_by entries ns =
       elements = cut (elements_through entries ns);
     }
 
+-- what the items make that an item is a member of, the nearest first
 abbrev pub above_at : List Entry → ℕ → Surroundings
 above_at entries n = made_by entries (owners_of entries n)
 
+-- of an item that is a member of none
 abbrev pub nothing_above : Surroundings
 nothing_above = record { in_array = false; elements = Some 1 }
 
@@ -76,13 +79,16 @@ chain_of entries ns =
 abbrev pub chain_at : List Entry → ℕ → Chain
 chain_at entries n = chain_of entries (n ∷ owners_of entries n)
 
+-- of no items
 abbrev pub no_chain : Chain
 no_chain = record { is_unsubscripted = true; is_not_based = true }
 
+-- what an owner and those above it are, where it is known of each item before
 abbrev pub chain_above : List Chain → Option ℕ → Chain
 chain_above chains None = no_chain
 chain_above chains (Some o) = get_or chains o no_chain
 
+-- what an item is together with those above it
 abbrev pub chain_with : Item → Chain → Chain
 chain_with item chain =
     record {

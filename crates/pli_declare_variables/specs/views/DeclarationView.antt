@@ -7,11 +7,13 @@ use Rattle.pli_declare_variables.specs.declared.declaration.Kind.{Kind}
 use Rattle.pli_declare_variables.specs.declared.declaration.Kind.TheVariants as kinds
 use Rattle.pli_declare_variables.specs.declared.declaration.Declaration.{Declaration}
 
+-- what a name is declared as
 abbrev pub kind_view : Kind → plain.Kind
 kind_view (kinds.Item completed description) =
     plain.OfItem (completed_view completed) (option_map description_view description)
 kind_view (kinds.Label region) = plain.OfLabel region
 kind_view (kinds.Procedure returned region) = plain.OfProcedure (option_map description_view returned) region
 
+-- a declared name with its owner
 abbrev pub declaration_view : Declaration → plain.Declaration
 declaration_view d = record { identifier = d.identifier; owner = d.owner; kind = kind_view d.kind }

@@ -15,12 +15,13 @@ use Rattle.pli_resolve.specs.declared.block_numbers.BlockRegion.{BlockRegion}
 use Rattle.pli_resolve.specs.declared.symbol.StorageClass.{StorageClass}
 use Rattle.pli_resolve.specs.declared.symbol.SymbolKey.{SymbolKey}
 
--- the member of this number, in a structure or in each element of an array of structures
+-- the member of this number among the members of a structure
 abbrev pub member_at : Members → (number : ℕ) → Option Description
 member_at NoMembers number = None
 member_at (MemberThen d ds) zero = Some d
 member_at (MemberThen d ds) (suc number) = member_at ds number
 
+-- the member of this number, in a structure or in each element of an array of structures
 abbrev pub member_of : Description → (number : ℕ) → Option Description
 member_of (Structure members) number = member_at members number
 member_of (Array bounds element) number = member_of element number
@@ -52,6 +53,7 @@ pub record IsPart (u : ExternalProcedure) (key : SymbolKey) (s : Symbol) (root :
     pub described : description_of (entries_in (outline_of u) block.region)
         (parameters_of (outline_of u) block.region) key.number ≡ Some part
 
+-- each symbol that is a member is such a part, by its root and its path
 abbrev pub MembersAreParts : Type 0
 MembersAreParts = (u : ExternalProcedure) → resolution_faults u ≡ []
     → (key : SymbolKey) (s : Symbol) (root : ℕ) (path : List ℕ) (initial : List InitialValue)

@@ -29,6 +29,7 @@ HasMeaning r (Used (i ∷ is)) = MeansSomething r i.at
 HasMeaning r (Jumped label) = MeansSomething r label.at
 HasMeaning r mark = Unit {0}
 
+-- each name that is used means something that is there
 abbrev pub UsesHaveMeanings : Type 0
 UsesHaveMeanings = (u : ExternalProcedure) → resolution_faults u ≡ [] → (p : Placed)
     → Contains (inner_marks (outline_of u).marks) p → HasMeaning (resolved_unit_of u) p.mark

@@ -6,6 +6,7 @@ use Rattle.pli_resolve.specs.declared.symbol.Symbol.{Symbol}
 use Rattle.pli_resolve.specs.declared.symbol.SymbolKind.{SymbolKind}
 use Rattle.pli_resolve.specs.declared.symbol.SymbolKind.TheVariants as kinds
 
+-- what a name is declared as
 abbrev pub symbol_kind_view : SymbolKind → plain.SymbolKind
 symbol_kind_view (kinds.Variable description class scope initial area) =
     plain.Variable (description_view description.now) class scope initial.now area
@@ -17,5 +18,6 @@ symbol_kind_view (kinds.Entry parameters returned) =
     plain.Entry (map description_view parameters.now) (option_map (λ d. description_view d.now) returned)
 symbol_kind_view kinds.BuiltIn = plain.BuiltIn
 
+-- a declared name
 abbrev pub symbol_view : Symbol → plain.Symbol
 symbol_view s = record { identifier = s.identifier; kind = symbol_kind_view s.kind }

@@ -34,6 +34,7 @@ resolved_block_view b = record {
   symbols = [];
 }
 
+-- the same of a block as definitions have it
 abbrev pub without_symbols : plain.ResolvedBlock → plain.ResolvedBlock
 without_symbols b = record {
   kind = b.kind;

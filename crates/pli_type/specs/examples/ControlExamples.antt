@@ -26,6 +26,7 @@ abbrev pub group : Reference → (first : Expression) → Option Range → State
 group variable first range =
     Numbered 1 None 0 (Do (Some (Iterate variable 2 first range None)) (Before (null 2 9) Ended) 3)
 
+-- TO alone
 abbrev pub to : Expression → Option Range
 to e = Some (To e None)
 
@@ -61,13 +62,15 @@ ControlVariables =
       temporary = 0;
     }) (StatementThen (typed.Statement 2 typed.Null) NoStatement)))
 
--- S: PROC(P); DCL P FIXED BIN(31); and F, which RETURNS(FIXED BIN(31)) and has no parameter
+-- S: PROC(P); DCL P FIXED BIN(31);
 abbrev pub s : NamedAs
 s = AProcedure (record { callee = OfBlock 1; parameters = FixedBinary 31 ∷ []; returned = None })
 
+-- F, which RETURNS(FIXED BIN(31)) and has no parameter
 abbrev pub f : NamedAs
 f = AProcedure (record { callee = OfBlock 2; parameters = []; returned = Some (FixedBinary 31) })
 
+-- CALL S with these arguments, at token 0
 abbrev pub call : List Expression → Statement
 call given = Numbered 1 None 0 (Call (called (codes "S") 1) (Given (all_given given)))
   where
@@ -97,15 +100,14 @@ CallsAreTyped =
     × (faults ((1, f) ∷ []) (call (decimal 1 1 3 ∷ [])) ≡ one WrongNumberOfArguments 1)
     × (faults ((1, x) ∷ []) (call []) ≡ one NotCallableHere 1)
 
--- M: PROC; L: BEGIN; DO I = 1; GOTO L; END; BEGIN; END; END; P: PROC; RETURN; END; END;
--- where GOTO leads to a label one link outward, the blocks are numbered in the order of the text, and a
--- procedure stands behind those in it
+-- what stands in L of M: PROC; L: BEGIN; DO I = 1; GOTO L; END; BEGIN; END; END; P: PROC; RETURN; END; END;
 abbrev pub inner : Statements
 inner =
     Before (Numbered 3 None 5 (Do (Some (Iterate (alone_named (codes "I") 6) 7 (decimal 1 1 8) None None))
     (Before (Numbered 4 None 10 (Goto (called (codes "L") 11))) Ended) 5))
     (Before (Numbered 6 None 15 (Begin Ended 7)) Ended)
 
+-- what stands in M
 abbrev pub blocks : Statements
 blocks =
     Before (Numbered 2 (Some (called (codes "L") 2)) 4 (Begin inner 8))
@@ -116,10 +118,13 @@ blocks =
       options = [];
     }) (Before (Numbered 10 None 24 (Return None)) Ended) 11)) Ended)
 
+-- a block without variables
 abbrev pub head : (number statement temporaries : ℕ) → BlockHead
 head number statement temporaries =
     record { number = number; statement = statement; variables = []; temporaries = temporaries }
 
+-- GOTO leads to a label one link outward, the blocks are numbered in the order of the text, and a procedure
+-- stands behind those in it
 abbrev pub BlocksAreTyped : Type 0
 BlocksAreTyped =
     (statements_typed (unit_of no_tree ((6, i) ∷ (11, ALabel 2) ∷ [])) (in_unit None blocks) first_inside

@@ -1,8 +1,8 @@
 -- What the worked examples have in common: declarations, and parts of trees.
 --
 --     DCL X BIT, N FIXED BIN(15), I FIXED BIN(31), V CHAR(20) VAR, C CHAR(6), A(2) BIT, R(3) FIXED BIN(15),
---         P(3) BIT, Q(2:4) BIT, 1 S(2), 2 A FIXED BIN(31), 2 B(3:5, 2) CHAR(3), 1 W(2), 2 D(2) BIT, 1 T, 2
--- Y BIT;
+--         P(3) BIT, Q(2:4) BIT, 1 S(2), 2 A FIXED BIN(31), 2 B(3:5, 2) CHAR(3), 1 W(2), 2 D(2) BIT,
+--         1 T, 2 Y BIT;
 --
 -- and a label L in the procedure M.
 use Rattle.std.specs.Prelude.{ℕ, nat_eq, Bool, false, pos, Option, Some, None, option_map, List, [], ◌∷◌, map}
@@ -48,33 +48,43 @@ array high d = Array (between 1 high ∷ []) d
 abbrev pub variable : (slot : ℕ) → Description → (path : List ℕ) → NamedAs
 variable slot d path = AVariable (record { root = InSlot 0 slot; whole = d; path = path })
 
+-- a variable of its own, in a slot
 abbrev pub alone : (slot : ℕ) → Description → NamedAs
 alone slot d = variable slot d []
 
+-- X
 abbrev pub x : NamedAs
 x = alone 0 (Bit 1)
 
+-- N
 abbrev pub n : NamedAs
 n = alone 1 (FixedBinary 15)
 
+-- I
 abbrev pub i : NamedAs
 i = alone 2 (FixedBinary 31)
 
+-- V
 abbrev pub v : NamedAs
 v = alone 3 (Varying 20)
 
+-- C
 abbrev pub c : NamedAs
 c = alone 4 (Character 6)
 
+-- A
 abbrev pub a : NamedAs
 a = alone 5 (array 2 (Bit 1))
 
+-- R
 abbrev pub r : NamedAs
 r = alone 6 (array 3 (FixedBinary 15))
 
+-- P
 abbrev pub p : NamedAs
 p = alone 7 (array 3 (Bit 1))
 
+-- Q
 abbrev pub q : NamedAs
 q = alone 8 (Array (between 2 4 ∷ []) (Bit 1))
 
@@ -84,63 +94,83 @@ s_element =
     Structure (MemberThen (FixedBinary 31)
     (MemberThen (Array (between 3 5 ∷ between 1 2 ∷ []) (Character 3)) NoMembers))
 
+-- S
 abbrev pub s : NamedAs
 s = alone 9 (array 2 s_element)
 
+-- S.A
 abbrev pub s_a : NamedAs
 s_a = variable 9 (array 2 s_element) (0 ∷ [])
 
+-- S.B
 abbrev pub s_b : NamedAs
 s_b = variable 9 (array 2 s_element) (1 ∷ [])
 
+-- what W is
 abbrev pub w_whole : Description
 w_whole = array 2 (Structure (MemberThen (array 2 (Bit 1)) NoMembers))
 
+-- W
 abbrev pub w : NamedAs
 w = alone 10 w_whole
 
+-- W.D
 abbrev pub w_d : NamedAs
 w_d = variable 10 w_whole (0 ∷ [])
 
+-- T
 abbrev pub t : NamedAs
 t = alone 11 (Structure (MemberThen (Bit 1) NoMembers))
 
+-- a label of statement 7
 abbrev pub label : NamedAs
 label = ALabel 7
 
+-- a procedure without parameters that gives nothing
 abbrev pub procedure : NamedAs
 procedure = AProcedure (record { callee = OfBlock 0; parameters = []; returned = None })
 
+-- ABS
 abbrev pub abs : NamedAs
 abs = AFunction functions.Abs
 
+-- MAX
 abbrev pub greatest : NamedAs
 greatest = AFunction functions.Max
 
+-- MIN
 abbrev pub least : NamedAs
 least = AFunction functions.Min
 
+-- MOD
 abbrev pub modulo : NamedAs
 modulo = AFunction functions.Mod
 
+-- DIVIDE
 abbrev pub divide : NamedAs
 divide = AFunction functions.Divide
 
+-- SIGN
 abbrev pub sign : NamedAs
 sign = AFunction functions.Sign
 
+-- LENGTH
 abbrev pub length_of : NamedAs
 length_of = AFunction functions.Length
 
+-- INDEX
 abbrev pub index : NamedAs
 index = AFunction functions.Index
 
+-- LBOUND
 abbrev pub low_bound : NamedAs
 low_bound = AFunction functions.LowBound
 
+-- HBOUND
 abbrev pub high_bound : NamedAs
 high_bound = AFunction functions.HighBound
 
+-- SUBSTR
 abbrev pub substring : NamedAs
 substring = AFunction functions.Substring
 
@@ -149,10 +179,11 @@ abbrev pub meaning_in : List (ℕ × NamedAs) → (at : ℕ) → NamedAs
 meaning_in [] at = Untyped
 meaning_in (m ∷ ms) at = if nat_eq m.0 at then m.1 else meaning_in ms at
 
+-- what names mean, where numbers have at most 31 binary digits
 abbrev pub naming : List (ℕ × NamedAs) → Naming
 naming meanings = record { greatest = 31; meaning = meaning_in meanings }
 
--- what is compiled, where these names mean such
+-- the name at a token means a function that is not compiled yet
 abbrev pub is_later_in : List (ℕ × NamedAs) → (at : ℕ) → Bool
 is_later_in meanings at = later (meaning_in meanings at)
   where
@@ -160,6 +191,7 @@ is_later_in meanings at = later (meaning_in meanings at)
     later (AFunction function) = is_later_function function
     later other = false
 
+-- what is compiled, where names mean such
 abbrev pub compiled : List (ℕ × NamedAs) → Compiled
 compiled meanings = record { greatest = 31; is_later = is_later_in meanings }
 
@@ -175,6 +207,7 @@ unit_of tree meanings = record {
   globals = [];
 }
 
+-- a unit without statements
 abbrev pub no_tree : ExternalProcedure
 no_tree = record {
   heading = record { name = record { name = []; at = 0 }; number = 1; parameters = []; options = [] };
@@ -190,15 +223,19 @@ typed_statement meanings statement =
 
 -- parts of trees
 
+-- a name at a token
 abbrev pub called : Name → (at : ℕ) → Identifier
 called name at = record { name = name; at = at }
 
+-- a constant of characters at a token
 abbrev pub text : List ℕ → (at : ℕ) → Expression
 text characters at = Constant at (Characters characters)
 
+-- a decimal constant at a token
 abbrev pub decimal : (value digits at : ℕ) → Expression
 decimal value digits at = Constant at (Decimal value digits)
 
+-- a binary constant at a token
 abbrev pub binary : (value digits at : ℕ) → Expression
 binary value digits at = Constant at (Binary value digits)
 
@@ -206,20 +243,24 @@ binary value digits at = Constant at (Binary value digits)
 abbrev pub alone_named : Name → (at : ℕ) → Reference
 alone_named name at = Named (called name at) Absent Alone
 
+-- the same as an expression
 abbrev pub named : Name → (at : ℕ) → Expression
 named name at = Referred (alone_named name at)
 
--- statements without labels, by number and first token
+-- an assignment, by number and first token
 abbrev pub assign : (number at : ℕ) → Reference → (equals : ℕ) → Expression → Statement
 assign number at target equals e = Numbered number None at (Assign target equals e)
 
+-- PUT LIST
 abbrev pub put : (number at : ℕ) → (skip : Bool) → List Expression → Statement
 put number at skip items = Numbered number None at (Put skip items)
 
+-- IF
 abbrev pub choice : (number at : ℕ) → Expression → Statement → Alternative → Statement
 choice number at condition consequence alternative =
     Numbered number None at (If condition consequence alternative)
 
+-- a null statement
 abbrev pub null : (number at : ℕ) → Statement
 null number at = Numbered number None at Null
 
@@ -229,11 +270,12 @@ of_bits characters at = Constant at (Bits (map (nat_eq 49) characters))
 
 -- what the examples ask
 
--- the faults of a statement, the first of whose tokens has the number 0
+-- the faults that an answer tells
 abbrev pub faults_in : {A : Type 0} → Result A (List Fault) → List Fault
 faults_in (Ok x) = []
 faults_in (Err fs) = fs
 
+-- the faults of a statement, the first of whose tokens has the number 0
 abbrev pub faults : List (ℕ × NamedAs) → Statement → List Fault
 faults meanings statement = faults_in (typed_statement meanings statement)
 
@@ -241,6 +283,7 @@ faults meanings statement = faults_in (typed_statement meanings statement)
 abbrev pub one : Code → (at : ℕ) → List Fault
 one code at = record { code = code; at = at } ∷ []
 
+-- no fault
 abbrev pub good : List Fault
 good = []
 
@@ -249,39 +292,45 @@ abbrev pub if_good : {A E : Type 0} → Result A E → Option A
 if_good (Ok x) = Some x
 if_good (Err e) = None
 
--- the type of an expression, and in how many columns it is printed
+-- the type of an expression
 abbrev pub type_given : List (ℕ × NamedAs) → Expression → Option ExpressionType
 type_given meanings e = option_map (λ v. v.kind) (if_good (value_of (naming meanings) e))
 
+-- in how many columns it is printed
 abbrev pub width_printed : List (ℕ × NamedAs) → Expression → Option ℕ
 width_printed meanings e = option_and_then width_of (type_given meanings e)
 
--- the typed form of a statement
+-- the form of a typed statement
 abbrev pub form_in : TypedStatement → Form
 form_in (typed.Statement number form) = form
 
+-- the typed form of a statement
 abbrev pub form_of : List (ℕ × NamedAs) → Statement → Option Form
 form_of meanings statement =
     option_map (λ s. form_in s.part) (if_good (typed_statement meanings statement))
 
--- the variable or part of one that a target is
+-- the variable or part of one that is denoted
 abbrev pub part_in : Denoted → Option TypedReference
 part_in (DenotesVariable r) = Some r.reference
 part_in (DenotesResult value) = None
 
+-- the variable or part of one that a target is
 abbrev pub reference_meant : List (ℕ × NamedAs) → Reference → Option TypedReference
 reference_meant meanings reference =
     option_and_then part_in (if_good (referred (naming meanings) AsTarget reference))
 
--- parts of typed trees: a number, characters, what the variable in a slot holds, and a stride
+-- a number, in a typed tree
 abbrev pub a_number : ℕ → TypedExpression
 a_number value = Literal (Number (pos value))
 
+-- characters, in a typed tree
 abbrev pub characters : List ℕ → TypedExpression
 characters codes_of = Literal (values.Characters codes_of)
 
+-- what the variable in a slot holds
 abbrev pub held : (slot : ℕ) → TypedExpression
 held slot = Held (Whole (InSlot 0 slot))
 
+-- the stride of a subscript
 abbrev pub stride : (low high multiplier : ℕ) → Stride
 stride low high multiplier = record { low = pos low; high = pos high; multiplier = multiplier }

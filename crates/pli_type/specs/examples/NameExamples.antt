@@ -27,15 +27,19 @@ use Rattle.pli_type_tree.specs.TypedTree.{OwnVariable, ExternalVariable, EntryPo
 use Rattle.pli_type_tree.specs.TypedTree.{InSlot, OfProgram}
 use Rattle.pli_value.specs.Value.{Number, Bits}
 
+-- a declared name
 abbrev pub symbol : Name → SymbolKind → Symbol
 symbol name kind = record { identifier = called name 0; kind = kind }
 
+-- an INTERNAL variable of its own
 abbrev pub own : Description → StorageClass → List InitialValue → SymbolKind
 own d class values = Variable d class scopes.Internal values None
 
+-- a structure of two bits, as S
 abbrev pub pair : Description
 pair = Structure (MemberThen (Bit 1) (MemberThen (Bit 1) NoMembers))
 
+-- what M declares
 abbrev pub declared : List Symbol
 declared =
     symbol (codes "S") (own pair classes.Static [])
@@ -48,6 +52,7 @@ declared =
     ∷ symbol (codes "E") (Entry (Bit 1 ∷ []) None)
     ∷ symbol (codes "Z") (Variable (Bit 1) classes.Static scopes.External [] None) ∷ []
 
+-- what the names at tokens are, by their symbols
 abbrev pub used : (at : ℕ) → Option NameMeaning
 used at =
     if nat_eq at 50 then Some (meanings.Symbol (record { block = 0; number = 2 }))
@@ -58,6 +63,7 @@ used at =
     else if nat_eq at 60 then Some (meanings.Symbol (record { block = 0; number = 6 }))
     else None
 
+-- the unit M, resolved
 abbrev pub resolved : ResolvedUnit
 resolved = record {
   tree = record {
@@ -78,9 +84,12 @@ resolved = record {
   statement_block = λ statement. Some 0;
 }
 
+-- what the name at a token means, inside M
 abbrev pub meant_at : (at : ℕ) → NamedAs
 meant_at at = named_as 31 resolved (0 ∷ []) (used at)
 
+-- B is a member of a global, Y stands in the second slot, ABS is a built-in function, M the procedure, E an
+-- entry, Z a global
 abbrev pub NamesOfUnit : Type 0
 NamesOfUnit =
     (meant_at 50 ≡ AVariable (record { root = OfProgram 0; whole = pair; path = 1 ∷ [] }))

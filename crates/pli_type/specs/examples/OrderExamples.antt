@@ -18,10 +18,12 @@ use Rattle.pli_type.specs.examples.ExampleTrees.{called}
 use Rattle.pli_type.specs.examples.NameExamples.{symbol}
 use Rattle.pli_type_tree.specs.TypedTree.{ExternalVariable, OfProgram}
 
+-- Z, EXTERNAL, whose name stands at a token
 abbrev pub shared : (at : ℕ) → Description → Symbol
 shared at d =
     record { identifier = called (codes "Z") at; kind = Variable d classes.Static scopes.External [] None }
 
+-- the unit, resolved
 abbrev pub nested : ResolvedUnit
 nested = record {
   tree = record {
@@ -57,6 +59,7 @@ nested = record {
 abbrev pub shared_in : (block : ℕ) → NamedAs
 shared_in block = declared_as 31 nested (1 ∷ 0 ∷ []) (record { block = block; number = 0 })
 
+-- the inner Z comes first, as its name does; inside both blocks each of them means its own global
 abbrev pub GlobalsOfUnit : Type 0
 GlobalsOfUnit =
     ((named_unit 31 nested).globals

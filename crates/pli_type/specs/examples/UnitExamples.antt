@@ -39,6 +39,7 @@ unit options statements = record {
   end = 9;
 }
 
+-- the same with OPTIONS(MAIN)
 abbrev pub main : List Statement → ExternalProcedure
 main statements = unit (Main ∷ []) statements
 
@@ -53,6 +54,7 @@ declare_as attributes =
       attributes = attributes;
     } ∷ []))
 
+-- the same of attributes other than ENTRY and RETURNS
 abbrev pub declare : List SimpleAttribute → Statement
 declare attributes = declare_as (map Simple attributes)
 
@@ -60,6 +62,7 @@ declare attributes = declare_as (map Simple attributes)
 abbrev pub entry_of : SimpleAttribute → Attribute
 entry_of attribute = Entry (Some (record { dimensions = []; attributes = Plain attribute ∷ [] } ∷ []))
 
+-- no name means anything
 abbrev pub no_names : List (ℕ × NamedAs)
 no_names = []
 
@@ -97,6 +100,7 @@ abbrev pub numbers : List ℕ → List InitialValue
 numbers [] = []
 numbers (n ∷ ns) = initial.Integer None (record { negative = false; value = n }) ∷ numbers ns
 
+-- an initial value of a scalar
 abbrev pub scalar : ℕ → Value → InitialScalar
 scalar number value = record { scalar = number; value = value }
 
@@ -151,10 +155,12 @@ with_x tokens statements = record {
 abbrev pub bad_assignment : (number at : ℕ) → Statement
 bad_assignment number at = assign number at (alone_named (codes "X") at) (at + 1) (text (codes "A") (at + 2))
 
+-- `X = '1'B;` from this token on
 abbrev pub good_assignment : (number at : ℕ) → Statement
 good_assignment number at =
     assign number at (alone_named (codes "X") at) (at + 1) (of_bits (codes "1") (at + 2))
 
+-- M: PROC OPTIONS(MAIN); DCL X BIT; X = '1'B; END M; as it is typed
 abbrev pub typed_unit : TypedUnit
 typed_unit = record {
   name = codes "M";

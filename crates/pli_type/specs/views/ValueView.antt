@@ -3,5 +3,6 @@ use Rattle.pli_type.specs.ExpressionTypes as plain
 use Rattle.pli_type.specs.declared.typed_value.TypedValue.{TypedValue}
 use Rattle.pli_type_tree.specs.views.TypedView.{expression_view}
 
+-- an expression with its type
 abbrev pub value_view : TypedValue → plain.TypedValue
 value_view v = record { expression = expression_view v.expression; kind = v.kind }

@@ -19,24 +19,29 @@ use Rattle.pli_type_expression.specs.declared.role.Role.TheVariants as roles
 use Rattle.pli_type_expression.specs.declared.segment.Segment.{Segment}
 use Rattle.pli_type_expression.specs.declared.segment.Segment.TheVariants as segments
 
+-- for what a reference stands
 abbrev pub role_view : Role → references.Role
 role_view roles.Value = references.AsValue
 role_view roles.Argument = references.AsArgument
 role_view roles.Target = references.AsTarget
 role_view roles.Locator = references.AsLocator
 
+-- a variable or a part of one
 abbrev pub referent_view : Referent → references.Referent
 referent_view r =
     record { reference = reference_view r.reference; description = description_view r.description.now }
 
+-- one value or a whole aggregate
 abbrev pub meant_view : Meant → calls.Meant
 meant_view (meant.Value v) = calls.OneValue (value_view v)
 meant_view (meant.Aggregate r) = calls.WholeAggregate (referent_view r)
 
+-- what an expression denotes
 abbrev pub denoted_view : Denoted → calls.Denoted
 denoted_view (denoted.Variable r) = calls.DenotesVariable (referent_view r)
 denoted_view (denoted.Result v) = calls.DenotesResult (value_view v)
 
+-- an argument
 abbrev pub argument_view : Argument → calls.Argument
 argument_view a = record { denoted = denoted_view a.denoted; written = a.written }
 
@@ -45,6 +50,7 @@ abbrev pub of_name : names.NamedAs → (located : Bool) (at : ℕ) → List tree
 of_name (names.AVariable v) located at xs = typing.OfVariable located at v xs
 of_name other located at xs = typing.OfNoVariable at
 
+-- what stands between arrows
 abbrev pub segment_view : names.Naming → Segment → typing.Segment
 segment_view n (segments.Named located at subscripts) =
     of_name (n.meaning at) located at (map expression_view subscripts.items)

@@ -20,6 +20,7 @@ value_decides (Bits s) (Bits t) =
     Decides-like _ (ap Bits) (λ e. cc) (slice_eq-Decides booleans_Decides s t _ refl)
 value_decides v w = differ v w (λ e. cc)
 
+-- an initial value of a scalar
 abbrev initial : ℕ → Value → InitialScalar
 initial k v = record { scalar = k; value = v }
 
@@ -31,6 +32,7 @@ initial_decides a b =
     Decides-like _ (initial_parts a b) (λ e. (ap (λ i. i.scalar) e, ap (λ i. i.value) e))
     (Decides-and _ _ (Decides-eqb a.scalar b.scalar) (value_decides a.value b.value))
 
+-- what a variable of a description and initial values is made from
 abbrev template : Description → List InitialScalar → Template
 template d is = record { description = d; initial = is }
 

@@ -9,14 +9,17 @@ use Rattle.pli_type_keys.specs.declared.key.DescriptionKey.{DescriptionKey}
 use Rattle.pli_type_keys.specs.declared.key.TemplateKey.{TemplateKey}
 use Rattle.pli_type_keys.specs.declared.key.ValueKey.{ValueKey}
 
+-- a description, as an entry
 abbrev pub described : DescriptionKey → Description
 described k = description_view k.description.now
 
+-- what a variable is made from, as an entry
 abbrev pub templated : TemplateKey → Template
 templated k = record {
   description = description_view k.description.now;
   initial = map initial_view k.initial.now;
 }
 
+-- a value, as an entry
 abbrev pub valued : ValueKey → Value
 valued k = value_view k.value.now

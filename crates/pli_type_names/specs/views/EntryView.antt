@@ -8,6 +8,7 @@ use Rattle.pli_type_names.specs.BlockEntries as plain
 use Rattle.pli_type_names.specs.BlockEntries.{entry_at}
 use Rattle.pli_type_names.specs.declared.entries.BlockEntry.{BlockEntry}
 
+-- what is found for a block
 abbrev pub entry_view : BlockEntry → plain.BlockEntry
 entry_view e = record {
   is_named = e.is_named;

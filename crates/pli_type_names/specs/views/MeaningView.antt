@@ -18,6 +18,7 @@ use Rattle.pli_type_names.specs.declared.naming.NamedProcedure.{NamedProcedure}
 use Rattle.pli_type_names.specs.views.NameView.{part_view}
 use Rattle.pli_type_tree.specs.views.TypedView.{callee_view, root_view}
 
+-- a procedure that a name means
 abbrev pub procedure_view : NamedProcedure → plain.NamedProcedure
 procedure_view p = record {
   callee = callee_view p.callee;
@@ -25,6 +26,7 @@ procedure_view p = record {
   returned = option_map (λ d. description_view d.now) p.returned;
 }
 
+-- what a name means where it is used
 abbrev pub answer_view : NamedAs → Seen
 answer_view (answers.Variable v) =
     SeenVariable (root_view v.root) v.is_member (option_map part_view v.part.now)
@@ -33,6 +35,7 @@ answer_view (answers.Procedure p) = SeenProcedure (procedure_view p)
 answer_view (answers.Label statement) = SeenLabel statement
 answer_view answers.Untyped = SeenUntyped
 
+-- what a name means wherever it is used
 abbrev pub meant_view : Meant → Kept
 meant_view (meanings.Variable begins is_member part) =
     KeptVariable begins is_member (option_map part_view part)
@@ -43,6 +46,7 @@ meant_view (meanings.Entry number parameters returned) =
 meant_view (meanings.Label statement) = KeptLabel statement
 meant_view meanings.Untyped = KeptNothing
 
+-- what the names of a block mean
 abbrev pub row_view : Vec Meant Global → List Kept
 row_view v = map meant_view v.items
 

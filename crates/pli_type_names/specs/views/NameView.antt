@@ -5,6 +5,7 @@ use Rattle.pli_type.specs.References as plain
 use Rattle.pli_type_tree.specs.views.TypedView.{stride_view}
 use Rattle.pli_type_names.specs.declared.part.StridedPart.{StridedPart}
 
+-- a part of a variable
 abbrev pub part_view : StridedPart → plain.StridedPart
 part_view p = record {
   offset = p.offset;

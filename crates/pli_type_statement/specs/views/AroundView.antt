@@ -5,12 +5,15 @@ use Rattle.pli_type_statement.specs.Around.{Listing, Around}
 use Rattle.pli_type_statement.specs.declared.labels.ListLabels.{ListLabels}
 use Rattle.pli_type_statement.specs.declared.surroundings.Surroundings.{Surroundings}
 
+-- a list with its labels
 abbrev pub listing_view : ListLabels → Listing
 listing_view l = record { block = l.block; labels = l.labels.items }
 
+-- the lists round a place
 abbrev pub lists_view : List ListLabels → List Listing
 lists_view ls = map listing_view ls
 
+-- where the walk is
 abbrev pub around_view : Surroundings → Around
 around_view s =
     record {

@@ -4,6 +4,7 @@ use Rattle.pli_type_statement.specs.declared.headers.Header.{Header}
 use Rattle.pli_type_statement.specs.declared.headers.Header.TheVariants as headers
 use Rattle.pli_type_tree.specs.views.TypedView.{expression_view, iteration_view}
 
+-- what controls a group
 abbrev pub header_view : Header → plain.Header
 header_view headers.Plain = plain.Plain
 header_view (headers.While condition) = plain.While (expression_view condition.value)

@@ -8,9 +8,11 @@ use Rattle.pli_type_templates.specs.declared.groups.Made.{Made}
 use Rattle.pli_type_templates.specs.declared.items.Item.{Item}
 use Rattle.pli_type_templates.specs.declared.members.Owned.{Owned}
 
+-- an item with INITIAL
 abbrev pub item_view : Item → InitialItem
 item_view i = record { path = i.path.now; values = i.values.now }
 
+-- such items
 abbrev pub items_view : List Item → List InitialItem
 items_view is = map item_view is
 
@@ -18,8 +20,10 @@ items_view is = map item_view is
 abbrev pub rows_view : List (Vec Item Global) → List (List InitialItem)
 rows_view rows = map (λ v. items_view v.items) rows
 
+-- a member, and the variable that it is a member of
 abbrev pub owned_view : Owned → plain.Owned
 owned_view o = record { root = o.root; item = item_view o.item }
 
+-- a variable that is made
 abbrev pub made_view : Made → plain.Made
 made_view m = record { description = description_view m.description.now; values = m.values.now }

@@ -7,6 +7,7 @@ use Rattle.pli_type_templates.specs.declared.plan.Plan.{Plan}
 use Rattle.pli_type_templates.specs.declared.plan.Plan.TheOpen.{Plan-F}
 use Rattle.pli_type_templates.specs.declared.plan.Plan.TheFolds.{fold-Plan}
 
+-- a scalar with its number
 abbrev pub leaf_view : Leaf → plain.Leaf
 leaf_view l = record { first = l.first; description = description_view l.description.now }
 
@@ -21,6 +22,7 @@ level_view (Plan-F.Scalar leaf) = plain.OfScalar (leaf_view leaf)
 level_view (Plan-F.Array level element) = plain.OfArray level element.value
 level_view (Plan-F.Structure members) = plain.OfStructure (plans_of members.items)
 
+-- a plan
 abbrev pub plan_view : Plan → plain.Plan
 plan_view = fold-Plan plain.Plan level_view
 

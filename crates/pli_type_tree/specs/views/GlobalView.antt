@@ -8,6 +8,7 @@ use Rattle.pli_type_tree.specs.declared.unit.GlobalGroup.{GlobalGroup}
 use Rattle.pli_type_tree.specs.declared.unit.GlobalGroup.TheVariants as groups
 use Rattle.pli_type_tree.specs.declared.unit.Signature.{Signature}
 
+-- what an external procedure takes and gives
 abbrev pub signature_view : Signature → plain.Signature
 signature_view s = record {
   parameters = map description_view s.parameters.items;
@@ -22,5 +23,6 @@ global_group_view (groups.ExternalVariables names template) =
 global_group_view (groups.EntryPoints names signature) =
     map (λ name. plain.EntryPoint name (signature_view signature)) names.items
 
+-- the globals of a unit, which lie in groups
 abbrev pub globals_view : List GlobalGroup → List plain.Global
 globals_view gs = flat_map global_group_view gs

@@ -8,9 +8,11 @@ use Rattle.pli_type_tree.specs.declared.template.InitialScalar.{InitialScalar}
 use Rattle.pli_type_tree.specs.declared.template.Template.{Template}
 use Rattle.pli_type_tree.specs.declared.template.VariableGroup.{VariableGroup}
 
+-- an initial value with the scalar that has it
 abbrev pub initial_view : InitialScalar → plain.InitialScalar
 initial_view i = record { scalar = i.scalar; value = value_view i.value }
 
+-- what a variable is made from
 abbrev pub template_view : Template → plain.Template
 template_view t = record {
   description = description_view t.description;
@@ -21,5 +23,6 @@ template_view t = record {
 abbrev pub group_view : VariableGroup → List plain.Template
 group_view g = replicate g.count (template_view g.template)
 
+-- what variables are made from, which lie in groups
 abbrev pub groups_view : List VariableGroup → List plain.Template
 groups_view gs = flat_map group_view gs

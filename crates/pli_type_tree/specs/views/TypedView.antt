@@ -38,18 +38,22 @@ use Rattle.pli_type_tree.specs.declared.statement.Form.{end_of-TypedStatement, m
 use Rattle.pli_type_tree.specs.declared.unit.TypedProcedure.{TypedProcedure}
 use Rattle.pli_type_tree.specs.declared.unit.TypedUnit.{TypedUnit}
 
+-- where a reference begins
 abbrev pub root_view : Root → plain.Root
 root_view (roots.InSlot outward slot) = plain.InSlot outward slot
 root_view (roots.OfProgram number) = plain.OfProgram number
 
+-- what is called
 abbrev pub callee_view : Callee → plain.Callee
 callee_view (callees.OfBlock block) = plain.OfBlock block
 callee_view (callees.OfEntry number) = plain.OfEntry number
 
+-- the stride of a subscript
 abbrev pub stride_view : Stride → plain.Stride
 stride_view s = record { low = s.low; high = s.high; multiplier = s.multiplier }
 
 abbrev mutual
+  -- an expression
   pub expression_view : TypedExpression → plain.TypedExpression
   expression_view (Literal value) = plain.Literal (value_view value)
   expression_view (Held variable) = plain.Held (reference_view variable)
@@ -58,24 +62,29 @@ abbrev mutual
   expression_view (Called' callee shape arguments) =
       plain.Called (callee_view callee) (argument_row arguments)
 
+  -- a reference
   pub reference_view : TypedReference → plain.TypedReference
   reference_view (Whole root) = plain.Whole (root_view root)
   reference_view (Part' root offset description shape subscripts) =
       plain.Part (root_view root) offset (description_view description) (subscript_row subscripts)
 
+  -- operands as they lie in a list
   pub operand_row : {m : _} → Row_of-TypedExpression m → plain.Operands
   operand_row end_of-TypedExpression = plain.NoOperand
   operand_row (more_of-TypedExpression e more) = plain.OperandThen (expression_view e) (operand_row more)
 
+  -- subscripts as they lie in a list
   pub subscript_row : {m : _} → Row_of-TypedSubscript m → plain.Subscripts
   subscript_row end_of-TypedSubscript = plain.NoSubscript
   subscript_row (more_of-TypedSubscript stride value more) =
       plain.SubscriptThen (stride_view stride) (expression_view value) (subscript_row more)
 
+  -- arguments as they lie in a list
   pub argument_row : {m : _} → Row_of-TypedArgument m → plain.TypedArguments
   argument_row end_of-TypedArgument = plain.NoArgument
   argument_row (more_of-TypedArgument a more) = argument_before a (argument_row more)
 
+  -- an argument before others
   pub argument_before : TypedArgument → plain.TypedArguments → plain.TypedArguments
   argument_before (ByPlace variable) more = plain.ByPlace (reference_view variable) more
   argument_before (ByDummy description value) more =
@@ -86,15 +95,18 @@ abbrev pub operands_view : List TypedExpression → plain.Operands
 operands_view [] = plain.NoOperand
 operands_view (e ∷ es) = plain.OperandThen (expression_view e) (operands_view es)
 
+-- a list of subscripts
 abbrev pub subscripts_view : List TypedSubscript → plain.Subscripts
 subscripts_view [] = plain.NoSubscript
 subscripts_view (s ∷ ss) =
     plain.SubscriptThen (stride_view s.stride) (expression_view s.value) (subscripts_view ss)
 
+-- a list of arguments
 abbrev pub arguments_view : List TypedArgument → plain.TypedArguments
 arguments_view [] = plain.NoArgument
 arguments_view (a ∷ more) = argument_before a (arguments_view more)
 
+-- what an activation of a block begins with
 abbrev pub head_view : BlockHead → plain.BlockHead
 head_view h =
     record {
@@ -104,12 +116,14 @@ head_view h =
       temporaries = h.temporaries;
     }
 
+-- TO and BY, or REPEAT
 abbrev pub range_view : TypedRange → plain.TypedRange
 range_view ranges.Once = plain.Once
 range_view (ranges.ToBy to by) = plain.ToBy (expression_view to) (option_map expression_view by)
 range_view (ranges.ByTo by to) = plain.ByTo (expression_view by) (option_map expression_view to)
 range_view (ranges.Repeated next) = plain.Repeated (expression_view next)
 
+-- what controls an iteration
 abbrev pub iteration_view : Iteration → plain.Iteration
 iteration_view i =
     record {
@@ -122,6 +136,7 @@ iteration_view i =
     }
 
 abbrev mutual
+  -- what a statement is, apart from its number
   pub form_view : Form → plain.Form
   form_view Null = plain.Null
   form_view (Assign target value) = plain.Assign (reference_view target) (expression_view value)
@@ -142,22 +157,27 @@ abbrev mutual
   form_view (ReturnValue outward value) = plain.ReturnValue outward (expression_view value)
   form_view Stop = plain.Stop
 
+  -- the ELSE of an IF, if it has one
   pub else_view : Held-Form-If-2 → plain.OtherWise
   else_view None' = plain.NoElse
   else_view (Some' p number form) = plain.Else (plain.Statement number (form_view form))
 
+  -- statements as they lie in a list
   pub statement_row : {m : _} → Row_of-TypedStatement m → plain.TypedStatements
   statement_row end_of-TypedStatement = plain.NoStatement
   statement_row (more_of-TypedStatement number form more) =
       plain.StatementThen (plain.Statement number (form_view form)) (statement_row more)
 
+-- a statement
 abbrev pub statement_view : TypedStatement → plain.TypedStatement
 statement_view s = plain.Statement s.number (form_view s.form)
 
+-- a list of statements
 abbrev pub statements_view : List TypedStatement → plain.TypedStatements
 statements_view [] = plain.NoStatement
 statements_view (s ∷ ss) = plain.StatementThen (statement_view s) (statements_view ss)
 
+-- a procedure
 abbrev pub procedure_view : TypedProcedure → plain.TypedProcedure
 procedure_view p =
     record {
@@ -168,6 +188,7 @@ procedure_view p =
       statements = statements_view p.statements.items;
     }
 
+-- a unit
 abbrev pub unit_view : TypedUnit → plain.TypedUnit
 unit_view u =
     record {

@@ -13,7 +13,7 @@ use Rattle.pli_declare_tables.specs.views.TableView.{entries_view}
 use Rattle.pli_declare_tables.specs.declared.entry.Entry.{Entry}
 use Rattle.pli_declare_tables.proofs.MembersStandBehind.{Behind, owners_behind}
 use Rattle.pli_declare_tables.proofs.BlocksByMarks.{none_left}
-use Rattle.pli_declare_tables.proofs.table.declared_in.Goals as goal
+use Rattle.pli_declare_tables.proofs.table.declare_names.Goals as goal
 
 pub loop-entry-init : goal.loop-entry-init
 loop-entry-init c =
@@ -24,7 +24,7 @@ loop-entry-init c =
     record {
       block = ap (λ (b : Block). b ++ with_verdicts (entries_view left) given) c.requires.empty ∙ ap (λ es. with_verdicts (entries_view es) given) first
           ∙ ap (with_verdicts (entries_view c.args.entries.now)) second;
-      behind = subst (λ (es : List Entry). Behind (length c.args.block) (entries_view es)) (sym first)
+      behind = subst (λ (es : List Entry). Behind (length c.args.block.now) (entries_view es)) (sym first)
           (subst (λ (b : Block). Behind (length b) (entries_view c.args.entries.now)) (sym c.requires.empty) (owners_behind (entries_view c.args.entries.now) c.requires.behind));
     }
 

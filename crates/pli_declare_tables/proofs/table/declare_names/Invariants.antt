@@ -4,7 +4,7 @@ use Rattle.std.specs.Slice.Iter.{iter_rest}
 use Rattle.pli_declare_tables.specs.Tables.{with_verdicts}
 use Rattle.pli_declare_tables.specs.views.TableView.{entries_view}
 use Rattle.pli_declare_tables.proofs.MembersStandBehind.{Behind}
-use Rattle.pli_declare_tables.proofs.table.declared_in.Given as goal
+use Rattle.pli_declare_tables.proofs.table.declare_names.Given as goal
 
 -- the block so far, and what is left of its names
 abbrev pub invariant-loop-entry : goal.invariant-loop-entry
