@@ -1,11 +1,10 @@
 -- The code of statements and blocks of a well-formed unit has numbers within limits, and its jumps lead to its instructions.
-use Rattle.std.proofs.Common.{◌≡◌, ℕ, suc, ◌<◌, ◌≤◌, nat_eq, Bool, true, false, if◌then◌else◌, Option, Some, None, List, [], ◌∷◌, ◌++◌, length, ap, ◌∙◌, arith}
+use Rattle.std.proofs.Common.{◌≡◌, ℕ, suc, ◌<◌, ◌≤◌, Option, Some, None, List, [], ◌∷◌, ◌++◌, length, arith}
 use Rattle.std.specs.List.{AllByRecursion}
 use Rattle.pli_gen_emit.specs.TreeTranslation.{BlockTree, value_code, place_code, skip_code, items_code, behind, start_code, tests_code, advances_code, back_code, turn_place, list_place}
 use Rattle.pli_gen_emit.specs.TreeTranslation.{statement_code, form_code, list_code, end_code, block_code, blocks_code, blocks_in, blocks_of_form, blocks_among}
-use Rattle.pli_gen_tree.proofs.IterationCode.{iterate_ends}
+use Rattle.pli_gen_tree.proofs.CodeEnds.{both_within, one_way_within, two_ways_within, turns_within, iterate_within}
 use Rattle.pli_gen_tree.proofs.SimpleCode.{behind_both}
-use Rattle.pli_gen_tree.specs.answers.Pieces.{step_place}
 use Rattle.pli_gen_tree.specs.laws.ListLaws.{all_front, all_back}
 use Rattle.pli_gen_tree.specs.WellNumbered.{next_temporary, KeepsApart, KeepsApartForm, KeepApart}
 use Rattle.pli_machine_step.specs.Program as op
@@ -14,7 +13,7 @@ use Rattle.pli_type_tree.specs.TypedTree.{TypedExpression, TypedStatement, State
 use Rattle.pli_type_tree.specs.TypedTree.{Form, Null, Assign, AssignAggregate, Put, If, Begin, Group, While, Iterate, Call, Goto, Return, ReturnValue, Stop}
 use Rattle.pli_deck_laws.specs.Limits.{parameter_limit, word_limit, IfThere}
 use Rattle.pli_deck_laws.specs.WellFormed.{IsHead, HasBlock, HasSlot, IsExpression, IsStatement, IsForm, AreStatements}
-use Rattle.pli_deck_laws.proofs.CodeGrows.{grows, end_is_some}
+use Rattle.pli_deck_laws.proofs.CodeGrows.{end_is_some}
 use Rattle.pli_deck_laws.proofs.KeptTemporaries.{few_temporaries}
 use Rattle.pli_deck_laws.proofs.Allowed.{AllAllowed, joined, value_allowed, place_allowed, called_allowed, skip_allowed, items_allowed, start_allowed, tests_allowed, back_allowed}
 
@@ -39,61 +38,38 @@ module _ (globals blocks last : ℕ) (t : TypedUnit) (counted : length t.globals
         → AreBelow blocks (blocks_of_form parent f) → behind (form_code number f p) p ≤ last → All (form_code number f p)
     form_allowed number (If test part NoElse) parent used room p most n h apart inner end =
         let q = suc (behind (value_code test) p) in
-        let code = statement_code part q in
-        let e : behind (value_code test ++ op.JumpUnless (behind code q) ∷ code) p ≡ behind code q = behind_both (value_code test) (op.JumpUnless (behind code q) ∷ code) p in
-        let to : behind code q ≤ last = omega (arith, e, end) in
-        test_part test (behind code q) code h.0 to
+        let to = one_way_within (value_code test) (statement_code part) p last end in
+        test_part test (behind (statement_code part q) q) (statement_code part q) h.0 to
         (statement_allowed part parent used room q most h.1 apart.0 (all_front (λ b. b.head.number < blocks) (blocks_in parent part) [] inner) to)
     form_allowed number (If test part (Else other)) parent used room p most n h apart inner end =
         let q = suc (behind (value_code test) p) in
-        let code = statement_code part q in
-        let r = suc (behind code q) in
-        let otherwise = statement_code other r in
-        let front = value_code test ++ op.JumpUnless r ∷ code in
-        let rest = op.Jump (behind otherwise r) ∷ otherwise in
-        let a : behind front p ≡ behind code q = behind_both (value_code test) (op.JumpUnless r ∷ code) p in
-        let b : behind (front ++ rest) p ≡ behind otherwise r = behind_both front rest p ∙ ap (λ k. behind otherwise (suc k)) a in
-        let to : behind otherwise r ≤ last = omega (arith, b, end) in
-        let k : r ≤ behind otherwise r = grows otherwise r in
-        joined globals blocks last front rest
-        (test_part test r code h.0 (omega (arith, k, to))
-        (statement_allowed part parent used room q most h.1 apart.0 (all_front (λ b. b.head.number < blocks) (blocks_in parent part) (blocks_in parent other) inner) (omega (arith, k, to))))
-        (to, statement_allowed other parent used room r most h.2 apart.1 (all_back (λ b. b.head.number < blocks) (blocks_in parent part) (blocks_in parent other) inner) to)
+        let r = suc (behind (statement_code part q) q) in
+        let w = two_ways_within (value_code test) (statement_code part) (statement_code other) p last end in
+        let to : behind (statement_code part q) q ≤ last = let k = w.0 in omega (arith, k) in
+        joined globals blocks last (value_code test ++ op.JumpUnless r ∷ statement_code part q) (op.Jump (behind (statement_code other r) r) ∷ statement_code other r)
+        (test_part test r (statement_code part q) h.0 w.0
+        (statement_allowed part parent used room q most h.1 apart.0 (all_front (λ b. b.head.number < blocks) (blocks_in parent part) (blocks_in parent other) inner) to))
+        (w.1, statement_allowed other parent used room r most h.2 apart.1 (all_back (λ b. b.head.number < blocks) (blocks_in parent part) (blocks_in parent other) inner) w.1)
     form_allowed number (Group statements) parent used room p most n h apart inner end = list_allowed statements parent used room p most h apart inner end
     form_allowed number (While test statements) parent used room p most n h apart inner end =
         let q = suc (suc (behind (value_code test) (suc p))) in
         let code = list_code statements q in
-        let out = suc (behind code q) in
-        let front = op.Line number ∷ value_code test ++ op.JumpUnless out ∷ op.Step number ∷ code in
-        let back = op.Jump p ∷ [] in
-        let a : behind front p ≡ behind code q = behind_both (value_code test) (op.JumpUnless out ∷ op.Step number ∷ code) (suc p) in
-        let b : behind (front ++ back) p ≡ out = behind_both front back p ∙ ap suc a in
-        let to : out ≤ last = omega (arith, b, end) in
-        let g : q ≤ behind code q = grows code q in
-        let k : suc p ≤ behind (value_code test) (suc p) = grows (value_code test) (suc p) in
-        joined globals blocks last front back
-        (n, test_part test out (op.Step number ∷ code) h.0 to (n, list_allowed statements parent used room q most h.1 apart inner (omega (arith, to))))
-        (omega (arith, k, g, to), tt)
+        let w = turns_within number (value_code test) (list_code statements) p last end in
+        let to : behind code q ≤ last = let k = w.1 in omega (arith, k) in
+        joined globals blocks last (op.Line number ∷ value_code test ++ op.JumpUnless (suc (behind code q)) ∷ op.Step number ∷ code) (op.Jump p ∷ [])
+        (n, test_part test (suc (behind code q)) (op.Step number ∷ code) h.0 w.1 (n, list_allowed statements parent used room q most h.1 apart inner to)) (w.0, tt)
     form_allowed number (Iterate i statements) parent used room p most n h apart inner end =
-        let turn = turn_place i p in
         let q = list_place i p in
         let code = list_code statements q in
-        let between = advances_code i.range i in
-        let back = back_code (is_iterated i.range) number between turn in
+        let back = back_code (is_iterated i.range) number (advances_code i.range i) (turn_place i p) in
         let out = behind back (behind code q) in
-        let start = start_code i in
-        let tests = tests_code i out in
-        let e = iterate_ends number i (list_code statements) p in
-        let to : out ≤ last = omega (arith, e, end) in
-        let a : turn ≤ behind (tests_code i 0) turn = grows (tests_code i 0) turn in
-        let b : q ≤ behind code q = grows code q in
-        let c : behind code q ≤ out = grows back (behind code q) in
+        let w = iterate_within number i (list_code statements) p last end in
         let enough : next_temporary i ≤ 65535 = let k = apart.1 in omega (arith, k, most) in
-        joined globals blocks last (start ++ tests) (op.Step number ∷ (code ++ back))
-        (joined globals blocks last start tests (start_allowed globals blocks last t counted named slotted i h.0 enough) (tests_allowed globals blocks last t counted named slotted i out h.0 enough to)) (
+        joined globals blocks last (start_code i ++ tests_code i out) (op.Step number ∷ (code ++ back))
+        (joined globals blocks last (start_code i) (tests_code i out) (start_allowed globals blocks last t counted named slotted i h.0 enough) (tests_allowed globals blocks last t counted named slotted i out h.0 enough w.3)) (
           n,
-          joined globals blocks last code back (list_allowed statements parent (next_temporary i) room q most h.1 apart.2 inner (omega (arith, c, to)))
-              (back_allowed globals blocks last t counted named slotted (is_iterated i.range) number i turn n h.0 enough (omega (arith, a, b, c, to))),
+          joined globals blocks last code back (list_allowed statements parent (next_temporary i) room q most h.1 apart.2 inner w.2)
+              (back_allowed globals blocks last t counted named slotted (is_iterated i.range) number i (turn_place i p) n h.0 enough w.0),
         )
     form_allowed number Null parent used room p most n h apart inner end = tt
     form_allowed number (Assign target value) parent used room p most n h apart inner end =
@@ -118,15 +94,11 @@ module _ (globals blocks last : ℕ) (t : TypedUnit) (counted : length t.globals
         → behind (list_code ss p) p ≤ last → All (list_code ss p)
     list_allowed NoStatement parent used room p most h apart inner end = tt
     list_allowed (StatementThen first more) parent used room p most h apart inner end =
-        let code = statement_code first p in
-        let q = behind code p in
-        let rest = list_code more q in
-        let e : behind (code ++ rest) p ≡ behind rest q = behind_both code rest p in
-        let to : behind rest q ≤ last = omega (arith, e, end) in
-        let g : q ≤ behind rest q = grows rest q in
-        joined globals blocks last code rest
-        (statement_allowed first parent used room p most h.0 apart.0 (all_front (λ b. b.head.number < blocks) (blocks_in parent first) (blocks_among parent more) inner) (omega (arith, g, to)))
-        (list_allowed more parent used room q most h.1 apart.1 (all_back (λ b. b.head.number < blocks) (blocks_in parent first) (blocks_among parent more) inner) to)
+        let q = behind (statement_code first p) p in
+        let w = both_within (statement_code first p) (list_code more q) p last end in
+        joined globals blocks last (statement_code first p) (list_code more q)
+        (statement_allowed first parent used room p most h.0 apart.0 (all_front (λ b. b.head.number < blocks) (blocks_in parent first) (blocks_among parent more) inner) w.0)
+        (list_allowed more parent used room q most h.1 apart.1 (all_back (λ b. b.head.number < blocks) (blocks_in parent first) (blocks_among parent more) inner) w.1)
 
   end_allowed : (e : Option ℕ) → IfThere (λ n. n < word_limit) e → All (end_code e)
   end_allowed None h = (omega arith, tt)
@@ -154,21 +126,6 @@ module _ (globals blocks last : ℕ) (t : TypedUnit) (counted : length t.globals
   pub blocks_allowed : (bs : List BlockTree) (p : ℕ) → suc last ≤ 65535 → AllByRecursion GoodBlock bs → behind (blocks_code bs p) p ≤ suc last → All (blocks_code bs p)
   blocks_allowed [] p few good end = tt
   blocks_allowed (b ∷ bs) p few good end =
-      let code = block_code b p in
-      let q = behind code p in
-      let rest = blocks_code bs q in
-      let e : behind (code ++ rest) p ≡ behind rest q = behind_both code rest p in
-      let g : q ≤ behind rest q = grows rest q in
-      joined globals blocks last code rest (block_allowed b p few good.0 (omega (arith, e, g, end))) (blocks_allowed bs q few good.1 (omega (arith, e, end)))
-
--- statements begin at instructions of the code
-chosen : (b : Bool) (p x n : ℕ) → p ≤ n → x ≤ n → (if b then p else x) ≤ n
-chosen true p x n h k = h
-chosen false p x n h k = k
-
-pub begins_within : (is : List op.Instruction) (p m n : ℕ) → behind is p ≤ suc n → step_place is p m 0 ≤ n
-begins_within [] p m n h = omega arith
-begins_within (op.Step s ∷ is) p m n h =
-    let g : suc p ≤ behind is (suc p) = grows is (suc p) in
-    chosen (nat_eq s m) p (step_place is (suc p) m 0) n (omega (arith, g, h)) (begins_within is (suc p) m n h)
-begins_within (i ∷ is) p m n h = begins_within is (suc p) m n h
+      let q = behind (block_code b p) p in
+      let w = both_within (block_code b p) (blocks_code bs q) p (suc last) end in
+      joined globals blocks last (block_code b p) (blocks_code bs q) (block_allowed b p few good.0 w.0) (blocks_allowed bs q few good.1 w.1)

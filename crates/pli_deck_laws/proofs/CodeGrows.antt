@@ -1,12 +1,8 @@
--- The place behind code is no earlier than where it begins, and behind a block's code it is later.
-use Rattle.std.proofs.Common.{◌≡◌, ℕ, suc, ◌≤◌, Option, Some, None, List, ◌++◌, arith}
+-- The place behind a block's code is later than where it begins.
+use Rattle.std.proofs.Common.{◌≡◌, ℕ, suc, ◌≤◌, Option, Some, None, ◌++◌, arith}
 use Rattle.pli_gen_emit.specs.TreeTranslation.{BlockTree, behind, list_code, end_code, block_code}
-use Rattle.pli_gen_emit.proofs.JumpLemmas.{behind_is}
+use Rattle.pli_gen_tree.proofs.CodeEnds.{grows}
 use Rattle.pli_gen_tree.proofs.SimpleCode.{behind_both}
-use Rattle.pli_machine_step.specs.Program as op
-
-pub grows : (is : List op.Instruction) (p : ℕ) → p ≤ behind is p
-grows is p = let e = behind_is is p in omega (arith, e)
 
 pub end_is_some : (e : Option ℕ) (p : ℕ) → suc p ≤ behind (end_code e) p
 end_is_some None p = omega arith

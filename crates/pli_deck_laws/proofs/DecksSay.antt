@@ -27,11 +27,11 @@ use Rattle.pli_deck.specs.Decks.{Deck}
 use Rattle.pli_deck.specs.Fields.{Field, u2, list}
 use Rattle.pli_deck.specs.Descriptions.{description}
 use Rattle.pli_deck.specs.Instructions.{instruction}
-use Rattle.pli_deck.specs.DeckFields.{name, flag, constant, template, signature, global, block, tables_of, contents}
+use Rattle.pli_deck.specs.DeckFields.{name, flag, constant, template, signature, global, block, contents}
 use Rattle.pli_deck.specs.DeckFields as field
 use Rattle.pli_deck.specs.declared.fault.Fault.TheVariants.{BadJump, BadNumber, OverLimit}
 use Rattle.pli_deck.specs.DeckFaults.{Naming, OfDescription, OfTemplate, OfValue, OfGlobal, OfBlock, OfInstruction, named_by_signature, named_by_template, named_by_global, named_by_block, named_by_instruction, named_by_variables, named_by_code, named_by}
-use Rattle.pli_deck.specs.DeckFaults.{is_there, targets_of, jumps_within, is_good_template, within_limits, fault_of}
+use Rattle.pli_deck.specs.DeckFaults.{is_there, targets_of, jumps_within, is_good_template, within_limits}
 use Rattle.pli_deck.specs.DeckFaults as fault
 use Rattle.pli_deck.specs.Spelling.{IsDeck}
 use Rattle.pli_deck_code.specs.CodeDecks.{constant_of, initial_of, offsets_in, template_of, signature_of, global_of, block_of, instruction_of}
@@ -41,12 +41,15 @@ use Rattle.pli_deck_laws.specs.Limits.{level_limit, IsDescription, IsConstant, I
 use Rattle.pli_deck_laws.specs.UnitTypes.{IsName, HasBytes, BeginsWithBytes, IsTypedCode}
 use Rattle.pli_deck_laws.specs.WellFormed.{slots_of, IsHead, HasBlock, HasSlot, IsWellFormed}
 use Rattle.pli_deck_laws.proofs.Allowed.{Allowed}
-use Rattle.pli_deck_laws.proofs.AllowedCode.{GoodBlock, blocks_allowed, begins_within}
-use Rattle.pli_deck_laws.proofs.CodeGrows.{grows, block_is_some}
+use Rattle.pli_deck_laws.proofs.AllowedCode.{GoodBlock, blocks_allowed}
+use Rattle.pli_deck_laws.proofs.CodeGrows.{block_is_some}
+use Rattle.pli_gen_tree.proofs.CodeEnds.{grows}
+use Rattle.pli_gen_tree.proofs.CodeFits.{begins_within}
+use Rattle.pli_gen_tree.proofs.LimitLemmas.{Short, short_parts, blocks_counted}
 use Rattle.pli_deck_laws.proofs.FieldsFit.{both_hold, each_holds, all_mapped, fits_short, fits_list, fits_name, fits_description, fits_constant}
 use Rattle.pli_deck_laws.proofs.InstructionsFit.{leads, Named, HasDescription, HasTemplate, HasValue, GoodInstruction, instruction_good}
 use Rattle.pli_deck_laws.proofs.PartsFit.{is_near, GoodTemplate, template_good, GoodSignature, signature_good, GoodGlobal, globals_good, BlockWithin, GoodCodedBlock, blocks_good}
-use Rattle.pli_deck_laws.proofs.TablesFit.{all_joined, descriptions_good, templates_good, values_good, StandsDescription, StandsTemplate, StandsValue, description_within, template_within, value_within, AllStand, all_stand, Short, coded_count, short_of}
+use Rattle.pli_deck_laws.proofs.TablesFit.{all_joined, descriptions_good, templates_good, values_good, StandsDescription, StandsTemplate, StandsValue, description_within, template_within, value_within, AllStand, all_stand, none_of, few_slots}
 use Rattle.pli_deck_laws.proofs.UnitBlocks.{all_as, all_pairs, block_named, slot_there, one_block, good_blocks}
 
 -- ---- instructions
@@ -284,14 +287,14 @@ module _ (t : TypedUnit) (is_main : Bool) (well : IsWellNumbered t) (formed : Is
   abbrev B : ℕ
   B = length bs
 
-  short : Short t bs all_code tables
-  short = short_of tables t bs all_code fits_in
+  short : Short tables t bs all_code
+  short = short_parts tables t bs all_code fits_in
 
   named : (n : ℕ) → HasBlock t n → n < B
   named n h = block_named t well n h
 
   slotted : (n : ℕ) → HasSlot t n → n ≤ 65535
-  slotted n h = slot_there t well short.slots n h
+  slotted n h = slot_there t well (few_slots tables bs 0 short.slots) n h
 
   module _ (last : ℕ) (size : length plain ≡ suc last) where
     end : behind plain 0 ≤ suc last
@@ -374,13 +377,13 @@ module _ (t : TypedUnit) (is_main : Bool) (well : IsWellNumbered t) (formed : Is
     inside =
         blocks_good tables G B last short.descriptions short.templates short.blocks few_last bs 0 end
         (all_pairs Good (λ b. slots_of b ≤ 65535) (BlockWithin tables G B last short.descriptions short.templates)
-        (λ b g s. record { parent = g.parent; parameters = g.parameters; head = g.head; slots = s }) bs good short.slots)
+        (λ b g s. record { parent = g.parent; parameters = g.parameters; head = g.head; slots = s }) bs good (few_slots tables bs 0 short.slots))
         stand.variables
 
     described : AllByRecursion (λ d. description.fits d ≡ true) tables.descriptions
     described =
         all_pairs IsDescription (λ d. has_many_members d ≡ false) (λ d. description.fits d ≡ true) (λ d h k. fits_description level_limit d h k) tables.descriptions
-        (descriptions_good G B last t bs all_code formed.signature formed.globals heads allowed) short.members
+        (descriptions_good G B last t bs all_code formed.signature formed.globals heads allowed) (none_of has_many_members tables.descriptions short.members)
 
     abbrev D : Deck
     D = deck_from t.procedure is_main (code_of t)
@@ -398,7 +401,7 @@ module _ (t : TypedUnit) (is_main : Bool) (well : IsWellNumbered t) (formed : Is
           templates = length_twice T S tables.templates;
           values = length-map tables.values constant_of;
           count_globals = length_twice (global_code tables) global_of t.globals;
-          count_blocks = length-map (coded_blocks tables bs 0) block_of ∙ coded_count tables bs 0;
+          count_blocks = length-map (coded_blocks tables bs 0) block_of ∙ blocks_counted tables bs 0;
           instructions = length_twice I instruction_of all_code ∙ length-map plain (with_target (places_of bs 0)) ∙ size;
           few_descriptions = short.descriptions;
           few_templates = short.templates;

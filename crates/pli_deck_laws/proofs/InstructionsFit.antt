@@ -24,26 +24,11 @@ use Rattle.pli_deck_laws.proofs.FieldsFit.{fits_byte, fits_short, fits_word, fit
 
 error_fits : (e : RunError) → error.fits (error_number e) ≡ true
 error_fits errors.SubscriptRange = refl
-error_fits errors.StringRange = refl
-error_fits errors.NullLocator = refl
-error_fits errors.DeadLocator = refl
-error_fits errors.DescriptionMismatch = refl
-error_fits errors.NoGeneration = refl
-error_fits errors.OutsideArea = refl
-error_fits errors.NoReturnedValue = refl
-error_fits errors.FixedOverflow = refl
-error_fits errors.ZeroDivide = refl
-error_fits errors.Area = refl
-error_fits errors.StorageLimit = refl
-error_fits errors.TooManyActivations = refl
+error_fits e = refl
 
 relation_fits : (r : Relation) → relation.fits (relation_number (relation_code r)) ≡ true
 relation_fits calculate.Equal = refl
-relation_fits calculate.Unequal = refl
-relation_fits calculate.Less = refl
-relation_fits calculate.AtMost = refl
-relation_fits calculate.Greater = refl
-relation_fits calculate.AtLeast = refl
+relation_fits r = refl
 
 -- fields of one byte and of two take what is cut to them
 byte_fits : (n : ℕ) → u1.fits (byte n) ≡ true
@@ -104,25 +89,7 @@ module _ (tables : Tables) (globals blocks last : ℕ) where
     operation_good (calculate.ToCharacters width) h has = record { fits = fits_byte width h; jumps = tt; names = tt; kept = (tt, tt) }
     operation_good (calculate.Divide p) h has = record { fits = fits_precision p h; jumps = tt; names = tt; kept = (tt, tt) }
     operation_good (calculate.Compare r) h has = record { fits = relation_fits r; jumps = tt; names = tt; kept = (tt, tt) }
-    operation_good calculate.Negate h has = record { fits = refl; jumps = tt; names = tt; kept = (tt, tt) }
-    operation_good calculate.Absolute h has = record { fits = refl; jumps = tt; names = tt; kept = (tt, tt) }
-    operation_good calculate.Sign h has = record { fits = refl; jumps = tt; names = tt; kept = (tt, tt) }
-    operation_good calculate.Not h has = record { fits = refl; jumps = tt; names = tt; kept = (tt, tt) }
-    operation_good calculate.LengthOf h has = record { fits = refl; jumps = tt; names = tt; kept = (tt, tt) }
-    operation_good calculate.FromBits h has = record { fits = refl; jumps = tt; names = tt; kept = (tt, tt) }
-    operation_good calculate.Add h has = record { fits = refl; jumps = tt; names = tt; kept = (tt, tt) }
-    operation_good calculate.Subtract h has = record { fits = refl; jumps = tt; names = tt; kept = (tt, tt) }
-    operation_good calculate.Multiply h has = record { fits = refl; jumps = tt; names = tt; kept = (tt, tt) }
-    operation_good calculate.Modulo h has = record { fits = refl; jumps = tt; names = tt; kept = (tt, tt) }
-    operation_good calculate.Greatest h has = record { fits = refl; jumps = tt; names = tt; kept = (tt, tt) }
-    operation_good calculate.Least h has = record { fits = refl; jumps = tt; names = tt; kept = (tt, tt) }
-    operation_good calculate.Concatenate h has = record { fits = refl; jumps = tt; names = tt; kept = (tt, tt) }
-    operation_good calculate.And h has = record { fits = refl; jumps = tt; names = tt; kept = (tt, tt) }
-    operation_good calculate.Or h has = record { fits = refl; jumps = tt; names = tt; kept = (tt, tt) }
-    operation_good calculate.Index h has = record { fits = refl; jumps = tt; names = tt; kept = (tt, tt) }
-    operation_good calculate.Rest h has = record { fits = refl; jumps = tt; names = tt; kept = (tt, tt) }
-    operation_good calculate.Substring h has = record { fits = refl; jumps = tt; names = tt; kept = (tt, tt) }
-    operation_good calculate.Within h has = record { fits = refl; jumps = tt; names = tt; kept = (tt, tt) }
+    operation_good o h has = record { fits = refl; jumps = tt; names = tt; kept = (tt, tt) }
 
     link : (n : ℕ) → n ≤ link_limit → IsByte n
     link n h = is_byte n (omega (arith, h))

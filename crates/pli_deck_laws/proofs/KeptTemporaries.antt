@@ -1,14 +1,14 @@
 -- The temporaries that the iterations of a block keep are no more than its instructions.
-use Rattle.std.proofs.Common.{◌≡◌, ℕ, suc, ◌+◌, ◌≤◌, List, [], ◌∷◌, ◌++◌, length, ap, ◌∙◌, arith}
+use Rattle.std.proofs.Common.{◌≡◌, ℕ, suc, ◌+◌, ◌≤◌, List, [], ◌∷◌, ◌++◌, length, arith}
 use Rattle.pli_gen_emit.specs.TreeTranslation.{BlockTree, value_code, behind, keeps_code, sets_code, tests_code, advances_code, back_code, turn_place, list_place, statement_code, form_code, list_code, end_code, block_code}
+use Rattle.pli_gen_tree.proofs.CodeEnds.{grows, one_way_ends, two_ways_ends, turns_ends}
 use Rattle.pli_gen_tree.proofs.IterationCode.{iterate_ends}
 use Rattle.pli_gen_tree.proofs.SimpleCode.{behind_both}
 use Rattle.pli_machine_step.specs.Program as op
 use Rattle.pli_type_tree.specs.Iterations.{kept_by, temporaries_of, is_iterated}
 use Rattle.pli_type_tree.specs.TypedTree.{TypedExpression, TypedStatement, Statement, TypedStatements, NoStatement, StatementThen, NoElse, Else, Iteration}
-use Rattle.pli_type_tree.specs.TypedTree.{Form, Null, Assign, AssignAggregate, Put, If, Begin, Group, While, Iterate, Call, Goto, Return, ReturnValue, Stop}
+use Rattle.pli_type_tree.specs.TypedTree.{Form, If, Group, While, Iterate}
 use Rattle.pli_deck_laws.specs.WellFormed.{kept_in, kept_in_form, kept_among}
-use Rattle.pli_deck_laws.proofs.CodeGrows.{grows}
 
 keeps_long : (t : ℕ) (es : List TypedExpression) (p : ℕ) → p + length es ≤ behind (keeps_code t es) p
 keeps_long t [] p = omega arith
@@ -36,36 +36,25 @@ mutual
   kept_in_this : (number : ℕ) (f : Form) (p : ℕ) → p + kept_in_form f ≤ behind (form_code number f p) p
   kept_in_this number (If test part NoElse) p =
       let q = suc (behind (value_code test) p) in
-      let code = statement_code part q in
-      let e : behind (value_code test ++ op.JumpUnless (behind code q) ∷ code) p ≡ behind code q = behind_both (value_code test) (op.JumpUnless (behind code q) ∷ code) p in
+      let e : behind (form_code number (If test part NoElse) p) p ≡ behind (statement_code part q) q = one_way_ends (value_code test) (statement_code part) p in
       let g : p ≤ behind (value_code test) p = grows (value_code test) p in
       let k = kept_in_statement part q in
       omega (arith, e, g, k)
   kept_in_this number (If test part (Else other)) p =
       let q = suc (behind (value_code test) p) in
-      let code = statement_code part q in
-      let r = suc (behind code q) in
-      let otherwise = statement_code other r in
-      let front = value_code test ++ op.JumpUnless r ∷ code in
-      let rest = op.Jump (behind otherwise r) ∷ otherwise in
-      let a : behind front p ≡ behind code q = behind_both (value_code test) (op.JumpUnless r ∷ code) p in
-      let b : behind (front ++ rest) p ≡ behind otherwise r = behind_both front rest p ∙ ap (λ k. behind otherwise (suc k)) a in
+      let r = suc (behind (statement_code part q) q) in
+      let e : behind (form_code number (If test part (Else other)) p) p ≡ behind (statement_code other r) r = two_ways_ends (value_code test) (statement_code part) (statement_code other) p in
       let g : p ≤ behind (value_code test) p = grows (value_code test) p in
       let k = kept_in_statement part q in
       let l = kept_in_statement other r in
-      omega (arith, b, g, k, l)
+      omega (arith, e, g, k, l)
   kept_in_this number (Group statements) p = kept_in_list statements p
   kept_in_this number (While test statements) p =
       let q = suc (suc (behind (value_code test) (suc p))) in
-      let code = list_code statements q in
-      let out = suc (behind code q) in
-      let front = op.Line number ∷ value_code test ++ op.JumpUnless out ∷ op.Step number ∷ code in
-      let back = op.Jump p ∷ [] in
-      let a : behind front p ≡ behind code q = behind_both (value_code test) (op.JumpUnless out ∷ op.Step number ∷ code) (suc p) in
-      let b : behind (front ++ back) p ≡ out = behind_both front back p ∙ ap suc a in
+      let e : behind (form_code number (While test statements) p) p ≡ suc (behind (list_code statements q) q) = turns_ends number (value_code test) (list_code statements) p in
       let g : suc p ≤ behind (value_code test) (suc p) = grows (value_code test) (suc p) in
       let k = kept_in_list statements q in
-      omega (arith, b, g, k)
+      omega (arith, e, g, k)
   kept_in_this number (Iterate i statements) p =
       let turn = turn_place i p in
       let q = list_place i p in
@@ -77,16 +66,7 @@ mutual
       let c : behind code q ≤ behind back (behind code q) = grows back (behind code q) in
       let k = kept_in_list statements q in
       omega (arith, e, s, a, c, k)
-  kept_in_this number Null p = let g = grows (form_code number Null p) p in omega (arith, g)
-  kept_in_this number (Assign target value) p = let g = grows (form_code number (Assign target value) p) p in omega (arith, g)
-  kept_in_this number (AssignAggregate target source) p = let g = grows (form_code number (AssignAggregate target source) p) p in omega (arith, g)
-  kept_in_this number (Put skip items) p = let g = grows (form_code number (Put skip items) p) p in omega (arith, g)
-  kept_in_this number (Begin head statements) p = let g = grows (form_code number (Begin head statements) p) p in omega (arith, g)
-  kept_in_this number (Call callee arguments) p = let g = grows (form_code number (Call callee arguments) p) p in omega (arith, g)
-  kept_in_this number (Goto outward label) p = let g = grows (form_code number (Goto outward label) p) p in omega (arith, g)
-  kept_in_this number (Return outward) p = let g = grows (form_code number (Return outward) p) p in omega (arith, g)
-  kept_in_this number (ReturnValue outward value) p = let g = grows (form_code number (ReturnValue outward value) p) p in omega (arith, g)
-  kept_in_this number Stop p = let g = grows (form_code number Stop p) p in omega (arith, g)
+  kept_in_this number f p = let g = grows (form_code number f p) p in omega (arith, g)
 
   kept_in_list : (ss : TypedStatements) (p : ℕ) → p + kept_among ss ≤ behind (list_code ss p) p
   kept_in_list NoStatement p = omega arith

@@ -3,7 +3,7 @@ use Rattle.std.proofs.Common.{◌≡◌, ℕ, suc, ◌<◌, ◌≤◌, true, nat
 use Rattle.std.specs.List.{flat_map, list_all, AllByRecursion}
 use Rattle.std.proofs.lemmas.Bool.{le-leb}
 use Rattle.std.proofs.lemmas.List.{length-map}
-use Rattle.pli_map.specs.Description.{Description, FixedBinary, Character, Varying, Bit, Pointer, Offset, Area, Array, Structure}
+use Rattle.pli_map.specs.Description.{Description, FixedBinary, Character, Varying, Bit}
 use Rattle.pli_map.specs.Sizes.{size_of}
 use Rattle.pli_map.specs.Values.{holds}
 use Rattle.pli_machine_step.specs.Program as op
@@ -16,7 +16,7 @@ use Rattle.pli_value.specs.Value.{Value, Number, Characters, Bits}
 use Rattle.pli_gen_emit.specs.TreeTranslation.{BlockTree, behind, block_code, blocks_code}
 use Rattle.pli_gen_tree.specs.Encoding.{Tables, signature_descriptions, global_descriptions, global_templates, block_templates, description_number, template_number, template_code, signature_code, global_code, coded_block, coded_blocks}
 use Rattle.pli_gen_tree.specs.laws.ListLaws.{all_front, all_back}
-use Rattle.pli_gen_tree.proofs.SimpleCode.{all_both, behind_both}
+use Rattle.pli_gen_tree.proofs.SimpleCode.{all_both}
 use Rattle.pli_deck.specs.Decks as deck
 use Rattle.pli_deck.specs.Fields.{u1, u2, u4, list_of, ◌⊗◌}
 use Rattle.pli_deck.specs.DeckFields.{name, constant, initial, template, signature, global, block_kind, optional, block}
@@ -31,7 +31,8 @@ use Rattle.pli_deck_laws.proofs.FieldsFit.{both_hold, each_holds, all_mapped, fi
 use Rattle.pli_deck_laws.proofs.InstructionsFit.{Named, is_byte, is_short}
 use Rattle.pli_deck_laws.proofs.ScalarsStand.{scalar_found}
 use Rattle.pli_deck_laws.proofs.TablesFit.{StandsDescription, StandsTemplate, description_within, template_within}
-use Rattle.pli_deck_laws.proofs.CodeGrows.{block_is_some, grows}
+use Rattle.pli_deck_laws.proofs.CodeGrows.{block_is_some}
+use Rattle.pli_gen_tree.proofs.CodeEnds.{both_within}
 use Rattle.pli_deck_laws.proofs.KeptTemporaries.{few_temporaries}
 use Rattle.pli_deck_laws.proofs.UnitBlocks.{all_as, all_pairs}
 use Rattle.pli_deck_laws.specs.UnitTypes.{HasBytes, BeginsWithBytes, HasName}
@@ -44,19 +45,7 @@ fitted (FixedBinary p) (Number x) h k = ap (λ y. is_fitted (FixedBinary p) (dec
 fitted (Character n) (Characters text) h k = k
 fitted (Varying n) (Characters text) h k = k
 fitted (Bit n) (Bits bits) h k = k
-fitted (FixedBinary p) (Characters text) h k = absurd (true≢false (sym k))
-fitted (FixedBinary p) (Bits bits) h k = absurd (true≢false (sym k))
-fitted (Character n) (Number x) h k = absurd (true≢false (sym k))
-fitted (Character n) (Bits bits) h k = absurd (true≢false (sym k))
-fitted (Varying n) (Number x) h k = absurd (true≢false (sym k))
-fitted (Varying n) (Bits bits) h k = absurd (true≢false (sym k))
-fitted (Bit n) (Number x) h k = absurd (true≢false (sym k))
-fitted (Bit n) (Characters text) h k = absurd (true≢false (sym k))
-fitted Pointer v h k = absurd (true≢false (sym k))
-fitted Offset v h k = absurd (true≢false (sym k))
-fitted (Area n) v h k = absurd (true≢false (sym k))
-fitted (Array bounds element) v h k = absurd (true≢false (sym k))
-fitted (Structure _) v h k = absurd (true≢false (sym k))
+fitted d v h k = absurd (true≢false (sym k))
 
 pub is_near : (v : Value) → IsConstant v → IsNear v
 is_near (Number x) h = near x h
@@ -251,12 +240,10 @@ module _ (tables : Tables) (globals blocks last : ℕ) (few_descriptions : lengt
         → AllByRecursion GoodCodedBlock (coded_blocks tables bs p)
     blocks_good [] p end h stand = tt
     blocks_good (b ∷ bs) p end h stand =
-        let code = block_code b p in
-        let q = behind code p in
-        let rest = blocks_code bs q in
-        let e : behind (code ++ rest) p ≡ behind rest q = behind_both code rest p in
-        let g : q ≤ behind rest q = grows rest q in
+        let q = behind (block_code b p) p in
+        let w = both_within (block_code b p) (blocks_code bs q) p (suc last) end in
+        let here : q ≤ suc last = w.0 in
         let some : suc p ≤ q = block_is_some b p in (
-          block_good b p (omega (arith, e, g, some, end)) (few_temporaries b p 65535 h.0.head.2 (omega (arith, e, g, end, few_instructions))) h.0 (all_front (StandsTemplate tables) b.head.variables (block_templates bs) stand),
-          blocks_good bs q (omega (arith, e, end)) h.1 (all_back (StandsTemplate tables) b.head.variables (block_templates bs) stand),
+          block_good b p (omega (arith, some, here)) (few_temporaries b p 65535 h.0.head.2 (omega (arith, here, few_instructions))) h.0 (all_front (StandsTemplate tables) b.head.variables (block_templates bs) stand),
+          blocks_good bs q w.1 h.1 (all_back (StandsTemplate tables) b.head.variables (block_templates bs) stand),
         )

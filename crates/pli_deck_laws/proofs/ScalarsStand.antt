@@ -96,15 +96,9 @@ many_elements f ds each (suc count) stride at =
 
 mutual
   as_many : (d : Description) (at : ℕ) → length (offsets_from d at) ≡ length (scalars_of d)
-  as_many (FixedBinary p) at = refl
-  as_many (Character n) at = refl
-  as_many (Varying n) at = refl
-  as_many (Bit n) at = refl
-  as_many Pointer at = refl
-  as_many Offset at = refl
-  as_many (Area n) at = refl
   as_many (Array bounds element) at = many_elements (offsets_from element) (scalars_of element) (as_many element) (count_of bounds) (stride_of element) at
   as_many (Structure members) at = as_many_among members at 0
+  as_many d at = refl
 
   as_many_among : (ds : Members) (at ended : ℕ) → length (offsets_among ds at ended) ≡ length (scalars_of_members ds)
   as_many_among NoMembers at ended = refl

@@ -1,7 +1,6 @@
 -- The tables of a well-formed unit: each entry is within limits, and what is named has its number there.
-use Rattle.std.proofs.Common.{◌≡◌, ℕ, suc, ◌+◌, ◌<◌, ◌≤◌, nat_lt, Bool, true, false, if◌then◌else◌, Option, Some, None, List, [], ◌∷◌, ◌++◌, length, map, slice_get, refl, ap, sym, ◌∙◌, arith}
+use Rattle.std.proofs.Common.{◌≡◌, ℕ, ◌+◌, ◌<◌, ◌≤◌, nat_lt, Bool, false, Option, Some, None, List, [], ◌∷◌, ◌++◌, length, map, slice_get, arith}
 use Rattle.std.specs.List.{flat_map, list_any, AllByRecursion}
-use Rattle.std.proofs.lemmas.Bool.{ltb-false}
 use Rattle.std.proofs.lemmas.List.{length-map}
 use Rattle.std.proofs.lemmas.Option.{slice_get_within}
 use Rattle.pli_map.specs.Description.{Description}
@@ -15,14 +14,16 @@ use Rattle.pli_type_tree.specs.TypedTree.{Signature, Global, OwnVariable, Extern
 use Rattle.pli_unit_code.specs.CodeTables.{there}
 use Rattle.pli_value.specs.Value.{Value}
 use Rattle.pli_gen_emit.specs.TreeTranslation.{BlockTree, behind, block_code}
-use Rattle.pli_gen_tree.specs.Encoding.{numbered, number_in, fitted_by, descriptions_named, templates_named, values_named, signature_descriptions, global_descriptions, global_templates, block_templates}
-use Rattle.pli_gen_tree.specs.Encoding.{Tables, tables_for, description_number, template_number, template_code, global_code, instruction_code, coded_blocks, coded_unit}
-use Rattle.pli_gen_tree.specs.Limits.{has_many_slots, has_many_members, initial_bytes, is_too_long}
+use Rattle.pli_gen_tree.specs.Encoding.{number_in, fitted_by, descriptions_named, templates_named, values_named, signature_descriptions, global_descriptions, global_templates, block_templates}
+use Rattle.pli_gen_tree.specs.Encoding.{Tables, tables_for, description_number, template_number, coded_blocks}
+use Rattle.pli_gen_tree.specs.Limits.{has_many_slots}
 use Rattle.pli_type_keys.specs.Same.{same_value, same_template}
 use Rattle.pli_type_keys.specs.laws.KeyLaws.{value_decides, template_decides}
 use Rattle.pli_gen_tree.specs.laws.ListLaws.{all_front, all_back}
 use Rattle.pli_gen_tree.proofs.SimpleCode.{all_both}
 use Rattle.pli_gen_tree.proofs.TableNumbers.{Has, number_stands, has_all}
+use Rattle.pli_gen_tree.proofs.UnitLemmas.{put_all}
+use Rattle.pli_gen_tree.proofs.LimitLemmas.{few}
 use Rattle.pli_deck_laws.specs.Limits.{IfThere, IsDescription, IsConstant, IsTemplate, IsOperation, IsSignature, IsGlobal}
 use Rattle.pli_deck_laws.specs.WellFormed.{slots_of, IsHead}
 use Rattle.pli_deck_laws.proofs.Allowed.{Allowed}
@@ -30,18 +31,6 @@ use Rattle.pli_deck_laws.proofs.FieldsFit.{neither}
 use Rattle.pli_deck_laws.proofs.UnitBlocks.{all_as}
 
 -- ---- entries
-
--- entries that are numbered are among those that were put
-module _ {X : Type 0} (P : X → Type 0) (alike : X → X → Bool) where
-  put_one : (table : List X) (x : X) (b : Bool) → AllByRecursion P table → P x → AllByRecursion P (if b then table else table ++ x ∷ [])
-  put_one table x true h k = h
-  put_one table x false h k = all_both P table (x ∷ []) h (k, tt)
-
-  put_all : (xs table : List X) → AllByRecursion P table → AllByRecursion P xs → AllByRecursion P (numbered alike table xs)
-  put_all [] table h k = h
-  put_all (x ∷ xs) table h k =
-      let b = list_any (alike x) table in
-      put_all xs (if b then table else table ++ x ∷ []) (put_one table x b h k.0) k.1
 
 pub all_joined : {X Y : Type 0} (f : Y → List X) (P : X → Type 0) (Q : Y → Type 0) → ((y : Y) → Q y → AllByRecursion P (f y)) → (ys : List Y) → AllByRecursion Q ys
     → AllByRecursion P (flat_map f ys)
@@ -188,30 +177,12 @@ all_stand u bs code =
 
 -- ---- limits of what is not too long
 
-few : (limit n : ℕ) → nat_lt limit n ≡ false → n ≤ limit
-few limit n h = ltb-false limit n h
-
-none_of : {X : Type 0} (f : X → Bool) (xs : List X) → list_any f xs ≡ false → AllByRecursion (λ x. f x ≡ false) xs
+pub none_of : {X : Type 0} (f : X → Bool) (xs : List X) → list_any f xs ≡ false → AllByRecursion (λ x. f x ≡ false) xs
 none_of f [] h = tt
 none_of f (x ∷ xs) h = let n = neither (f x) (list_any f xs) h in (n.0, none_of f xs n.1)
 
-pub record Short (u : TypedUnit) (bs : List BlockTree) (code : List op.Instruction) (tables : Tables) : Type 0 where
-  pub descriptions : length tables.descriptions ≤ 65535
-  pub templates : length tables.templates ≤ 65535
-  pub values : length tables.values ≤ 65535
-  pub globals : length u.globals ≤ 65535
-  pub blocks : length bs ≤ 65535
-  pub instructions : length code ≤ 65535
-  pub slots : AllByRecursion (λ b. slots_of b ≤ 65535) bs
-  pub members : AllByRecursion (λ d. has_many_members d ≡ false) tables.descriptions
-  pub bytes : initial_bytes (coded_unit tables u bs code) ≤ 16777216
-
 module _ (tables : Tables) where
-  pub coded_count : (bs : List BlockTree) (p : ℕ) → length (coded_blocks tables bs p) ≡ length bs
-  coded_count [] p = refl
-  coded_count (b ∷ bs) p = ap suc (coded_count bs (behind (block_code b p) p))
-
-  few_slots : (bs : List BlockTree) (p : ℕ) → list_any has_many_slots (coded_blocks tables bs p) ≡ false → AllByRecursion (λ b. slots_of b ≤ 65535) bs
+  pub few_slots : (bs : List BlockTree) (p : ℕ) → list_any has_many_slots (coded_blocks tables bs p) ≡ false → AllByRecursion (λ b. slots_of b ≤ 65535) bs
   few_slots [] p h = tt
   few_slots (b ∷ bs) p h =
       let q = behind (block_code b p) p in
@@ -220,25 +191,3 @@ module _ (tables : Tables) where
       let count = length-map b.head.variables (template_number tables) in
       let limit = few 65535 slots n.0 in
       (omega (arith, count, limit), few_slots bs q n.1)
-
-  pub short_of : (u : TypedUnit) (bs : List BlockTree) (code : List op.Instruction) → is_too_long (coded_unit tables u bs code) ≡ false → Short u bs code tables
-  short_of u bs code h =
-      let no_bytes = neither _ _ h in
-      let no_members = neither _ _ no_bytes.0 in
-      let no_slots = neither _ _ no_members.0 in
-      let instructions = neither _ _ no_slots.0 in
-      let blocks = neither _ _ instructions.0 in
-      let globals = neither _ _ blocks.0 in
-      let values = neither _ _ globals.0 in
-      let templates = neither _ _ values.0 in
-      record {
-        descriptions = few 65535 (length tables.descriptions) templates.0;
-        templates = few 65535 (length tables.templates) (ap (nat_lt 65535) (sym (length-map tables.templates (template_code tables))) ∙ templates.1);
-        values = few 65535 (length tables.values) values.1;
-        globals = few 65535 (length u.globals) (ap (nat_lt 65535) (sym (length-map u.globals (global_code tables))) ∙ globals.1);
-        blocks = few 65535 (length bs) (ap (nat_lt 65535) (sym (coded_count bs 0)) ∙ blocks.1);
-        instructions = few 65535 (length code) (ap (nat_lt 65535) (sym (length-map code (instruction_code tables))) ∙ instructions.1);
-        slots = few_slots bs 0 no_slots.1;
-        members = none_of has_many_members tables.descriptions no_members.1;
-        bytes = few 16777216 (initial_bytes (coded_unit tables u bs code)) no_bytes.1;
-      }

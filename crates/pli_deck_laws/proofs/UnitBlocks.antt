@@ -8,7 +8,7 @@ use Rattle.pli_gen_tree.proofs.SimpleCode.{all_both}
 use Rattle.pli_gen_tree.specs.laws.ListLaws.{all_front, all_back}
 use Rattle.pli_gen_tree.specs.WellNumbered.{KeepApart, IsWellNumbered}
 use Rattle.pli_type_tree.specs.TypedTree.{TypedStatement, Statement, TypedStatements, NoStatement, StatementThen, OtherWise, NoElse, Else, TypedProcedure, TypedUnit}
-use Rattle.pli_type_tree.specs.TypedTree.{Form, Null, Assign, AssignAggregate, Put, If, Begin, Group, While, Iterate, Call, Goto, Return, ReturnValue, Stop}
+use Rattle.pli_type_tree.specs.TypedTree.{Form, If, Begin, Group, While, Iterate}
 use Rattle.pli_deck_laws.specs.Limits.{IfThere}
 use Rattle.pli_deck_laws.specs.WellFormed.{unit_blocks, slots_of, HasBlock, HasSlot, IsStatement, IsForm, IsElse, AreStatements, IsProcedure, IsWellFormed}
 use Rattle.pli_deck_laws.proofs.AllowedCode.{AreBelow, GoodBlock}
@@ -123,15 +123,7 @@ module _ (globals last : ℕ) (t : TypedUnit) (counted : length t.globals ≡ gl
     good_of_form (Group statements) parent p h all = good_among statements parent p h all
     good_of_form (While test statements) parent p h all = good_among statements parent p h.1 all
     good_of_form (Iterate i statements) parent p h all = good_among statements parent p h.1 all
-    good_of_form Null parent p h all = tt
-    good_of_form (Assign target value) parent p h all = tt
-    good_of_form (AssignAggregate target source) parent p h all = tt
-    good_of_form (Put skip items) parent p h all = tt
-    good_of_form (Call callee arguments) parent p h all = tt
-    good_of_form (Goto outward label) parent p h all = tt
-    good_of_form (Return outward) parent p h all = tt
-    good_of_form (ReturnValue outward value) parent p h all = tt
-    good_of_form Stop parent p h all = tt
+    good_of_form form parent p h all = tt
 
     good_of_else : (a : OtherWise) (parent : ℕ) → parent < length (blocks_of t) → IsElse t a → AllByRecursion Known (blocks_of_else parent a) → AllByRecursion Good (blocks_of_else parent a)
     good_of_else NoElse parent p h all = tt

@@ -33,6 +33,7 @@ pub record IsSaid (is_main : Bool) (u : LinkedUnit) : Type 0 where
   pub is_deck : IsDeck (deck_of is_main u)
   pub keeps : KeepsNumbers u.code
 
+-- so it is with each unit that is numbered well, well formed and not too long
 abbrev pub UnitsAreSaid : Type 0
 UnitsAreSaid =
     (t : TypedUnit) (u : LinkedUnit) (is_main : Bool) → IsWellNumbered t → IsWellFormed t

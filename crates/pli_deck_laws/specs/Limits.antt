@@ -40,17 +40,19 @@ IfThere Holds (Some x) = Holds x
 
 -- descriptions
 
--- a length of 1 to 32,767, and a precision of 1 to 31
+-- a length of 1 to 32,767
 abbrev pub IsLength : ℕ → Type 0
 IsLength n = (1 ≤ n) × (n ≤ 32767)
 
+-- a precision of 1 to 31
 abbrev pub IsPrecision : ℕ → Type 0
 IsPrecision p = (1 ≤ p) × (p ≤ 31)
 
--- a bound is at most 32,767 from 0, and no low one is over its high one
+-- a bound is at most 32,767 from 0
 abbrev pub IsBound : ℤ → Type 0
 IsBound x = unsigned_abs x ≤ 32767
 
+-- the bounds of a dimension: no low one is over its high one
 abbrev pub AreBounds : Bounds → Type 0
 AreBounds b = IsTrue (int_le b.low b.high) × IsBound b.low × IsBound b.high
 
@@ -70,15 +72,18 @@ abbrev mutual
   IsDescribed (suc n) (Structure NoMembers) = ⊥
   IsDescribed (suc n) (Structure (MemberThen d ds)) = IsDescribed n d × AreDescribed n ds
 
+  -- each member is so
   pub AreDescribed : (levels : ℕ) → Members → Type 0
   AreDescribed n NoMembers = Unit {0}
   AreDescribed n (MemberThen d ds) = IsDescribed n d × AreDescribed n ds
 
+-- a description within the limits
 abbrev pub IsDescription : Description → Type 0
 IsDescription d = IsDescribed level_limit d
 
 -- values: a number of at most 31 binary digits, or a string of at most 32,767 elements
 
+-- a number of at most 31 binary digits, or a string of at most 32,767 elements
 abbrev pub IsConstant : Value → Type 0
 IsConstant (Number x) = unsigned_abs x ≤ 2147483647
 IsConstant (Characters text) = length text ≤ 32767
@@ -96,6 +101,7 @@ IsInitial scalars i =
     ((d : Description) × (slice_get scalars i.scalar ≡ Some d) × IsTrue (holds d i.value))
     × IsConstant i.value
 
+-- what a variable is made from, with fewer than 2^32 initial values
 abbrev pub IsTemplate : Template → Type 0
 IsTemplate t =
     IsMade t.description × AllByRecursion (IsInitial (scalars_of t.description)) t.initial
@@ -103,21 +109,24 @@ IsTemplate t =
 
 -- operations and subscripts
 
+-- what an operation has beside its operands is within the limits
 abbrev pub IsOperation : Operation → Type 0
 IsOperation (calculate.Fit d) = IsDescription d
 IsOperation (calculate.ToCharacters width) = width ≤ 255
 IsOperation (calculate.Divide precision) = IsPrecision precision
 IsOperation operation = Unit {0}
 
+-- bounds of a subscript, and a multiplier of less than 2^32
 abbrev pub IsStride : Stride → Type 0
 IsStride s = IsBound s.low × IsBound s.high × (s.multiplier < word_limit)
 
--- what procedures take and give, and what a unit names that is there for the whole program
+-- what a procedure takes and gives
 abbrev pub IsSignature : Signature → Type 0
 IsSignature s =
     (length s.parameters ≤ parameter_limit) × AllByRecursion IsDescription s.parameters
     × IfThere IsDescription s.result
 
+-- what a unit names that is there for the whole program
 abbrev pub IsGlobal : Global → Type 0
 IsGlobal (OwnVariable v) = IsTemplate v
 IsGlobal (ExternalVariable name v) = IsTemplate v

@@ -13,6 +13,7 @@ use Rattle.pli_value.specs.Value.{Value, Characters}
 abbrev pub IsName : Name → Type 0
 IsName n = name_of n ≡ Some n
 
+-- a character that is a byte
 abbrev pub IsByte : ℕ → Type 0
 IsByte c = c < 256
 
@@ -31,11 +32,13 @@ HasName (OwnVariable t) = Unit {0}
 HasName (ExternalVariable name t) = IsName name
 HasName (EntryPoint name s) = IsName name
 
+-- names are names in the code of a unit, and characters are bytes
 pub record IsTypedCode (c : Code) : Type 0 where
   pub globals : AllByRecursion HasName c.globals
   pub values : AllByRecursion HasBytes c.values
   pub templates : AllByRecursion BeginsWithBytes c.templates
 
+-- the same of a linked unit, with its own name and its procedure's
 pub record IsTypedUnit (u : LinkedUnit) : Type 0 where
   pub unit : IsName u.unit
   pub procedure : IsName u.procedure

@@ -19,10 +19,11 @@ use Rattle.pli_deck_laws.specs.Limits.{link_limit, parameter_limit, word_limit, 
 use Rattle.pli_deck_laws.specs.Limits.{IsDescription, IsConstant, IsMade, IsTemplate, IsOperation}
 use Rattle.pli_deck_laws.specs.Limits.{IsStride, IsSignature, IsGlobal}
 
--- the blocks of a unit, procedure after procedure, and the slots of a block
+-- the blocks of a unit, procedure after procedure
 abbrev pub unit_blocks : TypedUnit → List BlockTree
 unit_blocks t = flat_map blocks_of_procedure t.procedures
 
+-- how many slots a block has
 abbrev pub slots_of : BlockTree → ℕ
 slots_of b = b.parameters + length b.head.variables
 
@@ -31,6 +32,7 @@ abbrev mutual
   pub kept_in : TypedStatement → ℕ
   kept_in (Statement number form) = kept_in_form form
 
+  -- how many those in a form keep
   pub kept_in_form : Form → ℕ
   kept_in_form (If condition consequence alternative) = kept_in consequence + kept_in_else alternative
   kept_in_form (Group statements) = kept_among statements
@@ -38,10 +40,12 @@ abbrev mutual
   kept_in_form (Iterate iteration statements) = temporaries_of iteration.range + kept_among statements
   kept_in_form form = 0
 
+  -- how many those in an ELSE keep
   pub kept_in_else : OtherWise → ℕ
   kept_in_else NoElse = 0
   kept_in_else (Else statement) = kept_in statement
 
+  -- how many those in the statements of a list keep
   pub kept_among : TypedStatements → ℕ
   kept_among NoStatement = 0
   kept_among (StatementThen first more) = kept_in first + kept_among more
@@ -54,20 +58,24 @@ IsHead h statements =
 
 -- in a unit
 module _ (t : TypedUnit) where
-  -- a block has this number; one has a slot of this number; a global has this number
+  -- a block has this number
   abbrev pub HasBlock : (number : ℕ) → Type 0
   HasBlock number = IsTrue (list_any (has_number number) (unit_blocks t))
 
+  -- a block has a slot of this number
   abbrev pub HasSlot : (slot : ℕ) → Type 0
   HasSlot slot = IsTrue (list_any (λ b. nat_lt slot (slots_of b)) (unit_blocks t))
 
+  -- a global has this number
   abbrev pub HasGlobal : (number : ℕ) → Type 0
   HasGlobal number = number < length t.globals
 
+  -- a reference begins at what the unit has
   abbrev pub IsRoot : Root → Type 0
   IsRoot (InSlot outward slot) = (outward ≤ link_limit) × HasSlot slot
   IsRoot (OfProgram number) = HasGlobal number
 
+  -- what is called is the unit's
   abbrev pub IsCallee : Callee → Type 0
   IsCallee (OfBlock block) = HasBlock block
   IsCallee (OfEntry number) = HasGlobal number
@@ -81,19 +89,23 @@ module _ (t : TypedUnit) where
     IsExpression (Called callee arguments) =
         IsCallee callee × (argument_count arguments ≤ parameter_limit) × AreArguments arguments
 
+    -- a reference
     pub IsReference : TypedReference → Type 0
     IsReference (Whole root) = IsRoot root
     IsReference (Part root offset d subscripts) =
         IsRoot root × (offset < word_limit) × IsDescription d × AreSubscripts subscripts
 
+    -- operands
     pub AreOperands : Operands → Type 0
     AreOperands NoOperand = Unit {0}
     AreOperands (OperandThen e more) = IsExpression e × AreOperands more
 
+    -- subscripts
     pub AreSubscripts : Subscripts → Type 0
     AreSubscripts NoSubscript = Unit {0}
     AreSubscripts (SubscriptThen stride e more) = IsStride stride × IsExpression e × AreSubscripts more
 
+    -- arguments
     pub AreArguments : TypedArguments → Type 0
     AreArguments NoArgument = Unit {0}
     AreArguments (ByPlace r more) = IsReference r × AreArguments more
@@ -106,6 +118,7 @@ module _ (t : TypedUnit) where
   IsRange (ByTo by to) = IsExpression by × IfThere IsExpression to
   IsRange (Repeated next) = IsExpression next
 
+  -- what controls an iteration
   abbrev pub IsIteration : Iteration → Type 0
   IsIteration i =
       IsReference i.control × AllByRecursion IsOperation i.conversion × IsExpression i.start
@@ -116,6 +129,7 @@ module _ (t : TypedUnit) where
     pub IsStatement : TypedStatement → Type 0
     IsStatement (Statement number form) = (number < word_limit) × IsForm form
 
+    -- a form
     pub IsForm : Form → Type 0
     IsForm Null = Unit {0}
     IsForm (Assign target e) = IsReference target × IsExpression e
@@ -134,10 +148,12 @@ module _ (t : TypedUnit) where
     IsForm (ReturnValue outward e) = (outward ≤ link_limit) × IsExpression e
     IsForm Stop = Unit {0}
 
+    -- an ELSE
     pub IsElse : OtherWise → Type 0
     IsElse NoElse = Unit {0}
     IsElse (Else statement) = IsStatement statement
 
+    -- statements of a list
     pub AreStatements : TypedStatements → Type 0
     AreStatements NoStatement = Unit {0}
     AreStatements (StatementThen first more) = IsStatement first × AreStatements more

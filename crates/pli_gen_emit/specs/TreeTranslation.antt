@@ -58,6 +58,7 @@ abbrev mutual
   place_code (Part root offset description subscripts) =
       root_code root ++ Field offset description ∷ subscripts_code subscripts
 
+  -- the values of operands, from left to right
   pub operands_code : Operands → List Instruction
   operands_code NoOperand = []
   operands_code (OperandThen first more) = value_code first ++ operands_code more
@@ -151,9 +152,11 @@ test_against i (Some limit) step =
     ++ Load ∷ op.TakeTemporary (i.temporary + limit) ∷ op.TakeTemporary (i.temporary + step)
     ∷ Operate Within ∷ [])
 
+-- the test against the limit of the range, if it has one
 abbrev pub limit_test : Iteration → Option (List Instruction)
 limit_test i = test_against i (limit_number i.range) (step_number i.range)
 
+-- the test of WHILE, if it stands
 abbrev pub while_test : Option TypedExpression → Option (List Instruction)
 while_test None = None
 while_test (Some e) = Some (value_code e)
@@ -167,12 +170,13 @@ guarded (Some test) target = test ++ JumpUnless target ∷ []
 abbrev pub tests_code : Iteration → (target : ℕ) → List Instruction
 tests_code i target = guarded (limit_test i) target ++ guarded (while_test i.condition) target
 
--- what comes between two turns: the variable gets a step more, or the value of REPEAT, which is converted
+-- the control variable gets a step more
 abbrev pub counted_code : Iteration → (step : ℕ) → List Instruction
 counted_code i step =
     sets_code i
     (place_code i.control ++ Load ∷ op.TakeTemporary (i.temporary + step) ∷ Operate Add ∷ [])
 
+-- what comes between two turns: the variable gets a step more, or the value of REPEAT, which is converted
 abbrev pub advances_code : TypedRange → Iteration → List Instruction
 advances_code Once i = []
 advances_code (ToBy to by) i = counted_code i 2
@@ -185,10 +189,11 @@ abbrev pub back_code : (iterated : Bool) (number : ℕ) (between : List Instruct
 back_code true number between turn = Line number ∷ between ++ Jump turn ∷ []
 back_code false number between turn = []
 
--- where the tests of an iteration stand, and its list
+-- where the tests of an iteration stand
 abbrev pub turn_place : Iteration → (at : ℕ) → ℕ
 turn_place i p = behind (start_code i) p
 
+-- where the list of an iteration stands
 abbrev pub list_place : Iteration → (at : ℕ) → ℕ
 list_place i p = suc (behind (tests_code i 0) (turn_place i p))
 
@@ -205,6 +210,7 @@ abbrev mutual
   pub statement_code : TypedStatement → (at : ℕ) → List Instruction
   statement_code (Statement number form) p = Step number ∷ form_code number form (suc p)
 
+  -- the code of a form, of the statement of a number, behind its step
   pub form_code : (number : ℕ) → Form → (at : ℕ) → List Instruction
   form_code number Null p = []
   form_code number (Assign target value) p = place_code target ++ value_code value ++ Store ∷ []
@@ -229,6 +235,7 @@ abbrev mutual
   if_code test part NoElse p = one_way test part p
   if_code test part (Else statement) p = two_ways test part (statement_code statement) p
 
+  -- the code of statements, one behind the other
   pub list_code : TypedStatements → (at : ℕ) → List Instruction
   list_code NoStatement p = []
   list_code (StatementThen first more) p =
@@ -238,9 +245,11 @@ abbrev mutual
 -- BEGIN block stand where the block's code does
 
 abbrev mutual
+  -- the places of a statement and of those inside it
   pub places_in : TypedStatement → (at : ℕ) → List (ℕ × ℕ)
   places_in (Statement number form) p = (number, p) ∷ places_in_form form (suc p)
 
+  -- the places of those inside a form
   pub places_in_form : Form → (at : ℕ) → List (ℕ × ℕ)
   places_in_form (If condition consequence alternative) p =
       let q = suc (behind (value_code condition) p) in
@@ -251,10 +260,12 @@ abbrev mutual
   places_in_form (Iterate iteration statements) p = places_among statements (list_place iteration p)
   places_in_form form p = []
 
+  -- the places of those in an ELSE
   pub places_in_else : OtherWise → (at : ℕ) → List (ℕ × ℕ)
   places_in_else NoElse p = []
   places_in_else (Else statement) p = places_in statement p
 
+  -- the places of the statements of a list, and of those inside them
   pub places_among : TypedStatements → (at : ℕ) → List (ℕ × ℕ)
   places_among NoStatement p = []
   places_among (StatementThen first more) p =
@@ -276,6 +287,7 @@ pub record BlockTree : Type 0 where
   pub function_end : Option ℕ
   pub statements : TypedStatements
 
+-- a BEGIN block, in the block of a number
 abbrev pub begin_block : (parent : ℕ) → BlockHead → TypedStatements → BlockTree
 begin_block parent head statements = record {
   kind = BeginBlock;
@@ -286,6 +298,7 @@ begin_block parent head statements = record {
   statements = statements;
 }
 
+-- a procedure's block
 abbrev pub procedure_block : TypedProcedure → BlockTree
 procedure_block f = record {
   kind = Procedure;
@@ -296,11 +309,12 @@ procedure_block f = record {
   statements = f.statements;
 }
 
--- the BEGIN blocks inside statements of a block
+-- the BEGIN blocks inside a statement of a block
 abbrev mutual
   pub blocks_in : (parent : ℕ) → TypedStatement → List BlockTree
   blocks_in parent (Statement number form) = blocks_of_form parent form
 
+  -- those inside a form: a BEGIN block itself, and then those inside it
   pub blocks_of_form : (parent : ℕ) → Form → List BlockTree
   blocks_of_form parent (If condition consequence alternative) =
       blocks_in parent consequence ++ blocks_of_else parent alternative
@@ -311,10 +325,12 @@ abbrev mutual
   blocks_of_form parent (Iterate iteration statements) = blocks_among parent statements
   blocks_of_form parent form = []
 
+  -- those inside an ELSE
   pub blocks_of_else : (parent : ℕ) → OtherWise → List BlockTree
   blocks_of_else parent NoElse = []
   blocks_of_else parent (Else statement) = blocks_in parent statement
 
+  -- those inside the statements of a list
   pub blocks_among : (parent : ℕ) → TypedStatements → List BlockTree
   blocks_among parent NoStatement = []
   blocks_among parent (StatementThen first more) = blocks_in parent first ++ blocks_among parent more
@@ -323,13 +339,15 @@ abbrev mutual
 abbrev pub blocks_of_procedure : TypedProcedure → List BlockTree
 blocks_of_procedure f = procedure_block f ∷ blocks_among f.head.number f.statements
 
--- the blocks of a unit by their numbers, which are counted from 0
+-- a block has this number
 abbrev pub has_number : ℕ → BlockTree → Bool
 has_number n b = nat_eq b.head.number n
 
+-- blocks in the order of their numbers, which are counted from 0
 abbrev pub by_number : List BlockTree → List BlockTree
 by_number bs = flat_map (λ n. filter (has_number n) bs) (range_with_len 0 (length bs))
 
+-- the blocks of a unit by their numbers
 abbrev pub blocks_of : TypedUnit → List BlockTree
 blocks_of u = by_number (flat_map blocks_of_procedure u.procedures)
 
@@ -338,6 +356,7 @@ abbrev pub end_code : (function_end : Option ℕ) → List Instruction
 end_code None = op.Return 0 ∷ []
 end_code (Some number) = Line number ∷ Raise NoReturnedValue ∷ []
 
+-- the code of a block, with its end
 abbrev pub block_code : BlockTree → (at : ℕ) → List Instruction
 block_code b p = list_code b.statements p ++ end_code b.function_end
 
@@ -351,7 +370,7 @@ abbrev pub places_of : List BlockTree → (at : ℕ) → List (ℕ × ℕ)
 places_of [] p = []
 places_of (b ∷ bs) p = places_among b.statements p ++ places_of bs (behind (block_code b p) p)
 
--- the blocks, each with its first instruction
+-- a block with its first instruction
 abbrev pub block_at : BlockTree → (entry : ℕ) → Block
 block_at b p = record {
   kind = b.kind;
@@ -363,6 +382,7 @@ block_at b p = record {
   statement = b.head.statement;
 }
 
+-- blocks, each with its first instruction, their code standing one behind the other
 abbrev pub blocks_at : List BlockTree → (at : ℕ) → List Block
 blocks_at [] p = []
 blocks_at (b ∷ bs) p = block_at b p ∷ blocks_at bs (behind (block_code b p) p)

@@ -1,4 +1,4 @@
--- The code of a unit, made by the translation, is the code that stands for it in the simulation. So the
+-- The code of a unit, made by the translation, is the code that stands for it in the simulation (own). So the
 -- module of a well-typed program does what the program means.
 use Rattle.std.specs.Prelude.{◌≡◌, ℕ, Some, List, [], ◌∷◌}
 use Rattle.pli_machine_step.specs.Runs.{Outcome}

@@ -29,6 +29,7 @@ pub record IsUnitOf (program : List TypedUnit) (t : TypedUnit) (u : LinkedUnit) 
   pub code : u.code ≡ code_of t
   pub entries : AreEntries program t.globals u.entries
 
+-- units in the module of a program, one for one
 abbrev pub AreUnitsOf : (program : List TypedUnit) → List TypedUnit → List LinkedUnit → Type 0
 AreUnitsOf program [] [] = Unit {0}
 AreUnitsOf program [] (u ∷ us) = ⊥

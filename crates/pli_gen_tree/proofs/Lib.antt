@@ -1,3 +1,4 @@
+pub mod CodeEnds
 pub mod CodeFits
 pub mod GlobalLemmas
 pub mod IterationCode

@@ -89,7 +89,7 @@ module _ (t : Tables) where
       all_bytes ts (n + initial_bytes_of t.descriptions (template_code t u)) h.1
       ∙ ap (λ m. fold (λ sum u. sum + template_bytes u) (n + m) ts) (bytes_there t.descriptions u.description u.initial h.0)
 
-  blocks_counted : (bs : List BlockTree) (p : ℕ) → length (coded_blocks t bs p) ≡ length bs
+  pub blocks_counted : (bs : List BlockTree) (p : ℕ) → length (coded_blocks t bs p) ≡ length bs
   blocks_counted [] p = refl
   blocks_counted (b ∷ bs) p = ap suc (blocks_counted bs (behind (block_code b p) p))
 
@@ -155,16 +155,21 @@ none_of : (x y : Bool) → (x || y) ≡ false → (x ≡ false) × (y ≡ false)
 none_of true y h = absurd (true≢false h)
 none_of false y h = (refl, h)
 
-few : (limit n : ℕ) → nat_lt limit n ≡ false → n ≤ limit
+pub few : (limit n : ℕ) → nat_lt limit n ≡ false → n ≤ limit
 few limit n h = grind (arith, nat_tests)
 
-pub record Short (t : Tables) (code : List op.Instruction) : Type 0 where
+pub record Short (t : Tables) (u : TypedUnit) (bs : List BlockTree) (code : List op.Instruction) : Type 0 where
   pub descriptions : length t.descriptions ≤ 65535
   pub templates : length t.templates ≤ 65535
   pub values : length t.values ≤ 65535
+  pub globals : length u.globals ≤ 65535
+  pub blocks : length bs ≤ 65535
   pub instructions : length code ≤ 65535
+  pub slots : list_any has_many_slots (coded_blocks t bs 0) ≡ false
+  pub members : list_any has_many_members t.descriptions ≡ false
+  pub bytes : initial_bytes (coded_unit t u bs code) ≤ 16777216
 
-pub short_parts : (t : Tables) (u : TypedUnit) (bs : List BlockTree) (code : List op.Instruction) → is_too_long (coded_unit t u bs code) ≡ false → Short t code
+pub short_parts : (t : Tables) (u : TypedUnit) (bs : List BlockTree) (code : List op.Instruction) → is_too_long (coded_unit t u bs code) ≡ false → Short t u bs code
 short_parts t u bs code h =
     let c = coded_unit t u bs code in
     let no_bytes = none_of _ _ h in
@@ -179,5 +184,10 @@ short_parts t u bs code h =
       descriptions = few 65535 (length t.descriptions) templates.0;
       templates = few 65535 (length t.templates) (ap (nat_lt 65535) (sym (length-map t.templates (template_code t))) ∙ templates.1);
       values = few 65535 (length t.values) values.1;
+      globals = few 65535 (length u.globals) (ap (nat_lt 65535) (sym (length-map u.globals (global_code t))) ∙ globals.1);
+      blocks = few 65535 (length bs) (ap (nat_lt 65535) (sym (blocks_counted t bs 0)) ∙ blocks.1);
       instructions = few 65535 (length code) (ap (nat_lt 65535) (sym (length-map code (instruction_code t))) ∙ code_too.1);
+      slots = no_slots.1;
+      members = no_members.1;
+      bytes = few 16777216 (initial_bytes (coded_unit t u bs code)) no_bytes.1;
     }

@@ -126,19 +126,17 @@ skip_simple : (b : Bool) (n : ℕ) → AllSimple n (skip_code b)
 skip_simple true n = (tt, tt)
 skip_simple false n = tt
 
+-- two codes and an instruction
+both_then : (front back : List op.Instruction) (last : op.Instruction) (n : ℕ) → length (front ++ back ++ last ∷ []) ≤ n
+    → (length front ≤ n → AllSimple n front) → (length back ≤ n → AllSimple n back) → Simple n last → AllSimple n (front ++ back ++ last ∷ [])
+both_then front back last n h first second simple =
+    let short = front_within (front ++ back) (last ∷ []) n h in
+    all_both (Simple n) (front ++ back) (last ∷ [])
+    (all_both (Simple n) front back (first (front_within front back n short)) (second (back_within front back n short))) (simple, tt)
+
 pub form_simple : (f : Form) (n : ℕ) → length (simple_code f) ≤ n → AllSimple n (simple_code f)
-form_simple (Assign target value) n h =
-    let front = place_code target ++ value_code value in
-    let short = front_within front (op.Store ∷ []) n h in
-    all_both (Simple n) front (op.Store ∷ [])
-    (all_both (Simple n) (place_code target) (value_code value) (place_simple target n (front_within (place_code target) (value_code value) n short))
-    (value_simple value n (back_within (place_code target) (value_code value) n short))) (tt, tt)
-form_simple (AssignAggregate target source) n h =
-    let front = place_code target ++ place_code source in
-    let short = front_within front (op.Copy ∷ []) n h in
-    all_both (Simple n) front (op.Copy ∷ [])
-    (all_both (Simple n) (place_code target) (place_code source) (place_simple target n (front_within (place_code target) (place_code source) n short))
-    (place_simple source n (back_within (place_code target) (place_code source) n short))) (tt, tt)
+form_simple (Assign target value) n h = both_then (place_code target) (value_code value) op.Store n h (place_simple target n) (value_simple value n) tt
+form_simple (AssignAggregate target source) n h = both_then (place_code target) (place_code source) op.Copy n h (place_simple target n) (place_simple source n) tt
 form_simple (Put skip items) n h =
     all_both (Simple n) (skip_code skip) (items_code items) (skip_simple skip n) (items_simple items n (back_within (skip_code skip) (items_code items) n h))
 form_simple (Call callee arguments) n h = value_simple (Called callee arguments) n h

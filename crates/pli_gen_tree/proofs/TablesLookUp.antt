@@ -74,36 +74,12 @@ module _ (tables : Tables) (u : TypedUnit) (bs : List BlockTree) (code : List op
 
   relation_back : (r : Relation) → relation_view (relation_code r) ≡ r
   relation_back calculate.Equal = refl
-  relation_back calculate.Unequal = refl
-  relation_back calculate.Less = refl
-  relation_back calculate.AtMost = refl
-  relation_back calculate.Greater = refl
-  relation_back calculate.AtLeast = refl
+  relation_back r = refl
 
   operation_there : (o : Operation) → AllByRecursion HasDescription (fitted_by o) → looked_up c (operation_code tables o) ≡ op.Operate o
   operation_there (calculate.Fit d) h = ap (naming (λ d. op.Operate (calculate.Fit d))) (description_there d h.0)
   operation_there (calculate.Compare r) h = ap (λ r. op.Operate (calculate.Compare r)) (relation_back r)
-  operation_there calculate.Negate h = refl
-  operation_there calculate.Absolute h = refl
-  operation_there calculate.Sign h = refl
-  operation_there calculate.Not h = refl
-  operation_there calculate.LengthOf h = refl
-  operation_there calculate.FromBits h = refl
-  operation_there (calculate.ToCharacters width) h = refl
-  operation_there calculate.Add h = refl
-  operation_there calculate.Subtract h = refl
-  operation_there calculate.Multiply h = refl
-  operation_there calculate.Modulo h = refl
-  operation_there calculate.Greatest h = refl
-  operation_there calculate.Least h = refl
-  operation_there (calculate.Divide precision) h = refl
-  operation_there calculate.Concatenate h = refl
-  operation_there calculate.And h = refl
-  operation_there calculate.Or h = refl
-  operation_there calculate.Index h = refl
-  operation_there calculate.Rest h = refl
-  operation_there calculate.Substring h = refl
-  operation_there calculate.Within h = refl
+  operation_there o h = refl
 
   -- behind the last entry there is none
   none_behind : {X : Type 0} (xs : List X) → slice_get xs (length xs) ≡ None
@@ -117,28 +93,7 @@ module _ (tables : Tables) (u : TypedUnit) (bs : List BlockTree) (code : List op
   instruction_there (op.MakeDummy d) ds ts vs = ap (naming (λ t. op.MakeDummy t.description)) (template_there (dummy d) ts.0 ds.0)
   instruction_there (op.Operate o) ds ts vs = operation_there o ds
   instruction_there op.Nothing ds ts vs = ap (naming op.Constant) (none_behind tables.values)
-  instruction_there (op.Step s) ds ts vs = refl
-  instruction_there (op.Line s) ds ts vs = refl
-  instruction_there (op.Jump target) ds ts vs = refl
-  instruction_there (op.JumpUnless target) ds ts vs = refl
-  instruction_there (op.Goto outward target) ds ts vs = refl
-  instruction_there (op.Call block arguments) ds ts vs = refl
-  instruction_there (op.CallExternal global arguments) ds ts vs = refl
-  instruction_there (op.Begin block) ds ts vs = refl
-  instruction_there (op.Return outward) ds ts vs = refl
-  instruction_there (op.ReturnValue outward) ds ts vs = refl
-  instruction_there (op.Raise e) ds ts vs = refl
-  instruction_there op.Stop ds ts vs = refl
-  instruction_there (op.Local outward slot) ds ts vs = refl
-  instruction_there (op.Global number) ds ts vs = refl
-  instruction_there (op.Subscript low high multiplier) ds ts vs = refl
-  instruction_there op.Load ds ts vs = refl
-  instruction_there op.Store ds ts vs = refl
-  instruction_there op.Copy ds ts vs = refl
-  instruction_there op.Put ds ts vs = refl
-  instruction_there op.Skip ds ts vs = refl
-  instruction_there (op.SetTemporary number) ds ts vs = refl
-  instruction_there (op.TakeTemporary number) ds ts vs = refl
+  instruction_there i ds ts vs = refl
 
   instructions_there : (is : List op.Instruction) → AllByRecursion HasDescription (flat_map descriptions_named is) → AllByRecursion HasTemplate (flat_map templates_named is)
       → AllByRecursion (Has same_value value_decides tables.values) (flat_map values_named is) → map (looked_up c) (map (instruction_code tables) is) ≡ is

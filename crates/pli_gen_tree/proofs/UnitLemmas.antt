@@ -30,7 +30,7 @@ module _ {X : Type 0} (P : X → Type 0) (alike : X → X → Bool) where
   put_one table x true h k = h
   put_one table x false h k = all_both P table (x ∷ []) h (k, tt)
 
-  put_all : (xs table : List X) → AllByRecursion P table → AllByRecursion P xs → AllByRecursion P (numbered alike table xs)
+  pub put_all : (xs table : List X) → AllByRecursion P table → AllByRecursion P xs → AllByRecursion P (numbered alike table xs)
   put_all [] table h k = h
   put_all (x ∷ xs) table h k =
       let b = list_any (alike x) table in

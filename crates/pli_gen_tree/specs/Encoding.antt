@@ -34,24 +34,28 @@ abbrev pub number_in : {X : Type 0} → (alike : X → X → Bool) → List X �
 number_in alike [] x = 0
 number_in alike (y ∷ ys) x = if alike x y then 0 else suc (number_in alike ys x)
 
--- what instructions name; a dummy argument is made from a template without initial values
+-- a dummy argument is made from a template without initial values
 abbrev pub dummy : Description → Template
 dummy d = record { description = d; initial = [] }
 
+-- the description to which an operation fits
 abbrev pub fitted_by : Operation → List Description
 fitted_by (calculate.Fit d) = d ∷ []
 fitted_by operation = []
 
+-- the descriptions that an instruction names
 abbrev pub descriptions_named : op.Instruction → List Description
 descriptions_named (op.Field offset d) = d ∷ []
 descriptions_named (op.MakeDummy d) = d ∷ []
 descriptions_named (op.Operate operation) = fitted_by operation
 descriptions_named i = []
 
+-- the templates that it names
 abbrev pub templates_named : op.Instruction → List Template
 templates_named (op.MakeDummy d) = dummy d ∷ []
 templates_named i = []
 
+-- the values that it names
 abbrev pub values_named : op.Instruction → List Value
 values_named (op.Constant v) = v ∷ []
 values_named i = []
@@ -60,12 +64,13 @@ values_named i = []
 abbrev pub signature_descriptions : Signature → List Description
 signature_descriptions s = s.parameters ++ there s.result
 
--- what globals name
+-- the descriptions that a global names
 abbrev pub global_descriptions : Global → List Description
 global_descriptions (OwnVariable t) = t.description ∷ []
 global_descriptions (ExternalVariable name t) = t.description ∷ []
 global_descriptions (EntryPoint name signature) = signature_descriptions signature
 
+-- the templates that it names
 abbrev pub global_templates : Global → List Template
 global_templates (OwnVariable t) = t ∷ []
 global_templates (ExternalVariable name t) = t ∷ []
@@ -105,12 +110,15 @@ relation_code calculate.AtLeast = relations.AtLeast
 
 -- with these tables
 module _ (tables : Tables) where
+  -- the number of a description
   abbrev pub description_number : Description → ℕ
   description_number d = number_in same tables.descriptions d
 
+  -- the number of a template
   abbrev pub template_number : Template → ℕ
   template_number t = number_in same_template tables.templates t
 
+  -- the instruction of an operation
   abbrev pub operation_code : Operation → Instruction
   operation_code calculate.Negate = coded.Negate
   operation_code calculate.Absolute = coded.Absolute
@@ -136,7 +144,8 @@ module _ (tables : Tables) where
   operation_code calculate.Substring = coded.Substring
   operation_code calculate.Within = coded.Within
 
-  -- what names no entry names one that its table has not
+  -- an instruction with numbers in place of what it names; what names no entry has the number of one that its
+  -- table has not
   abbrev pub instruction_code : op.Instruction → Instruction
   instruction_code (op.Step s) = coded.Step s
   instruction_code (op.Line s) = coded.Line s
@@ -166,21 +175,24 @@ module _ (tables : Tables) where
   instruction_code (op.TakeTemporary number) = coded.TakeTemporary number
   instruction_code op.Nothing = coded.Constant (length tables.values)
 
+  -- a template with its description's number
   abbrev pub template_code : Template → CodedTemplate
   template_code t = record { description = description_number t.description; initial = t.initial }
 
+  -- a signature with the numbers of its descriptions
   abbrev pub signature_code : Signature → CodedSignature
   signature_code s = record {
     parameters = map description_number s.parameters;
     result = option_map description_number s.result;
   }
 
+  -- a global with the numbers of what it names
   abbrev pub global_code : Global → CodedGlobal
   global_code (OwnVariable t) = plain.OwnVariable (template_number t)
   global_code (ExternalVariable name t) = plain.ExternalVariable name (template_number t)
   global_code (EntryPoint name signature) = plain.EntryPoint name (signature_code signature)
 
-  -- a block with its first instruction, and blocks whose code stands one behind the other
+  -- a block with its first instruction
   abbrev pub coded_block : BlockTree → (entry : ℕ) → CodedBlock
   coded_block b p = record {
     kind = b.kind;
@@ -192,10 +204,12 @@ module _ (tables : Tables) where
     statement = b.head.statement;
   }
 
+  -- blocks whose code stands one behind the other
   abbrev pub coded_blocks : List BlockTree → (at : ℕ) → List CodedBlock
   coded_blocks [] p = []
   coded_blocks (b ∷ bs) p = coded_block b p ∷ coded_blocks bs (behind (block_code b p) p)
 
+  -- a unit of these blocks and instructions
   abbrev pub coded_unit : TypedUnit → List BlockTree → List op.Instruction → Code
   coded_unit u bs code = record {
     signature = signature_code u.signature;

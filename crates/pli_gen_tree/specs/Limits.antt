@@ -12,34 +12,38 @@ use Rattle.pli_unit_code.specs.CodeTables.{CodedTemplate, CodedBlock, Code}
 abbrev pub entry_limit : ℕ
 entry_limit = 65535
 
+-- a table has more entries
 abbrev pub is_over : {X : Type 0} → List X → Bool
 is_over entries = nat_lt entry_limit (length entries)
 
--- the parameters of a block and its AUTOMATIC variables
+-- a block has more parameters and AUTOMATIC variables
 abbrev pub has_many_slots : CodedBlock → Bool
 has_many_slots b = nat_lt entry_limit (b.parameters + length b.variables)
 
--- a structure somewhere in a description has too many members
+-- how many members a structure has
 abbrev pub member_count : Members → ℕ
 member_count NoMembers = 0
 member_count (MemberThen d ds) = suc (member_count ds)
 
 abbrev mutual
+  -- a structure somewhere in a description has too many
   pub has_many_members : Description → Bool
   has_many_members (Array bounds element) = has_many_members element
   has_many_members (Structure members) =
       nat_lt entry_limit (member_count members) || one_has_many members
   has_many_members scalar = false
 
+  -- one somewhere in its members has
   pub one_has_many : Members → Bool
   one_has_many NoMembers = false
   one_has_many (MemberThen d ds) = has_many_members d || one_has_many ds
 
--- the bytes of a template that has initial values
+-- the bytes of a description that is there
 abbrev pub bytes_of : Option Description → ℕ
 bytes_of None = 0
 bytes_of (Some d) = size_of d
 
+-- the bytes of a template that has initial values; others count none
 abbrev pub initial_bytes_of : List Description → CodedTemplate → ℕ
 initial_bytes_of descriptions t = bytes_if t.initial
   where
@@ -47,9 +51,11 @@ initial_bytes_of descriptions t = bytes_if t.initial
     bytes_if [] = 0
     bytes_if (i ∷ is) = bytes_of (slice_get descriptions t.description)
 
+-- those of all templates together
 abbrev pub initial_bytes : Code → ℕ
 initial_bytes c = sum_by (initial_bytes_of c.descriptions) c.templates
 
+-- the code is over one of these limits
 abbrev pub is_too_long : Code → Bool
 is_too_long c =
     is_over c.descriptions || is_over c.templates || is_over c.values || is_over c.globals

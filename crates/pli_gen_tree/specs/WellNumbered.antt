@@ -19,6 +19,7 @@ abbrev mutual
   pub numbers_in : TypedStatement → List ℕ
   numbers_in (Statement number form) = number ∷ numbers_in_form form
 
+  -- of those inside a form
   pub numbers_in_form : Form → List ℕ
   numbers_in_form (If condition consequence alternative) =
       numbers_in consequence ++ numbers_in_else alternative
@@ -27,10 +28,12 @@ abbrev mutual
   numbers_in_form (Iterate iteration statements) = numbers_among statements
   numbers_in_form form = []
 
+  -- of those in an ELSE
   pub numbers_in_else : OtherWise → List ℕ
   numbers_in_else NoElse = []
   numbers_in_else (Else statement) = numbers_in statement
 
+  -- of those of a list
   pub numbers_among : TypedStatements → List ℕ
   numbers_among NoStatement = []
   numbers_among (StatementThen first more) = numbers_in first ++ numbers_among more
@@ -39,16 +42,19 @@ abbrev mutual
 abbrev pub numbers_of : List BlockTree → List ℕ
 numbers_of bs = flat_map (λ b. numbers_among b.statements) bs
 
--- where an activation may make so many backward jumps without a step, the loops of its block nest less deep
--- than that: in a loop there is one less for the loops inside it, and each needs two
+-- in a loop there is one backward jump less for the loops inside it, and it needs two; where there is one
+-- turn it needs none
 abbrev pub HasTurns : (iterated : Bool) (jumps : ℕ) (inside : ℕ → Type 0) → Type 0
 HasTurns true n inside = (2 ≤ n) × inside (n - 1)
 HasTurns false n inside = inside n
 
 abbrev mutual
+  -- where an activation may make so many backward jumps without a step, the loops in a statement nest less
+  -- deep than that
   pub HasRoom : (jumps : ℕ) → TypedStatement → Type 0
   HasRoom n (Statement number form) = HasRoomForm n form
 
+  -- the same of a form
   pub HasRoomForm : (jumps : ℕ) → Form → Type 0
   HasRoomForm n (If condition consequence alternative) = HasRoom n consequence × HasRoomElse n alternative
   HasRoomForm n (Group statements) = HaveRoom n statements
@@ -57,10 +63,12 @@ abbrev mutual
       HasTurns (is_iterated iteration.range) n (λ n. HaveRoom n statements)
   HasRoomForm n form = Unit {0}
 
+  -- of an ELSE
   pub HasRoomElse : (jumps : ℕ) → OtherWise → Type 0
   HasRoomElse n NoElse = Unit {0}
   HasRoomElse n (Else statement) = HasRoom n statement
 
+  -- of each statement of a list
   pub HaveRoom : (jumps : ℕ) → TypedStatements → Type 0
   HaveRoom n NoStatement = Unit {0}
   HaveRoom n (StatementThen first more) = HasRoom n first × HaveRoom n more
@@ -75,6 +83,7 @@ abbrev mutual
   pub KeepsApart : (used size : ℕ) → TypedStatement → Type 0
   KeepsApart used size (Statement number form) = KeepsApartForm used size form
 
+  -- the same of a form
   pub KeepsApartForm : (used size : ℕ) → Form → Type 0
   KeepsApartForm used size (If condition consequence alternative) =
       KeepsApart used size consequence × KeepsApartElse used size alternative
@@ -85,10 +94,12 @@ abbrev mutual
       × KeepApart (next_temporary iteration) size statements
   KeepsApartForm used size form = Unit {0}
 
+  -- of an ELSE
   pub KeepsApartElse : (used size : ℕ) → OtherWise → Type 0
   KeepsApartElse used size NoElse = Unit {0}
   KeepsApartElse used size (Else statement) = KeepsApart used size statement
 
+  -- of each statement of a list
   pub KeepApart : (used size : ℕ) → TypedStatements → Type 0
   KeepApart used size NoStatement = Unit {0}
   KeepApart used size (StatementThen first more) = KeepsApart used size first × KeepApart used size more

@@ -11,11 +11,11 @@ use Rattle.pli_map.specs.Description.{Description}
 use Rattle.pli_map.specs.Scalars.{scalars_in}
 use Rattle.pli_declare.specs.Resolution.{parameters_of, resolution_faults}
 use Rattle.pli_declare.proofs.ListsByNumber.{made_at, made_length}
-use Rattle.pli_declare_attributes.specs.Completed.{OfVariable, OfEntry, OfBuiltIn}
+use Rattle.pli_declare_attributes.specs.Completed.{OfVariable}
 use Rattle.pli_declare_attributes.specs.declared.completed.Scope.{Scope}
 use Rattle.pli_declare_outline.specs.Outlines.{outline_of}
 use Rattle.pli_declare_tables.specs.Tables.{Entry, no_entry, entries_in}
-use Rattle.pli_declare_variables.specs.Declarations.{Declaration, Kind, OfItem, OfLabel, OfProcedure, declaration_at, declared_in}
+use Rattle.pli_declare_variables.specs.Declarations.{Declaration, Kind, OfItem, declaration_at, declared_in}
 use Rattle.pli_resolve.specs.ResolvedUnits.{resolved_unit_of, all_symbols, facts_of, block_regions_of}
 use Rattle.pli_resolve.specs.Symbols.{Symbol, SymbolKind, SymbolFacts, Way, Variable, Member, Label, Procedure, Entry as AnEntry, BuiltIn, no_way, symbol_kind, ways_of}
 use Rattle.pli_resolve.specs.declared.block_numbers.BlockRegion.{BlockRegion}
@@ -129,16 +129,9 @@ IsOwned w owner root path = (o : ℕ) × (owner ≡ Some o) × (w.root ≡ root)
 -- only what has an owner is a member
 only_member : (f : SymbolFacts) (ps : List Name) (w : Way) (i : Identifier) (owner : Option ℕ) (kind : Kind) (root : ℕ) (path : List ℕ) (initial : List InitialValue) (area : Option SymbolKey)
     → symbol_kind f ps w i owner kind ≡ Member root path initial area → IsOwned w owner root path
-only_member f ps w i None (OfItem (OfVariable v) d) root path initial area e = cc
-only_member f ps w i None (OfItem (OfEntry qs r) d) root path initial area e = cc
-only_member f ps w i None (OfItem OfBuiltIn d) root path initial area e = cc
-only_member f ps w i None (OfLabel region) root path initial area e = cc
-only_member f ps w i None (OfProcedure returned region) root path initial area e = cc
 only_member f ps w i (Some o) (OfItem (OfVariable v) d) root path initial area e = (o, refl, cc, cc)
-only_member f ps w i (Some o) (OfItem (OfEntry qs r) d) root path initial area e = cc
-only_member f ps w i (Some o) (OfItem OfBuiltIn d) root path initial area e = cc
-only_member f ps w i (Some o) (OfLabel region) root path initial area e = cc
-only_member f ps w i (Some o) (OfProcedure returned region) root path initial area e = cc
+only_member f ps w i None (OfItem (OfVariable v) d) root path initial area e = cc
+only_member f ps w i owner kind root path initial area e = cc
 
 module _ (u : ExternalProcedure) (h : resolution_faults u ≡ []) where
   abbrev symbols : (block : ℕ) → List Symbol

@@ -31,13 +31,7 @@ mutual
       ∙ sym (array_length e path 0 (scalars_in e) (count_of bs) (λ k. on_length e path k))
   on_length (Structure ds) [] first = refl
   on_length (Structure ds) (i ∷ path) first = in_length ds i path first
-  on_length (FixedBinary p) path first = refl
-  on_length (Character n) path first = refl
-  on_length (Varying n) path first = refl
-  on_length (Bit n) path first = refl
-  on_length Pointer path first = refl
-  on_length Offset path first = refl
-  on_length (Area n) path first = refl
+  on_length d path first = refl
 
   in_length : (ds : Members) (i : ℕ) (path : List ℕ) (first : ℕ) → length (scalars_in_member ds i path first) ≡ length (scalars_in_member ds i path 0)
   in_length NoMembers i path first = refl
@@ -168,13 +162,7 @@ mutual
       array_taken e (count_of bs) (Array bs e) (λ p. array_length e p 0 (scalars_in e) (count_of bs) (λ k. on_length e p k)) ps in
       omega (arith, all, times_more (count_of bs) (taken e ps) (scalars_in e) inner)
   spread (Structure ds) ps distinct reach = spread_among ds ps distinct reach
-  spread (FixedBinary p) ps distinct reach = alone (FixedBinary p) (λ i. refl) refl ps distinct reach
-  spread (Character n) ps distinct reach = alone (Character n) (λ i. refl) refl ps distinct reach
-  spread (Varying n) ps distinct reach = alone (Varying n) (λ i. refl) refl ps distinct reach
-  spread (Bit n) ps distinct reach = alone (Bit n) (λ i. refl) refl ps distinct reach
-  spread Pointer ps distinct reach = alone Pointer (λ i. refl) refl ps distinct reach
-  spread Offset ps distinct reach = alone Offset (λ i. refl) refl ps distinct reach
-  spread (Area n) ps distinct reach = alone (Area n) (λ i. refl) refl ps distinct reach
+  spread d ps distinct reach = alone d (λ i. refl) refl ps distinct reach
 
   spread_among : (ds : Members) (ps : List (List ℕ)) → AreDistinct ps → AllReach (Structure ds) ps → taken (Structure ds) ps ≤ scalars_among ds
   spread_among NoMembers ps distinct reach = omega (arith, nothing_taken ps)

@@ -145,10 +145,7 @@ module _ (p : Program) (number : ℕ) (u : UnitCode) where
     pub reach_kept : {A : Type 0} (c : Context) (s : State) (l m : Locals) (to : Target A) (fs : List Frame) (o : Effect A) → Kept c l m → Reach c s m to fs o → Reach c s l to fs o
     reach_kept c s l m to fs (Gives x w left) k r = record { locals = r.locals; kept = kept_on c l m r.locals k r.kept; comes = r.comes }
     reach_kept c s l m to fs (Jumps g i w left) k r = record { locals = r.locals; kept = kept_on c l m r.locals k r.kept; comes = r.comes }
-    reach_kept c s l m to fs (Fails e w) k r = r
-    reach_kept c s l m to fs (Spent w) k r = r
-    reach_kept c s l m to fs Lost k r = r
-    reach_kept c s l m to fs Short k r = r
+    reach_kept c s l m to fs o k r = r
 
     pub keeping : {A : Type 0} {c : Context} {s : State} {l m : Locals} {to : Target A} {fs : List Frame} {o : Effect A} → Kept c l m → Reaches c s m to fs o → Reaches c s l to fs o
     keeping {c} {s} {l} {m} {to} {fs} {o} k r = record { by = reach_kept c s l m to fs o k r.by }
@@ -157,10 +154,7 @@ module _ (p : Program) (number : ℕ) (u : UnitCode) where
     pub reach_out : {A : Type 0} (d c : Context) (s : State) (l : Locals) (to : Target A) (fs : List Frame) (o : Effect A) → WithinContext d c → Reach d s l to fs o → Reach c s l to fs o
     reach_out d c s l to fs (Gives x w left) k r = record { locals = r.locals; kept = kept_out d c l r.locals k r.kept; comes = r.comes }
     reach_out d c s l to fs (Jumps g i w left) k r = record { locals = r.locals; kept = kept_out d c l r.locals k r.kept; comes = r.comes }
-    reach_out d c s l to fs (Fails e w) k r = r
-    reach_out d c s l to fs (Spent w) k r = r
-    reach_out d c s l to fs Lost k r = r
-    reach_out d c s l to fs Short k r = r
+    reach_out d c s l to fs o k r = r
 
     pub bound : {A B : Type 0} {c : Context} {s : State} {l : Locals} {to : Target A} {to2 : Target B} {fs : List Frame} (o : Effect A) (go : A → Doing B)
         → Reaches c s l to fs o

@@ -98,11 +98,13 @@ module _ (u : UnitCode) where
 
   -- references and expressions
 
+  -- the place at which a reference begins
   abbrev pub RootStands : Root → Span
   RootStands (InSlot outward slot) = Is (op.Local outward slot)
   RootStands (OfProgram number) = Is (op.Global number)
 
   abbrev mutual
+    -- the value of an expression
     pub ValueStands : TypedExpression → Span
     ValueStands (Literal v) = Is (op.Constant v)
     ValueStands (Held r) = Then (PlaceStands r) (Is op.Load)
@@ -110,20 +112,24 @@ module _ (u : UnitCode) where
     ValueStands (Called callee arguments) =
         Then (ArgumentsStand arguments) (Is (call_of callee (arguments_in arguments)))
 
+    -- the values of operands, from left to right
     pub OperandsStand : Operands → Span
     OperandsStand NoOperand = Empty
     OperandsStand (OperandThen e more) = Then (ValueStands e) (OperandsStand more)
 
+    -- the place of a reference
     pub PlaceStands : TypedReference → Span
     PlaceStands (Whole root) = RootStands root
     PlaceStands (Part root offset d subscripts) =
         Then (RootStands root) (Then (Is (op.Field offset d)) (SubscriptsStand subscripts))
 
+    -- the value of each subscript, and what it does to the place
     pub SubscriptsStand : Subscripts → Span
     SubscriptsStand NoSubscript = Empty
     SubscriptsStand (SubscriptThen s e more) =
         Then (ValueStands e) (Then (Is (op.Subscript s.low s.high s.multiplier)) (SubscriptsStand more))
 
+    -- each argument: a place, or a value and its dummy argument
     pub ArgumentsStand : TypedArguments → Span
     ArgumentsStand NoArgument = Empty
     ArgumentsStand (ByPlace r more) = Then (PlaceStands r) (ArgumentsStand more)
@@ -134,11 +140,12 @@ module _ (u : UnitCode) where
   abbrev pub ConditionStands : TypedExpression → (target : ℕ) → Span
   ConditionStands e target = Then (ValueStands e) (Forward op.JumpUnless target)
 
-  -- an item of PUT, and all of them
+  -- the items of PUT
   abbrev pub ItemsStand : List TypedExpression → Span
   ItemsStand [] = Empty
   ItemsStand (e ∷ es) = Then (Then (ValueStands e) (Is op.Put)) (ItemsStand es)
 
+  -- SKIP, if it stands
   abbrev pub SkipStands : Bool → Span
   SkipStands true = Is op.Skip
   SkipStands false = Empty
@@ -180,6 +187,7 @@ module _ (u : UnitCode) where
   KeepsStand temporary (e ∷ es) =
       Then (ValueStands e) (Then (Is (op.SetTemporary temporary)) (KeepsStand (suc temporary) es))
 
+  -- one operation after the other
   abbrev pub ConversionStands : List Operation → Span
   ConversionStands [] = Empty
   ConversionStands (operation ∷ more) = Then (Is (op.Operate operation)) (ConversionStands more)
@@ -195,7 +203,7 @@ module _ (u : UnitCode) where
       Then (PlaceStands i.control)
       (Then (Is op.Load) (Then (Is (op.TakeTemporary (i.temporary + step))) (Is (op.Operate Add))))
 
-  -- the tests before a turn
+  -- the test against the limit, if there is one
   abbrev pub LimitStands : Iteration → (limit : Option ℕ) → (step target : ℕ) → Span
   LimitStands i None step target = Empty
   LimitStands i (Some limit) step target =
@@ -205,10 +213,12 @@ module _ (u : UnitCode) where
       (Then (Is (op.TakeTemporary (i.temporary + step)))
       (Then (Is (op.Operate Within)) (Forward op.JumpUnless target)))))
 
+  -- WHILE, if it stands
   abbrev pub WhileStands : Option TypedExpression → (target : ℕ) → Span
   WhileStands None target = Empty
   WhileStands (Some e) target = ConditionStands e target
 
+  -- the tests before a turn
   abbrev pub TestStands : Iteration → (target : ℕ) → Span
   TestStands i target =
       Then (LimitStands i (limit_number i.range) (step_number i.range) target)
@@ -221,11 +231,13 @@ module _ (u : UnitCode) where
   AdvancesStand (ByTo by to) i = SetsStand i (AdvancedStands i 1)
   AdvancesStand (Repeated next) i = Then (PlaceStands i.control) (Then (ValueStands next) (Is op.Store))
 
+  -- the turns of a group, or its one turn where there is no more
   abbrev pub TurnsStand : (iterated : Bool) → (test : (target : ℕ) → Span) → (list : Context → Span)
       → (between : Span) → Context → Span
   TurnsStand true test list between c = λ p q. Nests c × Loop test (list (deeper c)) between p q
   TurnsStand false test list between c = Guarded test (list c)
 
+  -- an iteration: its values are kept, the variable gets the start, and then its turns
   abbrev pub IterateStands : (number : ℕ) → Iteration → (list : Context → Span) → Context → Span
   IterateStands number i list c =
       λ p q. HasTemporaries i c
@@ -257,10 +269,12 @@ module _ (u : UnitCode) where
 
   module _ (at : (label : ℕ) → ℕ) where
     abbrev mutual
+      -- a statement begins with its step
       pub StatementStands : (block : ℕ) → TypedStatement → Context → Span
       StatementStands block (Statement number form) c =
           Then (Is (op.Step number)) (FormStands block number form c)
 
+      -- what a form says, of the statement of a number in a block
       pub FormStands : (block number : ℕ) → Form → Context → Span
       FormStands block number Null c = Empty
       FormStands block number (Assign target e) c =
@@ -286,10 +300,12 @@ module _ (u : UnitCode) where
       FormStands block number (ReturnValue outward e) c = Then (ValueStands e) (Is (op.ReturnValue outward))
       FormStands block number Stop c = Is op.Stop
 
+      -- the test of an IF and its parts
       pub IfStands : (block : ℕ) → (test : (target : ℕ) → Span) → (part : Span) → OtherWise → Context → Span
       IfStands block test part NoElse c = Guarded test part
       IfStands block test part (Else s) c = Choice test part (StatementStands block s c)
 
+      -- the statements of a list, each at the place of its label
       pub ListStands : (block : ℕ) → TypedStatements → Context → Span
       ListStands block NoStatement c = Empty
       ListStands block (StatementThen s more) c =
@@ -300,12 +316,14 @@ module _ (u : UnitCode) where
     EndStands None = Is (op.Return 0)
     EndStands (Some s) = Then (Is (op.Line s)) (Is (op.Raise NoReturnedValue))
 
+    -- the block of a procedure
     abbrev pub ProcedureStands : TypedProcedure → Type 0
     ProcedureStands f =
         BlockStands
         (block_of Procedure f.parent f.parameters f.head)
         f.head.number f.head.temporaries (ListStands f.head.number f.statements) (EndStands f.function_end)
 
+    -- the blocks of all procedures
     abbrev pub ProceduresStand : List TypedProcedure → Type 0
     ProceduresStand [] = Unit
     ProceduresStand (f ∷ fs) = ProcedureStands f × ProceduresStand fs
@@ -324,6 +342,7 @@ GlobalStands program (OwnVariable t) g = g ≡ op.OwnVariable (variable_of t)
 GlobalStands program (ExternalVariable name t) g = g ≡ op.ExternalVariable name (variable_of t)
 GlobalStands program (EntryPoint name signature) g = EntryStands program name g
 
+-- globals, one for one
 abbrev pub GlobalsStand : (program : List TypedUnit) → List Global → List op.GlobalCode → Type 0
 GlobalsStand program [] [] = Unit
 GlobalsStand program (x ∷ xs) (g ∷ gs) = GlobalStands program x g × GlobalsStand program xs gs
@@ -337,6 +356,7 @@ pub record UnitStands (program : List TypedUnit) (t : TypedUnit) (u : UnitCode) 
   pub globals : GlobalsStand program t.globals u.globals
   pub procedures : ProceduresStand u at t.procedures
 
+-- the code of units, one for one
 abbrev pub UnitsStand : (program : List TypedUnit) → List TypedUnit → List UnitCode → Type 0
 UnitsStand program [] [] = Unit
 UnitsStand program (t ∷ ts) (u ∷ us) = UnitStands program t u × UnitsStand program ts us

@@ -1,5 +1,5 @@
--- What doing something comes to, and how one thing is done after another. A level bounds the recursion of a
--- definition; the steps left are what the language counts, and go from one thing to the next.
+-- What doing something comes to, and how one thing is done after another (X3.53). A level bounds the
+-- recursion of a definition; the steps left are what the language counts, and go from one thing to the next.
 use Rattle.std.specs.Prelude.{ℕ, zero, suc, nat_eq, nat_lt, Bool, true, false, ◌&&◌, Option, Some, None}
 use Rattle.std.specs.Prelude.{if◌then◌else◌}
 use Rattle.pli_code.specs.declared.ending.Ending.{Ending}
@@ -49,6 +49,7 @@ abbrev pub after_flow : Doing Flow → Flow → Doing Flow
 after_flow go Next w left = go w left
 after_flow go (Returned outward v) w left = Gives (Returned outward v) w left
 
+-- one thing is done, and then the next, unless the procedure is being left
 abbrev pub followed : Effect Flow → Doing Flow → Effect Flow
 followed o go = and_then o (after_flow go)
 

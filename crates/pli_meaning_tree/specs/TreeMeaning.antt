@@ -43,11 +43,12 @@ pub record TypedProgram : Type 0 where
 abbrev pub Calls : Type 0
 Calls = Callee → List Place → Doing (Option Value)
 
--- the value of a function; a procedure has none
+-- the value that a function has given; to none there is no meaning
 abbrev pub a_value : Option Value → Doing Value
 a_value None w left = Lost
 a_value (Some v) w left = Gives v w left
 
+-- a procedure that is no function has given none
 abbrev pub no_value : Option Value → Doing Flow
 no_value None w left = Gives Next w left
 no_value (Some v) w left = Lost
@@ -287,6 +288,7 @@ module _ (greatest : ℕ) (call : Calls) (unit : Name) (level : ℕ) where
     pub does : (block : ℕ) → TypedStatement → Doing Flow
     does block (Statement number form) w left = as_statement number (does_form block number form) w left
 
+    -- what a form says, of the statement of a number in a block
     pub does_form : (block number : ℕ) → Form → Doing Flow
     does_form block number Null w left = Gives Next w left
     does_form block number (Assign target e) w left = assigns greatest call target e w left
@@ -314,6 +316,7 @@ module _ (greatest : ℕ) (call : Calls) (unit : Name) (level : ℕ) where
     does_form block number (ReturnValue outward e) w left = returns_value greatest call outward e w left
     does_form block number Stop w left = Fails Ended w
 
+    -- an ELSE, if it stands
     pub does_else : (block : ℕ) → OtherWise → Doing Flow
     does_else block NoElse w left = Gives Next w left
     does_else block (Else s) w left = does block s w left
@@ -328,6 +331,7 @@ module _ (greatest : ℕ) (call : Calls) (unit : Name) (level : ℕ) where
         if nat_eq (number_of s) label then followed (does block s w left) (does_from block more None)
         else does_from block more (Some label) w left
 
+  -- the statements of a list, with the jumps to its labels
   abbrev pub does_list : (block : ℕ) → TypedStatements → Doing Flow
   does_list block ss = as_list level ss (does_from block ss)
 
@@ -349,6 +353,7 @@ activates_in greatest call level unit f (Some link) places w left =
     if nat_eq f.parameters (length places)
     then unless_full (procedure_run greatest call level unit f link places) w left else Lost
 
+-- a call of a procedure of the unit, if it is there, by its static link
 abbrev pub activates : (greatest : ℕ) → Calls → (level : ℕ) → (unit : Name) → Option TypedProcedure
     → List Place → Doing (Option Value)
 activates greatest call level unit None places w left = Lost
@@ -378,6 +383,7 @@ activates_outer greatest call level unit (Some f) places w left =
     if is_external f.parent then closed (activates_in greatest call level unit f (Some 0) places w left)
     else Lost
 
+-- a call of the external procedure of a unit, if it is there
 abbrev pub activates_unit : (greatest : ℕ) → (call : TypedUnit → Calls) → (level : ℕ) → Option TypedUnit
     → List Place → Doing (Option Value)
 activates_unit greatest call level None places w left = Lost
@@ -410,6 +416,7 @@ main_run greatest call level unit (Some f) w left =
     if is_external f.parent && nat_eq f.parameters 0
     then procedure_run greatest call level unit f 0 [] w left else Lost
 
+-- the main unit runs, if it is there
 abbrev pub unit_run : (greatest : ℕ) → (call : TypedUnit → Calls) → (level : ℕ) → Option TypedUnit
     → Doing (Option Value)
 unit_run greatest call level None w left = Lost

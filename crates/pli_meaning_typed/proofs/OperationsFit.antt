@@ -21,8 +21,8 @@ use Rattle.pli_operation.specs.Operations.{Operation, Negate, Absolute, Sign, No
 use Rattle.pli_operation.specs.Operations.{Fit, Add, Subtract, Multiply, Modulo, Greatest, Least, Divide, Compare}
 use Rattle.pli_operation.specs.Operations.{Concatenate, And, Or, Index, Rest, Substring, Within, Calculation, Calculates}
 use Rattle.pli_operation.specs.Operations.{RaisesCondition, OutOfString, Misfits, as_number, as_characters, as_bits}
-use Rattle.pli_operation.specs.Operations.{calculated, sign_of, in_columns, fitted_to, greatest_of, least_of, is_within_limit}
-use Rattle.pli_value.specs.Numbers.{has_digits, within, quotient, remainder}
+use Rattle.pli_operation.specs.Operations.{calculated, in_columns, fitted_to, is_within_limit}
+use Rattle.pli_value.specs.Numbers.{has_digits, within, quotient, remainder, sign_of, greatest_of, least_of}
 use Rattle.pli_value.specs.Strings.{piece, concatenation, first_place, one_behind, index_of, fitted}
 use Rattle.pli_value.specs.Strings.{by_place, conjunction, disjunction, substring, substring_from, part_of, rest_of}
 use Rattle.pli_value.specs.Conversions.{number_characters, bit_character, bit_characters}

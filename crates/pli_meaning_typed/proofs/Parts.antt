@@ -38,13 +38,7 @@ mutual
   length_scalars (Array bounds element) =
       length_copies (count_of bounds) (scalars_of element) ∙ ap (λ n. count_of bounds * n) (length_scalars element)
   length_scalars (Structure members) = length_members members
-  length_scalars (FixedBinary p) = refl
-  length_scalars (Character n) = refl
-  length_scalars (Varying n) = refl
-  length_scalars (Bit n) = refl
-  length_scalars Pointer = refl
-  length_scalars Offset = refl
-  length_scalars (Area n) = refl
+  length_scalars d = refl
 
   length_members : (ds : Members) → length (scalars_of_members ds) ≡ scalars_among ds
   length_members NoMembers = refl
@@ -191,13 +185,7 @@ mutual
       array_stands bounds element offset part k (λ r j g. part_stands element r part j g) h
   part_stands (Structure members) offset part k h =
       structure_stands members offset part k (λ g. member_stands members 0 offset part k g) h
-  part_stands (FixedBinary p) offset part k h = alone (FixedBinary p) offset part k h
-  part_stands (Character n) offset part k h = alone (Character n) offset part k h
-  part_stands (Varying n) offset part k h = alone (Varying n) offset part k h
-  part_stands (Bit n) offset part k h = alone (Bit n) offset part k h
-  part_stands Pointer offset part k h = alone Pointer offset part k h
-  part_stands Offset offset part k h = alone Offset offset part k h
-  part_stands (Area n) offset part k h = alone (Area n) offset part k h
+  part_stands d offset part k h = alone d offset part k h
 
   member_stands : (ds : Members) (at offset : ℕ) (part : Description) (k : ℕ)
       → scalar_behind at ds offset part ≡ Some k → StandsFrom k (scalars_of part) (scalars_of_members ds)

@@ -1,4 +1,4 @@
--- Sound worlds: what the operations keep, and what they need so that none asks for what is not there.
+-- Sound worlds (own): what the operations keep, and what they need so that none asks for what is not there.
 use Rattle.std.specs.Prelude.{◌≡◌, ◌≢◌, ℕ, ◌+◌, ◌≤◌, ◌<◌, Some, List, [], ◌∷◌, slice_get}
 use Rattle.pli_base.specs.Name.{Name}
 use Rattle.pli_code.specs.declared.ending.Ending.TheVariants.{MachineFault}
@@ -25,6 +25,7 @@ pub record IsGood (w : World) (d : Description) (p : Place) : Type 0 where
   pub part :
       (g : Generation) → generation_in w.storage p.generation ≡ Some g → IsPartAt g.description p.offset d
 
+-- places of these descriptions, one for one
 abbrev pub AreGood : World → List Description → List Place → Type 0
 AreGood w [] [] = Unit {0}
 AreGood w (d ∷ ds) (p ∷ ps) = IsGood w d p × AreGood w ds ps

@@ -58,15 +58,17 @@ pub record IsTypedUnit (greatest : ℕ) (u : TypedUnit) : Type 0 where
       → (f : TypedProcedure) × (procedure_in u.procedures number ≡ Some f)
       × IsTypedProcedure greatest u.globals procedures p f
 
+-- each unit is
 abbrev pub AreTypedUnits : (greatest : ℕ) → List TypedUnit → Type 0
 AreTypedUnits n [] = Unit {0}
 AreTypedUnits n (u ∷ us) = IsTypedUnit n u × AreTypedUnits n us
 
--- no two units have one name
+-- no unit has this name
 abbrev pub NoneIsNamed : Name → List TypedUnit → Type 0
 NoneIsNamed name [] = Unit {0}
 NoneIsNamed name (u ∷ us) = IsFalse (same_name name u.name) × NoneIsNamed name us
 
+-- no two units have one name
 abbrev pub AreNamedApart : List TypedUnit → Type 0
 AreNamedApart [] = Unit {0}
 AreNamedApart (u ∷ us) = NoneIsNamed u.name us × AreNamedApart us
@@ -87,12 +89,13 @@ pub record IsLinked (units : List TypedUnit) : Type 0 where
       → slice_get (all_globals units) i ≡ Some (ExternalVariable name one)
       → slice_get (all_globals units) j ≡ Some (ExternalVariable name other) → one ≡ other
 
--- what is made for globals: an external variable is made once, where it is declared first; those of these
--- names were made before
+-- a template, unless its variable was made before
 abbrev pub unless : Bool → Template → List Template
 unless true t = []
 unless false t = t ∷ []
 
+-- what is made for globals: an external variable is made once, where it is declared first; those of these
+-- names were made before
 abbrev pub made_for : (before : List Name) → List Global → List Template
 made_for before [] = []
 made_for before (OwnVariable t ∷ gs) = t ∷ made_for before gs
@@ -110,6 +113,8 @@ abbrev pub HasMain : Option TypedUnit → Type 0
 HasMain None = ⊥
 HasMain (Some u) = u.signature ≡ record { parameters = []; result = None }
 
+-- each unit is well typed, names are apart and linked, what is made before the program begins has room, and
+-- the main unit can begin
 pub record WellTyped (p : TypedProgram) : Type 0 where
   pub units : AreTypedUnits p.greatest p.units
   pub names : AreNamedApart p.units

@@ -5,6 +5,7 @@ use Rattle.std.specs.Int.RustNames.{bit_and}
 use Rattle.std.specs.List.{AllByRecursion, list_all, list_any}
 use Rattle.std.specs.Option.{unwrap_or}
 use Rattle.std.proofs.lemmas.Bool.{and_parts, eqb-true}
+use Rattle.std.proofs.Math.Bool.{and-false}
 use Rattle.std.proofs.lemmas.Int.{ints}
 use Rattle.std.proofs.lemmas.List.{length-map}
 use Rattle.std.proofs.lemmas.Bool.Decides.{nat_tests}
@@ -147,9 +148,7 @@ scalar_here p i h alone agrees =
     scalar_whole s n (variable_whole p s (agrees two.0) two.1 alone) sound.precision sound.length_of
 
 third : (a b c : Bool) → (a || b || c) ≡ true → a ≡ false → b ≡ false → c ≡ true
-third true b c h k l = cc
-third false true c h k l = cc
-third false false c h k l = h
+third a b c h k l = sym (ap (λ x. x || b || c) k ∙ ap (λ x. x || c) l) ∙ h
 
 -- neither ENTRY nor BUILTIN stands
 stands_not : (s k : ℕ) → none_of s 98304 ≡ true → bit_and 98304 k ≡ k → has s k ≡ has 0 k
@@ -162,8 +161,7 @@ middle_false true false c h = refl
 middle_false false b c h = refl
 
 last_false : (a b : Bool) → b ≡ false → (a && b) ≡ false
-last_false true b h = h
-last_false false b h = refl
+last_false a b h = ap (λ x. a && x) h ∙ and-false a
 
 not_alone : (s : ℕ) (b : Bool) → (s == 32768) ≡ b → has s 32768 ≡ false → b ≡ false
 not_alone s true e h = let same : s ≡ 32768 = eqb-true s 32768 e in absurd (true≢false (subst (λ m. has m 32768 ≡ false) same h))

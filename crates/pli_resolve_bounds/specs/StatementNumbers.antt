@@ -10,6 +10,7 @@ abbrev mutual
   pub IsBelow : (bound : ℕ) → Statement → Type 0
   IsBelow n (Numbered number label at body) = (number < n) × IsBodyBelow n body
 
+  -- the same of what a statement is
   pub IsBodyBelow : (bound : ℕ) → Body → Type 0
   IsBodyBelow n (Procedure heading statements end) =
       (heading.number < n) × AreBelow n statements × (end < n)
@@ -19,10 +20,12 @@ abbrev mutual
   IsBodyBelow n (On condition unit) = IsBelow n unit
   IsBodyBelow n body = Unit {0}
 
+  -- of each statement of a list
   pub AreBelow : (bound : ℕ) → Statements → Type 0
   AreBelow n Ended = Unit {0}
   AreBelow n (Before first more) = IsBelow n first × AreBelow n more
 
+  -- of an ELSE
   pub IsElseBelow : (bound : ℕ) → Alternative → Type 0
   IsElseBelow n NoElse = Unit {0}
   IsElseBelow n (Else statement) = IsBelow n statement

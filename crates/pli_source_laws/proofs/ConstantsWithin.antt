@@ -14,15 +14,12 @@ use Rattle.pli_type.specs.Checked.{checked, unless_unbuilt}
 use Rattle.pli_type.specs.NamedUnits.{named_unit, checked_unit, compiled_of}
 use Rattle.pli_type.specs.Names.{Compiled, NamedUnit}
 use Rattle.pli_type.specs.Unbuilt.{is_of_language, later_expression, later_reference, later_joined, later_arguments, later_list, later_part, later_range, later_control, later_statement, later_body, later_alternative, later_statements, later_heading, first_of, first_unbuilt, or_else, token_if}
+use Rattle.pli_deck_laws.proofs.FieldsFit.{neither}
 use Rattle.pli_source_laws.specs.Sources.{IsWritten, IsSource, IsSourceReference, AreSourceParts, AreSourceArguments, AreSources, IsSourceRange, IsSourceControl, IsSourceStatement, IsSourceBody, IsSourceElse, AreSourceStatements}
 use Rattle.pli_source_laws.specs.CompiledSources.{ConstantsAreWithinLimits}
 use Rattle.pli_type_tree.specs.TypedTree.{TypedUnit}
 
 -- ---- tests of which none holds
-
-neither : (a b : Bool) → (a || b) ≡ false → (a ≡ false) × (b ≡ false)
-neither true b h = cc
-neither false b h = (refl, h)
 
 nothing_else : (a b : Option ℕ) → or_else a b ≡ None → (a ≡ None) × (b ≡ None)
 nothing_else None b h = (refl, h)

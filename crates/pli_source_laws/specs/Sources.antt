@@ -21,6 +21,7 @@ IsWritten (constants.Characters text) = length text ≤ 32767
 IsWritten (constants.Bits bits) = length bits ≤ 32767
 
 abbrev mutual
+  -- each constant of an expression is such
   pub IsSource : Expression → Type 0
   IsSource (Referred reference) = IsSourceReference reference
   IsSource (Constant at value) = IsWritten value
@@ -28,27 +29,32 @@ abbrev mutual
   IsSource (Prefix operator at operand) = IsSource operand
   IsSource (Infix operator at left right) = IsSource left × IsSource right
 
+  -- each constant of a reference
   pub IsSourceReference : Reference → Type 0
   IsSourceReference (Named name arguments more) = AreSourceArguments arguments × AreSourceParts more
 
+  -- each constant of the parts that are joined to one
   pub AreSourceParts : JoinedParts → Type 0
   AreSourceParts Alone = Unit {0}
   AreSourceParts (Joined joining name arguments more) = AreSourceArguments arguments × AreSourceParts more
 
+  -- each constant of a list of arguments, if it stands
   pub AreSourceArguments : Arguments → Type 0
   AreSourceArguments Absent = Unit {0}
   AreSourceArguments (Given list) = AreSources list
 
+  -- each constant of the expressions of a list
   pub AreSources : Expressions → Type 0
   AreSources Empty = Unit {0}
   AreSources (Listed first more) = IsSource first × AreSources more
 
--- groups with a control variable
+-- what limits or continues a group
 abbrev pub IsSourceRange : Range → Type 0
 IsSourceRange (tree.To to by) = IsSource to × IfThere IsSource by
 IsSourceRange (tree.By by to) = IsSource by × IfThere IsSource to
 IsSourceRange (tree.Repeat next) = IsSource next
 
+-- what controls a group
 abbrev pub IsSourceControl : Control → Type 0
 IsSourceControl (tree.While condition) = IsSource condition
 IsSourceControl (tree.Iterate variable equals first range condition) =
@@ -59,6 +65,7 @@ abbrev mutual
   pub IsSourceStatement : Statement → Type 0
   IsSourceStatement (Numbered number label at body) = IsSourceBody body
 
+  -- what a statement is
   pub IsSourceBody : Body → Type 0
   IsSourceBody (tree.Assign target equals value) = IsSourceReference target × IsSource value
   IsSourceBody (tree.Procedure heading statements end) = AreSourceStatements statements
@@ -72,10 +79,12 @@ abbrev mutual
   IsSourceBody (tree.Put skip items) = AllByRecursion IsSource items
   IsSourceBody body = Unit {0}
 
+  -- an ELSE
   pub IsSourceElse : Alternative → Type 0
   IsSourceElse tree.NoElse = Unit {0}
   IsSourceElse (tree.Else statement) = IsSourceStatement statement
 
+  -- the statements of a list
   pub AreSourceStatements : Statements → Type 0
   AreSourceStatements Ended = Unit {0}
   AreSourceStatements (Before first more) = IsSourceStatement first × AreSourceStatements more

@@ -23,9 +23,10 @@ use Rattle.pli_type_laws.proofs.BlocksKnown.{Sits, sits_parts, begun_count}
 use Rattle.pli_type_name_laws.specs.SourceBlocks.{SourceBlock, unit_blocks, begun_in, begun_by, begun_among, begun_behind}
 use Rattle.pli_type_tree.specs.Templates.{Template}
 use Rattle.pli_type_tree.specs.TypedTree as typed
-use Rattle.pli_type_tree.specs.TypedTree.{TypedExpression, Iteration, Form, TypedStatement, TypedStatements, NoStatement, StatementThen, OtherWise, NoElse, Else, BlockHead, Global, TypedProcedure, TypedUnit}
-use Rattle.pli_type_bounds.proofs.Given.{OnTyped}
-use Rattle.pli_type_bounds.proofs.StatementsFit.{unit_by}
+use Rattle.pli_type_tree.specs.TypedTree.{Form, TypedStatement, TypedStatements, OtherWise, NoElse, Else, BlockHead, Global, TypedProcedure, TypedUnit}
+use Rattle.pli_type_laws.proofs.NumberedUnits.{nothing_left}
+use Rattle.pli_type_laws.proofs.TypedParts.{OnTyped}
+use Rattle.pli_type_laws.specs.TypedUnits.{unit_with}
 use Rattle.pli_deck_laws.specs.WellFormed.{slots_of, HasBlock, HasSlot}
 use Rattle.pli_deck_laws.specs.WellFormed as whole
 
@@ -56,6 +57,12 @@ or_middle false true false e = refl
 or_middle a false true e = refl
 or_middle a false false e = absurd (cc)
 
+any_of_four : {A : Type 0} (p : A → Bool) (xs ys vs ws : List A)
+    → list_any p ((xs ++ ys) ++ (vs ++ ws)) ≡ ((list_any p xs || list_any p ys) || (list_any p vs || list_any p ws))
+any_of_four p xs ys vs ws =
+    list_any-append p (xs ++ ys) (vs ++ ws)
+    ∙ ap (λ a. a || list_any p (vs ++ ws)) (list_any-append p xs ys) ∙ ap (λ b. (list_any p xs || list_any p ys) || b) (list_any-append p vs ws)
+
 any_weaker : {A : Type 0} (p q : A → Bool) (xs : List A) → ((x : A) → p x ≡ true → q x ≡ true) → list_any p xs ≡ true → list_any q xs ≡ true
 any_weaker p q [] f h = h
 any_weaker p q (x ∷ xs) f h = by (p x) refl h (λ e. any_weaker p q xs f e)
@@ -82,16 +89,12 @@ module _ (sizes : ℕ → ℕ) where
   here_both : (xs ys vs ws : List BlockTree) (k : ℕ) → Here (xs ++ vs) k → Here ((xs ++ ys) ++ (vs ++ ws)) k
   here_both xs ys vs ws k h =
       let p = is_it k in
-      list_any-append p (xs ++ ys) (vs ++ ws)
-      ∙ ap (λ a. a || list_any p (vs ++ ws)) (list_any-append p xs ys) ∙ ap (λ b. (list_any p xs || list_any p ys) || b) (list_any-append p vs ws)
-      ∙ or_front (list_any p xs) (list_any p ys) (list_any p vs) (list_any p ws) (sym (list_any-append p xs vs) ∙ h)
+      any_of_four p xs ys vs ws ∙ or_front (list_any p xs) (list_any p ys) (list_any p vs) (list_any p ws) (sym (list_any-append p xs vs) ∙ h)
 
   here_other : (xs ys vs ws : List BlockTree) (k : ℕ) → Here (ys ++ ws) k → Here ((xs ++ ys) ++ (vs ++ ws)) k
   here_other xs ys vs ws k h =
       let p = is_it k in
-      list_any-append p (xs ++ ys) (vs ++ ws)
-      ∙ ap (λ a. a || list_any p (vs ++ ws)) (list_any-append p xs ys) ∙ ap (λ b. (list_any p xs || list_any p ys) || b) (list_any-append p vs ws)
-      ∙ or_back (list_any p xs) (list_any p ys) (list_any p vs) (list_any p ws) (sym (list_any-append p ys ws) ∙ h)
+      any_of_four p xs ys vs ws ∙ or_back (list_any p xs) (list_any p ys) (list_any p vs) (list_any p ws) (sym (list_any-append p ys ws) ∙ h)
 
   -- those from one number on before another are here: in a part, or in the procedures in it
   abbrev pub AreHere : {A : Type 0} → ((parent : ℕ) → A → List BlockTree) → (from to : ℕ) → WithProcedures A → Type 0
@@ -207,26 +210,13 @@ module _ (sizes : ℕ → ℕ) where
   put_here true number from middle to (Err fs) (Ok y) null h g = tt
   put_here true number from middle to (Err fs) (Err gs) null h g = tt
 
-procedure_null : (make : TypedStatements → TypedProcedure) (r : Result (WithProcedures TypedStatements) (List Fault))
-    → OnTyped (λ y. y.part ≡ typed.Null) (as_procedure make r)
-procedure_null make (Ok y) = refl
-procedure_null make (Err fs) = tt
-
-nothing_left : (u : NamedUnit) (s : Surroundings) (x : Next) (number at : ℕ) (body : Body) → leaves_nothing body ≡ true
-    → OnTyped (λ y. y.part ≡ typed.Null) (body_typed u s x number at body)
-nothing_left u s x number at (tree.Declare declared) e = refl
-nothing_left u s x number at (tree.Procedure heading ss end) e =
-    procedure_null (procedure_of u (Some (block_at s)) x.block number end ss)
-    (statements_typed u (in_procedure x.block (u.returned x.block) ss s) (inside x) ss)
-nothing_left u s x number at body e = absurd (cc)
-
 -- ---- statements
 
 module _ (program : ExternalProcedure) (is_later : ℕ → Bool) (meaning : List ℕ → ℕ → NamedAs) (parameters : ℕ → List Description)
     (returned : ℕ → Option Description) (automatic : ℕ → List Template) (globals : List Global)
     (begins : (number : ℕ) (b : SourceBlock) → slice_get (unit_blocks program) number ≡ Some b → b.kind ≡ kinds.Begin → parameters number ≡ []) where
   abbrev U : NamedUnit
-  U = unit_by program is_later meaning parameters returned automatic globals
+  U = unit_with program is_later meaning parameters returned automatic globals
 
   abbrev All : List SourceBlock
   All = unit_blocks program

@@ -17,7 +17,7 @@ use Rattle.pli_map.specs.Sizes.{size_of}
 use Rattle.pli_type.specs.ExpressionTypes.{TypedValue, precision_of, prefix_value, infix_value, converted}
 use Rattle.pli_type.specs.FunctionCalls.{Denoted, DenotesVariable, DenotesResult, Meant, OneValue, WholeAggregate, meant_as, Argument}
 use Rattle.pli_type.specs.FunctionCalls.{roles_of, function_called}
-use Rattle.pli_type.specs.Names.{NamedAs, AVariable, AFunction, AProcedure, ALabel, Untyped, NamedVariable, NamedProcedure, Naming}
+use Rattle.pli_type.specs.Names.{NamedAs, AVariable, AFunction, AProcedure, NamedVariable, NamedProcedure, Naming}
 use Rattle.pli_type.specs.ProcedureCalls.{passed_place, passed_value, passed, passed_before, all_passed, or_wrong_argument}
 use Rattle.pli_type.specs.ProcedureCalls.{arguments_passed, result_of, type_returned}
 use Rattle.pli_type.specs.References.{Role, AsValue, AsArgument, AsLocator, wants_scalar, variable_meant, StridedPart, part_of, with_subscripts, subscripts_at, reference_to, Referent, permitted, settled}
@@ -26,9 +26,13 @@ use Rattle.pli_type.specs.Typing.{subscript_value, Segment, OfVariable, OfFuncti
 use Rattle.pli_type.specs.Typing.{as_value, denoted, meant, referred, joined, begun, subscripts_in, all_subscripts, all_arguments, value_of}
 use Rattle.pli_type.specs.declared.expression_type.ExpressionType.{ExpressionType}
 use Rattle.pli_type_tree.specs.TypedTree.{Root, Stride, TypedExpression, TypedReference, TypedArguments, TypedUnit}
-use Rattle.pli_type_bounds.proofs.Given.{OnGiven, OnRead, read_then, read_if, read_option, given_made, all_behind}
+use Rattle.pli_type_laws.proofs.Conversions.{OnGiven}
+use Rattle.pli_type_laws.proofs.Denotations.{OnRead}
+use Rattle.pli_type_laws.proofs.Expressions.{read_option}
+use Rattle.pli_type_laws.proofs.References.{read_then, read_if}
+use Rattle.pli_type_name_laws.proofs.InitialHeld.{all_behind}
 use Rattle.pli_type_bounds.proofs.Meanings.{IsPart, IsVariable, IsProcedureNamed, IsMeaning, IsValue, IsReferent, IsMeant, IsDenoted, AreArgumentsGiven, IsSegment}
-use Rattle.pli_type_bounds.proofs.OperatorsFit.{constant_fits, prefix_fits, infix_fits, converted_fits, denoted_fits, functions_fit}
+use Rattle.pli_type_bounds.proofs.OperatorsFit.{given_made, constant_fits, prefix_fits, infix_fits, converted_fits, denoted_fits, functions_fit}
 use Rattle.pli_source_laws.specs.Sources.{IsSource, IsSourceReference, AreSourceParts, AreSourceArguments, AreSources}
 use Rattle.pli_deck_laws.specs.Limits.{parameter_limit, IsDescription, IsMade, IsStride}
 use Rattle.pli_deck_laws.specs.WellFormed.{IsRoot, IsExpression, IsReference, AreSubscripts, AreArguments}
@@ -225,23 +229,12 @@ module _ (t : TypedUnit) (meaning : ℕ → NamedAs) (known : (at : ℕ) → IsM
         (list_fits (roles_or_none (roles_of function (how_many list))) list l)
         (λ gs h. read_then (IsValue t) (IsSegment t) (function_called 31 function at (roles_of function (how_many list)) gs) _
         (functions_fit t function at (roles_of function (how_many list)) gs h) (λ v g. g))
-    begun_fits (AFunction function) k false located at (Given list) l =
-        read_then (AreArgumentsGiven t) (IsSegment t) (all_arguments N [] list) _ (list_fits [] list l) (λ gs h. tt)
-    begun_fits (AFunction function) k true located at Absent l = tt
-    begun_fits (AFunction function) k false located at Absent l = tt
     begun_fits (AProcedure p) k true located at (Given list) l =
         read_then (AreArgumentsGiven t) (IsSegment t) (all_arguments N [] list) _ (list_fits [] list l)
         (λ gs h. procedure_fits t p k at gs h)
-    begun_fits (AProcedure p) k false located at (Given list) l =
+    begun_fits a k call located at (Given list) l =
         read_then (AreArgumentsGiven t) (IsSegment t) (all_arguments N [] list) _ (list_fits [] list l) (λ gs h. tt)
-    begun_fits (AProcedure p) k true located at Absent l = tt
-    begun_fits (AProcedure p) k false located at Absent l = tt
-    begun_fits (ALabel statement) k call located at (Given list) l =
-        read_then (AreArgumentsGiven t) (IsSegment t) (all_arguments N [] list) _ (list_fits [] list l) (λ gs h. tt)
-    begun_fits (ALabel statement) k call located at Absent l = tt
-    begun_fits Untyped k call located at (Given list) l =
-        read_then (AreArgumentsGiven t) (IsSegment t) (all_arguments N [] list) _ (list_fits [] list l) (λ gs h. tt)
-    begun_fits Untyped k call located at Absent l = tt
+    begun_fits a k call located at Absent l = tt
 
     subscripts_all : (arguments : Arguments) → AreSourceArguments arguments
         → OnRead (AllByRecursion (IsExpression t)) (subscripts_in N arguments)

@@ -14,7 +14,7 @@ use Rattle.pli_map.specs.Same.{same}
 use Rattle.pli_map.specs.Scalars.{is_scalar}
 use Rattle.pli_type.specs.ExpressionTypes.{TypedValue, precision_of, converted, conversions, printed}
 use Rattle.pli_type.specs.FunctionCalls.{Denoted, DenotesVariable, DenotesResult, Meant, OneValue, WholeAggregate, Argument}
-use Rattle.pli_type.specs.Names.{NamedAs, AVariable, AFunction, AProcedure, ALabel, Untyped, NamedProcedure, Naming}
+use Rattle.pli_type.specs.Names.{NamedAs, AProcedure, ALabel, NamedProcedure, Naming}
 use Rattle.pli_type.specs.ProcedureCalls.{arguments_passed}
 use Rattle.pli_type.specs.References.{AsArgument, AsLocator, AsTarget, Referent}
 use Rattle.pli_type.specs.StatementTyping.{aggregate_assigned, scalar_assigned, assigned, assignment, truth_of, condition, item, items}
@@ -26,11 +26,14 @@ use Rattle.pli_type.specs.Typing.{first_token, or_fault, meant, referred, value_
 use Rattle.pli_type.specs.declared.expression_type.ExpressionType.{ExpressionType}
 use Rattle.pli_type.specs.declared.expression_type.ExpressionType.TheVariants as types
 use Rattle.pli_type_tree.specs.TypedTree as typed
-use Rattle.pli_type_tree.specs.TypedTree.{TypedExpression, TypedReference, TypedArguments, TypedRange, Form, Iteration, TypedUnit}
-use Rattle.pli_type_bounds.proofs.Given.{OnGiven, OnRead, given_made, read_then, read_if, read_option}
+use Rattle.pli_type_tree.specs.TypedTree.{TypedExpression, TypedReference, TypedArguments, TypedRange, TypedUnit}
+use Rattle.pli_type_laws.proofs.Conversions.{OnGiven}
+use Rattle.pli_type_laws.proofs.Denotations.{OnRead}
+use Rattle.pli_type_laws.proofs.Expressions.{read_option}
+use Rattle.pli_type_laws.proofs.References.{read_then, read_if}
 use Rattle.pli_type_bounds.proofs.ExpressionsFit.{N, Pass, arguments_fit, referred_fits, list_fits, meant_fits, value_of_fits}
 use Rattle.pli_type_bounds.proofs.Meanings.{IsProcedureNamed, IsMeaning, IsValue, IsReferent, IsMeant, IsDenoted, AreArgumentsGiven}
-use Rattle.pli_type_bounds.proofs.OperatorsFit.{converted_fits, conversions_fit, printed_fits}
+use Rattle.pli_type_bounds.proofs.OperatorsFit.{given_made, converted_fits, conversions_fit, printed_fits}
 use Rattle.pli_source_laws.specs.Sources.{IsSource, IsSourceReference, AreSourceArguments, IsSourceRange, IsSourceControl}
 use Rattle.pli_deck_laws.specs.Limits.{link_limit, parameter_limit, IfThere, IsDescription, IsOperation}
 use Rattle.pli_deck_laws.specs.WellFormed.{IsExpression, IsReference, IsRange, IsIteration, IsForm}
@@ -39,12 +42,7 @@ module _ (t : TypedUnit) where
   truth_fits : (e : TypedExpression) (kind : ExpressionType) → IsExpression t e
       → OnGiven (IsExpression t) (truth_of (record { expression = e; kind = kind }))
   truth_fits e types.Bits h = h
-  truth_fits e (types.FixedDecimal d) h = tt
-  truth_fits e (types.FixedBinary p) h = tt
-  truth_fits e types.Characters h = tt
-  truth_fits e types.Pointer h = tt
-  truth_fits e types.Offset h = tt
-  truth_fits e types.Area h = tt
+  truth_fits e kind h = tt
 
   aggregate_fits : (equals : ℕ) (target : Referent) → IsReferent t target → (m : Meant) → IsMeant t m
       → OnRead (IsForm t) (aggregate_assigned equals target m)
@@ -161,10 +159,7 @@ module _ (t : TypedUnit) (meaning : ℕ → NamedAs) (known : (at : ℕ) → IsM
 
     jump_fits : (a : NamedAs) → OnGiven (IsForm t) (jump su a)
     jump_fits (ALabel statement) = jump_found statement (label_found su.blocks statement) refl
-    jump_fits (AVariable v) = tt
-    jump_fits (AFunction f) = tt
-    jump_fits (AProcedure p) = tt
-    jump_fits Untyped = tt
+    jump_fits a = tt
 
     pub goto_fits : (label : Identifier) → OnRead (IsForm t) (goto_typed M su label)
     goto_fits label = read_option (IsForm t) NotYetBuilt label.at (jump su (meaning label.at)) (jump_fits (meaning label.at))

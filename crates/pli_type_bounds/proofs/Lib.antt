@@ -1,7 +1,6 @@
 pub mod BlocksThere
 pub mod ExpressionsFit
 pub mod FormsFit
-pub mod Given
 pub mod Meanings
 pub mod NamesFit
 pub mod OperatorsFit

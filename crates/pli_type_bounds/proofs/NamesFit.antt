@@ -2,7 +2,7 @@
 use Rattle.std.specs.Prelude.{◌≡◌, ℕ, zero, suc, ◌+◌, ◌<◌, ◌≤◌, nat_eq, nat_le, Bool, true, false, Option, Some, None, option_map, option_and_then}
 use Rattle.std.specs.Prelude.{List, [], ◌∷◌, ◌++◌, map, length, slice_get, if◌then◌else◌, refl}
 use Rattle.std.specs.List.{AllByRecursion}
-use Rattle.std.proofs.Common.{sym, ap, subst, arith, length-append}
+use Rattle.std.proofs.Common.{sym, ap, ◌∙◌, subst, arith, length-append}
 use Rattle.std.proofs.lemmas.Bool.{and_parts, leb-true, eqb-true}
 use Rattle.std.proofs.lemmas.List.{length-map}
 use Rattle.std.proofs.lemmas.Option.{same_Some, none-some, slice_get_within, get_or_from_slice_get}
@@ -27,7 +27,7 @@ use Rattle.pli_type_bounds.proofs.Meanings.{IsVariable, IsProcedureNamed, IsMean
 use Rattle.pli_type_bounds.proofs.PartsFit.{parts_fit}
 use Rattle.pli_type_bounds.proofs.SymbolsFit.{symbol_fits, initial_fits}
 use Rattle.pli_resolve_bounds.specs.SymbolBounds.{IsLimited}
-use Rattle.pli_type_bounds.proofs.Given.{all_behind}
+use Rattle.pli_type_name_laws.proofs.InitialHeld.{all_behind}
 use Rattle.pli_type_bounds.proofs.TemplatesFit.{AreSymbols, all_described, templates_fit, globals_fit}
 use Rattle.pli_initial_laws.specs.InitialCounts.{HaveFewInitial}
 use Rattle.pli_deck_laws.specs.Limits.{IfThere, IsDescription, IsTemplate, IsGlobal, link_limit, parameter_limit}
@@ -148,19 +148,19 @@ module _ (u : ExternalProcedure) (none : resolution_faults u ≡ []) where
     pub blocks : (block : ℕ) → block < length R.blocks → HasBlock t block
     pub slots : (block slot : ℕ) → block < length R.blocks → slot < length (parameters_of R block) + length (Automatic block) → HasSlot t slot
 
-  global_within : (gs : List Global) (number : ℕ) (d : Description) → description_of (slice_get gs number) ≡ Some d → number < length gs
-  global_within gs number d e = by (slice_get gs number) refl e
+  -- where something is made of what stands at a number, it stands there
+  found_within : {A B : Type 0} (f : Option A → Option B) (xs : List A) (number : ℕ) (y : B) → f None ≡ None → f (slice_get xs number) ≡ Some y → number < length xs
+  found_within {A} f xs number y none e = by (slice_get xs number) refl e
     where
-      by : (o : Option Global) → slice_get gs number ≡ o → description_of o ≡ Some d → number < length gs
-      by None is f = absurd (none-some d f)
-      by (Some g) is f = slice_get_within gs number g is
+      by : (o : Option A) → slice_get xs number ≡ o → f o ≡ Some y → number < length xs
+      by None is h = absurd (none-some y (sym none ∙ h))
+      by (Some x) is h = slice_get_within xs number x is
+
+  global_within : (gs : List Global) (number : ℕ) (d : Description) → description_of (slice_get gs number) ≡ Some d → number < length gs
+  global_within gs number d e = found_within description_of gs number d refl e
 
   entry_within : (gs : List Global) (number : ℕ) (s : Signature) → signature_of (slice_get gs number) ≡ Some s → number < length gs
-  entry_within gs number s e = by (slice_get gs number) refl e
-    where
-      by : (o : Option Global) → slice_get gs number ≡ o → signature_of o ≡ Some s → number < length gs
-      by None is f = absurd (none-some s f)
-      by (Some g) is f = slice_get_within gs number g is
+  entry_within gs number s e = found_within signature_of gs number s refl e
 
   pub automatic_fit : (block : ℕ) → AllByRecursion IsTemplate (Automatic block)
   automatic_fit block =

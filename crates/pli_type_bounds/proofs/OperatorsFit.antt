@@ -29,13 +29,20 @@ use Rattle.pli_type.specs.References.{Role}
 use Rattle.pli_type.specs.declared.expression_type.ExpressionType.{ExpressionType}
 use Rattle.pli_type.specs.declared.expression_type.ExpressionType.TheVariants as types
 use Rattle.pli_type_tree.specs.TypedTree.{TypedExpression, TypedReference, TypedUnit}
-use Rattle.pli_type_bounds.proofs.Given.{OnGiven, OnRead, given_map, given_made, given_if}
+use Rattle.pli_type_laws.proofs.Conversions.{OnGiven, given_if}
+use Rattle.pli_type_laws.proofs.Denotations.{OnRead}
+use Rattle.pli_type_laws.proofs.Operators.{given_map}
 use Rattle.pli_type_bounds.proofs.Meanings.{IsValue, IsReferent, IsMeant, IsDenoted, AreArgumentsGiven}
 use Rattle.pli_source_laws.specs.Sources.{IsWritten}
 use Rattle.pli_deck_laws.specs.Limits.{IsDescription, IsBound, AreBounds, IsOperation}
 use Rattle.pli_deck_laws.specs.WellFormed.{IsExpression, AreOperands}
 
 -- no number becomes more characters than a byte counts
+-- whatever it is made from
+pub given_made : {A B : Type 0} (Q : B → Type 0) (f : A → B) (o : Option A) → ((x : A) → Q (f x)) → OnGiven Q (option_map f o)
+given_made Q f (Some x) g = g x
+given_made Q f None g = tt
+
 width_fits : (digits : ℕ) → columns digits ≤ 255
 width_fits digits = omega arith
 

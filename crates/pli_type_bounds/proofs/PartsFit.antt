@@ -14,7 +14,7 @@ use Rattle.pli_map.proofs.Places.{member_inside}
 use Rattle.pli_type.specs.Names.{NamedVariable}
 use Rattle.pli_type.specs.References.{StridedPart, strides_of, element_of, member_of, part_on, part_of, with_subscripts}
 use Rattle.pli_type_tree.specs.TypedTree.{Stride}
-use Rattle.pli_type_bounds.proofs.Given.{all_behind}
+use Rattle.pli_type_name_laws.proofs.InitialHeld.{all_behind}
 use Rattle.pli_type_bounds.proofs.Meanings.{IsPart}
 use Rattle.pli_deck_laws.specs.Limits.{IsDescribed, AreDescribed, IsDescription, AreBounds, IsStride}
 

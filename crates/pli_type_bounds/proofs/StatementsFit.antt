@@ -16,34 +16,22 @@ use Rattle.pli_type.specs.StatementTyping.{condition, iteration, call_typed, got
 use Rattle.pli_type.specs.StatementTyping.{made, head_of, function_end, procedure_of, as_procedure, put_before, inside, behind_limits, in_begin, in_group, in_procedure, with_labels, labels_of}
 use Rattle.pli_type.specs.StatementTyping.{statement_typed, body_typed, alternative_typed, statements_typed}
 use Rattle.pli_type.specs.Temporaries.{Next, behind, temporaries_in, temporaries_of, temporaries_among, temporaries_behind}
-use Rattle.pli_type_laws.proofs.Denotations as laws
+use Rattle.pli_type_laws.specs.TypedUnits.{unit_with}
 use Rattle.pli_type_laws.proofs.Shapes.{HasOwn, iteration_keeps}
 use Rattle.pli_type_name_laws.specs.Nesting.{NestsWithin, BodyNests, ListNests, ElseNests}
 use Rattle.pli_type_name_laws.specs.Numbering.{IsNumbered, IsNumberedBody, AreNumbered, IsNumberedElse}
 use Rattle.pli_type_tree.specs.Templates.{Template}
 use Rattle.pli_type_tree.specs.TypedTree as typed
-use Rattle.pli_type_tree.specs.TypedTree.{Form, TypedStatement, TypedStatements, NoStatement, StatementThen, OtherWise, NoElse, Else}
-use Rattle.pli_type_tree.specs.TypedTree.{TypedExpression, Iteration, Global, TypedProcedure, TypedUnit}
+use Rattle.pli_type_tree.specs.TypedTree.{Form, TypedStatement, TypedStatements, OtherWise, NoElse, Else}
+use Rattle.pli_type_tree.specs.TypedTree.{Global, TypedProcedure, TypedUnit}
 use Rattle.pli_type_bounds.proofs.FormsFit.{condition_fits, items_fit, assignment_fits, call_fits, return_fits, goto_fits, iteration_fits}
-use Rattle.pli_type_bounds.proofs.Given.{OnRead, OnTyped, all_behind}
+use Rattle.pli_type_laws.proofs.Denotations.{OnRead}
+use Rattle.pli_type_laws.proofs.TypedParts.{OnTyped}
+use Rattle.pli_type_name_laws.proofs.InitialHeld.{all_behind}
 use Rattle.pli_type_bounds.proofs.Meanings.{IsMeaning}
 use Rattle.pli_deck_laws.specs.Limits.{link_limit, parameter_limit, word_limit, IfThere, IsDescription, IsTemplate}
 use Rattle.pli_source_laws.specs.Sources.{IsSourceStatement, IsSourceBody, IsSourceElse, AreSourceStatements}
 use Rattle.pli_deck_laws.specs.WellFormed.{HasBlock, IsHead, IsExpression, IsIteration, IsStatement, IsForm, IsElse, AreStatements, IsProcedure, kept_in, kept_in_form, kept_in_else, kept_among}
-
--- a unit by its parts
-abbrev pub unit_by : ExternalProcedure → (is_later : ℕ → Bool) → (meaning : (blocks : List ℕ) → ℕ → NamedAs)
-    → (parameters : (block : ℕ) → List Description) → (returned : (block : ℕ) → Option Description)
-    → (automatic : (block : ℕ) → List Template) → (globals : List Global) → NamedUnit
-unit_by tree is_later meaning parameters returned automatic globals = record {
-  tree = tree;
-  compiled = record { greatest = 31; is_later = is_later };
-  naming = λ blocks. record { greatest = 31; meaning = meaning blocks };
-  parameters = parameters;
-  returned = returned;
-  automatic = automatic;
-  globals = globals;
-}
 
 -- what is to be known of a unit: names mean what is within the limits, blocks have few parameters and templates
 -- within the limits, and so many of them are those of the typed unit
@@ -89,11 +77,6 @@ map_length (b ∷ bs) = ap suc (map_length bs)
 deeper_in : (levels : ℕ) (F : ℕ → Type 0) (X : Type 0) → Deeper F levels → ((m : ℕ) → levels ≡ suc m → F m → X) → X
 deeper_in zero F X h g = absurd h
 deeper_in (suc m) F X h g = g m refl h
-
--- what is given, as other laws say it
-of_law : {A : Type 0} (P : A → Type 0) (r : Result A Fault) → laws.OnRead P r → OnRead P r
-of_law P (Ok x) h = h
-of_law P (Err f) h = tt
 
 both_read : {A : Type 0} (P Q : A → Type 0) (r : Result A Fault) → OnRead P r → OnRead Q r → OnRead (λ x. P x × Q x) r
 both_read P Q (Ok x) h g = (h, g)
@@ -150,7 +133,7 @@ module _ (t : TypedUnit) (program : ExternalProcedure) (is_later : ℕ → Bool)
     (parameters : ℕ → List Description) (returned : ℕ → Option Description) (automatic : ℕ → List Template) (globals : List Global)
     (size : ℕ) (fits : UnitFits t meaning parameters returned automatic size) where
   abbrev U : NamedUnit
-  U = unit_by program is_later meaning parameters returned automatic globals
+  U = unit_with program is_later meaning parameters returned automatic globals
 
   abbrev numbers : Surroundings → List ℕ
   numbers s = map (λ b. b.number) s.blocks
@@ -280,8 +263,7 @@ module _ (t : TypedUnit) (program : ExternalProcedure) (is_later : ℕ → Bool)
         (own_fits t (λ i. IsIteration t i × HasOwn x.temporary range i) (iteration (naming_at U s) x.temporary variable equals first range tested)
         (both_read (IsIteration t) (HasOwn x.temporary range) (iteration (naming_at U s) x.temporary variable equals first range tested)
         (iteration_fits t (meaning (numbers s)) (known m s sits) x.temporary variable equals first range tested l.0)
-        (of_law (HasOwn x.temporary range) (iteration (naming_at U s) x.temporary variable equals first range tested)
-        (iteration_keeps (naming_at U s) x.temporary variable equals first range tested))))
+        (iteration_keeps (naming_at U s) x.temporary variable equals first range tested)))
         (list_fits false i (in_group ss s) (behind_limits range x) a ss (in_a_group i s ss (subst (λ k. Sits size k s) e sits)) g h.0
         (omega (arith, low)) room l.1))
     body_fits d m s x number at a (tree.If tested consequence alternative) sits n h lt low room l =

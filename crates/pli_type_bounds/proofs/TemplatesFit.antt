@@ -1,5 +1,5 @@
 -- What variables are made from is within the limits: their descriptions, and each initial value with its scalar.
-use Rattle.std.specs.Prelude.{◌≡◌, ℕ, zero, suc, ◌+◌, ◌-◌, ◌*◌, ◌^◌, ◌<◌, ◌≤◌, nat_le, Bool, true, false, IsTrue, ℤ, pos, unsigned_abs}
+use Rattle.std.specs.Prelude.{◌≡◌, ℕ, zero, suc, ◌+◌, ◌-◌, ◌^◌, ◌<◌, ◌≤◌, nat_le, Bool, true, false, IsTrue, ℤ, pos, unsigned_abs}
 use Rattle.std.specs.Prelude.{Some, List, [], ◌∷◌, ◌++◌, length, map, take, replicate, slice_get, if◌then◌else◌, refl}
 use Rattle.std.specs.List.{flat_map, AllByRecursion}
 use Rattle.std.proofs.Common.{sym, ◌∙◌, ap, subst, arith, pow_pos, append_assoc, append-nil, length-append, length-take, eq-eqb, le-leb}
@@ -12,7 +12,7 @@ use Rattle.pli_base.specs.Name.{Name}
 use Rattle.pli_declare_attributes.specs.declared.completed.Scope.{Scope}
 use Rattle.pli_declare_attributes.specs.declared.completed.Scope.TheVariants as scopes
 use Rattle.pli_map.specs.Description.{Description, FixedBinary, Character, Varying, Bit, Array, Structure, Members, NoMembers, MemberThen}
-use Rattle.pli_map.specs.Scalars.{is_scalar, scalars_in, scalars_among}
+use Rattle.pli_map.specs.Scalars.{is_scalar, scalars_in}
 use Rattle.pli_map.specs.Sizes.{count_of, size_of}
 use Rattle.pli_map.specs.Values.{holds}
 use Rattle.pli_resolve.specs.Symbols.{Symbol, SymbolKind, Variable, Member, Label, Procedure, Entry, BuiltIn}
@@ -31,7 +31,7 @@ use Rattle.pli_type_tree.specs.WellTyped.{scalars_of, scalars_of_members}
 use Rattle.pli_value.specs.Numbers.{has_digits}
 use Rattle.pli_value.specs.Strings.{fitted}
 use Rattle.pli_value.specs.Value.{Value, Number, Characters, Bits}
-use Rattle.pli_type_bounds.proofs.Given.{all_behind}
+use Rattle.pli_type_name_laws.proofs.InitialHeld.{scalar_count, all_behind}
 use Rattle.pli_resolve_bounds.specs.SymbolBounds.{IsLimited}
 use Rattle.pli_initial_laws.specs.InitialCounts.{HasFewInitial, HaveFewInitial}
 use Rattle.pli_deck_laws.specs.Limits.{IsDescription, IsConstant, IsInitial, IsMade, IsTemplate, IsGlobal, word_limit}
@@ -104,22 +104,6 @@ kept_is (Bit k) (Characters s) plain one = bits_kept k (replicate k false) (few 
 kept_is (Array bs e) v plain one = absurd (not_true one)
 kept_is (Structure ds) v plain one = absurd (not_true one)
 kept_is d v plain one = absurd (not_true plain)
-
--- ---- how many scalars there are
-
-often_length : (k : ℕ) (ds : List Description) → length (flat_map (λ xs. xs) (replicate k ds)) ≡ k * length ds
-often_length zero ds = omega arith
-often_length (suc k) ds = omega (arith, length-append ds (flat_map (λ xs. xs) (replicate k ds)), often_length k ds)
-
-mutual
-  scalar_count : (d : Description) → length (scalars_of d) ≡ scalars_in d
-  scalar_count (Array bs e) = often_length (count_of bs) (scalars_of e) ∙ ap (λ m. count_of bs * m) (scalar_count e)
-  scalar_count (Structure ds) = member_count ds
-  scalar_count d = refl
-
-  member_count : (ds : Members) → length (scalars_of_members ds) ≡ scalars_among ds
-  member_count NoMembers = refl
-  member_count (MemberThen d ds) = omega (arith, length-append (scalars_of d) (scalars_of_members ds), scalar_count d, member_count ds)
 
 -- ---- which scalars an item has
 

@@ -19,7 +19,7 @@ use Rattle.pli_parse_statement.specs.StatementWords.{Context, a_procedure}
 use Rattle.pli_resolve.specs.ResolvedUnits.{ResolvedUnit, resolved_unit_of, all_symbols, meaning_at}
 use Rattle.pli_resolve.specs.TreeBlocks as source
 use Rattle.pli_type.specs.Checked as typing
-use Rattle.pli_type.specs.Checked.{in_unit, first_inside, external_of, typed_as, checked, unless_unbuilt}
+use Rattle.pli_type.specs.Checked.{in_unit, first_inside, typed_as, checked, unless_unbuilt}
 use Rattle.pli_type.specs.NamedUnits.{is_automatic, all_globals, block_symbols, parameters_of, returned_of, means_later, named_as}
 use Rattle.pli_type.specs.NamedUnits.{named_unit, templates_of, checked_unit}
 use Rattle.pli_type.specs.Names.{NamedUnit, NamedAs}
@@ -38,10 +38,11 @@ use Rattle.pli_type_name_laws.specs.UnitBlocks.{in_unit as block_in_unit, in_tre
 use Rattle.pli_type_tree.specs.TypedTree.{TypedStatements, TypedUnit}
 use Rattle.pli_gen_emit.specs.TreeTranslation.{blocks_among}
 use Rattle.pli_type_bounds.proofs.BlocksThere.{AreHere, list_here, has_block, has_slot}
-use Rattle.pli_type_bounds.proofs.Given.{OnTyped}
+use Rattle.pli_type_laws.proofs.TypedParts.{OnTyped}
+use Rattle.pli_type_laws.specs.TypedUnits.{unit_with}
 use Rattle.pli_type_bounds.proofs.NamesFit.{Has, Automatic, automatic_fit, all_globals_fit, meanings_fit, parameters_few, parameters_described, returned_described}
 use Rattle.pli_type_bounds.proofs.StatementsFit as fitting
-use Rattle.pli_type_bounds.proofs.StatementsFit.{unit_by, UnitFits, Fit, ListFits, list_fits}
+use Rattle.pli_type_bounds.proofs.StatementsFit.{UnitFits, Fit, ListFits, list_fits}
 use Rattle.pli_type_bounds.specs.UnitLaws.{TypedUnitsAreWellFormed}
 use Rattle.pli_resolve_bounds.proofs.StatementsCounted.{statements_are_few}
 use Rattle.pli_source_laws.proofs.ConstantsWithin.{constants_are_within_limits}
@@ -88,7 +89,7 @@ module _ (texts : Tokens) (u : ExternalProcedure) (read : unit_of texts ≡ Ok u
   meaning = λ blocks at. named_as 31 R blocks (meaning_at R at)
 
   abbrev U : NamedUnit
-  U = unit_by u (λ at. means_later (meaning_at R at)) meaning (parameters_of R) (returned_of R)
+  U = unit_with u (λ at. means_later (meaning_at R at)) meaning (parameters_of R) (returned_of R)
       (λ block. templates_of (is_automatic 31) (block_symbols R block)) (all_globals 31 (all_symbols R))
 
   -- how many statements there are

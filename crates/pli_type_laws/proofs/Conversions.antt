@@ -1,5 +1,5 @@
 -- Conversions: what they are fitted to, and characters of numbers.
-use Rattle.std.specs.Prelude.{◌≡◌, ℕ, Option, Some, None, option_map, [], ◌∷◌, refl}
+use Rattle.std.specs.Prelude.{◌≡◌, ℕ, Bool, true, false, if◌then◌else◌, Option, Some, None, option_map, [], ◌∷◌, refl}
 use Rattle.std.proofs.Common.{arith, subst}
 use Rattle.pli_map.specs.Description as described
 use Rattle.pli_map.specs.Description.{Description}
@@ -17,6 +17,10 @@ use Rattle.pli_type_tree.specs.WellTyped.{TypingContext, IsTyped, IsValueFor}
 abbrev pub OnGiven : {A : Type 0} → (A → Type 0) → Option A → Type 0
 OnGiven P (Some x) = P x
 OnGiven P None = Unit {0}
+
+pub given_if : {A : Type 0} (P : A → Type 0) (b : Bool) (o : Option A) → OnGiven P o → OnGiven P (if b then o else None)
+given_if P true o h = h
+given_if P false o h = tt
 
 pub within_self : (t : ValueType) → IsWithin t t
 within_self (Numbers p) = omega arith
@@ -46,21 +50,12 @@ module _ (s : TypingContext) where
       → OnGiven (Fits (described.FixedBinary precision)) (suited 31 (described.FixedBinary precision) e kind)
   numbers_fit precision e (types.FixedDecimal digits) h = (Numbers h.0, Numbers precision, h.1, tt, refl)
   numbers_fit precision e (types.FixedBinary q) h = (Numbers h.0, Numbers precision, h.1, tt, refl)
-  numbers_fit precision e types.Characters h = tt
-  numbers_fit precision e types.Bits h = tt
-  numbers_fit precision e types.Pointer h = tt
-  numbers_fit precision e types.Offset h = tt
-  numbers_fit precision e types.Area h = tt
+  numbers_fit precision e kind h = tt
 
   bits_fit : (k : ℕ) (e : TypedExpression) (kind : ExpressionType) → HasType s e kind
       → OnGiven (Fits (described.Bit k)) (suited 31 (described.Bit k) e kind)
-  bits_fit k e (types.FixedDecimal digits) h = tt
-  bits_fit k e (types.FixedBinary q) h = tt
-  bits_fit k e types.Characters h = tt
   bits_fit k e types.Bits h = (Strings OfBits h.0 h.1, Strings OfBits k k, h.2, tt, refl)
-  bits_fit k e types.Pointer h = tt
-  bits_fit k e types.Offset h = tt
-  bits_fit k e types.Area h = tt
+  bits_fit k e kind h = tt
 
   made_string : (e : TypedExpression) (width p : ℕ) → IsTyped 31 s e (Numbers p) → HaveColumns width p
       → IsTyped 31 s (with_one (ToCharacters width) e) (Strings OfCharacters width width)

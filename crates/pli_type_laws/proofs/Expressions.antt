@@ -10,7 +10,7 @@ use Rattle.pli_base.specs.declared.syntax.Joining.TheVariants.{Member, Located}
 use Rattle.pli_type.specs.ExpressionTypes.{TypedValue, precision_of, prefix_value, infix_value}
 use Rattle.pli_type.specs.FunctionCalls.{Denoted, Meant, OneValue, WholeAggregate, meant_as, Argument}
 use Rattle.pli_type.specs.FunctionCalls.{roles_of, function_called}
-use Rattle.pli_type.specs.Names.{NamedAs, AVariable, AFunction, AProcedure, ALabel, Untyped, NamedProcedure, Naming, Compiled}
+use Rattle.pli_type.specs.Names.{NamedAs, AVariable, AFunction, AProcedure, NamedProcedure, Naming, Compiled}
 use Rattle.pli_type.specs.ProcedureCalls.{arguments_passed, result_of, type_returned}
 use Rattle.pli_type.specs.References.{Role, AsValue, AsArgument, AsLocator, variable_meant}
 use Rattle.pli_type.specs.Typing.{first_token, how_many, or_fault, one_value}
@@ -156,23 +156,12 @@ module _ (is_later : ℕ → Bool) (meaning : ℕ → NamedAs) (s : TypingContex
         (λ gs h. read_then (HasValue s) (IsSegment s)
         (function_called 31 function at (roles_of function (how_many list)) gs) _
         (calls_have_type s function at (roles_of function (how_many list)) gs h) (λ v g. g))
-    begun_typed (AFunction function) k false located at (Given list) l =
-        read_then (AreArguments s) (IsSegment s) (all_arguments N [] list) _ (list_typed [] list l) (λ gs h. tt)
-    begun_typed (AFunction function) k true located at Absent l = tt
-    begun_typed (AFunction function) k false located at Absent l = tt
     begun_typed (AProcedure p) k true located at (Given list) l =
         read_then (AreArguments s) (IsSegment s) (all_arguments N [] list) _ (list_typed [] list l)
         (λ gs h. procedure_typed s p k at gs h)
-    begun_typed (AProcedure p) k false located at (Given list) l =
+    begun_typed a k call located at (Given list) l =
         read_then (AreArguments s) (IsSegment s) (all_arguments N [] list) _ (list_typed [] list l) (λ gs h. tt)
-    begun_typed (AProcedure p) k true located at Absent l = tt
-    begun_typed (AProcedure p) k false located at Absent l = tt
-    begun_typed (ALabel statement) k call located at (Given list) l =
-        read_then (AreArguments s) (IsSegment s) (all_arguments N [] list) _ (list_typed [] list l) (λ gs h. tt)
-    begun_typed (ALabel statement) k call located at Absent l = tt
-    begun_typed Untyped k call located at (Given list) l =
-        read_then (AreArguments s) (IsSegment s) (all_arguments N [] list) _ (list_typed [] list l) (λ gs h. tt)
-    begun_typed Untyped k call located at Absent l = tt
+    begun_typed a k call located at Absent l = tt
 
     subscripts_typed : (arguments : Arguments) → later_arguments C arguments ≡ false
         → OnRead (AreIndices s) (subscripts_in N arguments)

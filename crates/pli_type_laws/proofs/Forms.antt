@@ -17,7 +17,7 @@ use Rattle.pli_map.specs.Scalars.{is_scalar}
 use Rattle.pli_operation.specs.Operations.{Operation}
 use Rattle.pli_type.specs.ExpressionTypes.{TypedValue, precision_of, converted, conversions, printed}
 use Rattle.pli_type.specs.FunctionCalls.{Denoted, DenotesVariable, DenotesResult, Meant, OneValue, WholeAggregate, Argument}
-use Rattle.pli_type.specs.Names.{NamedAs, AVariable, AFunction, AProcedure, ALabel, Untyped, NamedProcedure, Naming, Compiled}
+use Rattle.pli_type.specs.Names.{NamedAs, AProcedure, ALabel, NamedProcedure, Naming, Compiled}
 use Rattle.pli_type.specs.ProcedureCalls.{arguments_passed}
 use Rattle.pli_type.specs.References.{AsArgument, AsLocator, AsTarget, Referent}
 use Rattle.pli_type.specs.StatementTyping.{aggregate_assigned, scalar_assigned, assigned, assignment, truth_of, condition, item, items}
@@ -49,12 +49,7 @@ module _ (s : TypingContext) where
   truth_typed : (e : TypedExpression) (kind : ExpressionType) → HasType s e kind
       → OnGiven (IsString 31 s OfBits) (truth_of (record { expression = e; kind = kind }))
   truth_typed e types.Bits h = (h.0, h.1, h.2)
-  truth_typed e (types.FixedDecimal d) h = tt
-  truth_typed e (types.FixedBinary p) h = tt
-  truth_typed e types.Characters h = tt
-  truth_typed e types.Pointer h = tt
-  truth_typed e types.Offset h = tt
-  truth_typed e types.Area h = tt
+  truth_typed e kind h = tt
 
   abbrev IsPrinted : TypedExpression → Type 0
   IsPrinted x = (kind : StringKind) × IsString 31 s kind x
@@ -191,10 +186,7 @@ module _ (is_later : ℕ → Bool) (meaning : ℕ → NamedAs) (s : TypingContex
 
     jump_typed : (a : NamedAs) → OnGiven (IsTypedForm 31 s) (jump su a)
     jump_typed (ALabel statement) = jump_found statement (label_found su.blocks statement) refl
-    jump_typed (AVariable v) = tt
-    jump_typed (AFunction f) = tt
-    jump_typed (AProcedure p) = tt
-    jump_typed Untyped = tt
+    jump_typed a = tt
 
     pub goto_is_typed : (label : Identifier) → OnRead (IsTypedForm 31 s) (goto_typed M su label)
     goto_is_typed label = read_option (IsTypedForm 31 s) NotYetBuilt label.at (jump su (meaning label.at)) (jump_typed (meaning label.at))

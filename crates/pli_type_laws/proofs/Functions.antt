@@ -16,7 +16,7 @@ use Rattle.pli_type.specs.NamedUnits.{is_plain, are_bounds}
 use Rattle.pli_type.specs.References.{Role}
 use Rattle.pli_type.specs.declared.expression_type.ExpressionType.{ExpressionType}
 use Rattle.pli_type.specs.declared.expression_type.ExpressionType.TheVariants as types
-use Rattle.pli_type_laws.proofs.Conversions.{OnGiven}
+use Rattle.pli_type_laws.proofs.Conversions.{OnGiven, given_if}
 use Rattle.pli_type_laws.proofs.Denotations.{OnRead, IsMeant, AreArguments, denoted_meant}
 use Rattle.pli_type_laws.proofs.Operators.{HasValue, has_precision, have_precisions, of_one, of_two, AreNumbers}
 use Rattle.pli_type_laws.specs.ExpressionTyping.{HasType, IsNumber}
@@ -194,23 +194,14 @@ module _ (s : TypingContext) where
   bound_at which (b ∷ bs) zero h = bound_typed (which b) h.0
   bound_at which (b ∷ bs) (suc k) h = bound_at which bs k h.1
 
-  given_if : {A : Type 0} (P : A → Type 0) (b : Bool) (o : Option A) → OnGiven P o → OnGiven P (if b then o else None)
-  given_if P true o h = h
-  given_if P false o h = tt
-
-  lows_small : (bs : List Bounds) → are_bounds bs ≡ true → BoundsAreSmall (λ b. b.low) bs
-  lows_small [] e = tt
-  lows_small (b ∷ bs) e =
+  bounds_small : (bs : List Bounds) → are_bounds bs ≡ true → BoundsAreSmall (λ b. b.low) bs × BoundsAreSmall (λ b. b.high) bs
+  bounds_small [] e = (tt, tt)
+  bounds_small (b ∷ bs) e =
       let both : ((nat_le (unsigned_abs b.low) 32768 && nat_le (unsigned_abs b.high) 32768) ≡ true)
       × (are_bounds bs ≡ true) = and_parts _ _ e in
-      (leb-true _ _ ((and_parts _ _ both.0).0), lows_small bs both.1)
-
-  highs_small : (bs : List Bounds) → are_bounds bs ≡ true → BoundsAreSmall (λ b. b.high) bs
-  highs_small [] e = tt
-  highs_small (b ∷ bs) e =
-      let both : ((nat_le (unsigned_abs b.low) 32768 && nat_le (unsigned_abs b.high) 32768) ≡ true)
-      × (are_bounds bs ≡ true) = and_parts _ _ e in
-      (leb-true _ _ ((and_parts _ _ both.0).1), highs_small bs both.1)
+      let here : (nat_le (unsigned_abs b.low) 32768 ≡ true) × (nat_le (unsigned_abs b.high) 32768 ≡ true) = and_parts _ _ both.0 in
+      let rest = bounds_small bs both.1 in
+      ((leb-true _ _ here.0, rest.0), (leb-true _ _ here.1, rest.1))
 
   -- a way to bounds, and that those of plain descriptions are small that way
   abbrev GivesSmall : (Bounds → ℤ) → Type 0
@@ -264,9 +255,9 @@ module _ (s : TypingContext) where
       division (meant_as x.denoted) (meant_as y.denoted) p.written (denoted_meant s x.denoted h.0)
       (denoted_meant s y.denoted h.1.0)
   arguments_give functions.LowBound (a ∷ n ∷ []) h =
-      bound_of (λ b. b.low) lows_small (meant_as a.denoted) n.written (denoted_meant s a.denoted h.0)
+      bound_of (λ b. b.low) (λ bs e. (bounds_small bs e).0) (meant_as a.denoted) n.written (denoted_meant s a.denoted h.0)
   arguments_give functions.HighBound (a ∷ n ∷ []) h =
-      bound_of (λ b. b.high) highs_small (meant_as a.denoted) n.written (denoted_meant s a.denoted h.0)
+      bound_of (λ b. b.high) (λ bs e. (bounds_small bs e).1) (meant_as a.denoted) n.written (denoted_meant s a.denoted h.0)
   arguments_give function gs h = by_values function gs h
 
   or_bad : (at : ℕ) (o : Option TypedValue) → OnGiven (HasValue s) o → OnRead (HasValue s) (or_bad_argument at o)

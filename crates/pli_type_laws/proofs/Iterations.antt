@@ -38,22 +38,13 @@ module _ (s : TypingContext) where
     (Numbers h.0, h.1, last (described.FixedBinary p) (Numbers h.0) (Numbers p) tt refl),
     ((p, refl), λ q. last (described.FixedBinary p) (Numbers q) (Numbers p) tt refl),
   )
-  numbers_convert p e types.Characters h = tt
-  numbers_convert p e types.Bits h = tt
-  numbers_convert p e types.Pointer h = tt
-  numbers_convert p e types.Offset h = tt
-  numbers_convert p e types.Area h = tt
+  numbers_convert p e kind h = tt
 
   bits_convert : (k : ℕ) (e : TypedExpression) (kind : ExpressionType) → HasType s e kind
       → OnGiven (Converts (described.Bit k) e) (conversions 31 (described.Bit k) kind)
-  bits_convert k e (types.FixedDecimal digits) h = tt
-  bits_convert k e (types.FixedBinary q) h = tt
-  bits_convert k e types.Characters h = tt
   bits_convert k e types.Bits h =
       ((Strings OfBits h.0 h.1, h.2, last (described.Bit k) (Strings OfBits h.0 h.1) (Strings OfBits k k) tt refl), tt)
-  bits_convert k e types.Pointer h = tt
-  bits_convert k e types.Offset h = tt
-  bits_convert k e types.Area h = tt
+  bits_convert k e kind h = tt
 
   -- characters of a number or of a string
   abbrev LeadsOn : Description → TypedExpression → List Operation → Type 0

@@ -1,7 +1,8 @@
 -- Parts of a typed unit that are numbered well, with the procedures in them.
 use Rattle.std.specs.Prelude.{◌≡◌, ℕ, zero, suc, ◌+◌, ◌≤◌, ◌<◌, List, [], ◌∷◌, ◌++◌, length}
 use Rattle.std.specs.List.{flat_map, AllByRecursion}
-use Rattle.std.proofs.Common.{arith, sym, ap, subst, length-append}
+use Rattle.std.proofs.Common.{arith, sym, ap, ◌∙◌, subst, length-append}
+use Rattle.std.proofs.lemmas.Grind.{flat_map-append}
 use Rattle.pli_gen_emit.specs.TreeTranslation.{BlockTree, blocks_of_procedure, blocks_in, blocks_of_form}
 use Rattle.pli_gen_emit.specs.TreeTranslation.{blocks_of_else, blocks_among}
 use Rattle.pli_gen_tree.specs.WellNumbered.{numbers_in, numbers_in_form, numbers_in_else, numbers_among, HasRoom, HasRoomForm}
@@ -34,36 +35,15 @@ blocks_within fs = flat_map blocks_of_procedure fs
 
 within_in : (n : ℕ) (fs gs : List TypedProcedure)
     → in_blocks n (blocks_within (fs ++ gs)) ≡ in_blocks n (blocks_within fs) + in_blocks n (blocks_within gs)
-within_in n [] gs = omega arith
-within_in n (f ∷ fs) gs =
-    omega (
-      arith,
-      in_both n (blocks_of_procedure f) (blocks_within (fs ++ gs)),
-      in_both n (blocks_of_procedure f) (blocks_within fs),
-      within_in n fs gs,
-    )
+within_in n fs gs = ap (in_blocks n) (flat_map-append blocks_of_procedure fs gs) ∙ in_both n (blocks_within fs) (blocks_within gs)
 
 within_of : (n : ℕ) (fs gs : List TypedProcedure)
     → of_blocks n (blocks_within (fs ++ gs)) ≡ of_blocks n (blocks_within fs) + of_blocks n (blocks_within gs)
-within_of n [] gs = omega arith
-within_of n (f ∷ fs) gs =
-    omega (
-      arith,
-      of_both n (blocks_of_procedure f) (blocks_within (fs ++ gs)),
-      of_both n (blocks_of_procedure f) (blocks_within fs),
-      within_of n fs gs,
-    )
+within_of n fs gs = ap (of_blocks n) (flat_map-append blocks_of_procedure fs gs) ∙ of_both n (blocks_within fs) (blocks_within gs)
 
 within_length : (fs gs : List TypedProcedure)
     → length (blocks_within (fs ++ gs)) ≡ length (blocks_within fs) + length (blocks_within gs)
-within_length [] gs = omega arith
-within_length (f ∷ fs) gs =
-    omega (
-      arith,
-      length-append (blocks_of_procedure f) (blocks_within (fs ++ gs)),
-      length-append (blocks_of_procedure f) (blocks_within fs),
-      within_length fs gs,
-    )
+within_length fs gs = ap length (flat_map-append blocks_of_procedure fs gs) ∙ length-append (blocks_within fs) (blocks_within gs)
 
 within_roomy : (fs gs : List TypedProcedure) → AreRoomy (blocks_within fs) → AreRoomy (blocks_within gs)
     → AreRoomy (blocks_within (fs ++ gs))

@@ -192,7 +192,7 @@ procedure_null : (make : TypedStatements → TypedProcedure) (r : Result (WithPr
 procedure_null make (Ok y) = refl
 procedure_null make (Err fs) = tt
 
-nothing_left : (u : NamedUnit) (s : Surroundings) (x : Next) (number at : ℕ) (body : Body) → leaves_nothing body ≡ true
+pub nothing_left : (u : NamedUnit) (s : Surroundings) (x : Next) (number at : ℕ) (body : Body) → leaves_nothing body ≡ true
     → OnTyped (λ y. y.part ≡ typed.Null) (body_typed u s x number at body)
 nothing_left u s x number at (tree.Declare declared) e = refl
 nothing_left u s x number at (tree.Procedure heading ss end) e =

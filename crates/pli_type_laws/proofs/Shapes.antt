@@ -28,7 +28,7 @@ use Rattle.pli_type_laws.proofs.Expressions.{read_option}
 use Rattle.pli_type_laws.proofs.References.{read_if}
 use Rattle.pli_type_tree.specs.Iterations.{temporaries_of}
 use Rattle.pli_type_tree.specs.TypedTree as typed
-use Rattle.pli_type_tree.specs.TypedTree.{Form, TypedRange, Iteration, Once, ToBy, ByTo, Repeated}
+use Rattle.pli_type_tree.specs.TypedTree.{Form, TypedRange, Iteration, ToBy, ByTo}
 
 -- whatever was read
 read_any : {A B : Type 0} (Q : B → Type 0) (r : Result A Fault) (f : A → Result B Fault) → ((x : A) → OnRead Q (f x))
@@ -109,29 +109,23 @@ simple_return n s at (Some e) =
 abbrev Keeps : Option Range → TypedRange → Type 0
 Keeps range kept = temporaries_of kept ≡ suc (limits_kept range)
 
+-- a second limit is read
+read_some : (P : TypedRange → Type 0) (make : Option typed.TypedExpression → TypedRange) (r : Result typed.TypedExpression Fault)
+    → ((y : typed.TypedExpression) → P (make (Some y))) → OnRead P ((r >>= λ y. Ok (Some y)) >>= λ y. Ok (make y))
+read_some P make (Ok y) h = h y
+read_some P make (Err e) h = tt
+
 limits_keep : (n : Naming) (range : Option Range) → OnRead (Keeps range) (limits n range)
 limits_keep n None = refl
 limits_keep n (Some (tree.Repeat next)) = refl
 limits_keep n (Some (tree.To to None)) = read_any (Keeps (Some (tree.To to None))) (limit n to) _ (λ x. refl)
 limits_keep n (Some (tree.To to (Some by))) =
     read_any (Keeps (Some (tree.To to (Some by)))) (limit n to) _
-    (λ x. read_with x (limit n by) (λ y. refl))
-  where
-    read_with : (x : typed.TypedExpression) (r : Result typed.TypedExpression Fault)
-        → ((y : typed.TypedExpression) → Keeps (Some (tree.To to (Some by))) (ToBy x (Some y)))
-        → OnRead (Keeps (Some (tree.To to (Some by)))) ((r >>= λ y. Ok (Some y)) >>= λ y. Ok (ToBy x y))
-    read_with x (Ok y) h = h y
-    read_with x (Err e) h = tt
+    (λ x. read_some (Keeps (Some (tree.To to (Some by)))) (ToBy x) (limit n by) (λ y. refl))
 limits_keep n (Some (tree.By by None)) = read_any (Keeps (Some (tree.By by None))) (limit n by) _ (λ x. refl)
 limits_keep n (Some (tree.By by (Some to))) =
     read_any (Keeps (Some (tree.By by (Some to)))) (limit n by) _
-    (λ x. read_with x (limit n to) (λ y. refl))
-  where
-    read_with : (x : typed.TypedExpression) (r : Result typed.TypedExpression Fault)
-        → ((y : typed.TypedExpression) → Keeps (Some (tree.By by (Some to))) (ByTo x (Some y)))
-        → OnRead (Keeps (Some (tree.By by (Some to)))) ((r >>= λ y. Ok (Some y)) >>= λ y. Ok (ByTo x y))
-    read_with x (Ok y) h = h y
-    read_with x (Err e) h = tt
+    (λ x. read_some (Keeps (Some (tree.By by (Some to)))) (ByTo x) (limit n to) (λ y. refl))
 
 repeat_keeps : (n : Naming) (d : Description) (kept : TypedRange) (range : Option Range) → Keeps range kept
     → OnRead (Keeps range) (with_repeat n d kept range)

@@ -1,4 +1,4 @@
--- What expressions that the type checker gives hold: values of their types.
+-- What expressions that the type checker gives hold (own): values of their types.
 use Rattle.std.specs.Prelude.{◌≡◌, ℕ, ◌≤◌, ◌*◌, Some}
 use Rattle.pli_map.specs.Description.{Description}
 use Rattle.pli_type.specs.ExpressionTypes.{TypedValue, columns, binary_digits, converted, printed}

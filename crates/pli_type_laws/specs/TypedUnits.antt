@@ -1,4 +1,4 @@
--- What the type checker gives is well typed and numbered well.
+-- What the type checker gives is well typed and numbered well (own).
 use Rattle.std.specs.Prelude.{◌≡◌, ℕ, Bool, true, Option, None, List, [], Ok}
 use Rattle.pli_base.specs.Statements.{ExternalProcedure}
 use Rattle.pli_base.specs.Words.{Tokens}

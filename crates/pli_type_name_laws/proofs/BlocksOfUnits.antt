@@ -12,7 +12,7 @@ use Rattle.pli_resolve.specs.declared.block_numbers.ResolvedBlockKind.TheVariant
 use Rattle.pli_resolve.specs.laws.BlockLaws as laws
 use Rattle.pli_resolve.proofs.BlocksOfTrees.{blocks_of_the_tree}
 use Rattle.pli_type.specs.StatementTyping.{Enclosing, enclosing, labels_of, with_labels}
-use Rattle.pli_type_name_laws.specs.SourceBlocks.{of_unit, innermost, begun_in, begun_by, begun_among, begun_behind}
+use Rattle.pli_type_name_laws.specs.SourceBlocks.{SourceBlock, of_unit, innermost, begun_in, begun_by, begun_among, begun_behind}
 use Rattle.pli_type_name_laws.specs.SourceBlocks.{unit_blocks}
 use Rattle.pli_type_name_laws.specs.UnitBlocks.{in_unit, in_tree, BlocksAreOfTree}
 
@@ -22,6 +22,10 @@ in_walk b = (b.kind, b.outer)
 map_both : {A B : Type 0} (f : A → B) (xs ys : List A) → map f (xs ++ ys) ≡ map f xs ++ map f ys
 map_both f [] ys = refl
 map_both f (x ∷ xs) ys = ap (λ zs. f x ∷ zs) (map_both f xs ys)
+
+both_walks : (us vs : List TreeBlock) (cs ds : List SourceBlock) → map in_walk us ≡ map in_tree cs → map in_walk vs ≡ map in_tree ds → map in_walk (us ++ vs) ≡ map in_tree (cs ++ ds)
+both_walks us vs cs ds e f =
+    map_both in_walk us vs ∙ ap (λ zs. zs ++ map in_walk vs) e ∙ ap (λ zs. map in_tree cs ++ zs) f ∙ sym (map_both in_tree cs ds)
 
 innermost_kept : (labels : List ℕ) (around : List Enclosing) (outer : ℕ) → innermost around ≡ Some outer
     → innermost (with_labels labels around) ≡ Some outer
@@ -47,13 +51,9 @@ mutual
       walk_among (with_labels (labels_of statements) around) outer x statements
       (innermost_kept (labels_of statements) around outer e)
   walk_by around outer x number (tree.If condition consequence alternative) e =
-      map_both in_walk (walked.statement_blocks outer x consequence)
-      (walked.alternative_blocks outer (x + walked.blocks_in consequence) alternative)
-      ∙ ap (λ bs. bs ++ map in_walk (walked.alternative_blocks outer (x + walked.blocks_in consequence) alternative))
-      (walk_in around outer x consequence e)
-      ∙ ap (λ bs. map in_tree (begun_in around x consequence) ++ bs)
-      (walk_behind around outer (x + walked.blocks_in consequence) alternative e)
-      ∙ sym (map_both in_tree (begun_in around x consequence) (begun_behind around (x + walked.blocks_in consequence) alternative))
+      both_walks (walked.statement_blocks outer x consequence) (walked.alternative_blocks outer (x + walked.blocks_in consequence) alternative)
+      (begun_in around x consequence) (begun_behind around (x + walked.blocks_in consequence) alternative)
+      (walk_in around outer x consequence e) (walk_behind around outer (x + walked.blocks_in consequence) alternative e)
   walk_by around outer x number (tree.On condition unit) e =
       ap (λ (o : Option ℕ). (kinds.OnUnit, o) ∷ map in_walk (walked.statement_blocks x (suc x) unit)) (sym e)
       ∙ ap (λ bs. (kinds.OnUnit, innermost around) ∷ bs) (walk_in (of_unit x ∷ around) x (suc x) unit refl)
@@ -63,13 +63,9 @@ mutual
       → map in_walk (walked.statements_blocks outer x ss) ≡ map in_tree (begun_among around x ss)
   walk_among around outer x Ended e = refl
   walk_among around outer x (Before first more) e =
-      map_both in_walk (walked.statement_blocks outer x first)
-      (walked.statements_blocks outer (x + walked.blocks_in first) more)
-      ∙ ap (λ bs. bs ++ map in_walk (walked.statements_blocks outer (x + walked.blocks_in first) more))
-      (walk_in around outer x first e)
-      ∙ ap (λ bs. map in_tree (begun_in around x first) ++ bs)
-      (walk_among around outer (x + walked.blocks_in first) more e)
-      ∙ sym (map_both in_tree (begun_in around x first) (begun_among around (x + walked.blocks_in first) more))
+      both_walks (walked.statement_blocks outer x first) (walked.statements_blocks outer (x + walked.blocks_in first) more)
+      (begun_in around x first) (begun_among around (x + walked.blocks_in first) more)
+      (walk_in around outer x first e) (walk_among around outer (x + walked.blocks_in first) more e)
 
   walk_behind : (around : List Enclosing) (outer x : ℕ) (a : Alternative) → innermost around ≡ Some outer
       → map in_walk (walked.alternative_blocks outer x a) ≡ map in_tree (begun_behind around x a)

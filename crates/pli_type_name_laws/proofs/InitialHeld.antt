@@ -112,7 +112,7 @@ often_length zero ds = omega arith
 often_length (suc k) ds = omega (arith, length-append ds (flat_map (λ xs. xs) (replicate k ds)), often_length k ds)
 
 mutual
-  scalar_count : (d : Description) → length (scalars_of d) ≡ scalars_in d
+  pub scalar_count : (d : Description) → length (scalars_of d) ≡ scalars_in d
   scalar_count (Array bs e) = often_length (count_of bs) (scalars_of e) ∙ ap (λ m. count_of bs * m) (scalar_count e)
   scalar_count (Structure ds) = member_count ds
   scalar_count d = refl
@@ -128,7 +128,7 @@ abbrev Suits : ℕ → List Description → NumberedScalar → Type 0
 Suits n whole s =
     (slice_get whole s.scalar ≡ Some s.description) × (is_plain n s.description ≡ true) × (is_scalar s.description ≡ true)
 
-all_behind : {A : Type 0} (P : A → Type 0) (xs ys : List A) → AllByRecursion P xs → AllByRecursion P ys → AllByRecursion P (xs ++ ys)
+pub all_behind : {A : Type 0} (P : A → Type 0) (xs ys : List A) → AllByRecursion P xs → AllByRecursion P ys → AllByRecursion P (xs ++ ys)
 all_behind P [] ys h g = g
 all_behind P (x ∷ xs) ys h g = (h.0, all_behind P xs ys h.1 g)
 

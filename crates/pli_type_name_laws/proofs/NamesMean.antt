@@ -33,6 +33,12 @@ same_procedure : (p q : NamedProcedure) → AProcedure p ≡ AProcedure q → p 
 same_procedure p q e = cc
 
 module _ (n : ℕ) (r : ResolvedUnit) (blocks : List ℕ) where
+  none_there : (key : SymbolKey) → symbol_at r key ≡ None → declared_as n r blocks key ≡ Untyped
+  none_there key e = rw e refl
+
+  one_there : (key : SymbolKey) (s : Symbol) → symbol_at r key ≡ Some s → declared_as n r blocks key ≡ symbol_meant n r blocks key s.kind
+  one_there key s e = rw e refl
+
   -- ---- variables
 
   module _ (v : NamedVariable) where
@@ -91,14 +97,8 @@ module _ (n : ℕ) (r : ResolvedUnit) (blocks : List ℕ) where
     of_symbol key s BuiltIn there is e = absurd (untyped e)
 
     of_declared : (key : SymbolKey) (o : Option Symbol) → symbol_at r key ≡ o → declared_as n r blocks key ≡ AVariable v → Begins
-    of_declared key None there e = absurd (untyped (sym (none_there there) ∙ e))
-      where
-        none_there : symbol_at r key ≡ None → declared_as n r blocks key ≡ Untyped
-        none_there e = rw e refl
-    of_declared key (Some s) there e = of_symbol key s s.kind there refl (sym (one_there there) ∙ e)
-      where
-        one_there : symbol_at r key ≡ Some s → declared_as n r blocks key ≡ symbol_meant n r blocks key s.kind
-        one_there e = rw e refl
+    of_declared key None there e = absurd (untyped (sym (none_there key there) ∙ e))
+    of_declared key (Some s) there e = of_symbol key s s.kind there refl (sym (one_there key s there) ∙ e)
 
     pub variable_begins : (o : Option NameMeaning) → named_as n r blocks o ≡ AVariable v → Begins
     variable_begins None e = absurd (untyped e)
@@ -195,14 +195,8 @@ module _ (n : ℕ) (r : ResolvedUnit) (blocks : List ℕ) where
     symbol_named key s there BuiltIn is e = absurd (nothing e)
 
     declared_named : (key : SymbolKey) (o : Option Symbol) → symbol_at r key ≡ o → declared_as n r blocks key ≡ AProcedure p → IsNamed
-    declared_named key None there e = absurd (nothing (sym (none_there there) ∙ e))
-      where
-        none_there : symbol_at r key ≡ None → declared_as n r blocks key ≡ Untyped
-        none_there e = rw e refl
-    declared_named key (Some s) there e = symbol_named key s there s.kind refl (sym (one_there there) ∙ e)
-      where
-        one_there : symbol_at r key ≡ Some s → declared_as n r blocks key ≡ symbol_meant n r blocks key s.kind
-        one_there e = rw e refl
+    declared_named key None there e = absurd (nothing (sym (none_there key there) ∙ e))
+    declared_named key (Some s) there e = symbol_named key s there s.kind refl (sym (one_there key s there) ∙ e)
 
     pub procedure_named_so : (o : Option NameMeaning) → named_as n r blocks o ≡ AProcedure p → IsNamed
     procedure_named_so None e = absurd (nothing e)

@@ -1,5 +1,5 @@
--- Facts about the names of a unit: where its variables begin, which parts of them references lead to, and
--- which procedures are called.
+-- Facts about the names of a unit (own): where its variables begin, which parts of them references lead to,
+-- and which procedures are called.
 use Rattle.std.specs.Prelude.{◌≡◌, ℕ, IsTrue, Option, Some, None, List, [], ◌∷◌, length, map, slice_get}
 use Rattle.pli_map.specs.Description.{Description}
 use Rattle.pli_resolve.specs.declared.block_numbers.ResolvedBlockKind.TheVariants as kinds
@@ -62,6 +62,8 @@ pub record ProcedureFacts (u : NamedUnit) (blocks : List ℕ) (p : NamedProcedur
   pub called : IsCalled u blocks p p.callee
   pub plain : (d : Description) → p.returned ≡ Some d → IsTrue (is_plain 31 d)
 
+-- what names mean is there, in all blocks; variables begin with values of their scalars; and BEGIN blocks
+-- have no parameters
 pub record NameFacts (u : NamedUnit) : Type 0 where
   pub variables :
       (blocks : List ℕ) (at : ℕ) (v : NamedVariable) → (u.naming blocks).meaning at ≡ AVariable v

@@ -10,6 +10,7 @@ abbrev mutual
   pub NestsWithin : (direct : Bool) → (levels : ℕ) → Statement → Type 0
   NestsWithin direct n (Numbered number label at body) = BodyNests direct n body
 
+  -- the same of what a statement is
   pub BodyNests : (direct : Bool) → (levels : ℕ) → Body → Type 0
   BodyNests direct n (Procedure heading statements end) =
       IsTrue direct × Deeper (λ m. ListNests true m statements) n
@@ -20,10 +21,12 @@ abbrev mutual
   BodyNests direct n (On condition unit) = Deeper (λ m. NestsWithin false m unit) n
   BodyNests direct n body = Unit {0}
 
+  -- of each statement of a list
   pub ListNests : (direct : Bool) → (levels : ℕ) → Statements → Type 0
   ListNests direct n Ended = Unit {0}
   ListNests direct n (Before first more) = NestsWithin direct n first × ListNests direct n more
 
+  -- of an ELSE
   pub ElseNests : (levels : ℕ) → Alternative → Type 0
   ElseNests n NoElse = Unit {0}
   ElseNests n (Else statement) = NestsWithin false n statement

@@ -8,6 +8,7 @@ abbrev mutual
   pub IsNumbered : (from : ℕ) → Statement → Type 0
   IsNumbered k (Numbered number label at body) = (number ≡ k) × IsNumberedBody (suc k) body
 
+  -- the same of what a statement is, behind its own number
   pub IsNumberedBody : (from : ℕ) → Body → Type 0
   IsNumberedBody k (Procedure heading statements end) =
       AreNumbered k statements × (end ≡ k + list_count statements)
@@ -18,10 +19,12 @@ abbrev mutual
   IsNumberedBody k (On condition unit) = IsNumbered k unit
   IsNumberedBody k body = Unit {0}
 
+  -- of the statements of a list, one after another
   pub AreNumbered : (from : ℕ) → Statements → Type 0
   AreNumbered k Ended = Unit {0}
   AreNumbered k (Before first more) = IsNumbered k first × AreNumbered (k + count first) more
 
+  -- of an ELSE
   pub IsNumberedElse : (from : ℕ) → Alternative → Type 0
   IsNumberedElse k NoElse = Unit {0}
   IsNumberedElse k (Else statement) = IsNumbered k statement

@@ -30,6 +30,7 @@ abbrev mutual
   pub begun_in : (around : List Enclosing) → (next : ℕ) → Statement → List SourceBlock
   begun_in around x (Numbered number label at body) = begun_by around x number body
 
+  -- those of what a statement is: itself, if it is one, and those inside it
   pub begun_by : (around : List Enclosing) → (next number : ℕ) → Body → List SourceBlock
   begun_by around x number (tree.Procedure heading statements end) =
       record { kind = kinds.Procedure; statement = number; around = around; labels = labels_of statements }
@@ -46,11 +47,13 @@ abbrev mutual
       ∷ begun_in (of_unit x ∷ around) (suc x) unit
   begun_by around x number body = []
 
+  -- those of the statements of a list
   pub begun_among : (around : List Enclosing) → (next : ℕ) → Statements → List SourceBlock
   begun_among around x Ended = []
   begun_among around x (Before first more) =
       begun_in around x first ++ begun_among around (x + blocks.blocks_in first) more
 
+  -- those of an ELSE
   pub begun_behind : (around : List Enclosing) → (next : ℕ) → Alternative → List SourceBlock
   begun_behind around x NoElse = []
   begun_behind around x (Else statement) = begun_in around x statement
@@ -93,5 +96,6 @@ procedure_known u number b = of_kind b.kind
     })
     of_kind other = None
 
+-- the procedures of a unit, each by the number of its block
 abbrev pub known_procedures : NamedUnit → (number : ℕ) → Option KnownProcedure
 known_procedures u number = option_and_then (procedure_known u number) (slice_get (unit_blocks u.tree) number)

@@ -4,9 +4,11 @@ use Rattle.pli_resolve.specs.ResolvedUnits.{ResolvedUnit, ResolvedBlock}
 use Rattle.pli_resolve.specs.declared.block_numbers.ResolvedBlockKind.{ResolvedBlockKind}
 use Rattle.pli_type_name_laws.specs.SourceBlocks.{SourceBlock, unit_blocks, innermost}
 
+-- what a block of a resolved unit is, and the block round it
 abbrev pub in_unit : ResolvedBlock → ResolvedBlockKind × Option ℕ
 in_unit b = (b.kind, b.outer)
 
+-- the same of a block of a tree
 abbrev pub in_tree : SourceBlock → ResolvedBlockKind × Option ℕ
 in_tree b = (b.kind, innermost b.around)
 

@@ -13,24 +13,26 @@ use Rattle.pli_type_tree.specs.TypedTree.{StatementThen, TypedProcedure, OwnVari
 use Rattle.pli_value.specs.Value.{Number, Characters}
 use Rattle.pli_deck_laws.specs.WellFormed.{IsWellFormed}
 
--- `M: PROC OPTIONS(MAIN); DCL X FIXED BIN(15) INIT(7); DCL N(2) CHAR(3) STATIC INIT('ABC', 'DEF');`
--- `DO X = 1 TO 3; CALL S(X, 5); END; S: PROC(A, B); DCL (A, B) FIXED BIN(15); END S; END M;`
--- and an entry that it declares
+-- a number
 abbrev pub number : ℕ → TypedExpression
 number n = Literal (Number (pos n))
 
+-- FIXED BINARY(15)
 abbrev pub small : Description
 small = FixedBinary 15
 
+-- the variable that counts
 abbrev pub counter : TypedReference
 counter = Whole (InSlot 0 0)
 
+-- a call with the variable and with 5
 abbrev pub calling : TypedStatement
 calling =
     Statement 5
     (Call (OfBlock 1)
     (ByPlace counter (ByDummy small (Calculated (Fit small) (OperandThen (number 5) NoOperand)) NoArgument)))
 
+-- a group that counts from 1 to 3, with that call
 abbrev pub counting : TypedStatement
 counting =
     Statement 4
@@ -44,6 +46,7 @@ counting =
       temporary = 0;
     }) (StatementThen calling NoStatement))
 
+-- the external procedure, whose variable begins with 7
 abbrev pub external : TypedProcedure
 external = record {
   head = record {
@@ -59,6 +62,7 @@ external = record {
   statements = StatementThen counting NoStatement;
 }
 
+-- the procedure that is called, of two parameters
 abbrev pub inner : TypedProcedure
 inner = record {
   head = record { number = 1; statement = 6; variables = []; temporaries = 0 };
@@ -68,6 +72,7 @@ inner = record {
   statements = NoStatement;
 }
 
+-- an array of two strings with initial values
 abbrev pub names : Template
 names = record {
   description = Array (record { low = pos 1; high = pos 2 } ∷ []) (Character 3);
@@ -77,6 +82,9 @@ names = record {
       ∷ [];
 }
 
+-- `M: PROC OPTIONS(MAIN); DCL X FIXED BIN(15) INIT(7); DCL N(2) CHAR(3) STATIC INIT('ABC', 'DEF'); DO X = 1
+-- TO 3; CALL S(X, 5); END; S: PROC(A, B); DCL (A, B) FIXED BIN(15); END S; END M;`, and an entry E that it
+-- declares
 abbrev pub worked : TypedUnit
 worked = record {
   name = codes "M";

@@ -5,6 +5,7 @@ use Rattle.pli_unit_code.specs.views.CodeView.{kind_view}
 use Rattle.pli_gen_emit.specs.TreeTranslation.{BlockTree}
 use Rattle.pli_gen_emit.specs.declared.block.BlockSource.{BlockSource}
 
+-- a block with what it executes
 abbrev pub block_tree : BlockSource → BlockTree
 block_tree b = record {
   kind = kind_view b.kind;
@@ -15,5 +16,6 @@ block_tree b = record {
   statements = statements_view b.statements.now;
 }
 
+-- the blocks of a unit
 abbrev pub block_trees : List BlockSource → List BlockTree
 block_trees bs = map block_tree bs

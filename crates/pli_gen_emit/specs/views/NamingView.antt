@@ -8,6 +8,7 @@ use Rattle.pli_machine_step.specs.Program as plain
 use Rattle.pli_gen_emit.specs.declared.naming.NamingInstruction.{NamingInstruction}
 use Rattle.pli_gen_emit.specs.declared.naming.NamingInstruction.TheVariants as naming
 
+-- an instruction
 abbrev pub naming_view : NamingInstruction → plain.Instruction
 naming_view (naming.Step s) = plain.Step s
 naming_view (naming.Line s) = plain.Line s

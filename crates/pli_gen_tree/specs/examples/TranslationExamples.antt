@@ -23,13 +23,15 @@ use Rattle.pli_gen_tree.specs.Limits.{is_too_long}
 use Rattle.pli_gen_tree.specs.WellNumbered.{IsWellNumbered}
 use Rattle.pli_gen_emit.specs.TreeTranslation.{list_code, place_code, statement_code, unit_code}
 
--- the variable in the first slot, and in the second
+-- the variable in the first slot
 abbrev first : TypedReference
 first = Whole (InSlot 0 0)
 
+-- the variable in the second slot
 abbrev second : TypedReference
 second = Whole (InSlot 0 1)
 
+-- a constant number
 abbrev number : ℕ → TypedExpression
 number n = Literal (Number (pos n))
 
@@ -109,14 +111,16 @@ Counted =
     ∷ Line 2 ∷ Local 0 0 ∷ Local 0 0 ∷ Load ∷ op.TakeTemporary 2 ∷ Operate calculate.Add
     ∷ Operate (calculate.Fit (FixedBinary 15)) ∷ Store ∷ Jump 11 ∷ []
 
--- `M: PROC OPTIONS(MAIN); BEGIN; GOTO L; END; F: PROC RETURNS(BIT); END F;` and then
--- `L: IF F() THEN ; ELSE STOP; DO WHILE(F()); ; END; END M;`: block 1 is the BEGIN, block 2 F
+-- a block of this number, which begins at a statement and has no variables
 abbrev head : (number statement : ℕ) → BlockHead
 head n s = record { number = n; statement = s; variables = []; temporaries = 0 }
 
+-- F()
 abbrev call_of_f : TypedExpression
 call_of_f = Called (OfBlock 2) NoArgument
 
+-- M: PROC OPTIONS(MAIN); BEGIN; GOTO L; END; and behind F, L: IF F() THEN ; ELSE STOP; DO WHILE(F()); ; END;
+-- END M; its BEGIN is block 1
 abbrev external : TypedProcedure
 external = record {
   head = head 0 1;
@@ -130,6 +134,7 @@ external = record {
       NoStatement));
 }
 
+-- F: PROC RETURNS(BIT); END F; in M, which is block 2
 abbrev function : TypedProcedure
 function = record {
   head = head 2 5;
@@ -139,6 +144,7 @@ function = record {
   statements = NoStatement;
 }
 
+-- the unit of both
 abbrev jumping : TypedUnit
 jumping = record {
   name = codes "M";
@@ -193,14 +199,15 @@ WholeUnit = (unit_code jumping []).blocks ≡
 abbrev pub NumberedWell : Type 0
 NumberedWell = IsWellNumbered jumping
 
--- `M: PROC OPTIONS(MAIN); DCL C CHAR(3); CALL S(5); PUT LIST(C, 5, ABS(+5));` and then
--- `S: PROC(P); DCL P CHAR(2); END S; END M;`
+-- 5 as characters
 abbrev characters_of_5 : TypedExpression
 characters_of_5 = Calculated (calculate.ToCharacters 4) (OperandThen (number 5) NoOperand)
 
+-- ABS(+5)
 abbrev absolute_of_5 : TypedExpression
 absolute_of_5 = Calculated calculate.Absolute (OperandThen (number 5) NoOperand)
 
+-- M: PROC OPTIONS(MAIN); DCL C CHAR(3); CALL S(5); PUT LIST(C, 5, ABS(+5)); END M;
 abbrev printing : TypedProcedure
 printing = record {
   head = record {
@@ -226,6 +233,7 @@ printing = record {
       NoStatement);
 }
 
+-- S: PROC(P); DCL P CHAR(2); END S; in M
 abbrev called : TypedProcedure
 called = record {
   head = head 1 5;
@@ -235,6 +243,7 @@ called = record {
   statements = NoStatement;
 }
 
+-- the unit of both
 abbrev printing_unit : TypedUnit
 printing_unit = record {
   name = codes "M";
@@ -261,6 +270,7 @@ InstructionsNumbered = (code_of printing_unit).instructions
     ∷ coded.Put ∷ coded.Constant 0 ∷ coded.Absolute ∷ coded.ToCharacters 5 ∷ coded.Put ∷ coded.Return 0
     ∷ coded.Return 0 ∷ []
 
+-- its code with so many globals
 abbrev with_globals : ℕ → tables.Code
 with_globals n = record (code_of printing_unit) { globals = replicate n (tables.OwnVariable 0) }
 
@@ -269,11 +279,11 @@ abbrev pub LimitsKept : Type 0
 LimitsKept = (is_too_long (code_of printing_unit) ≡ false)
     × (is_too_long (with_globals 65536) ≡ true) × (is_too_long (with_globals 65535) ≡ false)
 
--- `S: PROC(P); DCL P CHAR(2), N FIXED BIN(15) STATIC EXTERNAL, F ENTRY(CHAR(2)) RETURNS(BIT(1)),` and then
--- `V CHAR(2) STATIC; CALL G(P); IF F(P) THEN ; END S;` with `DCL G ENTRY(CHAR(2)) EXTERNAL`
+-- (P), where P is the first parameter
 abbrev of_p : TypedArguments
 of_p = ByPlace first NoArgument
 
+-- S: PROC(P); CALL G(P); IF F(P) THEN ; END S;
 abbrev calling : TypedProcedure
 calling = record {
   head = head 0 1;
@@ -285,6 +295,8 @@ calling = record {
       (StatementThen (Statement 4 (If (Called (OfEntry 1) of_p) (Statement 5 Null) NoElse)) NoStatement);
 }
 
+-- its unit, with DCL P CHAR(2), N FIXED BIN(15) STATIC EXTERNAL, F ENTRY(CHAR(2)) RETURNS(BIT(1)), V CHAR(2)
+-- STATIC, G ENTRY(CHAR(2)) EXTERNAL
 abbrev calling_unit : TypedUnit
 calling_unit = record {
   name = codes "S";

@@ -4,6 +4,7 @@ use Rattle.pli_gen_tree.specs.Encoding as plain
 use Rattle.pli_gen_tree.specs.declared.table.Tables.{Tables}
 use Rattle.pli_type_keys.specs.views.KeyView.{described, templated, valued}
 
+-- the entries of tables
 abbrev pub tables_view : Tables → plain.Tables
 tables_view t = record {
   descriptions = map described t.descriptions.keys;

@@ -24,16 +24,18 @@ use Rattle.pli_machine_step.specs.Runs.{Outcome, outcome_of, start, ProgramRunsT
 abbrev pub gives : List ℕ → Ending → ℕ → Outcome
 gives output ending column = record { output = output; ending = ending; column = column }
 
--- what a run has given after so many instructions, if it is over
+-- what a run has given, if it is over
 abbrev pub outcome_at : State → Option Outcome
 outcome_at (At here frames w left) = None
 outcome_at (Over ending w) = Some (outcome_of ending w)
 
+-- what a run with so many steps has given after so many instructions, if it is over
 abbrev pub after : Program → (steps instructions : ℕ) → Option Outcome
 after p steps instructions = outcome_at (iterate p instructions (start p steps))
 
 -- programs of one unit, whose block 0 is its procedure
 
+-- a block without parameters, variables and temporaries
 abbrev pub block : BlockKind → Option ℕ → (entry statement : ℕ) → Block
 block kind parent entry statement = record {
   kind = kind;
@@ -45,6 +47,7 @@ block kind parent entry statement = record {
   statement = statement;
 }
 
+-- a program of one unit, whose block 0 is its procedure
 abbrev pub program : List Block → List Instruction → Program
 program inner instructions = record {
   units =
@@ -62,17 +65,19 @@ program inner instructions = record {
 abbrev pub smallest : Program
 smallest = program [] (Return 0 ∷ [])
 
--- its one step is the activation of its procedure
+-- its one step is the activation of its procedure, so with none it stops
 abbrev pub SmallestStops : Type 0
 SmallestStops = ProgramRunsTo smallest 0 (gives [] OutOfSteps 1)
 
+-- with one step it ends
 abbrev pub SmallestEnds : Type 0
 SmallestEnds = ProgramRunsTo smallest 1 (gives [] Ended 1)
 
--- constants
+-- a constant of characters
 abbrev pub text : List ℕ → Instruction
 text characters = Constant (Characters characters)
 
+-- a constant number
 abbrev pub number : ℕ → Instruction
 number n = Constant (Number (pos n))
 
@@ -87,66 +92,77 @@ left_by_goto =
 abbrev pub GotoLeaves : Type 0
 GotoLeaves = after left_by_goto 5 8 ≡ Some (gives (codes "YES ") Ended 5)
 
--- with four, the statement that prints is not begun; with two, the call is no more than looked at
+-- with four, the statement that prints is not begun
 abbrev pub GotoStops : Type 0
 GotoStops = after left_by_goto 4 5 ≡ Some (gives [] OutOfSteps 1)
 
+-- with two, the call is no more than looked at
 abbrev pub CallStops : Type 0
 CallStops = after left_by_goto 2 2 ≡ Some (gives [] OutOfSteps 1)
 
--- a jump to itself: with no step between, the 65th is a fault
+-- a jump to itself
 abbrev pub turning : Program
 turning = program [] (Jump 0 ∷ [])
 
+-- 64 jumps with no step between are none too many
 abbrev pub JumpsGoOn : Type 0
 JumpsGoOn = after turning 1 64 ≡ None
 
+-- the 65th is a fault
 abbrev pub JumpsFault : Type 0
 JumpsFault = after turning 1 65 ≡ Some (gives [] MachineFault 1)
 
--- each instruction leads to the next one; a GOTO counts there too, a jump does not
+-- each instruction leads to the next one
 abbrev pub chain : (ℕ → Instruction) → (count from : ℕ) → List Instruction
 chain lead zero from = Return 0 ∷ []
 chain lead (suc count) from = lead (suc from) ∷ chain lead count (suc from)
 
+-- 64 GOTOs are none too many, though they lead forward
 abbrev pub GotosEnd : Type 0
 GotosEnd = after (program [] (chain (Goto 0) 64 0)) 1 65 ≡ Some (gives [] Ended 1)
 
+-- the 65th is a fault
 abbrev pub GotosFault : Type 0
 GotosFault = after (program [] (chain (Goto 0) 65 0)) 1 65 ≡ Some (gives [] MachineFault 1)
 
+-- jumps forward do not count
 abbrev pub JumpsEnd : Type 0
 JumpsEnd = after (program [] (chain Jump 65 0)) 1 66 ≡ Some (gives [] Ended 1)
 
--- where each turn takes a step, it goes on until no step is left
+-- each turn takes a step
 abbrev pub stepping : Program
 stepping = program [] (Step 2 ∷ Jump 0 ∷ [])
 
+-- it goes on until no step is left
 abbrev pub TurnsStop : Type 0
 TurnsStop = after stepping 101 201 ≡ Some (gives [] OutOfSteps 1)
 
--- a procedure that calls itself: the call of the activation that would be one too many is an error, also
--- where no step is left for it
+-- a procedure that calls itself
 abbrev pub recursive : Program
 recursive = program [] (Call 0 0 ∷ [])
 
+-- the call of the activation that would be one too many is an error, also where no step is left for it
 abbrev pub TooMany : Type 0
 TooMany = after recursive 1000 1000 ≡ Some (gives [] (Error TooManyActivations (codes "M") 1) 1)
 
+-- with a step less the run ends before
 abbrev pub ManyStop : Type 0
 ManyStop = after recursive 999 999 ≡ Some (gives [] OutOfSteps 1)
 
--- a block is entered by an instruction of its kind: a BEGIN block by BEGIN, which is no step
+-- a block of this kind is entered by this instruction
 abbrev pub entering : BlockKind → Instruction → Program
 entering kind instruction =
     program (block kind (Some 0) 2 3 ∷ []) (instruction ∷ Return 0 ∷ Return 0 ∷ [])
 
+-- a BEGIN block by BEGIN, which is no step
 abbrev pub BeginEnds : Type 0
 BeginEnds = after (entering BeginBlock (Begin 1)) 1 3 ≡ Some (gives [] Ended 1)
 
+-- a procedure not by BEGIN
 abbrev pub BeginFaults : Type 0
 BeginFaults = after (entering Procedure (Begin 1)) 1 1 ≡ Some (gives [] MachineFault 1)
 
+-- a BEGIN block not by a call
 abbrev pub CallFaults : Type 0
 CallFaults = after (entering BeginBlock (Call 1 0)) 1 1 ≡ Some (gives [] MachineFault 1)
 
@@ -170,10 +186,11 @@ shared = record {
   greatest = 31;
 }
 
+-- the argument is the variable itself
 abbrev pub ArgumentIsShared : Type 0
 ArgumentIsShared = after shared 2 11 ≡ Some (gives (codes "7 ") Ended 3)
 
--- a function's value is there for its caller; where none waits it is a fault
+-- a function's value is there for its caller
 abbrev pub FunctionGives : Type 0
 FunctionGives =
     after
@@ -181,6 +198,7 @@ FunctionGives =
     (Call 1 0 ∷ Put ∷ Return 0 ∷ text (codes "YES") ∷ ReturnValue 0 ∷ [])) 2 5
     ≡ Some (gives (codes "YES ") Ended 5)
 
+-- where none waits for it, it is a fault
 abbrev pub ValueFaults : Type 0
 ValueFaults =
     after (program [] (text (codes "YES") ∷ ReturnValue 0 ∷ [])) 1 2
@@ -219,26 +237,30 @@ counting =
     ∷ Load ∷ Operate (ToCharacters 1) ∷ Put ∷ Skip ∷ Local 0 0 ∷ Local 0 0 ∷ Load ∷ number 1 ∷ Operate Add
     ∷ Store ∷ Jump 1 ∷ Return 0 ∷ [])
 
+-- five steps and what is printed
 abbrev pub LoopEnds : Type 0
 LoopEnds =
     after counting 5 61
     ≡ Some (gives (codes "1 " ++ 10 ∷ codes "2 " ++ 10 ∷ codes "3 " ++ 10 ∷ []) Ended 1)
 
--- an element of an array (3) of FIXED BINARY(15) that there is not
+-- an array (3) of FIXED BINARY(15)
 abbrev pub row : Variable
 row =
     let d = Array (record { low = pos 1; high = pos 3 } ∷ []) (FixedBinary 15) in
     record { description = d; initial = first_values d }
 
+-- a program that prints an element of it
 abbrev pub element : (subscript : ℕ) → Program
 element subscript =
     with_variable row
     (Line 2 ∷ Local 0 0 ∷ Field 0 (FixedBinary 15) ∷ number subscript ∷ Subscript (pos 1) (pos 3) 2 ∷ Load
     ∷ Operate (ToCharacters 1) ∷ Put ∷ Return 0 ∷ [])
 
+-- element 3
 abbrev pub ElementPrints : Type 0
 ElementPrints = after (element 3) 1 9 ≡ Some (gives (codes "0 ") Ended 3)
 
+-- there is no element 4
 abbrev pub ElementFails : Type 0
 ElementFails = after (element 4) 1 5 ≡ Some (gives [] (Error SubscriptRange (codes "M") 2) 1)
 
@@ -250,13 +272,15 @@ printing operands operation = program [] (constants operands)
     constants [] = Operate operation ∷ Put ∷ Return 0 ∷ []
     constants (v ∷ vs) = Constant v ∷ constants vs
 
--- SUBSTR of a part that the string has, and of one that it has not
+-- SUBSTR('ABC', 2, count), printed
 abbrev pub part : (count : ℕ) → Program
 part count = printing (Characters (codes "ABC") ∷ Number (pos 2) ∷ Number (pos count) ∷ []) Substring
 
+-- a part that the string has
 abbrev pub PartPrints : Type 0
 PartPrints = after (part 2) 1 6 ≡ Some (gives (codes "BC ") Ended 4)
 
+-- one that it has not
 abbrev pub PartFails : Type 0
 PartFails = after (part 3) 1 4 ≡ Some (gives [] (Error StringRange (codes "M") 1) 1)
 
@@ -266,6 +290,7 @@ ComparisonPrints =
     after (printing (Characters (codes "A") ∷ Characters (codes "A B") ∷ []) (Compare Less)) 1 5
     ≡ Some (gives (codes "'1'B ") Ended 6)
 
+-- bits are printed as a constant
 abbrev pub BitsPrint : Type 0
 BitsPrint =
     after (program [] (Constant (Bits (true ∷ false ∷ true ∷ [])) ∷ Put ∷ Return 0 ∷ [])) 1 3
@@ -277,10 +302,11 @@ SkipEndsLine =
     after (program [] (text (codes "A") ∷ Put ∷ Skip ∷ text (codes "B") ∷ Put ∷ Return 0 ∷ [])) 1 6
     ≡ Some (gives (codes "A " ++ 10 ∷ codes "B ") Ended 3)
 
--- two activations of a procedure each add 1 to a variable that is made once
+-- a variable that begins with 5
 abbrev pub five : Variable
 five = record { description = FixedBinary 15; initial = Number (pos 5) ∷ [] }
 
+-- two activations of a procedure each add 1 to it, as it is made once
 abbrev pub twice : Program
 twice = record {
   units =
@@ -296,10 +322,11 @@ twice = record {
   greatest = 31;
 }
 
+-- so the procedure prints 7
 abbrev pub StaticIsShared : Type 0
 StaticIsShared = after twice 3 21 ≡ Some (gives (codes "7 ") Ended 3)
 
--- programs of two units, each with one procedure; the first one, M, calls the procedure of the other, N
+-- a unit with one procedure
 abbrev pub unit : (name : List ℕ) → List GlobalCode → List Instruction → UnitCode
 unit name globals instructions = record {
   name = name;
@@ -308,6 +335,7 @@ unit name globals instructions = record {
   instructions = instructions;
 }
 
+-- a program of two units: M calls the procedure of the unit of this number, and prints X; the other one is N
 abbrev pub units : (entry : ℕ) → List Instruction → Program
 units entry other = record {
   units =
@@ -318,13 +346,15 @@ units entry other = record {
   greatest = 31;
 }
 
--- the other one stores 7 in a variable that both have; the call is a step
+-- N stores 7 in X, which both have
 abbrev pub storing : List Instruction
 storing = Global 0 ∷ number 7 ∷ Store ∷ Return 0 ∷ []
 
+-- M prints it
 abbrev pub UnitsShare : Type 0
 UnitsShare = after (units 1 storing) 2 10 ≡ Some (gives (codes "7 ") Ended 3)
 
+-- the call is a step
 abbrev pub UnitsStop : Type 0
 UnitsStop = after (units 1 storing) 1 1 ≡ Some (gives [] OutOfSteps 1)
 

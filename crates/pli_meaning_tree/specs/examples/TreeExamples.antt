@@ -65,9 +65,11 @@ unit_of name signature globals procedures = record {
   procedures = procedures;
 }
 
+-- what takes nothing and gives nothing
 abbrev pub nothing_given : Signature
 nothing_given = record { parameters = []; result = None }
 
+-- the program of one unit M of these procedures
 abbrev pub program_of : List TypedProcedure → TypedProgram
 program_of procedures = record {
   units = unit_of (codes "M") nothing_given [] procedures ∷ [];
@@ -81,13 +83,15 @@ Prints procedures steps output ending column =
     whole_run (program_of procedures) steps
     ≡ Some (record { output = output; ending = ending; column = column })
 
--- a number; the variable of a slot, of this activation or of one outward; what it holds
+-- a number
 abbrev pub number : ℕ → TypedExpression
 number n = Literal (Number (pos n))
 
+-- the variable of a slot, of this activation or of one outward
 abbrev pub slot : (outward number : ℕ) → TypedReference
 slot outward number = Whole (InSlot outward number)
 
+-- what it holds
 abbrev pub held_in : (outward number : ℕ) → TypedExpression
 held_in outward number = Held (slot outward number)
 
@@ -95,6 +99,7 @@ held_in outward number = Held (slot outward number)
 abbrev pub with_two : Operation → TypedExpression → TypedExpression → TypedExpression
 with_two operation e f = Calculated operation (OperandThen e (OperandThen f NoOperand))
 
+-- characters
 abbrev pub text : List ℕ → TypedExpression
 text characters = Literal (Characters characters)
 
@@ -102,17 +107,19 @@ text characters = Literal (Characters characters)
 abbrev pub shown : TypedExpression → TypedExpression
 shown e = Calculated (ToCharacters 4) (OperandThen e NoOperand)
 
--- what one statement prints: a text, or a number
+-- PUT LIST of a text
 abbrev pub prints : List ℕ → Form
 prints characters = Put false (text characters ∷ [])
 
+-- PUT LIST of a number
 abbrev pub prints_number : TypedExpression → Form
 prints_number e = Put false (shown e ∷ [])
 
--- `X = X + n;` and `X < n`, X being slot 0
+-- `X = X + n;`, X being slot 0
 abbrev pub adds : ℕ → Form
 adds n = Assign (slot 0 0) (with_two Add (held_in 0 0) (number n))
 
+-- `X < n`
 abbrev pub is_less : ℕ → TypedExpression
 is_less n = with_two (Compare Less) (held_in 0 0) (number n)
 
@@ -120,10 +127,11 @@ is_less n = with_two (Compare Less) (held_in 0 0) (number n)
 abbrev pub alone : List Description → List TypedStatement → List TypedProcedure
 alone variables statements = main_of (map of variables) (listed statements) ∷ []
 
--- a pair of numbers, and its element of a number
+-- a pair of numbers
 abbrev pub pair : Description
 pair = Array (record { low = pos 1; high = pos 2 } ∷ []) (FixedBinary 15)
 
+-- its element of a number, in the variable of a slot
 abbrev pub element : (slot subscript : ℕ) → TypedReference
 element s n =
     Part (InSlot 0 s) 0 (FixedBinary 15)
@@ -196,6 +204,7 @@ summing =
 abbrev pub FunctionCallsItself : Type 0
 FunctionCallsItself = Prints summing 14 (codes "   6 ") Ended 6
 
+-- with a step less nothing is printed
 abbrev pub FunctionStops : Type 0
 FunctionStops = Prints summing 13 [] OutOfSteps 1
 
@@ -264,6 +273,7 @@ from_number precision start range =
       temporary = 0;
     }
 
+-- a program of this group alone, whose variable has so many digits
 abbrev pub iterating : (precision start : ℕ) → TypedRange → List TypedStatement → List TypedProcedure
 iterating precision start range statements =
     alone (FixedBinary precision ∷ [])
@@ -322,14 +332,16 @@ RepeatGoesOn =
     }) (listed (Statement 3 (prints_number (held_in 0 0)) ∷ []))) ∷ []))
     8 (codes "   1                       2                       4 ") Ended 54
 
--- a program of two units, which share a number X: `PUT LIST(N(3), X);` in M, and N is a function of a number
--- A
+-- what N is, a function of a number
 abbrev pub numeric : Signature
 numeric = record { parameters = FixedBinary 31 ∷ []; result = Some (FixedBinary 31) }
 
+-- X, which both units share
 abbrev pub shared : TypedReference
 shared = Whole (OfProgram 0)
 
+-- a program of two units: `PUT LIST(N(3), X);` in M, and N, whose parameter A is slot 0, with these
+-- statements
 abbrev pub two_units : (statements : List TypedStatement) → TypedProgram
 two_units statements = record {
   units =

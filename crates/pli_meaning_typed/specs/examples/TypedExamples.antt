@@ -17,15 +17,16 @@ use Rattle.pli_type_tree.specs.WellTyped.{KnownProcedure, block_of, IsTypedForm}
 use Rattle.pli_meaning_tree.specs.TreeMeaning.{TypedProgram}
 use Rattle.pli_meaning_typed.specs.TypedPrograms.{WellTyped, context_in}
 
--- P: PROCEDURE; DECLARE X FIXED BINARY(31);
---   L: X = F(X); PUT LIST(X); IF X < 9 THEN GOTO L;
---   F: PROCEDURE(A) RETURNS(FIXED BINARY(31)); DECLARE A FIXED BINARY(31); RETURN(A + 1); END; END;
+-- FIXED BINARY(31), in P: PROCEDURE; DECLARE X FIXED BINARY(31); L: X = F(X); PUT LIST(X); IF X < 9 THEN GOTO
+-- L; F: PROCEDURE(A) RETURNS(FIXED BINARY(31)); DECLARE A FIXED BINARY(31); RETURN(A + 1); END; END;
 abbrev pub number : Description
 number = FixedBinary 31
 
+-- X in P, and A in F
 abbrev pub counter : TypedReference
 counter = Whole (InSlot 0 0)
 
+-- A + 1, as F returns it
 abbrev pub one_more : TypedExpression
 one_more =
     Calculated (Fit number)
@@ -33,10 +34,12 @@ one_more =
     (Calculated Add (OperandThen (Held counter) (OperandThen (Literal (Number (pos 1))) NoOperand)))
     NoOperand)
 
+-- X < 9
 abbrev pub few : TypedExpression
 few =
     Calculated (Compare Less) (OperandThen (Held counter) (OperandThen (Literal (Number (pos 9))) NoOperand))
 
+-- the statements of P
 abbrev pub counting : TypedStatements
 counting =
     StatementThen (Statement 2 (Assign counter (Called (OfBlock 1) (ByPlace counter NoArgument))))
@@ -44,9 +47,11 @@ counting =
     (Statement 3 (Put false (Calculated (ToCharacters 14) (OperandThen (Held counter) NoOperand) ∷ [])))
     (StatementThen (Statement 4 (If few (Statement 5 (Goto 0 2)) NoElse)) NoStatement))
 
+-- those of F
 abbrev pub returning : TypedStatements
 returning = StatementThen (Statement 8 (ReturnValue 0 one_more)) NoStatement
 
+-- the block of P
 abbrev pub outer : BlockHead
 outer = record {
   number = 0;
@@ -55,12 +60,15 @@ outer = record {
   temporaries = 0;
 }
 
+-- the block of F
 abbrev pub inner : BlockHead
 inner = record { number = 1; statement = 6; variables = []; temporaries = 0 }
 
+-- P
 abbrev pub caller : TypedProcedure
 caller = record { head = outer; parent = None; parameters = 0; function_end = None; statements = counting }
 
+-- F
 abbrev pub successor : TypedProcedure
 successor = record {
   head = inner;
@@ -70,6 +78,7 @@ successor = record {
   statements = returning;
 }
 
+-- the program of P and F
 abbrev pub example : TypedProgram
 example = record {
   units =
@@ -85,10 +94,11 @@ example = record {
   greatest = 31;
 }
 
--- what its procedures take and give
+-- what P takes and gives
 abbrev pub of_caller : KnownProcedure
 of_caller = record { parent = None; around = []; parameters = []; value = None }
 
+-- what F takes and gives, and where it stands
 abbrev pub of_successor : KnownProcedure
 of_successor = record {
   parent = Some 0;
@@ -97,9 +107,11 @@ of_successor = record {
   value = Some number;
 }
 
+-- both, by their blocks
 abbrev pub signatures : (number : ℕ) → Option KnownProcedure
 signatures n = if nat_eq n 0 then Some of_caller else if nat_eq n 1 then Some of_successor else None
 
+-- the program is well typed
 abbrev pub ExampleIsWellTyped : Type 0
 ExampleIsWellTyped = WellTyped example
 
@@ -116,41 +128,47 @@ turning range =
       temporary = 0;
     }) NoStatement
 
+-- BY 2 TO 9
 abbrev pub by_two : TypedRange
 by_two = ByTo (Literal (Number (pos 2))) (Some (Literal (Number (pos 9))))
 
+-- both groups are well typed in P
 abbrev pub GroupsAreWellTyped : Type 0
 GroupsAreWellTyped =
     IsTypedForm 31 (context_in [] signatures of_caller caller) (turning by_two)
     × IsTypedForm 31 (context_in [] signatures of_caller caller) (turning (Repeated one_more))
 
--- M: PROCEDURE; DECLARE X FIXED BINARY(31) EXTERNAL, N ENTRY(FIXED BINARY(31)) RETURNS(FIXED BINARY(31));
---   X = N(X); END;
--- N: PROCEDURE(A) RETURNS(FIXED BINARY(31)); DECLARE A FIXED BINARY(31), X FIXED BINARY(31) EXTERNAL;
---   RETURN(X); END;
+-- a variable without initial values
 abbrev pub plain : Template
 plain = record { description = number; initial = [] }
 
+-- X, EXTERNAL
 abbrev pub shared : Global
 shared = ExternalVariable (codes "X") plain
 
+-- what N takes and gives
 abbrev pub numeric : Signature
 numeric = record { parameters = number ∷ []; result = Some number }
 
+-- X, where it is used
 abbrev pub shared_number : TypedReference
 shared_number = Whole (OfProgram 0)
 
+-- X = N(X);
 abbrev pub asking : TypedStatements
 asking =
     StatementThen
     (Statement 2 (Assign shared_number (Called (OfEntry 1) (ByPlace shared_number NoArgument)))) NoStatement
 
+-- RETURN(X);
 abbrev pub answering : TypedStatements
 answering = StatementThen (Statement 2 (ReturnValue 0 (Held shared_number))) NoStatement
 
+-- the block of either external procedure
 abbrev pub external_head : BlockHead
 external_head = record { number = 0; statement = 1; variables = []; temporaries = 0 }
 
+-- M: PROCEDURE; X = N(X); END;
 abbrev pub asker : TypedProcedure
 asker = record {
   head = external_head;
@@ -160,6 +178,7 @@ asker = record {
   statements = asking;
 }
 
+-- N: PROCEDURE(A) RETURNS(FIXED BINARY(31)); RETURN(X); END;
 abbrev pub answerer : TypedProcedure
 answerer = record {
   head = external_head;
@@ -169,6 +188,8 @@ answerer = record {
   statements = answering;
 }
 
+-- the unit of M, which declares X FIXED BINARY(31) EXTERNAL and N ENTRY(FIXED BINARY(31)) RETURNS(FIXED
+-- BINARY(31))
 abbrev pub asking_unit : TypedUnit
 asking_unit = record {
   name = codes "M";
@@ -179,6 +200,7 @@ asking_unit = record {
   procedures = asker ∷ [];
 }
 
+-- the unit of N, which declares A FIXED BINARY(31) and X FIXED BINARY(31) EXTERNAL
 abbrev pub answering_unit : TypedUnit
 answering_unit = record {
   name = codes "N";
@@ -189,6 +211,7 @@ answering_unit = record {
   procedures = answerer ∷ [];
 }
 
+-- the program of both units is well typed
 abbrev pub UnitsAreWellTyped : Type 0
 UnitsAreWellTyped =
     WellTyped (record { units = asking_unit ∷ answering_unit ∷ []; main = 0; greatest = 31 })

@@ -1,5 +1,4 @@
-use Rattle.std.proofs.Common.{◌≡◌, true, not, ap, ◌∙◌, refl}
-use Rattle.std.specs.Result.{is_ok}
+use Rattle.std.proofs.Common.{not, ap, ◌∙◌, refl}
 use Rattle.pli_type_keys.specs.Same.{same_template}
 use Rattle.pli_type_keys.specs.views.KeyView.{templated}
 use Rattle.pli_gen_tree.proofs.KeyLemmas.{inserted, at_ok}
@@ -7,10 +6,9 @@ use Rattle.pli_gen_tree.proofs.table.number_template.Goals as goal
 
 pub returns-else-is_err : goal.returns-else-is_err
 returns-else-is_err c =
-    let ok : is_ok c.insert.result ≡ true = c.is_err.ensures.negation ∙ ap not c.if-is_err.false in
     record {
       memory = λ h. h;
       descriptions = λ h. refl;
-      templates = λ h. inserted templated same_template c.args.tables.now.templates.keys c.insert.new.self.keys (c.args.template) (at_ok _ c.insert.result c.insert.ensures.keys ok);
+      templates = λ h. inserted templated same_template c.args.tables.now.templates.keys c.insert.new.self.keys (c.args.template) (at_ok _ c.insert.result c.insert.ensures.keys (c.is_err.ensures.negation ∙ ap not c.if-is_err.false));
       values = λ h. refl;
     }
