@@ -5,4 +5,4 @@ mod fault;
 mod printing;
 
 pub use fault::RunFault;
-pub use printing::put_item;
+pub use printing::{put_item, put_number};

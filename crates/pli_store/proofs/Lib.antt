@@ -1,6 +1,7 @@
 pub mod Copies
 pub mod Endings
 pub mod Leading
+pub mod Lengthening
 pub mod Makings
 pub mod PartAnswers
 pub mod PutsSaid

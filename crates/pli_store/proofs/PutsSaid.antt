@@ -22,7 +22,7 @@ put_says old new first now e =
     ∙ ap (λ l. take first (map value_view old) ++ map value_view new ++ l) (sym (drop-map value_view (first + length new) old))
     ∙ ap (λ n. take first (map value_view old) ++ map value_view new ++ drop (first + n) (map value_view old)) (sym size)
 
-set_same : {X : Type 0} (xs : List X) (i : ℕ) (x : X) → slice_get xs i ≡ Some x → set xs i x ≡ xs
+pub set_same : {X : Type 0} (xs : List X) (i : ℕ) (x : X) → slice_get xs i ≡ Some x → set xs i x ≡ xs
 set_same xs i x h = ap (set xs i) (sym (get_or_from_slice_get xs i x x h)) ∙ set-get_or xs i x
 
 module _ (items : List Generation) (part : Part) (g changed : Generation) (here : slice_get items part.at ≡ Some g) where

@@ -1,6 +1,6 @@
--- What the meaning of a program and the machine share: storage, activations, output and column, and the
--- operations on them. An operation gives a result and a world; or it raises an error, in a world; or it is
--- one that no well-typed program asks for.
+-- What the meaning of a program and the machine share (X3.53): storage, activations, output and column, and
+-- the operations on them. An operation gives a result and a world; or it raises an error, in a world; or it
+-- is one that no well-typed program asks for.
 use Rattle.std.specs.Prelude.{ℕ, suc, ◌+◌, ◌*◌, nat_eq, nat_le, nat_lt, Bool, false, ◌&&◌, not, ℤ, ◌-ℤ◌}
 use Rattle.std.specs.Prelude.{int_le}
 use Rattle.std.specs.Prelude.{unsigned_abs, Option, Some, None, List, [], ◌∷◌, ◌++◌, length, slice_get}
@@ -86,11 +86,12 @@ made_of d how vs w =
     })
     else Raises StorageLimit w
 
--- the generation of a place; a place whose generation has ended is dead
+-- the generation that is found; where none is, the place is dead
 abbrev pub unless_dead : Option Generation → World → Answer Generation
 unless_dead None w = Raises DeadLocator w
 unless_dead (Some g) w = Yields g w
 
+-- the generation of a place, which is dead where that has ended
 abbrev pub living : Place → World → Answer Generation
 living p w = unless_dead (generation_in w.storage p.generation) w
 
@@ -177,14 +178,16 @@ made_all (v ∷ vs) w =
     further (made_of v.description Automatic v.initial w)
     (λ p w. made_all vs (in_newest (with_slot p) w))
 
--- the pending dummy arguments of the newest that are, or are not, among these places
+-- a generation is that of one of these places
 abbrev pub is_given : List Place → (generation : ℕ) → Bool
 is_given given g = list_any (λ p. nat_eq p.generation g) given
 
+-- the pending dummy arguments of the newest that are among these places
 abbrev pub handed : List Place → List Activation → List ℕ
 handed given [] = []
 handed given (a ∷ older) = filter (is_given given) a.pending
 
+-- those that are not stay pending
 abbrev pub without_handed : List Place → Activation → Activation
 without_handed given a = record a { pending = filter (λ g. not (is_given given g)) a.pending }
 
@@ -221,11 +224,12 @@ left_by w = record w {
   activations = without_newest w.activations;
 }
 
--- the calls that the newest prepares are given up, as a jump has come to it
+-- the dummy arguments that the newest has prepared for calls
 abbrev pub prepared_by : List Activation → List ℕ
 prepared_by [] = []
 prepared_by (a ∷ older) = a.pending
 
+-- the calls that the newest prepares are given up, as a jump has come to it
 unfoldable pub cleared : World → World
 cleared w = record w {
   storage = without (prepared_by w.activations) w.storage;
@@ -286,15 +290,17 @@ pub record GlobalVariable : Type 0 where
   pub external : Option Name
   pub variable : Variable
 
--- the place of the external variable of a name, if it was made already
+-- a variable is the external one of this name
 abbrev pub is_named : (name : Name) → Option Name → Bool
 is_named name None = false
 is_named name (Some other) = same_name name other
 
+-- the place of the external variable of a name, if it was made already
 abbrev pub external_in : List Static → (name : Name) → Option Place
 external_in [] name = None
 external_in (s ∷ ss) name = if is_named name s.external then Some s.place else external_in ss name
 
+-- the place of a variable that was made already: only an external one is made for several units
 abbrev pub made_before : (external : Option Name) → List Static → Option Place
 made_before None ss = None
 made_before (Some name) ss = external_in ss name

@@ -2,12 +2,14 @@
 //! keeps it.
 #![tactic(auto)]
 
+mod appending;
 mod fault;
 mod generation;
 mod laws;
 mod part;
 mod place;
 mod putting;
+mod spare;
 mod storage;
 mod values;
 

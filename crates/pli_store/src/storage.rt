@@ -8,13 +8,15 @@ ghost use Rattle.pli_map.specs.Scalars.{is_scalar};
 ghost use Rattle.pli_store.specs.answers.Found.{StandsAt, Leads, LeadsTo};
 ghost use Rattle.pli_store.specs.answers.Kept.{rise};
 ghost use Rattle.pli_store.specs.views.GenerationView.{generation_view, made_view};
-ghost use Rattle.pli_value.specs.Value.{value_view, Number};
+ghost use Rattle.pli_value.specs.Value.{value_view, Number, Characters};
 
+use crate::appending::{lengthen_at, varying_size};
 use crate::fault::StoreFault;
 use crate::generation::{Generation, Made};
 use crate::part::{Part, are_same_numbers, scalar_of};
 use crate::place::Place;
 use crate::putting::{put_many, put_one};
+use crate::spare::SpareValues;
 use crate::values::{copy_values, holds_number, one_value, values_from};
 use pli_code::RunError;
 use pli_map::{Description, far_size, holds, is_scalar, scalars_in};
@@ -35,13 +37,15 @@ pub struct Storage<'m> {
     pub(crate) made: u32,
     /// How many bytes live.
     pub(crate) live: u32,
+    /// What generations have left that have ended.
+    spare: SpareValues,
     ghost counted: { live ≡ live_bytes (map generation_view generations.items) },
     ghost limited: { live ≤ 16777216 },
     ghost rising: { rise 0 (map generation_view generations.items) made ≡ true },
 }
 
 impl<'m> Storage<'m> {
-    ghost use Rattle.pli_store.specs.views.StorageView.{place_view, storage_view, made_count, with_storage, NumberPut, SameStorage};
+    ghost use Rattle.pli_store.specs.views.StorageView.{place_view, storage_view, made_count, with_storage, NumberPut, Appended, SameStorage};
 
     /// Storage in which nothing lives, before anything was made.
     pub fn new(alloc: Global) -> Storage<'m>
@@ -52,6 +56,7 @@ impl<'m> Storage<'m> {
             generations: Vec::new(alloc),
             made: 0,
             live: 0,
+            spare: SpareValues::new(alloc),
         }
     }
 
@@ -158,6 +163,34 @@ impl<'m> Storage<'m> {
         self.far_number(place)
     }
 
+    /// The characters that the place of a scalar holds, where it holds characters; `held` tells of any other.
+    #[inline]
+    pub fn text_at(&self, place: Place<'_>) -> Option<&Vec<u8>>
+        ensures { (w : World) → IfSome result (λ text. held (place_view place.entry) (with_storage self.now w)
+            ≡ Yields (Characters text.now.items) (with_storage self.now w)) }
+    {
+        match self.value_at(place) {
+            Ok(Value::Characters(text)) => Some(text),
+            _ => None,
+        }
+    }
+
+    /// Characters put behind those that the place of a scalar of CHARACTER VARYING holds, where both are no more than it may
+    /// hold and than so many; where they are not put there, nothing has changed, and `held` and `stored` tell why.
+    #[inline]
+    pub fn append(&mut self, place: Place<'_>, more: &[u8], room: usize) -> bool
+        ensures { Appended result self.old self.new (place_view place.entry) more.now room }
+    {
+        let Some(size) = varying_size(place.description) else {
+            return false;
+        };
+        let most = room.min(size);
+        match self.part(place) {
+            Ok(part) => lengthen_at(&mut self.generations, part, more, most),
+            Err(_fault) => false,
+        }
+    }
+
     /// A value put at the place of a scalar.
     #[inline]
     pub fn stored(&mut self, place: Place<'_>, value: Value) -> Result<(), StoreFault>
@@ -253,6 +286,7 @@ impl<'m> Storage<'m> {
     }
 
     /// A new generation for a dummy argument, which the newest activation has to note among those that it prepares.
+    #[inline(always)]
     pub fn make_dummy(
         &mut self,
         alloc: Global,
@@ -270,11 +304,12 @@ impl<'m> Storage<'m> {
         if !holds(description, &value) {
             return Err(StoreFault::NoRule);
         }
-        let values = one_value(alloc, value)?;
+        let values = one_value(self.spare.take(alloc), value)?;
         self.make_of(description, Made::Dummy, values)
     }
 
     /// A new generation with these values.
+    #[inline(always)]
     fn make_of(
         &mut self,
         description: &'m Description,
@@ -330,6 +365,7 @@ impl<'m> Storage<'m> {
         if let Some(at) = self.find(number, last) {
             let ended = self.generations.remove(at);
             self.live -= far_size(ended.description) as u32;
+            self.spare.keep(ended.values);
         }
     }
 }

@@ -34,13 +34,26 @@ pub fn copy_values(alloc: Global, values: &[Value]) -> Result<Vec<Value>, AllocE
     Ok(copies)
 }
 
-/// A value alone.
-pub fn one_value(alloc: Global, value: Value) -> Result<Vec<Value>, AllocError>
+/// A value alone, put where there are none yet.
+#[inline(always)]
+pub fn one_value(mut values: Vec<Value>, value: Value) -> Result<Vec<Value>, AllocError>
+    requires { values.items ≡ [] }
     ensures { IfOk result (λ values. values.items ≡ value ∷ []) }
 {
-    let mut values = Vec::new(alloc);
     values.push(value)?;
     Ok(values)
+}
+
+/// Puts a value in the place of another. A number that takes the place of a number is written where that stands.
+#[inline(always)]
+fn replace(held: &mut Value, value: Value)
+    ensures { held.new ≡ value }
+{
+    if let (Value::Number(old), Value::Number(new)) = (&mut *held, &value) {
+        *old = *new;
+        return;
+    }
+    *held = value;
 }
 
 /// Puts a value in the place of the one of this number, or behind the last where there are not so many. Takes memory
@@ -51,7 +64,7 @@ pub fn put_value(values: &mut Vec<Value>, first: usize, value: Value) -> Result<
     ensures err { OnErr result (values.new.items ≡ values.old.items) }
 {
     if first < values.len() {
-        values[first] = value;
+        replace(&mut values[first], value);
     } else {
         values.push(value)?;
     }

@@ -1,6 +1,9 @@
+pub mod CallLemmas
 pub mod DecodedLemmas
 pub mod MovingOn
+pub mod NumbersPut
 pub mod Passing
 pub mod RunLemmas
 pub mod SlotLemmas
 pub mod StepsEnd
+pub mod TextLemmas

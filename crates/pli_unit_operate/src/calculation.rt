@@ -124,7 +124,7 @@ fn as_characters(alloc: Global, text: Option<&[u8]>) -> Result<Calculation, Allo
 
 /// Whether an order is the one that is asked for.
 #[inline]
-fn stands(relation: Relation, order: Ordering) -> bool
+pub fn stands(relation: Relation, order: Ordering) -> bool
     ensures { result ≡ stands (relation_view relation) order }
 {
     match (relation, order) {

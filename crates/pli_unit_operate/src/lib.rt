@@ -3,6 +3,7 @@
 
 mod calculation;
 mod operand;
+mod texts;
 
 pub use calculation::{
     Calculation, Immediate, Infix, Prefix, Ternary, calculate_by, calculate_from,
@@ -12,3 +13,4 @@ pub use operand::{
     Operand, Taken, pop_number, pop_place, pop_three, pop_truth, pop_two, pop_value, push,
     take_three_numbers, take_two_numbers, take_value,
 };
+pub use texts::{compare_texts, text_length, text_part};

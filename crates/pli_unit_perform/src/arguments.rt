@@ -11,7 +11,7 @@ use pli_unit_operate::{Operand, pop_place};
 use std::alloc::{AllocError, Global};
 
 /// Takes so many operands, where they are places: the oldest is the first. They are put where there are none yet.
-#[inline]
+#[inline(always)]
 pub fn pop_places<'m>(
     mut places: Vec<Place<'m>>,
     operands: &mut Vec<Operand<'m>>,

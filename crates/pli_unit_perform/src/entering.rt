@@ -11,21 +11,21 @@ ghost use Rattle.pli_unit_perform.specs.views.MachineView.{Moves, activation_vie
 
 use crate::arguments::hand_over;
 use crate::machine::{Activation, Machine, Stop};
+use crate::spare::Room;
 use crate::storing::stop_at;
 use crate::variables::make_variables;
 use pli_store::Place;
 use pli_unit_code::{Block, Code};
-use pli_unit_operate::Operand;
 use pli_value::Value;
 use std::alloc::{AllocError, Global};
 use std::mem;
 
 /// So many temporaries, of which none is set.
-#[inline]
-fn unset(alloc: Global, count: u32) -> Result<Vec<Option<Value>>, AllocError>
+#[inline(always)]
+fn unset(mut temporaries: Vec<Option<Value>>, count: u32) -> Result<Vec<Option<Value>>, AllocError>
+    requires { temporaries.items ≡ [] }
     ensures { IfOk result (λ temporaries. temporaries.items ≡ replicate count None) }
 {
-    let mut temporaries = Vec::new(alloc);
     for _unset in 0..count {
         temporaries.push(None)?;
     }
@@ -33,19 +33,20 @@ fn unset(alloc: Global, count: u32) -> Result<Vec<Option<Value>>, AllocError>
 }
 
 /// The activation of a block before its first instruction and before its variables are made: its first slots are its
-/// arguments, it owns these generations, and its operands, which are none yet, have this memory.
+/// arguments, it owns these generations, and has this room, in which nothing is yet.
 #[inline(always)]
 pub fn activation<'m>(
-    alloc: Global,
     unit: usize,
     number: u32,
     block: &Block,
     link: u32,
     slots: Vec<Place<'m>>,
     owned: Vec<u32>,
-    operands: Vec<Operand<'m>>,
+    room: Room<'m>,
 ) -> Result<Activation<'m>, AllocError>
-    requires { operands.items ≡ [] }
+    requires operands { room.operands.items ≡ [] }
+    requires pending { room.pending.items ≡ [] }
+    requires temporaries { room.temporaries.items ≡ [] }
     ensures { IfOk result (λ a. (frame_view a ≡ record { unit = unit; next = block.now.entry; operands = []; locals = fresh block.now.temporaries })
         × ((image : Image) → activation_view image a ≡ record {
           unit = name_at image.linked unit;
@@ -57,14 +58,19 @@ pub fn activation<'m>(
           owned = owned.items;
         })) }
 {
-    let temporaries = unset(alloc, block.temporaries)?;
+    let Room {
+        operands,
+        pending,
+        temporaries,
+    } = room;
+    let temporaries = unset(temporaries, block.temporaries)?;
     Ok(Activation {
         unit,
         block: number,
         statement: block.statement,
         link,
         slots,
-        pending: Vec::new(alloc),
+        pending,
         owned,
         next: block.entry as usize,
         operands,
@@ -93,8 +99,8 @@ fn begin_block<'m>(
     let pending = mem::replace(&mut machine.here.pending, Vec::new(alloc));
     let (handed, others) = hand_over(alloc, pending, &places)?;
     machine.here.pending = others;
-    let operands = machine.spare.take_operands(alloc);
-    let new = activation(alloc, unit, number, block, link, places, handed, operands)?;
+    let room = machine.spare.take_room(alloc);
+    let new = activation(unit, number, block, link, places, handed, room)?;
     let before = mem::replace(&mut machine.here, new);
     machine.waiting.push(before)?;
     Ok(())
@@ -102,6 +108,7 @@ fn begin_block<'m>(
 
 /// Enters a block of a unit, of which this is the code, while the newest activation waits. There is room for one
 /// activation more.
+#[inline(always)]
 pub fn enter<'m>(
     alloc: Global,
     code: &'m Code,

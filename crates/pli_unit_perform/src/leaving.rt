@@ -7,8 +7,8 @@ ghost use Rattle.pli_machine_step.specs.Program.{Return, ReturnValue};
 ghost use Rattle.pli_unit_perform.specs.answers.Activated.{Leaves};
 ghost use Rattle.pli_unit_perform.specs.views.MachineView.{Does, Moves};
 
-use crate::machine::{Activation, Machine, Stop};
-use pli_unit_operate::{Operand, pop_value, push};
+use crate::machine::{Machine, Stop};
+use pli_unit_operate::{Operand, pop_number, pop_value, push};
 use pli_value::Value;
 use std::alloc::{AllocError, Global};
 use std::mem;
@@ -34,12 +34,8 @@ pub fn leave(machine: &mut Machine) -> bool
             machine.storage.end(&machine.here.pending);
             machine.storage.end(&machine.here.owned);
             lend(&mut next.pending, &mut machine.here.owned);
-            let Activation {
-                operands,
-                slots,
-                ..
-            } = mem::replace(&mut machine.here, next);
-            machine.spare.keep(operands, slots);
+            let ended = mem::replace(&mut machine.here, next);
+            machine.spare.keep(ended);
             true
         }
         None => false,
@@ -63,7 +59,12 @@ pub fn return_from(machine: &mut Machine, outward: u32) -> Option<Stop>
 }
 
 /// Ends the newest activation and so many more, and gives a value to the one that goes on.
-fn give_back(machine: &mut Machine, outward: u32, value: Value) -> Result<Option<Stop>, AllocError>
+#[inline(always)]
+pub fn give_back(
+    machine: &mut Machine,
+    outward: u32,
+    value: Value,
+) -> Result<Option<Stop>, AllocError>
     ensures { IfOk result (λ stop. (image : Image) →
         Moves image (λ here frames w. returned_with outward (value_view value) frames w) machine.old machine.new stop) }
 {
@@ -79,8 +80,23 @@ fn give_back(machine: &mut Machine, outward: u32, value: Value) -> Result<Option
     Ok(None)
 }
 
-/// Takes a value, ends the newest activation and so many more, and gives the value to the one that goes on.
+/// Takes a value, ends the newest activation and so many more, and gives the value to the one that goes on. A number takes
+/// the short way.
 pub fn return_value(
+    alloc: Global,
+    machine: &mut Machine,
+    outward: u32,
+) -> Result<Option<Stop>, AllocError>
+    ensures { IfOk result (Does (ReturnValue outward) machine.old machine.new) }
+{
+    match pop_number(&mut machine.here.operands) {
+        Some(number) => give_back(machine, outward, Value::Number(number)),
+        None => return_newest(alloc, machine, outward),
+    }
+}
+
+/// The same of any value.
+fn return_newest(
     alloc: Global,
     machine: &mut Machine,
     outward: u32,

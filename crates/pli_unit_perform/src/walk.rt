@@ -44,6 +44,7 @@ pub fn name_at(module: &Module, number: usize) -> Option<Name>
 }
 
 /// Whether two units of a module have one name.
+#[inline]
 fn same_unit(module: &Module, first: usize, second: usize) -> bool
     ensures { result ≡ same_name (name_at (module_view «module».now) first) (name_at (module_view «module».now) second) }
 {
@@ -57,6 +58,7 @@ fn same_unit(module: &Module, first: usize, second: usize) -> bool
 }
 
 /// Whether an activation is one of a block of a unit.
+#[inline(always)]
 pub fn is_of(module: &Module, activation: &Activation, unit: usize, block: u32) -> bool
     ensures { (statics : List Static) → result ≡ is_of (name_at (module_view «module».now) unit) block
         (activation_view (image_with (module_view «module».now) statics) activation.now) }

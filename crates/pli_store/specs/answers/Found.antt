@@ -27,6 +27,7 @@ pub record LeadsNowhere (gs : List Generation) (p : Place) : Type 0 where
   pub found : generation_in gs p.generation ≡ Some generation
   pub nowhere : scalar_at generation p ≡ None
 
+-- what is answered of a place: where it leads, that it is dead, or that it leads to no part
 abbrev pub Leads : List Generation → Place → Result Part StoreFault → Type 0
 Leads gs p (Ok part) = LeadsTo gs p part
 Leads gs p (Err (Raised e)) = (e ≡ DeadLocator) × (generation_in gs p.generation ≡ None)

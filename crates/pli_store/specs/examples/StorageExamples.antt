@@ -13,7 +13,7 @@ use Rattle.pli_store.specs.World.{GlobalVariable}
 use Rattle.pli_store.specs.World.{made_of, entered, left_by, cleared, dummy_of, parts_held, held, slot_place}
 use Rattle.pli_store.specs.World.{stored, copied, subscripted, static_place, statics_made}
 
--- a procedure with one variable, FIXED BINARY(15), and a block of it with none
+-- a procedure with one variable, FIXED BINARY(15)
 abbrev pub procedure : Head
 procedure = record {
   unit = codes "M";
@@ -22,6 +22,7 @@ procedure = record {
   variables = record { description = FixedBinary 15; initial = Number (pos 0) ∷ [] } ∷ [];
 }
 
+-- a block of it, with none
 abbrev pub inner : Head
 inner = record { unit = codes "M"; block = 1; statement = 4; variables = [] }
 
@@ -33,6 +34,7 @@ within go =
     (λ p w. further (stored p (Number (pos 7)) w)
     (λ _ w. further (entered inner 1 [] w) (λ _ w. go w))))
 
+-- the result of an operation that gives one
 abbrev pub result_of : {A : Type 0} → Answer A → Option A
 result_of (Yields x w) = Some x
 result_of (Raises e w) = None
@@ -47,12 +49,13 @@ abbrev pub DummyNumber : Type 0
 DummyNumber =
     result_of (within (dummy_of (Character 2) (Characters (codes "AB")))) ≡ Some (whole 1 (Character 2))
 
--- when the call that it was made for is given up, it is no longer there
+-- the error that an operation raises
 abbrev pub error_of : {A : Type 0} → Answer A → Option RunError
 error_of (Yields x w) = None
 error_of (Raises e w) = Some e
 error_of Wrong = None
 
+-- when the call that it was made for is given up, it is no longer there
 abbrev pub DummyEnds : Type 0
 DummyEnds =
     error_of (within (λ w. further (dummy_of (Character 2) (Characters (codes "AB")) w)
@@ -68,15 +71,15 @@ DummyDead =
     error_of (within (λ w. further (dummy_of (Character 2) (Characters (codes "AB")) w)
     (λ p w. stored p (Number (pos 1)) (cleared w)))) ≡ Some DeadLocator
 
--- a structure of a FIXED BINARY(15) and of an array (3) of structures, each of a CHARACTER(1) and, two bytes
--- behind its beginning, a FIXED BINARY(15); the array begins two bytes behind the structure's beginning, and
--- its elements are four bytes apart
+-- a structure of a CHARACTER(1) and, two bytes behind its beginning, a FIXED BINARY(15)
 abbrev pub element : Description
 element = Structure (MemberThen (Character 1) (MemberThen (FixedBinary 15) NoMembers))
 
+-- an array (3) of such structures, which are four bytes apart
 abbrev pub elements : Description
 elements = Array (record { low = pos 1; high = pos 3 } ∷ []) element
 
+-- a structure of a FIXED BINARY(15) and, two bytes behind its beginning, that array
 abbrev pub aggregate : Description
 aggregate = Structure (MemberThen (FixedBinary 15) (MemberThen elements NoMembers))
 
@@ -86,13 +89,15 @@ with_aggregate go =
     further (made_of (FixedBinary 15) Automatic (Number (pos 7) ∷ []) nothing)
     (λ _ w. further (made_of aggregate Automatic (first_values aggregate) w) go)
 
--- the element of a subscript, and the number of such an element
+-- the element of a subscript
 abbrev pub at_element : ℤ → Place → World → Answer Place
 at_element x p w = subscripted (pos 1) (pos 3) 4 x (field_of 2 element p) w
 
+-- the number in the element of a subscript
 abbrev pub at_number : ℤ → Place → World → Answer Place
 at_number x p w = subscripted (pos 1) (pos 3) 4 x (field_of 4 (FixedBinary 15) p) w
 
+-- 5 put into the number of element 2, which is the fifth scalar of the aggregate
 abbrev pub fifth_stored : Place → World → Answer (Unit {0})
 fifth_stored p w = further (at_number (pos 2) p w) (λ q w. stored q (Number (pos 5)) w)
 
@@ -102,18 +107,19 @@ scalars second third =
     Number (pos 0) ∷ Characters (codes " ") ∷ Number (pos 0) ∷ Characters (codes " ") ∷ Number (pos second)
     ∷ Characters (codes " ") ∷ Number (pos third) ∷ []
 
--- a part is stored and held by its place
+-- it is the fifth of the scalars that the aggregate holds
 abbrev pub PartStored : Type 0
 PartStored =
     result_of (with_aggregate (λ p w. further (fifth_stored p w) (λ _ w. parts_held p w)))
     ≡ Some (scalars 5 0)
 
+-- its place holds it
 abbrev pub PartHeld : Type 0
 PartHeld =
     result_of (with_aggregate (λ p w. further (fifth_stored p w)
     (λ _ w. further (at_number (pos 2) p w) held))) ≡ Some (Number (pos 5))
 
--- an element is copied to another, with all that it has; an aggregate is not held as one value
+-- an element is copied to another, with all that it has
 abbrev pub ElementCopied : Type 0
 ElementCopied =
     result_of (with_aggregate (λ p w. further (fifth_stored p w)
@@ -122,25 +128,29 @@ ElementCopied =
     (λ target w. further (copied source target w) (λ _ w. parts_held p w))))))
     ≡ Some (scalars 5 5)
 
+-- an aggregate is not held as one value
 abbrev pub AggregateHeld : Type 0
 AggregateHeld = with_aggregate (λ p w. held p w) ≡ Wrong
 
--- there is no element 4, nor -1; and behind a character there is none
+-- there is no element 4, nor -1
 abbrev pub NoElement : Type 0
 NoElement =
     (error_of (with_aggregate (at_element (pos 4))) ≡ Some SubscriptRange)
     × (error_of (with_aggregate (at_element (negsuc 0))) ≡ Some SubscriptRange)
 
+-- behind a character there is none
 abbrev pub NoPart : Type 0
 NoPart = with_aggregate (λ p w. held (field_of 3 (Character 1) p) w) ≡ Wrong
 
--- a variable that is made once is there in each activation of its unit, and keeps what it holds
+-- a variable that is made once
 abbrev pub once : Variable
 once = record { description = FixedBinary 15; initial = Number (pos 3) ∷ [] }
 
+-- as the one global of a unit
 abbrev pub own : List (Option GlobalVariable)
 own = Some (record { external = None; variable = once }) ∷ []
 
+-- it is there in each activation of its unit, and keeps what it holds
 abbrev pub StaticStays : Type 0
 StaticStays =
     result_of
@@ -152,20 +162,22 @@ StaticStays =
     (λ _ w. further (static_place 0 w) held))))))
     ≡ Some (Number (pos 8))
 
--- that of another unit is not
+-- that of another unit is not there
 abbrev pub StaticOfOther : Type 0
 StaticOfOther =
     further (statics_made (codes "N") 0 own nothing)
     (λ _ w. further (entered inner 0 [] w) (λ _ w. static_place 0 w)) ≡ Wrong
 
--- a variable that two units declare under one name is one: what one unit puts there the other one finds; the
--- numbers are those among all globals of the unit, of which an entry is one too
+-- a variable that units declare under one name
 abbrev pub shared : GlobalVariable
 shared = record { external = Some (codes "X"); variable = once }
 
+-- a procedure of another unit
 abbrev pub other : Head
 other = record { unit = codes "N"; block = 0; statement = 1; variables = [] }
 
+-- it is one: what one unit puts there the other one finds; the numbers are those among all globals of the
+-- unit, of which an entry is one too
 abbrev pub ExternalIsShared : Type 0
 ExternalIsShared =
     result_of

@@ -33,44 +33,56 @@ AnswerFollows activations before Wrong = Unit {0}
 abbrev pub Keeps : {A : Type 0} → (World → Answer A) → Type 0
 Keeps operation = (w : World) → AnswerFollows (height w) w (operation w)
 
+-- making a generation is such an operation
 abbrev pub MakingKeeps : Type 0
 MakingKeeps = (d : Description) (how : Made) (vs : List Value) → Keeps (made_of d how vs)
 
+-- asking what a place holds is such an operation
 abbrev pub LoadingKeeps : Type 0
 LoadingKeeps = (p : Place) → Keeps (held p)
 
+-- putting a value at a place is such an operation
 abbrev pub StoringKeeps : Type 0
 StoringKeeps = (p : Place) (v : Value) → Keeps (stored p v)
 
--- the same of aggregates
+-- asking what the place of an aggregate holds is such an operation
 abbrev pub PartsHeldKeep : Type 0
 PartsHeldKeep = (p : Place) → Keeps (parts_held p)
 
+-- putting values at the place of an aggregate is such an operation
 abbrev pub PartsStoredKeep : Type 0
 PartsStoredKeep = (p : Place) (vs : List Value) → Keeps (parts_stored p vs)
 
+-- copying what one place holds to another is such an operation
 abbrev pub CopyingKeeps : Type 0
 CopyingKeeps = (source target : Place) → Keeps (copied source target)
 
+-- leading a place on by a subscript is such an operation
 abbrev pub SubscriptKeeps : Type 0
 SubscriptKeeps =
     (low high : ℤ) (multiplier : ℕ) (x : ℤ) (p : Place) → Keeps (subscripted low high multiplier x p)
 
+-- taking what an operation of expressions comes to is such an operation
 abbrev pub CalculatingKeeps : Type 0
 CalculatingKeeps = (c : Calculation) → Keeps (calculation c)
 
+-- looking for the activation so many static links outward is such an operation
 abbrev pub WalkingKeeps : Type 0
 WalkingKeeps = (outward : ℕ) → Keeps (height_of outward)
 
+-- asking for the place in a slot is such an operation
 abbrev pub SlotKeeps : Type 0
 SlotKeeps = (outward slot : ℕ) → Keeps (slot_place outward slot)
 
+-- making a dummy argument is such an operation
 abbrev pub DummyKeeps : Type 0
 DummyKeeps = (d : Description) (v : Value) → Keeps (dummy_of d v)
 
+-- asking for the place of a variable that is made once is such an operation
 abbrev pub StaticKeeps : Type 0
 StaticKeeps = (number : ℕ) → Keeps (static_place number)
 
+-- making such variables is such an operation
 abbrev pub StaticsKeep : Type 0
 StaticsKeep =
     (unit : Name) (number : ℕ) (gs : List (Option GlobalVariable)) → Keeps (statics_made unit number gs)
@@ -85,15 +97,19 @@ EnteringAdds =
 abbrev pub LeavingTakes : Type 0
 LeavingTakes = (w : World) → Follows (height w - 1) w (left_by w)
 
+-- giving up the calls that are prepared leaves the activations as many, and takes no step
 abbrev pub ClearingKeeps : Type 0
 ClearingKeeps = (w : World) → Follows (height w) w (cleared w)
 
+-- coming to a statement leaves the activations as many, and takes no step
 abbrev pub StatementKeeps : Type 0
 StatementKeeps = (statement : ℕ) (w : World) → Follows (height w) w (at_statement statement w)
 
+-- printing leaves the activations as many, and takes no step
 abbrev pub PrintingKeeps : Type 0
 PrintingKeeps = (item : List ℕ) (w : World) → Follows (height w) w (printed item w)
 
+-- ending a line leaves the activations as many, and takes no step
 abbrev pub LineKeeps : Type 0
 LineKeeps = (w : World) → Follows (height w) w (line_ended w)
 
@@ -103,5 +119,6 @@ pub record TakesStep (before after : World) : Type 0 where
   pub heights : height after ≡ height before
   pub output : after.output ≡ before.output
 
+-- taking a step counts one
 abbrev pub SteppingCounts : Type 0
 SteppingCounts = (w : World) → TakesStep w (stepped w)

@@ -7,6 +7,7 @@ use Rattle.pli_store.specs.declared.generation.Generation.{Generation}
 use Rattle.pli_store.specs.declared.generation.Made.{Made}
 use Rattle.pli_store.specs.declared.generation.Made.TheVariants as made
 
+-- how a generation was made
 abbrev pub made_view : Made → plain.Made
 made_view made.Automatic = plain.Automatic
 made_view made.Static = plain.Static
@@ -14,6 +15,7 @@ made_view made.Controlled = plain.Controlled
 made_view made.Based = plain.Based
 made_view made.Dummy = plain.Dummy
 
+-- a generation
 abbrev pub generation_view : Generation → plain.Generation
 generation_view g =
     record {

@@ -1,10 +1,10 @@
 -- What storage of the program says.
-use Rattle.std.specs.Prelude.{◌≡◌, ℕ, ℤ, Bool, true, false, List, map}
+use Rattle.std.specs.Prelude.{◌≡◌, ◌≤◌, ℕ, ℤ, Bool, true, false, List, ◌++◌, length, map}
 use Rattle.pli_map.specs.views.DescriptionView.{description_view}
-use Rattle.pli_store.specs.World.{World, Yields, stored}
+use Rattle.pli_store.specs.World.{World, Yields, held, stored}
 use Rattle.pli_store.specs.Storage as plain
 use Rattle.pli_store.specs.views.GenerationView.{generation_view}
-use Rattle.pli_value.specs.Value.{Number}
+use Rattle.pli_value.specs.Value.{Number, Characters}
 use Rattle.pli_store.specs.declared.place.Place.{Place}
 use Rattle.pli_store.specs.declared.storage.Storage.{Storage}
 
@@ -40,3 +40,16 @@ abbrev pub NumberPut : Bool → (old new : Storage) → plain.Place → ℤ → 
 NumberPut true old new p x =
     (w : World) → stored p (Number x) (with_storage old w) ≡ Yields tt (with_storage new w)
 NumberPut false old new p x = SameStorage old new
+
+-- characters are put behind those that a place holds, and both are no more than so many
+pub record IsAppended (old new : Storage) (p : plain.Place) (more : List ℕ) (room : ℕ) : Type 0 where
+  pub text : List ℕ
+  pub was : (w : World) → held p (with_storage old w) ≡ Yields (Characters text) (with_storage old w)
+  pub puts : (w : World) →
+      stored p (Characters (text ++ more)) (with_storage old w) ≡ Yields tt (with_storage new w)
+  pub fits : length (text ++ more) ≤ room
+
+-- the same, or nothing has changed
+abbrev pub Appended : Bool → (old new : Storage) → plain.Place → (more : List ℕ) → (room : ℕ) → Type 0
+Appended true old new p more room = IsAppended old new p more room
+Appended false old new p more room = SameStorage old new

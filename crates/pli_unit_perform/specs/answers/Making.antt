@@ -46,6 +46,7 @@ pub record EndsFirst (whole : Answer Unit) (e : RunError) : Type 0 where
   pub statics : List Static
   pub ends : whole ≡ Raises e (first_world storage statics)
 
+-- such an end by a fault of the storage; where memory is wanting there is no answer
 abbrev pub EndsEarlier : StoreFault → (whole : Answer Unit) → Type 0
 EndsEarlier (Raised e) whole = EndsFirst whole e
 EndsEarlier NoRule whole = ⊥
@@ -83,6 +84,7 @@ KnownAt name s statics (Ok (Some p)) =
 KnownAt name s statics (Ok None) = AreKnown s statics
 KnownAt name s statics (Err fault) = Unit {0}
 
+-- the variable of a name is there, and its name is known
 pub record PlacedKnown (v : Option Variable) (name : Name) (old new : Shared) (statics : List Static)
     (result : Result (Option Place) StoreFault) : Type 0 where
   pub placed : Placed v (Some name) old.storage new.storage statics result
@@ -100,7 +102,7 @@ EntryTaken entries old new None = (drop old entries ≡ []) × (new ≡ old)
 EntryTaken entries old new (Some (linked.EntryPoint unit)) = drop old entries ≡ unit ∷ drop new entries
 EntryTaken entries old new (Some g) = ⊥
 
--- a global of a unit
+-- the number of the next global behind this one
 abbrev pub number_behind : (number : ℕ) → Option LinkedGlobal → ℕ
 number_behind number None = number
 number_behind number (Some g) = suc number
@@ -141,6 +143,7 @@ pub record UnitLinked (unit : Name) (globals : List GlobalCode) (statics : List 
   pub same : map entry_in globals ≡ map entry_of table
   pub known : AreKnown new (statics ++ statics_from unit 0 table)
 
+-- the globals of a unit are linked, or the storage has no room
 abbrev pub LinksUnit : (unit : Name) (globals : List GlobalCode) (statics : List Static) (old new : Shared)
     (table : List LinkedGlobal) → Result Unit StoreFault → Type 0
 LinksUnit unit globals statics old new table (Ok done) = UnitLinked unit globals statics old new table
@@ -156,6 +159,7 @@ pub record AllLinked (units : List LinkedUnit) (old new : Shared) (tables : List
         ≡ Yields tt (first_world new.storage (all_statics (map (λ u. u.unit) units) tables))
     pub same : AreLinked units tables
 
+-- those of all units are, or the storage has no room
 abbrev pub LinksAll : (units : List LinkedUnit) (old new : Shared) (tables : List (List LinkedGlobal))
     → Result Unit StoreFault → Type 0
 LinksAll units old new tables (Ok done) = AllLinked units old new tables

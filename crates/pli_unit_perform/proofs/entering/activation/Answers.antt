@@ -24,7 +24,7 @@ returns c =
       pending = ns;
       owned = c.args.owned.items;
     } in (
-      ap (λ ops. frame (stack ops) (map (option_map value_view) c.in_ok-temporaries.temporaries.items)) c.requires
+      ap (λ ops. frame (stack ops) (map (option_map value_view) c.in_ok-temporaries.temporaries.items)) c.requires.operands
           ∙ ap (frame []) (ap (map (option_map value_view)) c.in_ok-temporaries.ensures ∙ none_set c.args.block.now.temporaries),
-      λ image. ap (made image) c.new.ensures.items,
+      λ image. ap (made image) c.requires.pending,
     )

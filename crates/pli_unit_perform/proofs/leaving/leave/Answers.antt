@@ -16,7 +16,7 @@ returns-in-Some-clause-leaves c = λ image put.
       frames =
           ap (λ xs. reverse (map frame_view xs)) c.in-Some.ensures.items
           ∙ newest_first frame_view c.pop.new.self.items c.in-Some.next
-          ∙ ap (λ a. frame_view a ∷ frames_of c.pop.new.self.items) (sym c.replace-slots.ensures.after);
+          ∙ ap (λ a. frame_view a ∷ frames_of c.pop.new.self.items) (sym c.replace-ended.ensures.after);
       world =
           same_world (world_of image c.args.machine.now put) _ _ _ _ _ _
           (c.end-in-Some.ensures.storage
@@ -27,6 +27,6 @@ returns-in-Some-clause-leaves c = λ image put.
           (sym (ap (λ xs. reverse (map (activation_view image) xs)) c.in-Some.ensures.items
           ∙ newest_first (activation_view image) c.pop.new.self.items c.in-Some.next
           ∙ ap (λ ns. record (activation_view image c.in-Some.next) { pending = ns } ∷ activations_of image c.pop.new.self.items) (sym c.lend.ensures)
-          ∙ ap (λ a. activation_view image a ∷ activations_of image c.pop.new.self.items) (sym c.replace-slots.ensures.after)));
+          ∙ ap (λ a. activation_view image a ∷ activations_of image c.pop.new.self.items) (sym c.replace-ended.ensures.after)));
       left = refl;
     }
