@@ -10,3 +10,4 @@ pub mod ModuleLaws
 pub mod ModulePuts
 pub mod Puts
 pub mod SpellingLaws
+pub mod WholeLaws

@@ -2,7 +2,7 @@
 use Rattle.std.proofs.Common.{◌≡◌, ℕ, zero, suc, nat_eq, nat_lt, true, false, ◌&&◌, cond, List, [], ◌∷◌, ◌++◌, length, take, drop, Option, Some, None, Result, Ok, Err, refl, sym, ap, subst, ◌∙◌, append_assoc, arith}
 use Rattle.std.specs.List.{flat_map, list_all, filter}
 use Rattle.std.proofs.lemmas.Bool.{ltb-false, le-ltb, and_parts, eqb-true, eq-eqb}
-use Rattle.std.proofs.lemmas.List.{append-nil, take_at, drop_at, take-append-drop, length-append, length-take-le}
+use Rattle.std.proofs.lemmas.List.{take_at, drop_at, take-append-drop, length-append, length-take-le}
 use Rattle.pli_deck.specs.declared.fault.Fault.{Fault}
 use Rattle.pli_deck.specs.declared.fault.Fault.TheVariants.{Truncated}
 use Rattle.pli_deck.specs.Fields.{AreBytes, ◌>>=◌, Field, many, checked, followed, ◌⊗◌, shaped, u1, u2, u4, from_to}
@@ -10,11 +10,12 @@ use Rattle.pli_deck.specs.Decks.{Deck}
 use Rattle.pli_deck.specs.DeckFields.{name, after_version, deck}
 use Rattle.pli_deck.specs.DeckFaults.{fault_of}
 use Rattle.pli_deck.specs.Spelling.{deck_bytes, deck_read, SpellsDeck}
-use Rattle.pli_deck.specs.ModuleFields.{External, Member, Module, comes_after, external_of, external_parts, external_behind, bytes_behind, fit_behind, many_behind, chain, is_none, and_rest, deck_in, sized_deck, is_external, links_of, member_of, member_parts, member, exactly, module_of, module_parts, module_field}
-use Rattle.pli_deck.specs.ModuleSpelling.{module_fault, module_bytes, SpellsModule, unless_bad, whole_module, module_read, ReadModuleIsSpelled, SpelledModuleIsRead, OneModule}
+use Rattle.pli_deck.specs.ModuleFields.{External, Member, comes_after, external_of, external_parts, external_behind, bytes_behind, fit_behind, many_behind, chain, is_none, and_rest, deck_in, sized_deck, is_external, links_of, member_of, member_parts, member, exactly, module_of, module_parts, module_field}
+use Rattle.pli_deck.specs.ModuleSpelling.{module_fault, module_read, ReadModuleIsSpelled, SpelledModuleIsRead, OneModule}
 use Rattle.pli_deck.proofs.FieldLaws.{AreBytes-drop, AreBytes-take, bind_ok, ok_is, guard_ok, both_true, Taken, IsField, byte_law, u2_law, u4_law, checked_law, followed_law, ◌⊠◌, shaped_law, list_law, from_to_law, many_takes, many_again}
 use Rattle.pli_deck.proofs.DeckLaws.{name_law, magic_law, version_law}
 use Rattle.pli_deck.proofs.SpellingLaws.{read_is_spelled, spelled_is_read}
+use Rattle.pli_deck.proofs.WholeLaws.{taken_whole, read_again}
 
 -- ---- externals
 
@@ -193,34 +194,16 @@ module_law =
     (followed_law heading (λ h. exactly h.0 member) (from_to_law 1 999 u2 u2_law ⊠ u2_law ⊠ chain_law external_behind external_law) (λ h. exactly_law h.0 member member_law))
     parts_there (λ m h. refl)))
 
-unless_ok : (o : Option Fault) (m n : Module) → unless_bad o m ≡ Ok n → (o ≡ None) × (m ≡ n)
-unless_ok None m n h = (refl, ok_is m n h)
-unless_ok (Some f) m n h = absurd cc
-
-whole_ok : (m : Module) (rest : List ℕ) (n : Module) → whole_module m rest ≡ Ok n → (rest ≡ []) × (module_fault m ≡ None) × (m ≡ n)
-whole_ok m [] n h = let u = unless_ok (module_fault m) m n h in (refl, u.0, u.1)
-whole_ok m (b ∷ rest) n h = absurd cc
-
-abbrev whole_of : Module × List ℕ → Result Module Fault
-whole_of x = whole_module x.0 x.1
-
 pub read_module_is_spelled : ReadModuleIsSpelled
 unfolding module_read
 read_module_is_spelled bytes m b e =
-    let r = bind_ok (module_field.read bytes) whole_of m e in
-    let t = module_law.takes bytes r.0.0 r.0.1 b r.1 in
-    let w = whole_ok r.0.0 r.0.1 m r.2 in
-    subst (λ x. SpellsModule bytes x) w.2 (record {
-      fits = t.fitting;
-      faultless = w.1;
-      spelled = t.parts ∙ ap (λ s. module_bytes r.0.0 ++ s) w.0 ∙ append-nil (module_bytes r.0.0);
-    })
+    let t = taken_whole module_fault module_field module_law bytes m b e in
+    record { fits = t.fits; faultless = t.faultless; spelled = t.spelled }
 
 pub spelled_module_is_read : SpelledModuleIsRead
 unfolding module_read
 spelled_module_is_read bytes m s =
-    ap (λ bs. module_field.read bs >>= whole_of) (s.spelled ∙ sym (append-nil (module_bytes m)))
-    ∙ ap (λ r. r >>= whole_of) (module_law.again m [] s.fits) ∙ ap (λ o. unless_bad o m) s.faultless
+    read_again module_fault module_field module_law bytes m (record { fits = s.fits; faultless = s.faultless; spelled = s.spelled })
 
 pub one_module : OneModule
 one_module bytes m n p q = ok_is m n (sym (spelled_module_is_read bytes m p) ∙ spelled_module_is_read bytes n q)

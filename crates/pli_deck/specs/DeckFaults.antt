@@ -1,4 +1,4 @@
--- What is looked for in a deck once all its bytes are read: jumps, numbers of entries, and limits.
+-- What is looked for in a deck once all its bytes are read (own): jumps, numbers of entries, and limits.
 use Rattle.std.specs.Prelude.{ℕ, ◌+◌, ◌-◌, ◌%◌, nat_eq, nat_le, nat_lt, Bool, true, false}
 use Rattle.std.specs.Prelude.{◌&&◌, not, ◌==◌, List, [], ◌∷◌, ◌++◌, length, map, slice_get, Option}
 use Rattle.std.specs.Prelude.{Some, None, if◌then◌else◌}
@@ -25,16 +25,20 @@ pub data Naming : Type 0 where
   OfBlock : ℕ → Naming
   OfInstruction : ℕ → Naming
 
+-- the result of a signature names its description, if there is one
 abbrev pub named_by_result : Option ℕ → List Naming
 named_by_result None = []
 named_by_result (Some d) = OfDescription d ∷ []
 
+-- a signature names the descriptions of its parameters and of its result
 abbrev pub named_by_signature : Signature → List Naming
 named_by_signature s = map OfDescription s.parameters ++ named_by_result s.result
 
+-- a template names its description
 abbrev pub named_by_template : Template → List Naming
 named_by_template t = OfDescription t.description ∷ []
 
+-- a global names its template, and an entry what its signature does
 abbrev pub named_by_global : Global → List Naming
 named_by_global (Static t) = OfTemplate t ∷ []
 named_by_global (Controlled t) = OfTemplate t ∷ []
@@ -42,13 +46,16 @@ named_by_global (ExternalStatic _ t) = OfTemplate t ∷ []
 named_by_global (ExternalControlled _ t) = OfTemplate t ∷ []
 named_by_global (ExternalEntry _ s) = named_by_signature s
 
+-- a block names the one around it, if there is one
 abbrev pub named_by_parent : Option ℕ → List Naming
 named_by_parent None = []
 named_by_parent (Some b) = OfBlock b ∷ []
 
+-- a block names the one around it, the templates of its variables, and its first instruction
 abbrev pub named_by_block : Block → List Naming
 named_by_block b = named_by_parent b.parent ++ map OfTemplate b.variables ++ OfInstruction b.entry ∷ []
 
+-- what an instruction names, save by a jump
 abbrev pub named_by_instruction : Instruction → List Naming
 named_by_instruction (op.Call b _) = OfBlock b ∷ []
 named_by_instruction (op.CallExternal g _) = OfGlobal g ∷ []
@@ -68,11 +75,12 @@ named_by_instruction (op.FreeBased d) = OfDescription d ∷ []
 named_by_instruction (op.On _ b) = OfBlock b ∷ []
 named_by_instruction other = []
 
--- a deck has a first block, so that one is always named
+-- what templates and globals name; a deck has a first block, so that one is always named
 abbrev pub named_by_variables : Deck → List Naming
 named_by_variables d =
     flat_map named_by_template d.templates ++ flat_map named_by_global d.globals ++ OfBlock 0 ∷ []
 
+-- what blocks and instructions name
 abbrev pub named_by_code : Deck → List Naming
 named_by_code d = flat_map named_by_block d.blocks ++ flat_map named_by_instruction d.instructions
 
@@ -80,6 +88,7 @@ named_by_code d = flat_map named_by_block d.blocks ++ flat_map named_by_instruct
 abbrev pub named_by : Deck → List Naming
 named_by d = named_by_signature d.signature ++ named_by_variables d ++ named_by_code d
 
+-- what is named is there
 abbrev pub is_there : Deck → Naming → Bool
 is_there d (OfDescription n) = nat_lt n (length d.descriptions)
 is_there d (OfTemplate n) = nat_lt n (length d.templates)
@@ -96,6 +105,7 @@ targets_of (op.Goto _ i) = i ∷ []
 targets_of (op.AllocateInArea _ i) = i ∷ []
 targets_of other = []
 
+-- each jump leads to an instruction of the deck
 abbrev pub jumps_within : Deck → Bool
 jumps_within d =
     list_all (λ i. nat_lt i (length d.instructions)) (flat_map targets_of d.instructions)
@@ -128,6 +138,7 @@ is_fitted Pointer NullPointer = true
 is_fitted Offset NullOffset = true
 is_fitted d c = false
 
+-- an initial value stands on a scalar to which it is fitted
 abbrev pub fits_scalar : Option Description → Constant → Bool
 fits_scalar None c = false
 fits_scalar (Some d) c = is_fitted d c
@@ -144,6 +155,7 @@ initial_bytes (Some d) (i ∷ is) = size_of d
 initial_bytes (Some d) [] = 0
 initial_bytes None initial = 0
 
+-- templates are good, and those with initial values have at most 16,777,216 bytes together
 abbrev pub within_limits : Deck → Bool
 within_limits d =
     list_all (λ t. is_good_template (slice_get d.descriptions t.description) t.initial) d.templates

@@ -20,14 +20,16 @@ use Rattle.pli_deck.specs.Decks.{ExternalControlled, ExternalEntry, Block, Deck}
 use Rattle.pli_deck.specs.Descriptions.{description}
 use Rattle.pli_deck.specs.Instructions.{instruction}
 
--- a name as it is written in upper case: how many characters, and the characters
+-- a text is this name, as it is written in upper case
 abbrev pub is_written : Option Name → List ℕ → Bool
 is_written None text = false
 is_written (Some n) text = bytes_eq n text
 
+-- a text is a name in upper case
 abbrev pub is_name : List ℕ → Bool
 is_name text = is_written (name_of text) text
 
+-- a name as it is written in upper case: how many characters, and the characters
 unfoldable pub name : Field Name
 name = checked is_name (list_of (from_to 1 31 count_of_one) byte)
 
@@ -35,18 +37,21 @@ name = checked is_name (list_of (from_to 1 31 count_of_one) byte)
 abbrev pub flag : Field Bool
 flag = shaped (λ n. nat_eq n 1) (λ b. if b then 1 else 0) (from_to 0 1 u1)
 
--- a number below 65,535, or none
+-- the number that two bytes stand for: one below 65,535, or none
 abbrev pub number_if : ℕ → Option ℕ
 number_if n = if nat_lt n 65535 then Some n else None
 
+-- the number that stands for it: 65,535 for none
 abbrev pub none_last : Option ℕ → ℕ
 none_last None = 65535
 none_last (Some n) = n
 
+-- it has one
 abbrev pub is_number_if : Option ℕ → Bool
 is_number_if None = true
 is_number_if (Some n) = nat_lt n 65535
 
+-- a number below 65,535, or none
 unfoldable pub optional : Field (Option ℕ)
 optional = record {
   bytes_of = λ o. u2.bytes_of (none_last o);
@@ -54,19 +59,22 @@ optional = record {
   read = λ bytes. u2.read bytes >>= λ n. Ok (number_if n.0, n.1);
 }
 
--- bits, eight to a byte, the first bit highest, with zeros behind the last
+-- how many bytes so many bits take
 abbrev pub byte_count : (bits : ℕ) → ℕ
 byte_count bits = (bits + 7) / 8
 
+-- so many bits of these bytes, whose last one has zeros behind the bits
 abbrev pub bits_in : (count : ℕ) → List ℕ → (rest : List ℕ) → Result (List Bool × List ℕ) Fault
 bits_in count bytes rest =
     held (bytes_eq bytes (packed (unpacked count bytes))) (unpacked count bytes, rest)
 
+-- so many bits from the front
 unfoldable pub bits_at : (count : ℕ) → Reader (List Bool)
 bits_at count bytes =
     if nat_lt (length bytes) (byte_count count) then Err Truncated
     else bits_in count (take (byte_count count) bytes) (drop (byte_count count) bytes)
 
+-- how many bits, and the bits, eight to a byte, the first bit highest, with zeros behind the last
 unfoldable pub bit_string : Field (List Bool)
 bit_string = record {
   bytes_of = λ bits. u2.bytes_of (length bits) ++ packed bits;
@@ -74,13 +82,15 @@ bit_string = record {
   read = λ bytes. (from_to 0 32767 u2).read bytes >>= λ n. bits_at n.0 n.1;
 }
 
--- constants and initial values
+-- a number of at most 31 binary digits
 abbrev pub integer : Field ℤ
 integer = signed 2147483647
 
+-- a string of characters, with a count of two bytes
 unfoldable pub characters : Field (List ℕ)
 characters = list_of (from_to 0 32767 u2) byte
 
+-- the form of a constant
 abbrev pub constant_form : Constant → Form
 constant_form (Number x) = form 1 integer x
 constant_form (Characters text) = form 2 characters text
@@ -88,6 +98,7 @@ constant_form (Bits bits) = form 3 bit_string bits
 constant_form NullPointer = form 4 nothing tt
 constant_form NullOffset = form 5 nothing tt
 
+-- how each form of constants is read, by its tag
 abbrev pub constant_readers : List (Reader Constant)
 constant_readers =
     unknown
@@ -98,28 +109,33 @@ constant_readers =
     ∷ made (λ _. NullOffset) nothing
     ∷ []
 
+-- a constant
 unfoldable pub constant : Field Constant
 constant = tagged constant_form constant_readers
 
+-- an initial value, with the byte on which it stands
 unfoldable pub initial : Field Initial
 initial = shaped (λ p. record { offset = p.0; value = p.1 }) (λ i. (i.offset, i.value)) (u4 ⊗ constant)
 
--- a template has a count of four bytes
+-- a template: the number of its description, and its initial values with a count of four bytes
 unfoldable pub template : Field Template
 template = shaped (λ p. record { description = p.0; initial = p.1 }) (λ t. (t.description, t.initial))
     (u2 ⊗ list_of u4 initial)
 
--- at most 64 parameters
+-- a count of at most 64 parameters
 abbrev pub parameter_count : Field ℕ
 parameter_count = from_to 0 64 count_of_one
 
+-- the same as a number
 abbrev pub parameter_number : Field ℕ
 parameter_number = from_to 0 64 u1
 
+-- the descriptions of parameters and of the result
 unfoldable pub signature : Field Signature
 signature = shaped (λ p. record { parameters = p.0; result = p.1 }) (λ s. (s.parameters, s.result))
     (list_of parameter_count u2 ⊗ optional)
 
+-- the form of a global
 abbrev pub global_form : Global → Form
 global_form (Static t) = form 0 u2 t
 global_form (Controlled t) = form 1 u2 t
@@ -127,6 +143,7 @@ global_form (ExternalStatic n t) = form 2 (name ⊗ u2) (n, t)
 global_form (ExternalControlled n t) = form 3 (name ⊗ u2) (n, t)
 global_form (ExternalEntry n s) = form 4 (name ⊗ signature) (n, s)
 
+-- how each form of globals is read, by its tag
 abbrev pub global_readers : List (Reader Global)
 global_readers =
     made Static u2
@@ -136,13 +153,15 @@ global_readers =
     ∷ made (λ p. ExternalEntry p.0 p.1) (name ⊗ signature)
     ∷ []
 
+-- a global
 unfoldable pub global : Field Global
 global = tagged global_form global_readers
 
--- kind, parent, parameters, AUTOMATIC variables, temporaries, first instruction, statement
+-- the kind of a block, 0 to 2
 abbrev pub block_kind : Field ℕ
 block_kind = from_to 0 2 u1
 
+-- a block of its parts
 abbrev pub block_of : ℕ × (Option ℕ × (ℕ × (List ℕ × (ℕ × (ℕ × ℕ))))) → Block
 block_of p = record {
   kind = p.0;
@@ -154,20 +173,23 @@ block_of p = record {
   statement = p.1.1.1.1.1.1;
 }
 
+-- its parts: kind, parent, parameters, AUTOMATIC variables, temporaries, first instruction, statement
 abbrev pub block_parts : Block → ℕ × (Option ℕ × (ℕ × (List ℕ × (ℕ × (ℕ × ℕ)))))
 block_parts b =
     (b.kind, (b.parent, (b.parameters, (b.variables, (b.temporaries, (b.entry, b.statement))))))
 
+-- a block
 unfoldable pub block : Field Block
 block = shaped block_of block_parts
     (block_kind ⊗ optional ⊗ parameter_number ⊗ list u2 ⊗ u2 ⊗ u2 ⊗ u4)
 
--- what stands in front: bytes that are the same everywhere
+-- what stands behind bytes that are the same everywhere, if they stand in front
 abbrev pub behind : List ℕ → List ℕ → Option (List ℕ)
 behind [] bytes = Some bytes
 behind (x ∷ xs) [] = None
 behind (x ∷ xs) (b ∷ bytes) = if nat_eq x b then behind xs bytes else None
 
+-- what is read behind them, or a fault where they do not stand
 abbrev pub past : {X : Type 0} → Fault → Reader X → Option (List ℕ) → Result (X × List ℕ) Fault
 past fault read None = Err fault
 past fault read (Some bytes) = read bytes
@@ -180,13 +202,15 @@ after_magic magic f = record {
   read = λ bytes. past BadMagic f.read (behind magic bytes);
 }
 
--- the version, which is 1
+-- what is read behind the version, if that is 1
 abbrev pub if_first : {X : Type 0} → Reader X → ℕ × List ℕ → Result (X × List ℕ) Fault
 if_first read version = if nat_eq version.0 1 then read version.1 else Err BadVersion
 
+-- a version, and what is read behind it
 abbrev pub versioned : {X : Type 0} → Reader X → Reader X
 versioned read bytes = byte_at bytes >>= if_first read
 
+-- a field behind the version, which is 1
 abbrev pub after_version : {X : Type 0} → Field X → Field X
 after_version f = record {
   bytes_of = λ x. 1 ∷ f.bytes_of x;
@@ -194,10 +218,12 @@ after_version f = record {
   read = versioned f.read;
 }
 
+-- the tables of a deck and its instructions, in the order of their bytes
 abbrev pub Tables : Type 0
 Tables =
     List Description × (List Template × (List Constant × (List Global × (List Block × List Instruction))))
 
+-- a deck of its parts
 abbrev pub deck_of : Name × (Bool × (Signature × Tables)) → Deck
 deck_of p = record {
   name = p.0;
@@ -211,12 +237,15 @@ deck_of p = record {
   instructions = p.1.1.1.1.1.1.1.1;
 }
 
+-- its tables and instructions
 abbrev pub tables_of : Deck → Tables
 tables_of d = (d.descriptions, (d.templates, (d.values, (d.globals, (d.blocks, d.instructions)))))
 
+-- its parts, in the order of their bytes
 abbrev pub deck_parts : Deck → Name × (Bool × (Signature × Tables))
 deck_parts d = (d.name, (d.is_main, (d.signature, tables_of d)))
 
+-- the field of the tables and instructions
 unfoldable pub tables : Field Tables
 tables =
     list description ⊗ list template ⊗ list constant ⊗ list global ⊗ list block ⊗ list instruction

@@ -12,6 +12,7 @@ use Rattle.pli_deck.specs.declared.deck.Global.TheVariants as globals
 use Rattle.pli_deck.specs.declared.deck.Block.{Block}
 use Rattle.pli_deck.specs.declared.deck.Deck.{Deck}
 
+-- a constant or an initial value
 abbrev pub constant_view : Constant → plain.Constant
 constant_view (constants.Number x) = plain.Number x
 constant_view (constants.Characters text) = plain.Characters text.items
@@ -19,15 +20,19 @@ constant_view (constants.Bits bits) = plain.Bits bits
 constant_view constants.NullPointer = plain.NullPointer
 constant_view constants.NullOffset = plain.NullOffset
 
+-- an initial value, with the byte on which it stands
 abbrev pub initial_view : Initial → plain.Initial
 initial_view i = record { offset = i.offset; value = constant_view i.value }
 
+-- a template
 abbrev pub template_view : Template → plain.Template
 template_view t = record { description = t.description; initial = map initial_view t.initial.items }
 
+-- what an external procedure takes and gives
 abbrev pub signature_view : Signature → plain.Signature
 signature_view s = record { parameters = s.parameters.items; result = s.result }
 
+-- a global
 abbrev pub global_view : Global → plain.Global
 global_view (globals.Static t) = plain.Static t
 global_view (globals.Controlled t) = plain.Controlled t
@@ -35,6 +40,7 @@ global_view (globals.ExternalStatic n t) = plain.ExternalStatic n t
 global_view (globals.ExternalControlled n t) = plain.ExternalControlled n t
 global_view (globals.ExternalEntry n s) = plain.ExternalEntry n (signature_view s)
 
+-- a block
 abbrev pub block_view : Block → plain.Block
 block_view b = record {
   kind = b.kind;
@@ -46,6 +52,7 @@ block_view b = record {
   statement = b.statement;
 }
 
+-- a deck
 abbrev pub deck_view : Deck → plain.Deck
 deck_view d = record {
   name = d.name;

@@ -17,6 +17,7 @@ pub record Initial : Type 0 where
   pub offset : ℕ
   pub value : Constant
 
+-- what a variable is made from: the number of its description, and its initial values
 pub record Template : Type 0 where
   pub description : ℕ
   pub initial : List Initial
@@ -44,6 +45,8 @@ pub record Block : Type 0 where
   pub entry : ℕ
   pub statement : ℕ
 
+-- a deck: the name of the unit's procedure, whether it is a main one, what it takes and gives, the tables,
+-- and the instructions
 pub record Deck : Type 0 where
   pub name : Name
   pub is_main : Bool

@@ -1,5 +1,5 @@
--- Fields: how a value stands in bytes. A field says three things of a value: the bytes that spell it, whether
--- it has a spelling at all, and how it is read from the front of bytes.
+-- Fields (own): how a value stands in bytes. A field says three things of a value: the bytes that spell it,
+-- whether it has a spelling at all, and how it is read from the front of bytes.
 use Rattle.std.specs.Prelude.{◌≡◌, ◌<◌, ℕ, zero, suc, ◌^◌, nat_le, nat_lt, Bool, true, ◌&&◌, ℤ}
 use Rattle.std.specs.Prelude.{unsigned_abs}
 use Rattle.std.specs.Prelude.{List, [], ◌∷◌, ◌++◌, length, drop, get_or, Result, Ok, Err}
@@ -20,16 +20,18 @@ abbrev pub ◌>>=◌ : {A B : Type 0} → Result A Fault → (A → Result B Fau
 abbrev pub Reader : Type 0 → Type 0
 Reader X = List ℕ → Result (X × List ℕ) Fault
 
+-- how values stand in bytes: those that spell a value, whether it has a spelling, and how one is read
 pub record Field (X : Type 0) : Type 0 where
   pub bytes_of : X → List ℕ
   pub fits : X → Bool
   pub read : Reader X
 
--- what is read from the front of bytes is spelled by what was there, and what is spelled is read again,
--- whatever stands behind it
+-- each is a byte
 abbrev pub AreBytes : List ℕ → Type 0
 AreBytes bytes = (i : ℕ) → get_or bytes i 0 < 256
 
+-- what is read from the front of bytes is spelled by what was there, and what is spelled is read again,
+-- whatever stands behind it
 pub record BothWays {X : Type 0} (f : Field X) : Type 0 where
   pub spelled : (bytes : List ℕ) (x : X) (rest : List ℕ) → AreBytes bytes → f.read bytes ≡ Ok (x, rest)
       → (f.fits x ≡ true) × (bytes ≡ f.bytes_of x ++ rest)
@@ -39,20 +41,22 @@ pub record BothWays {X : Type 0} (f : Field X) : Type 0 where
 abbrev pub nothing : Field (Unit {0})
 nothing = record { bytes_of = λ _. []; fits = λ _. true; read = λ bytes. Ok (tt, bytes) }
 
--- one byte
+-- the first byte
 unfoldable pub byte_at : Reader ℕ
 byte_at [] = Err Truncated
 byte_at (b ∷ bytes) = Ok (b, bytes)
 
+-- one byte
 abbrev pub byte : Field ℕ
 byte = record { bytes_of = λ n. n ∷ []; fits = λ n. nat_lt n 256; read = byte_at }
 
--- a number of so many bytes, the highest first
+-- a number in the first so many bytes, the highest first
 unfoldable pub number_at : (count : ℕ) → Reader ℕ
 number_at count bytes =
     if nat_lt (length bytes) count then Err Truncated
     else Ok (big_number count bytes, drop count bytes)
 
+-- a number of so many bytes, the highest first
 abbrev pub number : (count : ℕ) → Field ℕ
 number count = record {
   bytes_of = λ n. big_bytes count n;
@@ -60,10 +64,11 @@ number count = record {
   read = number_at count;
 }
 
--- a field whose values pass a test
+-- what was read, if it is good
 abbrev pub held : {X : Type 0} → Bool → X → Result X Fault
 held good x = if good then Ok x else Err OutOfRange
 
+-- a field whose values pass a test
 abbrev pub checked : {X : Type 0} → (good : X → Bool) → Field X → Field X
 checked good f = record {
   bytes_of = f.bytes_of;
@@ -71,10 +76,11 @@ checked good f = record {
   read = λ bytes. f.read bytes >>= λ x. held (good x.0) x;
 }
 
--- a signed number of four bytes, in two's complement, no further from 0 than this
+-- a number is no further from 0 than this
 abbrev pub is_near : (bound : ℕ) → ℤ → Bool
 is_near bound z = nat_le (unsigned_abs z) bound
 
+-- a signed number of four bytes, in two's complement, no further from 0 than this
 abbrev pub signed : (bound : ℕ) → Field ℤ
 signed bound = record {
   bytes_of = λ z. big_bytes 4 (cast_unsigned w32 z);
@@ -91,6 +97,7 @@ followed f g = record {
   read = λ bytes. f.read bytes >>= λ x. (g x.0).read x.1 >>= λ y. Ok ((x.0, y.0), y.1);
 }
 
+-- one field behind another
 infixr 40 ◌⊗◌
 abbrev pub ◌⊗◌ : {X Y : Type 0} → Field X → Field Y → Field (X × Y)
 f ⊗ g = followed f (λ _. g)
@@ -142,13 +149,15 @@ tagged form_of readers = record {
   read = λ bytes. byte_at bytes >>= λ t. (get_or readers t.0 unknown) t.1;
 }
 
--- numbers of one, two and four bytes; from one number to another; lists with a count of two bytes
+-- a number of one byte
 abbrev pub u1 : Field ℕ
 u1 = byte
 
+-- a number of two bytes
 abbrev pub u2 : Field ℕ
 u2 = number 2
 
+-- a number of four bytes
 abbrev pub u4 : Field ℕ
 u4 = number 4
 
@@ -156,8 +165,10 @@ u4 = number 4
 abbrev pub count_of_one : Field ℕ
 count_of_one = number 1
 
+-- a number from one to another
 abbrev pub from_to : (low high : ℕ) → Field ℕ → Field ℕ
 from_to low high f = checked (is_in_range low high) f
 
+-- a list with a count of two bytes
 abbrev pub list : {X : Type 0} → Field X → Field (List X)
 list f = list_of u2 f

@@ -1,4 +1,4 @@
--- The bytes of modules: the decks of all units, and what their external names stand for.
+-- The bytes of modules (own): the decks of all units, and what their external names stand for.
 use Rattle.std.specs.Prelude.{ℕ, zero, suc, nat_eq, nat_lt, Bool, true, false, ◌&&◌, List}
 use Rattle.std.specs.Prelude.{[], ◌∷◌, ◌++◌, length, take, drop, Option, Some, None, Result, Ok, Err}
 use Rattle.std.specs.Prelude.{if◌then◌else◌}
@@ -41,33 +41,40 @@ pub record Module : Type 0 where
 
 -- ---- externals, in the order of their names
 
+-- the first of two comes before the second
 abbrev pub is_less : Ordering → Bool
 is_less Less = true
 is_less other = false
 
+-- a name comes behind that of the external before, if there is one
 abbrev pub comes_after : Option External → Name → Bool
 comes_after None n = true
 comes_after (Some e) n = is_less (slice_cmp nat_cmp e.name n)
 
+-- an external of its parts
 abbrev pub external_of : Name × (ℕ × (ℕ × ℕ)) → External
 external_of p = record { name = p.0; kind = p.1.0; unit = p.1.1.0; global = p.1.1.1 }
 
+-- its parts, in the order of their bytes
 abbrev pub external_parts : External → Name × (ℕ × (ℕ × ℕ))
 external_parts e = (e.name, (e.kind, (e.unit, e.global)))
 
+-- an external whose name comes behind that of the one before
 unfoldable pub external_behind : (before : Option External) → Field External
 external_behind before =
     shaped external_of external_parts (checked (comes_after before) name ⊗ from_to 2 3 u1 ⊗ u2 ⊗ u2)
 
--- so many values, each by the field that the one before gives
+-- the bytes of values, each by the field that the one before gives
 abbrev pub bytes_behind : {X : Type 0} → (Option X → Field X) → Option X → List X → List ℕ
 bytes_behind f before [] = []
 bytes_behind f before (x ∷ xs) = (f before).bytes_of x ++ bytes_behind f (Some x) xs
 
+-- each of these fits
 abbrev pub fit_behind : {X : Type 0} → (Option X → Field X) → Option X → List X → Bool
 fit_behind f before [] = true
 fit_behind f before (x ∷ xs) = (f before).fits x && fit_behind f (Some x) xs
 
+-- so many of these are read
 unfoldable pub many_behind : {X : Type 0} → (Option X → Field X) → Option X → (count : ℕ) → Reader (List X)
 many_behind f before zero bytes = Ok ([], bytes)
 many_behind f before (suc n) bytes =
@@ -83,19 +90,22 @@ chain f = record {
 
 -- ---- units
 
--- a deck with the number of its bytes; it is read whole where it stands
+-- there is no fault
 abbrev pub is_none : Option Fault → Bool
 is_none None = true
 is_none (Some f) = false
 
+-- what is read of a deck, with what stands behind it
 abbrev pub and_rest : List ℕ → Result Deck Fault → Result (Deck × List ℕ) Fault
 and_rest rest read = read >>= λ d. Ok (d, rest)
 
+-- a deck of so many bytes, read whole where it stands
 unfoldable pub deck_in : (count : ℕ) → Reader Deck
 deck_in count bytes =
     if nat_lt (length bytes) count then Err Truncated
     else and_rest (drop count bytes) (deck_read (take count bytes))
 
+-- a deck with the number of its bytes
 abbrev pub sized_deck : Field Deck
 sized_deck = record {
   bytes_of = λ d. u4.bytes_of (length (deck_bytes d)) ++ deck_bytes d;
@@ -103,6 +113,7 @@ sized_deck = record {
   read = λ bytes. u4.read bytes >>= λ n. deck_in n.0 n.1;
 }
 
+-- which of the five forms a global has
 abbrev pub global_tag : Global → ℕ
 global_tag (Static _) = 0
 global_tag (Controlled _) = 1
@@ -110,6 +121,7 @@ global_tag (ExternalStatic _ _) = 2
 global_tag (ExternalControlled _ _) = 3
 global_tag (ExternalEntry _ _) = 4
 
+-- a global that other units know by its name
 abbrev pub is_external : Global → Bool
 is_external g = nat_lt 1 (global_tag g)
 
@@ -117,12 +129,15 @@ is_external g = nat_lt 1 (global_tag g)
 abbrev pub links_of : Deck → Field (List ℕ)
 links_of d = let k = length (filter is_external d.globals) in list_of (from_to k k u2) u2
 
+-- a unit of its parts
 abbrev pub member_of : (Name × Deck) × List ℕ → Member
 member_of p = record { name = p.0.0; deck = p.0.1; links = p.1 }
 
+-- its parts, in the order of their bytes
 abbrev pub member_parts : Member → (Name × Deck) × List ℕ
 member_parts m = ((m.name, m.deck), m.links)
 
+-- a unit: its member's name, its deck, and what its external globals stand for
 unfoldable pub member : Field Member
 member = shaped member_of member_parts (followed (name ⊗ sized_deck) (λ p. links_of p.1))
 
@@ -136,9 +151,11 @@ exactly count f = record {
   read = many f.read count;
 }
 
+-- a module of its parts
 abbrev pub module_of : (ℕ × (ℕ × List External)) × List Member → Module
 module_of p = record { main = p.0.1.0; externals = p.0.1.1; units = p.1 }
 
+-- its parts, in the order of their bytes
 abbrev pub module_parts : Module → (ℕ × (ℕ × List External)) × List Member
 module_parts m = ((length m.units, (m.main, m.externals)), m.units)
 

@@ -18,11 +18,12 @@ use Rattle.pli_unit_code.specs.declared.instruction.Instruction.TheVariants as c
 use Rattle.pli_value.specs.Value.{Value, Number, Characters, Bits}
 use Rattle.pli_deck_code.specs.ScalarOffsets.{offsets_of}
 
--- a number in a field of one or two bytes: the greatest that it holds stands for every greater one, which no
--- code within its limits has
+-- a number in a field of one byte: the greatest that it holds stands for every greater one, which no code
+-- within its limits has
 abbrev pub byte : ℕ → ℕ
 byte n = min n 255
 
+-- the same in a field of two bytes
 abbrev pub short : ℕ → ℕ
 short n = min n 65535
 
@@ -30,7 +31,7 @@ short n = min n 65535
 abbrev pub near_number : ℤ → ℤ
 near_number x = if nat_le (unsigned_abs x) 2147483647 then x else pos 0
 
--- errors and relations by their numbers
+-- the number of an error
 abbrev pub error_number : RunError → ℕ
 error_number errors.SubscriptRange = 1
 error_number errors.StringRange = 2
@@ -46,6 +47,7 @@ error_number errors.Area = 11
 error_number errors.StorageLimit = 12
 error_number errors.TooManyActivations = 13
 
+-- the number of a relation
 abbrev pub relation_number : Relation → ℕ
 relation_number relations.Equal = 0
 relation_number relations.Unequal = 1
@@ -54,6 +56,7 @@ relation_number relations.AtMost = 3
 relation_number relations.Greater = 4
 relation_number relations.AtLeast = 5
 
+-- an instruction, with its numbers cut to their fields
 abbrev pub instruction_of : Instruction → deck_instruction.Instruction
 instruction_of (coded.Step s) = op.Step s
 instruction_of (coded.Line s) = op.Line s
@@ -104,6 +107,7 @@ instruction_of coded.Skip = op.Skip
 instruction_of (coded.SetTemporary number) = op.SetTemporary (short number)
 instruction_of (coded.TakeTemporary number) = op.TakeTemporary (short number)
 
+-- a value
 abbrev pub constant_of : Value → deck.Constant
 constant_of (Number x) = deck.Number (near_number x)
 constant_of (Characters text) = deck.Characters text
@@ -118,25 +122,30 @@ abbrev pub offsets_in : Option Description → List ℕ
 offsets_in None = []
 offsets_in (Some d) = offsets_of d
 
+-- a template, its initial values on the bytes of their scalars
 abbrev pub template_of : List Description → code.CodedTemplate → deck.Template
 template_of descriptions t = record {
   description = t.description;
   initial = map (initial_of (offsets_in (slice_get descriptions t.description))) t.initial;
 }
 
+-- what an external procedure takes and gives
 abbrev pub signature_of : code.CodedSignature → deck.Signature
 signature_of s = record { parameters = s.parameters; result = s.result }
 
+-- a global
 abbrev pub global_of : code.CodedGlobal → deck.Global
 global_of (code.OwnVariable t) = deck.Static t
 global_of (code.ExternalVariable name t) = deck.ExternalStatic name t
 global_of (code.EntryPoint name signature) = deck.ExternalEntry name (signature_of signature)
 
+-- the number of a kind of blocks
 abbrev pub kind_number : BlockKind → ℕ
 kind_number Procedure = 0
 kind_number BeginBlock = 1
 kind_number OnUnit = 2
 
+-- a block, with its numbers cut to their fields
 abbrev pub block_of : code.CodedBlock → deck.Block
 block_of b = record {
   kind = kind_number b.kind;
@@ -148,6 +157,7 @@ block_of b = record {
   statement = b.statement;
 }
 
+-- the deck of a unit, which is the main one or not
 abbrev pub deck_of : (is_main : Bool) → LinkedUnit → deck.Deck
 deck_of is_main u = record {
   name = u.procedure;

@@ -25,7 +25,7 @@ declared_in unit global (ExternalVariable name t ∷ gs) =
     (name, declaration unit global) ∷ declared_in unit (global + 1) gs
 declared_in unit global (other ∷ gs) = declared_in unit (global + 1) gs
 
--- and all units, from this one on
+-- those that all units declare, from this unit on
 abbrev pub all_declared : (unit : ℕ) → List LinkedUnit → List (Name × Declaration)
 all_declared unit [] = []
 all_declared unit (u ∷ us) = declared_in unit 0 u.code.globals ++ all_declared (unit + 1) us
@@ -42,6 +42,7 @@ abbrev pub firsts : (before : List (Name × Declaration)) → List (Name × Decl
 firsts before [] = before
 firsts before (d ∷ ds) = firsts (with_declaration before d) ds
 
+-- the first declarations of the external variables of a module, in the order of their names
 abbrev pub declarations : List LinkedUnit → List (Name × Declaration)
 declarations us = firsts [] (all_declared 0 us)
 
@@ -78,6 +79,7 @@ members_of main names number [] = []
 members_of main names number (u ∷ us) =
     member names (nat_eq number main) u ∷ members_of main names (number + 1) us
 
+-- the module of decks
 abbrev pub module_of : linked.Module → Module
 module_of m = record {
   main = m.main;

@@ -1,4 +1,4 @@
--- On which bytes of a description its scalars stand, in their order.
+-- On which bytes of a description its scalars stand, in their order (own).
 use Rattle.std.specs.Prelude.{ℕ, zero, suc, ◌+◌, min, List, [], ◌∷◌, ◌++◌, map}
 use Rattle.std.specs.Int.{next_multiple_of}
 use Rattle.pli_map.specs.Description.{Description, Array, Structure, Members, NoMembers, MemberThen}

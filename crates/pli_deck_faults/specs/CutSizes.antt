@@ -5,9 +5,11 @@ use Rattle.pli_map.specs.declared.description.Description.{Description}
 use Rattle.pli_map.specs.views.DescriptionView.{description_view}
 use Rattle.pli_deck.specs.declared.module.Member.{Member}
 
+-- the size of a description, 2^32 standing for every greater one
 abbrev pub cut_size : Description → ℕ
 cut_size d = min (size_of (description_view d)) 4294967296
 
+-- those of descriptions
 abbrev pub cut_sizes : List Description → List ℕ
 cut_sizes ds = map cut_size ds
 

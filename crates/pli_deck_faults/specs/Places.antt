@@ -13,22 +13,26 @@ use Rattle.pli_deck_faults.specs.declared.places.Places.TheOpen.{Places-F}
 use Rattle.pli_deck_faults.specs.declared.places.Places.TheFolds.{fold-Places}
 
 mutual
+  -- none; that of a scalar; those of an array's elements, by its bytes and those from one element to the
+  -- next; those of a structure's members, by where each starts and ends
   pub data Places : Type 0 where
     Nothing : Places
     One : Description → Places
     Elements : (bytes stride : ℕ) → Places → Places
     Among : (starts ends : List ℕ) → PlacesList → Places
 
+  -- the places of each member of a structure
   pub data PlacesList : Type 0 where
     NoPlaces : PlacesList
     PlacesThen : Places → PlacesList → PlacesList
 
--- where members start and end, the first behind this byte
+-- where members start, the first behind this byte
 abbrev pub starts_from : (at : ℕ) → Members → List ℕ
 starts_from at tree.NoMembers = []
 starts_from at (tree.MemberThen d ds) =
     next_multiple_of at (alignment_of d) ∷ starts_from (next_multiple_of at (alignment_of d) + size_of d) ds
 
+-- where they end
 abbrev pub ends_from : (at : ℕ) → Members → List ℕ
 ends_from at tree.NoMembers = []
 ends_from at (tree.MemberThen d ds) =
@@ -36,6 +40,7 @@ ends_from at (tree.MemberThen d ds) =
     ∷ ends_from (next_multiple_of at (alignment_of d) + size_of d) ds
 
 abbrev mutual
+  -- the places of a description
   pub places_of : Description → Places
   places_of (tree.Array bounds element) =
       if nat_eq (size_of (tree.Array bounds element)) 0 then Nothing
@@ -44,15 +49,17 @@ abbrev mutual
       Among (starts_from 0 members) (ends_from 0 members) (places_among members)
   places_of scalar = One scalar
 
+  -- those of members
   pub places_among : Members → PlacesList
   places_among tree.NoMembers = NoPlaces
   places_among (tree.MemberThen d ds) = PlacesThen (places_of d) (places_among ds)
 
+-- places in a list
 abbrev pub list_of_places : List Places → PlacesList
 list_of_places [] = NoPlaces
 list_of_places (p ∷ ps) = PlacesThen p (list_of_places ps)
 
--- what places of the program say, one level with what each inside says in its place
+-- one level of the places of the program, with what each inside says in its place
 abbrev pub places_level : Places-F Places → Places
 places_level Places-F.Nothing = Nothing
 places_level (Places-F.One d) = One (description_view d)
@@ -60,6 +67,7 @@ places_level (Places-F.Elements bytes stride element) = Elements bytes stride el
 places_level (Places-F.Among starts ends members) =
     Among starts.items ends.items (list_of_places members.items)
 
+-- what places of the program say
 abbrev pub places_view : program.Places → Places
 places_view = fold-Places Places places_level
 
@@ -73,8 +81,10 @@ abbrev pub placed_of : Description → Option Placed
 placed_of d =
     if nat_le (size_of d) 1000000 then Some (record { bytes = size_of d; places = places_of d }) else None
 
+-- the same with the size
 abbrev pub placed_view : placed_program.Placed → Placed
 placed_view p = record { bytes = p.bytes; places = places_view p.places }
 
+-- the same of descriptions that may be too large
 abbrev pub all_placed : List (Option placed_program.Placed) → List (Option Placed)
 all_placed ps = map (option_map placed_view) ps

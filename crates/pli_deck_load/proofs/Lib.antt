@@ -2,8 +2,10 @@ pub mod ComparedLists
 pub mod DecksBack
 pub mod DecksForth
 pub mod FoundScalars
+pub mod LinkedAlike
 pub mod LoadedModules
 pub mod MadeLists
 pub mod ModulesBack
 pub mod ModulesForth
 pub mod RisingOffsets
+pub mod ScalarNumbers

@@ -2,14 +2,14 @@
 use Rattle.std.proofs.Common.{◌≡◌, ℕ, zero, suc, ◌+◌, ◌*◌, ◌≤◌, nat_le, Bool, true, false, List, [], ◌∷◌, ◌++◌, map, refl, ap, ◌∙◌, inl, inr, arith, if◌then◌else◌}
 use Rattle.std.specs.Int.{next_multiple_of, is_in_range}
 use Rattle.std.specs.List.{list_all}
-use Rattle.std.proofs.lemmas.Bool.{and_parts, and_from, leb-true, le-leb, false≢true}
+use Rattle.std.proofs.lemmas.Bool.{and_parts, and_from, leb-true, le-leb, ltb-true, false≢true}
 use Rattle.pli_map.specs.Description.{Description, FixedBinary, Character, Varying, Bit, Pointer, Offset, Area, Array, Structure, Members, NoMembers, MemberThen}
 use Rattle.pli_map.specs.Sizes.{number_bytes, count_of, alignment_of, size_of, end_behind, stride_of}
 use Rattle.pli_map.proofs.PlaceLaws.{four_alignments}
 use Rattle.pli_deck.specs.Fields.{u2, u4}
 use Rattle.pli_deck.specs.Descriptions.{listed, dimensions, description_within}
 use Rattle.pli_deck_code.specs.ScalarOffsets.{word, repeated, offsets_from, offsets_among, offsets_of}
-use Rattle.pli_deck_load.specs.Scalars.{rises}
+use Rattle.pli_deck_load.specs.Scalars.{rises, has_bytes, all_have_bytes}
 
 -- each of these is behind the one before, none is before the low one, and all are before the high one
 abbrev pub Between : (low high : ℕ) → List ℕ → Type 0
@@ -117,4 +117,36 @@ stand_between (suc n) (Structure ds) at h =
 pub offsets_rise : (levels : ℕ) (d : Description) → (description_within levels).fits d ≡ true → size_of d ≤ 1000000 → rises 0 (offsets_of d) ≡ true
 offsets_rise levels d fits size =
     let all = stand_between levels d 0 fits in
+    ap (rises 0) (as_words 0 (0 + size_of d) (offsets_from d 0) (omega (arith, size)) all) ∙ as_rises 0 (0 + size_of d) (offsets_from d 0) all
+
+-- ---- the same where each scalar is known to take a byte
+
+mutual
+  filled_between : (d : Description) (at : ℕ) → has_bytes d ≡ true → Between at (at + size_of d) (offsets_from d at)
+  filled_between (FixedBinary p) at h = alone at (number_bytes p) (some_bytes p)
+  filled_between (Character k) at h = alone at k (omega (arith, ltb-true 0 k h))
+  filled_between (Varying k) at h = alone at (2 + k) (omega arith)
+  filled_between (Bit k) at h = let some = ltb-true 0 k h in alone at (size_of (Bit k)) (omega (arith, some))
+  filled_between Pointer at h = alone at 8 (omega arith)
+  filled_between Offset at h = alone at 4 (omega arith)
+  filled_between (Area k) at h = alone at k (omega (arith, ltb-true 0 k h))
+  filled_between (Array bounds element) at h =
+      in_elements (offsets_from element) (size_of element) (stride_of element) (stride_holds element) (λ a. filled_between element a h) (count_of bounds) at
+  filled_between (Structure ds) at h =
+      lower at (at + 0) (at + end_behind 0 ds) (offsets_among ds at 0) (omega arith) (filled_among ds at 0 h)
+
+  filled_among : (ds : Members) (at ended : ℕ) → all_have_bytes ds ≡ true → Between (at + ended) (at + end_behind ended ds) (offsets_among ds at ended)
+  filled_among NoMembers at ended h = omega arith
+  filled_among (MemberThen d ds) at ended h =
+      let start = next_multiple_of ended (alignment_of d) in
+      let both = and_parts (has_bytes d) (all_have_bytes ds) h in
+      let end = at + end_behind (start + size_of d) ds in
+      let rest = offsets_among ds at (start + size_of d) in
+      joined (at + ended) (at + start + size_of d) end (offsets_from d (at + start)) rest
+      (lower (at + ended) (at + start) (at + start + size_of d) (offsets_from d (at + start)) (omega (arith, next_later ended d)) (filled_between d (at + start) both.0))
+      (lower (at + start + size_of d) (at + (start + size_of d)) end rest (omega arith) (filled_among ds at (start + size_of d) both.1))
+
+pub filled_rise : (d : Description) → has_bytes d ≡ true → size_of d ≤ 1000000 → rises 0 (offsets_of d) ≡ true
+filled_rise d filled size =
+    let all = filled_between d 0 filled in
     ap (rises 0) (as_words 0 (0 + size_of d) (offsets_from d 0) (omega (arith, size)) all) ∙ as_rises 0 (0 + size_of d) (offsets_from d 0) all

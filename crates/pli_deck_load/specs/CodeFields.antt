@@ -11,10 +11,11 @@ use Rattle.pli_unit_code.specs.declared.instruction.Instruction.{Instruction}
 use Rattle.pli_unit_code.specs.declared.instruction.Instruction.TheVariants as coded
 use Rattle.pli_value.specs.Value.{Value, Number}
 
--- a number in a field of one or two bytes
+-- a number in a field of one byte
 abbrev pub is_byte : ℕ → Bool
 is_byte n = nat_le n 255
 
+-- a number in a field of two bytes
 abbrev pub is_short : ℕ → Bool
 is_short n = nat_le n 65535
 
@@ -42,21 +43,26 @@ value_fits other = true
 abbrev pub initial_fits : (scalars : ℕ) → InitialScalar → Bool
 initial_fits scalars i = nat_lt i.scalar scalars && value_fits i.value
 
+-- how many scalars a description has that is there
 abbrev pub scalar_count : Option Description → ℕ
 scalar_count None = 0
 scalar_count (Some d) = scalars_in d
 
+-- each initial value of a template does
 abbrev pub template_fits : List Description → CodedTemplate → Bool
 template_fits descriptions t =
     list_all (initial_fits (scalar_count (slice_get descriptions t.description))) t.initial
 
+-- the block around another has a number of two bytes, if there is one
 abbrev pub parent_fits : Option ℕ → Bool
 parent_fits None = true
 parent_fits (Some b) = is_short b
 
+-- the numbers of a block fit
 abbrev pub block_fits : CodedBlock → Bool
 block_fits b = parent_fits b.parent && (is_byte b.parameters && is_short b.temporaries)
 
+-- the numbers of a unit's code fit
 abbrev pub code_fits : Code → Bool
 code_fits c =
     list_all (template_fits c.descriptions) c.templates
@@ -69,9 +75,10 @@ entries_in [] = 0
 entries_in (EntryPoint name signature ∷ gs) = suc (entries_in gs)
 entries_in (variable ∷ gs) = entries_in gs
 
--- each entry has its unit
+-- the numbers of a unit fit, and each of its entries has its unit
 abbrev pub unit_fits : LinkedUnit → Bool
 unit_fits u = code_fits u.code && nat_eq (length u.entries) (entries_in u.code.globals)
 
+-- so it is with each unit of a module
 abbrev pub module_fits : Module → Bool
 module_fits m = list_all unit_fits m.units

@@ -24,7 +24,7 @@ abbrev pub all_of : {X Y : Type 0} → (X → Option Y) → List X → Option (L
 all_of f [] = Some []
 all_of f (x ∷ xs) = option_and_then (λ y. option_map (λ ys. y ∷ ys) (all_of f xs)) (f x)
 
--- errors from 1 on, relations and kinds of blocks, in the order of their numbers
+-- the error of a number, from 1 on
 abbrev pub error_from : ℕ → Option RunError
 error_from n =
     get_or (None ∷ Some errors.SubscriptRange ∷ Some errors.StringRange ∷ Some errors.NullLocator
@@ -33,15 +33,17 @@ error_from n =
     ∷ Some errors.ZeroDivide ∷ Some errors.Area ∷ Some errors.StorageLimit
     ∷ Some errors.TooManyActivations ∷ []) n None
 
+-- the relation of a number
 abbrev pub relation_from : ℕ → Option Relation
 relation_from n =
     slice_get (relations.Equal ∷ relations.Unequal ∷ relations.Less ∷ relations.AtMost ∷ relations.Greater
     ∷ relations.AtLeast ∷ []) n
 
+-- the kind of a block, by its number
 abbrev pub kind_from : ℕ → Option BlockKind
 kind_from n = slice_get (Procedure ∷ BeginBlock ∷ OnUnit ∷ []) n
 
--- none of an instruction of storage or of conditions
+-- an instruction; none of one of storage or of conditions
 abbrev pub instruction_from : deck_instruction.Instruction → Option Instruction
 instruction_from (op.Step s) = Some (coded.Step s)
 instruction_from (op.Line s) = Some (coded.Line s)
@@ -93,6 +95,7 @@ instruction_from (op.SetTemporary number) = Some (coded.SetTemporary number)
 instruction_from (op.TakeTemporary number) = Some (coded.TakeTemporary number)
 instruction_from other = None
 
+-- a value; none of a null pointer or offset
 abbrev pub value_from : deck.Constant → Option Value
 value_from (deck.Number x) = Some (Number x)
 value_from (deck.Characters text) = Some (Characters text)
@@ -111,21 +114,24 @@ initials_from offsets [] = Some []
 initials_from offsets (i ∷ is) =
     if rises 0 offsets then all_of (initial_from offsets) (i ∷ is) else None
 
+-- a template, if its initial values stand on scalars
 abbrev pub template_from : List Description → deck.Template → Option code.CodedTemplate
 template_from descriptions t =
     option_map (λ initial. record { description = t.description; initial = initial })
     (initials_from (offsets_in (slice_get descriptions t.description)) t.initial)
 
+-- what an external procedure takes and gives
 abbrev pub signature_from : deck.Signature → code.CodedSignature
 signature_from s = record { parameters = s.parameters; result = s.result }
 
--- none of a controlled variable
+-- a global; none of a controlled variable
 abbrev pub global_from : deck.Global → Option code.CodedGlobal
 global_from (deck.Static t) = Some (code.OwnVariable t)
 global_from (deck.ExternalStatic name t) = Some (code.ExternalVariable name t)
 global_from (deck.ExternalEntry name s) = Some (code.EntryPoint name (signature_from s))
 global_from other = None
 
+-- a block, if it has a kind
 abbrev pub block_from : deck.Block → Option code.CodedBlock
 block_from b =
     option_map (λ kind. record {

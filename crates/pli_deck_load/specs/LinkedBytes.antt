@@ -1,4 +1,4 @@
--- Which linked module the bytes of a module are, and what loading them answers.
+-- Which linked module the bytes of a module are, and what loading them answers (own).
 use Rattle.std.specs.Prelude.{◌≡◌, ℕ, true, List, Result, Ok, Err}
 use Rattle.pli_deck.specs.ModuleFields as deck
 use Rattle.pli_deck.specs.ModuleSpelling.{SpellsModule}
@@ -16,24 +16,27 @@ pub record IsLinked (bytes : List ℕ) (m : linked.Module) : Type 0 where
   pub fits : module_fits m ≡ true
   pub spelled : SpellsModule bytes (module_of m)
 
--- this module is loaded, unless memory runs out
+-- memory ran out
 abbrev pub IsMemory : LoadError → Type 0
 IsMemory errors.Memory = Unit {0}
 IsMemory other = ⊥
 
+-- this module is loaded, unless memory runs out
 abbrev pub Loads : Result Module LoadError → linked.Module → Type 0
 Loads (Ok loaded) m = module_view loaded ≡ m
 Loads (Err e) m = IsMemory e
 
--- a fault is that which reading gives; bytes that are no linked module are read
+-- bytes are read
 abbrev pub IsRead : Result deck.Module Fault → Type 0
 IsRead read = (m : deck.Module) × (read ≡ Ok m)
 
+-- a fault is that which reading gives; bytes that are no linked module are read
 abbrev pub Refuses : LoadError → Result deck.Module Fault → Type 0
 Refuses errors.Memory read = Unit {0}
 Refuses (errors.Fault f) read = read ≡ Err f
 Refuses errors.NotYet read = IsRead read
 
+-- bytes that are loaded are read, and those that are not are refused so
 abbrev pub FaultsAre : Result Module LoadError → Result deck.Module Fault → Type 0
 FaultsAre (Ok loaded) read = IsRead read
 FaultsAre (Err e) read = Refuses e read

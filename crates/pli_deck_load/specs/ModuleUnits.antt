@@ -11,6 +11,7 @@ use Rattle.pli_unit_code.specs.Modules.{LinkedUnit}
 use Rattle.pli_deck_load.specs.DeckCodes.{all_of, template_from, value_from, signature_from}
 use Rattle.pli_deck_load.specs.DeckCodes.{global_from, block_from, instruction_from}
 
+-- the code of a deck, if there is one of each of its items
 abbrev pub code_from : Deck → Option Code
 code_from d =
     option_and_then (λ templates.
@@ -31,12 +32,12 @@ code_from d =
     (all_of value_from d.values))
     (all_of (template_from d.descriptions) d.templates)
 
--- what a global takes from the front of what external globals stand for: the unit, if it is an entry; and
--- what is left for those behind it
+-- the unit that a global takes from the front of what external globals stand for, if it is an entry
 abbrev pub unit_in : deck.Global → (links : List ℕ) → List ℕ
 unit_in (deck.ExternalEntry name s) links = take 1 links
 unit_in variable links = []
 
+-- what is left for those behind it
 abbrev pub links_behind : deck.Global → (links : List ℕ) → List ℕ
 links_behind g links = if is_external g then drop 1 links else links
 
@@ -45,6 +46,7 @@ abbrev pub entries_from : List deck.Global → (links : List ℕ) → List ℕ
 entries_from [] links = []
 entries_from (g ∷ gs) links = unit_in g links ++ entries_from gs (links_behind g links)
 
+-- the linked unit of a member of a module
 abbrev pub unit_from : Member → Option LinkedUnit
 unit_from m =
     option_map (λ code. record {
@@ -54,5 +56,6 @@ unit_from m =
       entries = entries_from m.deck.globals m.links;
     }) (code_from m.deck)
 
+-- the linked module of a module of decks
 abbrev pub module_from : Module → Option linked.Module
 module_from m = option_map (λ units. record { units = units; main = m.main }) (all_of unit_from m.units)

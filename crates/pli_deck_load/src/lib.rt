@@ -1,16 +1,19 @@
 //! Modules from their bytes as the linker gives them: what a run goes over.
 #![tactic(auto)]
 
+mod bare;
 mod blocks;
 mod constants;
 mod descriptions;
 mod error;
 mod globals;
+mod initials;
 mod instructions;
 mod laws;
 mod linkings;
 mod lists;
 mod modules;
+mod numbers;
 mod templates;
 mod units;
 

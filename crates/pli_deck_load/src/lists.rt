@@ -36,7 +36,7 @@ pub fn all_of<M: MakesOne>(
 ) -> Result<Vec<M::Made>, LoadError>
     ensures { Makes (λ v. map M.see v.items) result (all_of (M.one maker.now) (map M.say sources.now)) }
 {
-    let mut all = Vec::new(alloc);
+    let mut all = Vec::with_capacity(alloc, sources.len())?;
     for source in sources {
         let made = maker.make(alloc, source)?;
         all.push(made)?;

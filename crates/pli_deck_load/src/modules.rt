@@ -10,6 +10,7 @@ ghost use Rattle.pli_deck_load.specs.LinkedBytes.{IsLinked, Loads, FaultsAre};
 ghost use Rattle.pli_deck_load.specs.answers.Answers.{Makes};
 ghost use Rattle.pli_deck_load.specs.answers.Linkings.{Compares, linking_of};
 
+use crate::bare::bare_module;
 use crate::error::LoadError;
 use crate::linkings::same_linking;
 use crate::units::units_from;
@@ -34,12 +35,14 @@ fn module_from(alloc: Global, program: &deck::Module) -> Result<Module, LoadErro
 fn is_linked_so(alloc: Global, linked: &Module, program: &deck::Module) -> Result<bool, AllocError>
     ensures { IfOk result (Compares (linking_of (module_of (module_view linked.now))) (linking_of (deck_view.module_view program.now))) }
 {
-    Ok(same_linking(&module_of(alloc, linked)?, program))
+    let bare = bare_module(alloc, linked)?;
+    Ok(same_linking(&module_of(alloc, &bare)?, program))
 }
 
 /// The linked module that bytes are. An error is the first fault that reading meets; or `NotYet`, where the bytes are a
-/// module and no linked one; or that memory ran out. Takes time in proportion to the bytes and to the scalars of
-/// variables that have initial values. No call is deeper than the 512 levels of descriptions.
+/// module and no linked one; or that memory ran out. Takes time in proportion to the bytes and, for each variable with
+/// initial values, to its scalars or, where that is less, to the parts of its description for each value. No call is
+/// deeper than the 512 levels of descriptions.
 pub fn load(alloc: Global, bytes: &[u8]) -> Result<Module, LoadError>
     // The bytes are what is loaded.
     ensures loaded { IfOk result (λ m. IsLinked bytes.now (module_view m)) }

@@ -1,14 +1,13 @@
--- Reading a count of one byte.
-use Rattle.std.proofs.Common.{◌≡◌, ◌-◌, ◌<◌, ◌≤◌, ℕ, List, [], ◌∷◌, length, take, drop, get_or, Ok, Err, sym, ap, ◌∙◌, arith}
-use Rattle.std.proofs.lemmas.List.{take_all}
-use Rattle.pli_deck.specs.declared.fault.Fault.TheVariants.{Truncated}
-use Rattle.pli_deck.specs.Fields.{number_at}
+-- A count of one byte is read as a byte.
+use Rattle.std.proofs.Common.{◌≡◌, ℕ, List, [], ◌∷◌, ap}
+use Rattle.std.specs.Int.{is_in_range}
+use Rattle.pli_deck.specs.Fields.{◌>>=◌, held, number_at, byte_at, from_to, count_of_one, u1}
 use Rattle.pli_deck.proofs.FieldLaws.{count_read, no_count}
 
-pub no_byte : (bytes : List ℕ) → length bytes < 1 → number_at 1 bytes ≡ Err Truncated
-no_byte [] none = no_count
-no_byte (b ∷ bytes) none = absurd (omega (arith, none))
+one_byte : (bytes : List ℕ) → number_at 1 bytes ≡ byte_at bytes
+unfolding byte_at
+one_byte [] = no_count
+one_byte (b ∷ bytes) = count_read b bytes
 
-pub one_byte : (bytes : List ℕ) → 1 ≤ length bytes → number_at 1 bytes ≡ Ok (get_or bytes 0 0, take (length bytes - 1) (drop 1 bytes))
-one_byte [] some = absurd (omega (arith, some))
-one_byte (b ∷ bytes) some = count_read b bytes ∙ ap (λ rest. Ok (b, rest)) (sym (take_all (length (b ∷ bytes) - 1) bytes (omega arith)))
+pub counts_are_bytes : (low high : ℕ) (bytes : List ℕ) → (from_to low high count_of_one).read bytes ≡ (from_to low high u1).read bytes
+counts_are_bytes low high bytes = ap (λ r. r >>= λ x. held (is_in_range low high x.0) x) (one_byte bytes)

@@ -4,6 +4,7 @@ use Rattle.pli_deck.specs.declared.fault.Fault.{Fault}
 use Rattle.pli_deck_read.specs.declared.error.ReadError.{ReadError}
 use Rattle.pli_deck_read.specs.declared.error.ReadError.TheVariants as errors
 
+-- reading has this fault, or memory ran out
 abbrev pub Fails : {Y : Type 0} → ReadError → Result Y Fault → Type 0
 Fails errors.Memory read = Unit {0}
 Fails (errors.Fault f) read = read ≡ Err f

@@ -5,6 +5,7 @@ use Rattle.pli_deck.specs.DeckFields as fields
 use Rattle.pli_deck.specs.DeckView.{template_view, constant_view, global_view, block_view}
 use Rattle.pli_deck_read.specs.declared.whole.Tables.{Tables}
 
+-- the tables of a deck, and its instructions
 abbrev pub tables_view : Tables → fields.Tables
 tables_view t = (
   map description_view t.descriptions.items,

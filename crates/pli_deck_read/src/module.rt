@@ -1,9 +1,9 @@
 //! Modules from bytes.
 ghost use Rattle.std.specs.Prelude.{◌≡◌, ◌<◌, ℕ, Ok, IfOk, slice_index};
 ghost use Rattle.pli_deck.specs.ModuleFields as plain;
-ghost use Rattle.pli_deck.specs.ModuleSpelling as spelling;
-ghost use Rattle.pli_deck.specs.ModuleSpelling.{SpellsModule, module_read};
+ghost use Rattle.pli_deck.specs.ModuleSpelling.{SpellsModule, module_fault, module_read};
 ghost use Rattle.pli_deck.specs.ModuleView.{module_view};
+ghost use Rattle.pli_deck.specs.Whole.{whole};
 ghost use Rattle.pli_deck_read.specs.Reading.{Gives};
 
 use crate::error::ReadError;
@@ -13,9 +13,9 @@ use pli_deck_faults::module_fault;
 use std::alloc::Global;
 
 /// A module, if no bytes stand behind it and it has no fault.
-#[tactic(auto, using(crate::proofs::WholeReading::module_left, crate::proofs::WholeReading::module_alone))]
+#[tactic(auto, using(crate::proofs::WholeReading::more_left, crate::proofs::WholeReading::none_left))]
 fn whole(alloc: Global, program: Module, rest: &[u8]) -> Result<Module, ReadError>
-    ensures { Gives module_view result (spelling.whole_module (module_view program) rest.now) }
+    ensures { Gives module_view result (whole module_fault (module_view program) rest.now) }
 {
     if !rest.is_empty() {
         return Err(ReadError::Fault(Fault::Trailing));

@@ -2,8 +2,9 @@
 ghost use Rattle.std.specs.Prelude.{◌≡◌, ◌<◌, ℕ, Ok, IfOk, slice_index};
 ghost use Rattle.pli_deck.specs.Decks as plain;
 ghost use Rattle.pli_deck.specs.DeckView.{deck_view};
-ghost use Rattle.pli_deck.specs.Spelling as spelling;
+ghost use Rattle.pli_deck.specs.DeckFaults.{fault_of};
 ghost use Rattle.pli_deck.specs.Spelling.{SpellsDeck, deck_read};
+ghost use Rattle.pli_deck.specs.Whole.{whole};
 ghost use Rattle.pli_deck_read.specs.Reading.{Gives};
 
 use crate::error::ReadError;
@@ -15,7 +16,7 @@ use std::alloc::Global;
 /// A deck, if no bytes stand behind it and it has no fault.
 #[tactic(auto, using(crate::proofs::WholeReading::more_left, crate::proofs::WholeReading::none_left))]
 fn whole(alloc: Global, deck: Deck, rest: &[u8]) -> Result<Deck, ReadError>
-    ensures { Gives deck_view result (spelling.whole (deck_view deck) rest.now) }
+    ensures { Gives deck_view result (whole fault_of (deck_view deck) rest.now) }
 {
     if !rest.is_empty() {
         return Err(ReadError::Fault(Fault::Trailing));

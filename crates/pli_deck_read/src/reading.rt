@@ -1,5 +1,5 @@
 //! Numbers, names and lists at the front of bytes.
-ghost use Rattle.std.specs.Prelude.{◌≡◌, ◌≤◌, List, Result, map, true, false, IfOk, IfSome, IfNone, unsigned_abs};
+ghost use Rattle.std.specs.Prelude.{◌≡◌, ◌≤◌, List, Result, length, map, true, false, IfOk, IfSome, IfNone, unsigned_abs};
 ghost use Rattle.pli_deck.specs.Fields.{byte_at, number_at, many, byte, list, list_of, u1, u2, count_of_one, from_to, signed};
 ghost use Rattle.pli_deck.specs.Fields as fields;
 ghost use Rattle.pli_deck.specs.DeckFields as deck_fields;
@@ -56,26 +56,11 @@ pub fn byte_within(bytes: &[u8], low: u8, high: u8) -> Result<(u8, &[u8]), ReadE
     }
 }
 
-/// A count of one byte.
-fn count_of(bytes: &[u8]) -> Result<(u8, &[u8]), ReadError>
-    ensures { Gives (λ x. (x.0, x.1.now)) result (number_at 1 bytes.now) }
-{
-    match bytes {
-        [] => Err(ReadError::Fault(Fault::Truncated)),
-        [first, rest @ ..] => Ok((*first, rest)),
-    }
-}
-
 /// A count of one byte, from `low` to `high`.
 pub fn count_within(bytes: &[u8], low: u8, high: u8) -> Result<(u8, &[u8]), ReadError>
     ensures { Gives (λ x. (x.0, x.1.now)) result ((from_to low high count_of_one).read bytes.now) }
 {
-    let (count, rest) = count_of(bytes)?;
-    if low <= count && count <= high {
-        Ok((count, rest))
-    } else {
-        Err(ReadError::Fault(Fault::OutOfRange))
-    }
+    byte_within(bytes, low, high)
 }
 
 /// A number of two bytes from `low` to `high`.
@@ -166,6 +151,15 @@ pub trait ReadsOne {
         ensures { Gives (λ x. (say x.0, x.1.now)) result (field.read bytes.now) };
 }
 
+/// For how many values there is room at first: for all that a count promises where there are no fewer bytes, and else
+/// for none.
+fn room_for(count: u32, bytes: &[u8]) -> usize
+    ensures { result ≤ length bytes.now }
+{
+    let promised = count as usize;
+    if promised <= bytes.len() { promised } else { 0 }
+}
+
 /// So many values, one behind another.
 pub fn many_of<'a, R: ReadsOne>(
     alloc: Global,
@@ -175,7 +169,7 @@ pub fn many_of<'a, R: ReadsOne>(
 ) -> Result<(Vec<R::Value>, &'a [u8]), ReadError>
     ensures { Gives (λ x. (map R.say x.0.items, x.1.now)) result (many R.field.read count bytes.now) }
 {
-    let mut values = Vec::new(alloc);
+    let mut values = Vec::with_capacity(alloc, room_for(count, bytes))?;
     let mut rest = bytes;
     for _ in 0..count {
         let (value, behind) = reader.read(alloc, rest)?;

@@ -6,10 +6,11 @@ use Rattle.pli_deck.specs.declared.instruction.Instruction.TheVariants as op
 use Rattle.pli_deck.specs.Decks.{Template, Signature, ExternalStatic, ExternalEntry, Block, Deck}
 use Rattle.pli_deck.specs.Spelling.{deck_bytes, deck_read}
 
--- no parameters and no result; one parameter of the first description
+-- no parameters and no result
 abbrev pub without_parameters : Signature
 without_parameters = record { parameters = []; result = None }
 
+-- one parameter, of the first description
 abbrev pub with_parameter : Signature
 with_parameter = record { parameters = 0 ∷ []; result = None }
 
@@ -39,15 +40,17 @@ smallest = record {
   instructions = op.Return 0 ∷ [];
 }
 
+-- its bytes
 abbrev pub smallest_bytes : List ℕ
 smallest_bytes =
     80 ∷ 76 ∷ 73 ∷ 68 ∷ 1 ∷ 1 ∷ 77 ∷ 1 ∷ 0 ∷ 255 ∷ 255 ∷ 0 ∷ 0 ∷ 0 ∷ 0 ∷ 0 ∷ 0 ∷ 0 ∷ 0 ∷ 0 ∷ 1 ∷ 0 ∷
     255 ∷ 255 ∷ 0 ∷ 0 ∷ 0 ∷ 0 ∷ 0 ∷ 0 ∷ 0 ∷ 0 ∷ 0 ∷ 0 ∷ 1 ∷ 0 ∷ 1 ∷ 9 ∷ 0 ∷ []
 
--- M: PROC OPTIONS(MAIN); DCL X BIT EXT, Q ENTRY(BIT); CALL Q(X); END;
+-- what a BIT variable is made from
 abbrev pub bit_template : Template
 bit_template = record { description = 0; initial = [] }
 
+-- M: PROC OPTIONS(MAIN); DCL X BIT EXT, Q ENTRY(BIT); CALL Q(X); END;
 abbrev pub calling : Deck
 calling = record {
   name = 77 ∷ [];
@@ -61,6 +64,7 @@ calling = record {
   instructions = op.Step 3 ∷ op.Global 0 ∷ op.CallExternal 1 1 ∷ op.Return 0 ∷ [];
 }
 
+-- its bytes
 abbrev pub calling_bytes : List ℕ
 calling_bytes =
     80 ∷ 76 ∷ 73 ∷ 68 ∷ 1 ∷ 1 ∷ 77 ∷ 1 ∷ 0 ∷ 255 ∷ 255 ∷ 0 ∷ 1 ∷ 4 ∷ 0 ∷ 1 ∷ 0 ∷ 1 ∷ 0 ∷ 0 ∷ 0 ∷ 0 ∷ 0 ∷
@@ -83,6 +87,7 @@ called = record {
       op.Step 3 ∷ op.Global 0 ∷ op.Local 0 0 ∷ op.Load ∷ op.Fit 0 ∷ op.Store ∷ op.Return 0 ∷ [];
 }
 
+-- its bytes
 abbrev pub called_bytes : List ℕ
 called_bytes =
     80 ∷ 76 ∷ 73 ∷ 68 ∷ 1 ∷ 1 ∷ 81 ∷ 0 ∷ 1 ∷ 0 ∷ 0 ∷ 255 ∷ 255 ∷ 0 ∷ 1 ∷ 4 ∷ 0 ∷ 1 ∷ 0 ∷ 1 ∷ 0 ∷ 0 ∷ 0 ∷

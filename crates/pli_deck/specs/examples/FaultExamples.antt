@@ -9,10 +9,11 @@ use Rattle.pli_deck.specs.Decks.{Template, Number, NullPointer, Constant, Deck}
 use Rattle.pli_deck.specs.DeckFaults.{fault_of}
 use Rattle.pli_deck.specs.examples.DeckExamples.{smallest}
 
--- the smallest deck with other instructions, and with a variable of a description
+-- the smallest deck with other instructions
 abbrev pub with_code : List Instruction → Deck
 with_code code = record smallest { instructions = code }
 
+-- the smallest deck with a variable of a description
 abbrev pub with_variable : Description → Template → Deck
 with_variable d t = record smallest { descriptions = d ∷ []; templates = t ∷ [] }
 
@@ -20,13 +21,16 @@ with_variable d t = record smallest { descriptions = d ∷ []; templates = t ∷
 abbrev pub widest : Bounds
 widest = record { low = negsuc 32766; high = pos 32767 }
 
+-- a template without initial values
 abbrev pub plain : Template
 plain = record { description = 0; initial = [] }
 
+-- a template with one initial value, on this byte
 abbrev pub begins_as : (offset : ℕ) → Constant → Template
 begins_as offset c =
     record { description = 0; initial = record { offset = offset; value = c } ∷ [] }
 
+-- an array of two numbers
 abbrev pub pair_of_numbers : Description
 pair_of_numbers = Array (record { low = pos 1; high = pos 2 } ∷ []) (FixedBinary 15)
 

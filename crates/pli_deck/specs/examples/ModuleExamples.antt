@@ -14,6 +14,7 @@ one_unit = record {
   units = record { name = 77 ∷ []; deck = smallest; links = [] } ∷ [];
 }
 
+-- its bytes
 abbrev pub one_unit_bytes : List ℕ
 one_unit_bytes =
     80 ∷ 76 ∷ 73 ∷ 77 ∷ 1 ∷ 0 ∷ 1 ∷ 0 ∷ 0 ∷ 0 ∷ 0 ∷ 1 ∷ 77 ∷ 0 ∷ 0 ∷ 0 ∷ 39 ∷ 80 ∷ 76 ∷ 73 ∷ 68 ∷ 1 ∷ 1 ∷
@@ -29,6 +30,7 @@ two_units = record {
       ∷ record { name = 81 ∷ []; deck = called; links = 0 ∷ [] } ∷ [];
 }
 
+-- its bytes
 abbrev pub two_unit_bytes : List ℕ
 two_unit_bytes =
     80 ∷ 76 ∷ 73 ∷ 77 ∷ 1 ∷ 0 ∷ 2 ∷ 0 ∷ 0 ∷ 0 ∷ 1 ∷ 1 ∷ 88 ∷ 2 ∷ 0 ∷ 0 ∷ 0 ∷ 0 ∷ 1 ∷ 77 ∷ 0 ∷ 0 ∷ 0 ∷
@@ -40,11 +42,12 @@ two_unit_bytes =
     1 ∷ 88 ∷ 0 ∷ 0 ∷ 0 ∷ 1 ∷ 0 ∷ 255 ∷ 255 ∷ 1 ∷ 0 ∷ 0 ∷ 0 ∷ 0 ∷ 0 ∷ 0 ∷ 0 ∷ 0 ∷ 0 ∷ 1 ∷ 0 ∷ 7 ∷ 1 ∷ 0 ∷
     0 ∷ 0 ∷ 3 ∷ 14 ∷ 0 ∷ 0 ∷ 13 ∷ 0 ∷ 0 ∷ 0 ∷ 19 ∷ 23 ∷ 0 ∷ 0 ∷ 20 ∷ 9 ∷ 0 ∷ 0 ∷ 1 ∷ 0 ∷ 0 ∷ []
 
--- how they are written and read
+-- how they are written
 abbrev pub ModulesWrittenSo : Type 0
 ModulesWrittenSo =
     (module_bytes one_unit ≡ one_unit_bytes) × (module_bytes two_units ≡ two_unit_bytes)
 
+-- how they are read
 abbrev pub ModulesReadSo : Type 0
 ModulesReadSo = (module_read one_unit_bytes ≡ Ok one_unit) × (module_read two_unit_bytes ≡ Ok two_units)
 

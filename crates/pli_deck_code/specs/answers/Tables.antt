@@ -6,6 +6,7 @@ use Rattle.pli_base.specs.Words.{same_name}
 use Rattle.pli_deck.specs.declared.module.External.{External}
 use Rattle.pli_deck_code.specs.CodeModules.{number_of}
 
+-- the name of an external variable
 abbrev pub name_of : External → Name
 name_of e = e.name
 

@@ -14,9 +14,11 @@ use Rattle.pli_unit_code.specs.declared.instruction.Instruction.TheVariants as o
 use Rattle.pli_deck_code.specs.CodeModules.{module_of}
 use Rattle.pli_deck_code.specs.ScalarOffsets.{offsets_of}
 
+-- no parameters and no result
 abbrev pub without_parameters : CodedSignature
 without_parameters = record { parameters = []; result = None }
 
+-- one parameter, of the first description
 abbrev pub with_bit : CodedSignature
 with_bit = record { parameters = 0 ∷ []; result = None }
 
@@ -32,9 +34,11 @@ outermost n = record {
   statement = 1;
 }
 
+-- a unit of this code, whose procedure has its name
 abbrev pub unit : Name → Code → (entries : List ℕ) → LinkedUnit
 unit name code entries = record { unit = name; procedure = name; code = code; entries = entries }
 
+-- a module of these units, the first of which is the main one
 abbrev pub with_main : List LinkedUnit → Module
 with_main units = record { units = units; main = 0 }
 
@@ -50,6 +54,7 @@ smallest = record {
   instructions = op.Return 0 ∷ [];
 }
 
+-- the smallest unit alone
 abbrev pub SmallestModule : Type 0
 SmallestModule = module_of (with_main (unit (codes "M") smallest [] ∷ [])) ≡ one_unit
 
@@ -78,19 +83,22 @@ called =
     code_with with_bit (ExternalVariable (codes "X") 0 ∷ []) (outermost 1)
     (op.Step 3 ∷ op.Global 0 ∷ op.Local 0 0 ∷ op.Load ∷ op.Fit 0 ∷ op.Store ∷ op.Return 0 ∷ [])
 
+-- a unit that calls another
 abbrev pub TwoUnits : Type 0
 TwoUnits =
     module_of (with_main (unit (codes "M") calling (1 ∷ []) ∷ unit (codes "Q") called [] ∷ []))
     ≡ two_units
 
--- M declares Z and then A, and Q declares A and B: in the order of their names, each by its first declaration
+-- the code of a unit that declares these external variables, alike
 abbrev pub sharing : List Name → Code
 sharing names =
     code_with without_parameters (map (λ n. ExternalVariable n 0) names) (outermost 0) (op.Return 0 ∷ [])
 
+-- an external variable with its first declaration
 abbrev pub shared : Name → (unit global : ℕ) → External
 shared name unit global = record { name = name; kind = 2; unit = unit; global = global }
 
+-- Z and A of one unit, A and B of another: in the order of the names, each with its first declaration
 abbrev pub ByName : Type 0
 ByName =
     (module_of (with_main (unit (codes "M") (sharing (codes "Z" ∷ codes "A" ∷ [])) []
@@ -104,5 +112,6 @@ elements =
     (Structure (MemberThen (FixedBinary 31)
     (MemberThen (Array (record { low = pos 1; high = pos 2 } ∷ []) (Character 3)) NoMembers)))
 
+-- where the scalars stand
 abbrev pub Offsets : Type 0
 Offsets = offsets_of elements ≡ 0 ∷ 4 ∷ 7 ∷ 12 ∷ 16 ∷ 19 ∷ []

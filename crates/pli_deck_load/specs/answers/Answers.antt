@@ -6,6 +6,7 @@ use Rattle.pli_deck_read.specs.declared.error.ReadError.TheVariants as reading
 use Rattle.pli_deck_load.specs.declared.error.LoadError.{LoadError}
 use Rattle.pli_deck_load.specs.declared.error.LoadError.TheVariants as errors
 
+-- nothing is made of a deck, or memory ran out
 abbrev pub Lacks : {Y : Type 0} → LoadError → Option Y → Type 0
 Lacks errors.Memory made = Unit {0}
 Lacks (errors.Fault f) made = ⊥

@@ -7,7 +7,7 @@ use Rattle.pli_deck_load.proofs.lists.all_of.Goals as goal
 
 pub returns-in_err-made : goal.returns-in_err-made
 returns-in_err-made g c =
-    let p = err_from_is_err_and c.from_residual.result c.from_residual.ensures.1 in
+    let p = err_from_is_err_and c.from_residual-in_err-made.result c.from_residual-in_err-made.ensures.1 in
     let one = g.M.MakesOne.one c.args.maker.now in
     let say = g.M.MakesOne.say in
     rw (p.1, p.2) (ends one say c.in_err-made.field-0.0 (map g.M.MakesOne.see c.loop-source.all.items) c.args.sources.now c.loop-source.source-index c.source-item.result

@@ -7,7 +7,7 @@ use Rattle.pli_deck_read.proofs.reading.many_of.Goals as goal
 
 pub returns-in_err-value : goal.returns-in_err-value
 returns-in_err-value g c =
-    let p = err_from_is_err_and c.from_residual.result c.from_residual.ensures.1 in
+    let p = err_from_is_err_and c.from_residual-in_err-value.result c.from_residual-in_err-value.ensures.1 in
     let read = g.R.ReadsOne.field.read in
     rw (p.1, p.2) (ends read c.in_err-value.field-0.0 (map g.R.ReadsOne.say c.loop.values.items) c.args.count c.loop.counter c.loop.rest.now (many read c.args.count c.args.bytes.now) c.loop-test.true c.in_err-value.ensures c.loop.invariant)
 

@@ -3,7 +3,7 @@ use Rattle.std.proofs.lemmas.Bool.{cases_lt}
 use Rattle.std.proofs.lemmas.List.Sorted.{searched}
 use Rattle.pli_deck_load.specs.Scalars.{scalar_from}
 use Rattle.pli_deck_load.proofs.FoundScalars.{found_at, in_order, found_nowhere, number_below}
-use Rattle.pli_deck_load.proofs.templates.scalar_on.Goals as goal
+use Rattle.pli_deck_load.proofs.initials.scalar_on.Goals as goal
 
 pub overflow_cast-result : goal.overflow_cast-result
 overflow_cast-result c =

@@ -1,6 +1,6 @@
 use Rattle.std.proofs.Common.{◌≡◌, drop}
 use Rattle.pli_deck_load.specs.Scalars.{rises}
-use Rattle.pli_deck_load.proofs.templates.rises.Given as goal
+use Rattle.pli_deck_load.proofs.initials.rises.Given as goal
 
 -- whether all rise is whether those that are left do, from behind the last one on
 abbrev pub invariant-loop-offset : goal.invariant-loop-offset
