@@ -8,4 +8,4 @@ pub mod LinesListed
 pub mod LinesOfBytes
 pub mod ModulesStored
 pub mod PartsPut
-pub mod TypedCompiled
+pub mod UnitsTold

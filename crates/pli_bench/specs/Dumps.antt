@@ -8,6 +8,7 @@ use Rattle.pli_unit_code.specs.Modules.{Module}
 abbrev pub digit_of : ℕ → ℕ
 digit_of d = if nat_lt d 10 then 48 + d else 87 + d
 
+-- a byte as two digits
 abbrev pub digits_of : (byte : ℕ) → List ℕ
 digits_of b = digit_of (b / 16) ∷ digit_of (b % 16) ∷ []
 
@@ -15,6 +16,7 @@ digits_of b = digit_of (b / 16) ∷ digit_of (b % 16) ∷ []
 abbrev pub end_at : (column : ℕ) → List ℕ
 end_at column = if nat_eq column 31 then 10 ∷ [] else []
 
+-- the column of the next byte, 0 to 31
 abbrev pub next_column : (column : ℕ) → ℕ
 next_column column = if nat_eq column 31 then 0 else column + 1
 

@@ -1,4 +1,4 @@
--- What something was, and what it became.
+-- What something was, and what it became (own).
 use Rattle.std.specs.Prelude.{ℕ, List}
 
 -- a line is answered: the state before it, the answer, and the state behind it

@@ -1,4 +1,4 @@
--- The session: what a command answers, and what it leaves.
+-- The session (own): what a command answers, and what it leaves.
 use Rattle.std.specs.Prelude.{◌≡◌, ℕ, ◌+◌, Bool, true, false, nat_eq, ◌⊎◌, Option, Some, None, List, [], ◌∷◌}
 use Rattle.std.specs.Prelude.{◌++◌, length, codes, decimal, unwrap_or, if◌then◌else◌}
 use Rattle.std.specs.List.{flat_map}

@@ -17,6 +17,7 @@ use crate::serving::{Interpreter, Next, ServeFault, WriteFailed, serve};
 use crate::stored::StoredModule;
 use pli_base::{Failed, Name, Sink, Source};
 use pli_code::Ran;
+use pli_compile::Compiler;
 use pli_deck_load::load;
 use pli_include::Expander;
 use pli_members::{EditError, MemberKind, Members, Refusal};
@@ -35,6 +36,7 @@ pub struct Bench {
     alloc: Global,
     members: Members,
     expander: Expander,
+    compiler: Compiler,
     standing: Option<StoredModule>,
     steps: u64,
 }
@@ -61,6 +63,7 @@ impl Bench {
             alloc,
             members: Members::new(alloc, FIRST_VERSION),
             expander: Expander::new(alloc),
+            compiler: Compiler::new(alloc),
             standing: None,
             steps,
         }
@@ -218,7 +221,12 @@ impl Bench {
         ensures answered { Does (Obeys (Some spelt.Build)) self.old self.new (W.contents writer.old) (W.contents writer.new) result }
         ensures mark { Marked (W.failed writer.old) (W.failed writer.new) result }
     {
-        match build(self.alloc, &mut self.expander, &self.members) {
+        match build(
+            self.alloc,
+            &mut self.expander,
+            &mut self.compiler,
+            &self.members,
+        ) {
             Ok(Built::Made(module)) => {
                 self.standing = Some(module);
                 put_parts(writer, &[b"BUILT\n"])

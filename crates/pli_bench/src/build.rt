@@ -9,8 +9,9 @@ use crate::answer::append_parts;
 use crate::compile::compile;
 use crate::stored::{StoredModule, stored};
 use pli_base::Code;
+use pli_compile::Compiler;
 use pli_include::Expander;
-use pli_link::{Compiled, LinkError, LinkFault, LinkedName, link};
+use pli_link::{LinkError, LinkFault, LinkedName, NamedUnit, link};
 use pli_members::{MemberKind, Members, NamedMember};
 use std::alloc::{AllocError, Global};
 
@@ -23,12 +24,17 @@ pub enum Built {
 
 /// Builds all source members anew.
 #[tactic(auto, unfolding(pli_meaning::specs::Scratch::scratch), using(crate::proofs::ModulesStored::is_of_members))]
-pub fn build(alloc: Global, expander: &mut Expander, members: &Members) -> Result<Built, AllocError>
+pub fn build(
+    alloc: Global,
+    expander: &mut Expander,
+    compiler: &mut Compiler,
+    members: &Members,
+) -> Result<Built, AllocError>
     ensures { IfOk result (IsBuilt members.now.entries) }
 {
     members.are_few();
     let mut text = Vec::new(alloc);
-    let units = compile_all(alloc, expander, members, &mut text)?;
+    let units = compile_all(alloc, expander, compiler, members, &mut text)?;
     if !text.is_empty() {
         return Ok(Built::Diagnosed(text));
     }
@@ -41,11 +47,11 @@ pub fn build(alloc: Global, expander: &mut Expander, members: &Members) -> Resul
 
 /// Compiles a member, if it is a source, and appends what that gives to `units` or `text`.
 fn compile_entry(
-    alloc: Global,
     expander: &mut Expander,
+    compiler: &mut Compiler,
     members: &Members,
     entry: &NamedMember,
-    units: &mut Vec<Compiled>,
+    units: &mut Vec<NamedUnit>,
     text: &mut Vec<u8>,
 ) -> Result<(), AllocError>
     ensures units { OnOk result (map compiled_view units.new.items ≡ map compiled_view units.old.items ++ units_in members.now.entries entry.now.0 entry.now.1.kind) }
@@ -53,7 +59,7 @@ fn compile_entry(
 {
     match entry.kind() {
         MemberKind::Source => {
-            if let Some(compiled) = compile(alloc, expander, members, entry.name(), text)? {
+            if let Some(compiled) = compile(expander, compiler, members, entry.name(), text)? {
                 units.push(compiled)?;
             }
             Ok(())
@@ -66,15 +72,16 @@ fn compile_entry(
 fn compile_all(
     alloc: Global,
     expander: &mut Expander,
+    compiler: &mut Compiler,
     members: &Members,
     text: &mut Vec<u8>,
-) -> Result<Vec<Compiled>, AllocError>
+) -> Result<Vec<NamedUnit>, AllocError>
     ensures units { IfOk result (λ units. map compiled_view units.items ≡ all_units members.now.entries members.now.entries) }
     ensures text { OnOk result (text.new.items ≡ text.old.items ++ all_text members.now.entries members.now.entries) }
 {
     let mut units = Vec::new(alloc);
     for entry in members.entries() {
-        compile_entry(alloc, expander, members, entry, &mut units, text)?;
+        compile_entry(expander, compiler, members, entry, &mut units, text)?;
     }
     Ok(units)
 }

@@ -54,6 +54,7 @@ impl Pending {
         self.count = 0;
     }
 
+    /// The bytes of the line so far.
     pub fn bytes(&self) -> &[u8]
         ensures { result.now ≡ self.now }
     {

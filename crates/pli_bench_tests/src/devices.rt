@@ -57,6 +57,7 @@ pub struct Kept {
 }
 
 impl Kept {
+    /// A sink that takes so many calls.
     pub fn new(alloc: Global, calls: u32) -> Kept {
         Kept {
             bytes: Vec::new(alloc),
@@ -139,6 +140,7 @@ pub struct Told<'a> {
 }
 
 impl<'a> Told<'a> {
+    /// A sink that tells there how many bytes it has.
     pub fn new(alloc: Global, written: &'a Cell<usize>) -> Told<'a> {
         Told {
             bytes: Vec::new(alloc),

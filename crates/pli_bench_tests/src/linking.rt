@@ -1,6 +1,6 @@
 //! Units that are linked, with what a link gives of them.
 use pli_base::Name;
-use pli_link::{Compiled, LinkError, LinkFault, LinkedName, link};
+use pli_link::{CompiledUnit, LinkError, LinkFault, LinkedName, NamedUnit, link};
 use pli_map::{Bounds, Description};
 use pli_text_tests::{Shown, agree};
 use pli_unit_code::{Code, CodedGlobal, CodedSignature, CodedTemplate, Instruction, Module};
@@ -85,13 +85,15 @@ fn code_of(alloc: Global, statement: u32) -> Result<Code, AllocError> {
 }
 
 /// A unit of one step, whose number is the place of the unit.
-fn compiled(alloc: Global, row: Row, place: usize) -> Result<Compiled, Fail> {
+fn compiled(alloc: Global, row: Row, place: usize) -> Result<NamedUnit, Fail> {
     let statement = u32::try_from(place).ok().ok_or("a place")?;
-    Ok(Compiled {
+    Ok(NamedUnit {
         unit: named(row.0)?,
-        procedure: named(row.1)?,
-        is_main: row.2,
-        code: code_of(alloc, statement)?,
+        compiled: CompiledUnit {
+            procedure: named(row.1)?,
+            is_main: row.2,
+            code: code_of(alloc, statement)?,
+        },
     })
 }
 
@@ -136,7 +138,7 @@ fn one_step(alloc: Global, module: &Module) -> Result<String, AllocError> {
 }
 
 /// What a link of these compiled units gives.
-fn linked_units(alloc: Global, units: Vec<Compiled>) -> Result<String, AllocError> {
+fn linked_units(alloc: Global, units: Vec<NamedUnit>) -> Result<String, AllocError> {
     match link(alloc, units) {
         Ok(module) => one_step(alloc, &module),
         Err(LinkError::Faults(faults)) => told(alloc, &faults),
@@ -174,11 +176,11 @@ fn add_global(alloc: Global, code: &mut Code, rows: i16, columns: i16) -> Result
 }
 
 /// A unit with variables of these sizes.
-fn compiled_with(alloc: Global, row: Row, place: usize, sizes: &[Size]) -> Result<Compiled, Fail> {
+fn compiled_with(alloc: Global, row: Row, place: usize, sizes: &[Size]) -> Result<NamedUnit, Fail> {
     let mut unit = compiled(alloc, row, place)?;
     for &(count, rows, columns) in sizes {
         for _ in 0..count {
-            add_global(alloc, &mut unit.code, rows, columns)?;
+            add_global(alloc, &mut unit.compiled.code, rows, columns)?;
         }
     }
     Ok(unit)
@@ -316,7 +318,7 @@ fn linked_sharing(alloc: Global, rows: &[SharedRow]) -> Result<String, Fail> {
     for (place, row) in rows.iter().enumerate() {
         let mut unit = compiled(alloc, row.0, place)?;
         for &(name, shared) in row.1 {
-            add_shared(alloc, &mut unit.code, name, shared)?;
+            add_shared(alloc, &mut unit.compiled.code, name, shared)?;
         }
         units.push(unit)?;
     }

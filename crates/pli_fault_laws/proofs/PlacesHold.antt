@@ -14,8 +14,8 @@ use Rattle.pli_gen_tree.specs.Limits.{is_too_long}
 use Rattle.pli_include.specs.Expanded.{look_in}
 use Rattle.pli_include.specs.Expansion.{token_limit}
 use Rattle.pli_include.proofs.StepsKeep.{texts_have_origins}
-use Rattle.pli_link.specs.Units.{Compiled}
-use Rattle.pli_meaning.specs.Scratch.{Diagnostic, origin_of, located, typed_unless, program_from, program_of, all_located, too_long, coded_from, compiled_texts, compiled_from, compiled_of}
+use Rattle.pli_link.specs.Units.{CompiledUnit}
+use Rattle.pli_meaning.specs.Scratch.{Diagnostic, origin_of, located, typed_unless, program_from, program_of, all_located, too_long, compiled_tree, coded_from, compiled_texts, with_unit, compiled_from, compiled_of}
 use Rattle.pli_parse.proofs.StatementFaultPlaces.{unit_fault_stands}
 use Rattle.pli_parse_statement.specs.StatementReading.{unit_of}
 use Rattle.pli_resolve.specs.ResolvedUnits.{resolved_unit_of}
@@ -58,16 +58,16 @@ first_stands : (ts : Tokens) → StandsAtToken ts too_long
 first_stands [] = refl
 first_stands (t ∷ ts) = omega arith
 
-long_stands : (ts : Tokens) (b : Bool) (c : Compiled) (fs : List Fault) → (if b then Err (too_long ∷ []) else Ok c) ≡ Err fs → AllStand ts fs
+long_stands : (ts : Tokens) (b : Bool) (c : CompiledUnit) (fs : List Fault) → (if b then Err (too_long ∷ []) else Ok c) ≡ Err fs → AllStand ts fs
 long_stands ts true c fs e = subst (AllStand ts) (ap faults_in e) (first_stands ts, tt)
 long_stands ts false c fs e = absurd (cc)
 
-coded_stand : (unit : Name) (ts : Tokens) (r : Result TypedUnit (List Fault)) (fs : List Fault) → ((gs : List Fault) → r ≡ Err gs → AllStand ts gs) → coded_from unit r ≡ Err fs → AllStand ts fs
-coded_stand unit ts (Ok u) fs h e = long_stands ts (is_too_long (code_of u)) (record { unit = unit; procedure = u.procedure; is_main = u.is_main; code = code_of u }) fs e
-coded_stand unit ts (Err gs) fs h e = subst (AllStand ts) (ap faults_in e) (h gs refl)
+coded_stand : (ts : Tokens) (r : Result TypedUnit (List Fault)) (fs : List Fault) → ((gs : List Fault) → r ≡ Err gs → AllStand ts gs) → coded_from r ≡ Err fs → AllStand ts fs
+coded_stand ts (Ok u) fs h e = long_stands ts (is_too_long (code_of u)) (compiled_tree u) fs e
+coded_stand ts (Err gs) fs h e = subst (AllStand ts) (ap faults_in e) (h gs refl)
 
 pub faults_have_places : FaultsHavePlaces
-faults_have_places unit ts fs e = coded_stand unit ts (program_of ts) fs (program_stands ts) e
+faults_have_places ts fs e = coded_stand ts (program_of ts) fs (program_stands ts) e
 
 -- diagnostics
 
@@ -86,13 +86,13 @@ places_of : (unit : Name) (ts : Tokens) (os : List Origin) (fs : List Fault) →
 places_of unit ts os [] same h = tt
 places_of unit ts os (f ∷ fs) same h = (place_of unit ts os f same h.0, places_of unit ts os fs same h.1)
 
-located_places : (unit : Name) (ts : Tokens) (os : List Origin) (r : Result Compiled (List Fault)) (ds : List Diagnostic) → length os ≡ length ts
-    → ((fs : List Fault) → r ≡ Err fs → AllStand ts fs) → all_located unit os r ≡ Err ds → HavePlaces unit os ds
+located_places : (unit : Name) (ts : Tokens) (os : List Origin) (r : Result CompiledUnit (List Fault)) (ds : List Diagnostic) → length os ≡ length ts
+    → ((fs : List Fault) → r ≡ Err fs → AllStand ts fs) → all_located unit os (with_unit unit r) ≡ Err ds → HavePlaces unit os ds
 located_places unit ts os (Ok c) ds same h e = absurd (cc)
 located_places unit ts os (Err fs) ds same h e = subst (HavePlaces unit os) (ap faults_in e) (places_of unit ts os fs same (h fs refl))
 
 pub diagnostics_have_places : DiagnosticsHavePlaces
 unfolding compiled_of
 diagnostics_have_places entries unit p ds expanded e =
-    located_places unit p.texts p.origins (compiled_texts unit p.texts) ds (texts_have_origins token_limit (look_in entries) unit p expanded).0
-    (faults_have_places unit p.texts) (sym (ap (compiled_from unit) expanded) ∙ e)
+    located_places unit p.texts p.origins (compiled_texts p.texts) ds (texts_have_origins token_limit (look_in entries) unit p expanded).0
+    (faults_have_places p.texts) (sym (ap (compiled_from unit) expanded) ∙ e)

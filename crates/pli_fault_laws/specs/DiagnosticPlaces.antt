@@ -1,4 +1,4 @@
--- Where the faults of a unit stand, whatever the pass that answers them, and where its diagnostics do.
+-- Where the faults of a unit stand, whatever the pass that answers them, and where its diagnostics do (own).
 use Rattle.std.specs.Prelude.{◌≡◌, List, [], ◌∷◌, Ok, Err}
 use Rattle.std.specs.List.{Contains}
 use Rattle.pli_base.specs.Name.{Name}
@@ -14,8 +14,7 @@ use Rattle.pli_fault_laws.specs.TypeFaultPlaces.{AllStand}
 -- each fault of a unit, of its grammar, its declarations, its types or its code, stands at a token of its
 -- text, and at 0 where the text has none
 abbrev pub FaultsHavePlaces : Type 0
-FaultsHavePlaces =
-    (unit : Name) (ts : Tokens) (fs : List Fault) → compiled_texts unit ts ≡ Err fs → AllStand ts fs
+FaultsHavePlaces = (ts : Tokens) (fs : List Fault) → compiled_texts ts ≡ Err fs → AllStand ts fs
 
 -- a diagnostic stands where a token of the expansion comes from; where the expansion has no token, at line 1
 -- of the unit
@@ -23,6 +22,7 @@ abbrev pub HasPlace : Name → List Origin → Diagnostic → Type 0
 HasPlace unit [] d = d.origin ≡ record { member = unit; line = 1 }
 HasPlace unit (o ∷ os) d = Contains (o ∷ os) d.origin
 
+-- each diagnostic does
 abbrev pub HavePlaces : Name → List Origin → List Diagnostic → Type 0
 HavePlaces unit os [] = Unit {0}
 HavePlaces unit os (d ∷ ds) = HasPlace unit os d × HavePlaces unit os ds

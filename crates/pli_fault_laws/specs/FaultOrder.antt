@@ -1,4 +1,4 @@
--- In which order the faults of declarations stand.
+-- In which order the faults of declarations stand (own).
 use Rattle.std.specs.Prelude.{◌≡◌, ℕ, List, [], ◌∷◌, length, Ok}
 use Rattle.pli_base.specs.Statements.{ExternalProcedure}
 use Rattle.pli_base.specs.TreeTokens.{Rises}

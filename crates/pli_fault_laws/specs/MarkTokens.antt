@@ -1,4 +1,5 @@
--- The tokens of an outline's marks at which faults of declarations may stand, in the order of the marks.
+-- The tokens of an outline's marks at which faults of declarations may stand, in the order of the marks
+-- (own).
 use Rattle.std.specs.Prelude.{ℕ, List, [], ◌∷◌}
 use Rattle.pli_base.specs.Statements.{ExternalProcedure}
 use Rattle.pli_base.specs.TreeTokens.{Rises, tokens_of_each, name_tokens, item_tokens, unit_tokens}

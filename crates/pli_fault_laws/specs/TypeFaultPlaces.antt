@@ -1,4 +1,4 @@
--- Where Z1 and the faults of types stand.
+-- Where Z1 and the faults of types stand (own).
 use Rattle.std.specs.Prelude.{◌≡◌, ℕ, ◌<◌, List, [], ◌∷◌, length, Some, Ok, Err}
 use Rattle.pli_base.specs.FaultPlaces.{StandsAtToken}
 use Rattle.pli_base.specs.Statements.{ExternalProcedure}

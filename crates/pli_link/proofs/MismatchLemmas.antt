@@ -10,7 +10,7 @@ use Rattle.pli_link.specs.Mismatches.{each_once, faulty_in, faulty_names, faulty
 use Rattle.pli_link.specs.Names.{with_name}
 use Rattle.pli_link.specs.Units as units
 use Rattle.pli_link.specs.declared.global_fault.GlobalFault.{GlobalFault}
-use Rattle.pli_link.specs.declared.units.Compiled.{Compiled}
+use Rattle.pli_link.specs.declared.units.NamedUnit.{NamedUnit}
 use Rattle.pli_link.specs.declared.units.LinkedName.{LinkedName}
 use Rattle.pli_link.specs.views.UnitView.{compiled_view}
 
@@ -46,7 +46,7 @@ pub all_globals : (cs : List units.Compiled) (f : GlobalFault) (code : plain.Cod
     → each_once names (faulty_names cs f code (map global_view (drop i gs))) ≡ whole → names ≡ whole
 all_globals cs f code gs i names whole past all = sym (ap (λ xs. each_once names (faulty_names cs f code (map global_view xs))) (drop_past gs i past)) ∙ all
 
-pub one_unit : (cs : List units.Compiled) (f : GlobalFault) (us : List Compiled) (i : ℕ) (u : Compiled) (names new told whole : List LinkedName)
+pub one_unit : (cs : List units.Compiled) (f : GlobalFault) (us : List NamedUnit) (i : ℕ) (u : NamedUnit) (names new told whole : List LinkedName)
     → i < length us → u ≡ get_or us i u → new ≡ names ++ told → told ≡ faulty_in_unit cs f (compiled_view u)
     → names ++ faulty_linked cs f (map compiled_view (drop i us)) ≡ whole
     → new ++ faulty_linked cs f (map compiled_view (drop (i + 1) us)) ≡ whole
@@ -56,5 +56,5 @@ one_unit cs f us i u names new told whole within is next here all =
     ∙ append_assoc names told rest
     ∙ ap (λ ns. names ++ (ns ++ rest)) here
     ∙ sym (at_drop_more (λ xs. names ++ faulty_linked cs f (map compiled_view xs)) us i u within
-    ∙ ap (λ (x : Compiled). names ++ faulty_linked cs f (compiled_view x ∷ map compiled_view (drop (i + 1) us))) (sym is))
+    ∙ ap (λ (x : NamedUnit). names ++ faulty_linked cs f (compiled_view x ∷ map compiled_view (drop (i + 1) us))) (sym is))
     ∙ all

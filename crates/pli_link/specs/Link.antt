@@ -1,4 +1,4 @@
--- Linking: a module of the units, or the faults.
+-- Linking (own): a module of the units, or the faults.
 use Rattle.std.specs.Prelude.{ℕ, Bool, Option, Some, Result, Ok, Err, List, [], ◌∷◌, ◌++◌, map, position}
 use Rattle.std.specs.Prelude.{if◌then◌else◌}
 use Rattle.std.specs.Cmp.Lexicographic.{slice_cmp}
@@ -67,9 +67,11 @@ entry_in procedures (OwnVariable t) = []
 entry_in procedures (ExternalVariable name t) = []
 entry_in procedures (EntryPoint name signature) = there (meant procedures name)
 
+-- the units of the entries among globals, in their order
 abbrev pub entries_of : List (Name × ℕ) → List CodedGlobal → List ℕ
 entries_of procedures gs = flat_map (entry_in procedures) gs
 
+-- a unit in a module, with the units of its entries
 abbrev pub linked_unit : List (Name × ℕ) → Compiled → LinkedUnit
 linked_unit procedures c = record {
   unit = c.unit;

@@ -1,4 +1,4 @@
--- Globals that fit no procedure, or not the procedure or the variable of their name.
+-- Globals that fit no procedure, or not the procedure or the variable of their name (own).
 use Rattle.std.specs.Prelude.{Bool, true, false, not, Option, Some, None, is_none, List, [], ◌∷◌, map}
 use Rattle.std.specs.Prelude.{if◌then◌else◌}
 use Rattle.std.specs.List.{flat_map}
@@ -55,17 +55,19 @@ abbrev pub each_once : (before : List Name) → List Name → List Name
 each_once before [] = before
 each_once before (n ∷ ns) = each_once (with_name before n) ns
 
--- the names of globals that have a fault
+-- the name of a global, if it has this fault
 abbrev pub faulty_in : List Compiled → GlobalFault → Code → CodedGlobal → List Name
 faulty_in cs f code g = if has_fault cs f code g then name_of g else []
 
+-- the names of globals that have it
 abbrev pub faulty_names : List Compiled → GlobalFault → Code → List CodedGlobal → List Name
 faulty_names cs f code gs = flat_map (faulty_in cs f code) gs
 
--- they with their unit, each once
+-- names with their unit
 abbrev pub linked_in : (unit : Name) → List Name → List LinkedName
 linked_in unit names = map (λ n. record { name = n; unit = unit }) names
 
+-- the names of a unit's globals that have it, each once, with the unit
 abbrev pub faulty_in_unit : List Compiled → GlobalFault → Compiled → List LinkedName
 faulty_in_unit cs f c = linked_in c.unit (each_once [] (faulty_names cs f c.code c.code.globals))
 

@@ -11,15 +11,17 @@ use Rattle.pli_unit_code.specs.CodeTables.{there, template_at}
 use Rattle.pli_link.specs.Names.{externals}
 use Rattle.pli_link.specs.Units.{Compiled}
 
--- the variables that a unit has for itself
+-- the variable that a unit has for itself, if a global is one
 abbrev pub own_in : Code → CodedGlobal → List Template
 own_in code (OwnVariable t) = there (template_at code t)
 own_in code (ExternalVariable name t) = []
 own_in code (EntryPoint name signature) = []
 
+-- those among globals
 abbrev pub own_of : Code → List CodedGlobal → List Template
 own_of code gs = flat_map (own_in code) gs
 
+-- those of all units
 abbrev pub all_own : List Compiled → List Template
 all_own cs = flat_map (λ c. own_of c.code c.code.globals) cs
 

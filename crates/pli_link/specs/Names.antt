@@ -1,4 +1,4 @@
--- What names mean to all units of a module: external procedures, and variables that units share.
+-- What names mean to all units of a module (own): external procedures, and variables that units share.
 use Rattle.std.specs.Prelude.{ℕ, ◌+◌, Option, Some, None, List, [], ◌∷◌, ◌++◌, slice_get, if◌then◌else◌}
 use Rattle.std.specs.List.{flat_map}
 use Rattle.std.specs.Map.{keys_of, lookup}
@@ -35,15 +35,17 @@ procedures_from number (c ∷ cs) = (c.procedure, number) ∷ procedures_from (n
 abbrev pub procedures : List Compiled → List (Name × ℕ)
 procedures cs = firsts [] (procedures_from 0 cs)
 
--- the variables that a unit shares, with their templates as the unit's tables have them
+-- the variable that units share, if a global is one, with its template as the unit's tables have it
 abbrev pub shared_in : Code → CodedGlobal → List (Name × Option Template)
 shared_in code (OwnVariable t) = []
 shared_in code (ExternalVariable name t) = (name, template_at code t) ∷ []
 shared_in code (EntryPoint name signature) = []
 
+-- those among globals
 abbrev pub shared_by : Code → List CodedGlobal → List (Name × Option Template)
 shared_by code gs = flat_map (shared_in code) gs
 
+-- those of all units, in the order of the units
 abbrev pub all_shared : List Compiled → List (Name × Option Template)
 all_shared cs = flat_map (λ c. shared_by c.code c.code.globals) cs
 

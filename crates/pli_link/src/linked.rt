@@ -6,17 +6,17 @@ ghost use Rattle.pli_link.specs.views.UnitView.{compiled_view};
 ghost use Rattle.pli_unit_code.specs.CodeTables.{there};
 ghost use Rattle.pli_unit_code.specs.views.CodeView.{global_view, unit_view};
 
-use crate::units::Compiled;
+use crate::units::{CompiledUnit, NamedUnit};
 use indexmap::IndexMap;
 use pli_base::Name;
 use pli_unit_code::{CodedGlobal, LinkedUnit};
 use std::alloc::{AllocError, Global};
 
 /// Where the first main procedure stands.
-pub(crate) fn main_at(units: &[Compiled]) -> Option<usize>
-    ensures { result ≡ position (λ u. u.is_main) units.now }
+pub(crate) fn main_at(units: &[NamedUnit]) -> Option<usize>
+    ensures { result ≡ position (λ u. u.compiled.is_main) units.now }
 {
-    units.iter().position(|unit| unit.is_main)
+    units.iter().position(|unit| unit.compiled.is_main)
 }
 
 /// The unit of an entry, if a global is one whose procedure is there.
@@ -52,13 +52,13 @@ fn entries_of(
 fn linked_unit(
     alloc: Global,
     procedures: &IndexMap<Name, usize>,
-    compiled: Compiled,
+    named: NamedUnit,
 ) -> Result<LinkedUnit, AllocError>
     requires { AreSmall procedures.now.entries }
-    ensures { IfOk result (λ linked. unit_view linked ≡ link.linked_unit procedures.now.entries (compiled_view compiled)) }
+    ensures { IfOk result (λ linked. unit_view linked ≡ link.linked_unit procedures.now.entries (compiled_view named)) }
 {
-    let Compiled {
-        unit,
+    let NamedUnit { unit, compiled } = named;
+    let CompiledUnit {
         procedure,
         code,
         ..
@@ -76,7 +76,7 @@ fn linked_unit(
 pub(crate) fn linked_units(
     alloc: Global,
     procedures: &IndexMap<Name, usize>,
-    units: Vec<Compiled>,
+    units: Vec<NamedUnit>,
 ) -> Result<Vec<LinkedUnit>, AllocError>
     requires { AreSmall procedures.now.entries }
     ensures { IfOk result (λ linked. map unit_view linked.items ≡ map (link.linked_unit procedures.now.entries) (map compiled_view units.items)) }

@@ -13,7 +13,7 @@ use crate::mismatches::faulty_names;
 use crate::names::{Names, externals, procedures};
 use crate::order::{main_names, repeated_names, sort};
 use crate::sizes::is_too_large;
-use crate::units::{Compiled, LinkedName};
+use crate::units::{LinkedName, NamedUnit};
 use indexmap::{IndexMap, IndexSet};
 use pli_base::Name;
 use pli_type_keys::TemplateKey;
@@ -66,7 +66,7 @@ impl<T: Drop> From<AllocFailed<T>> for LinkError {
 }
 
 /// The module of units, which come in the order of their names; or all faults.
-pub fn link(alloc: Global, units: Vec<Compiled>) -> Result<Module, LinkError>
+pub fn link(alloc: Global, units: Vec<NamedUnit>) -> Result<Module, LinkError>
     ensures { Links result (link.link_of (map compiled_view units.items)) }
 {
     let procedures = procedures(alloc, &units)?;
@@ -132,7 +132,7 @@ fn add_in_order(
 }
 
 /// N1 and N2.
-fn main_faults(alloc: Global, units: &[Compiled]) -> Result<Vec<LinkFault>, AllocError>
+fn main_faults(alloc: Global, units: &[NamedUnit]) -> Result<Vec<LinkFault>, AllocError>
     ensures { IfOk result (λ found. found.items ≡ main_faults_of (map compiled_view units.now)) }
 {
     let mut faults = Vec::new(alloc);
@@ -173,7 +173,7 @@ fn faults_among<'a>(
 /// The faults of units, by code, name and unit.
 fn faults_of(
     alloc: Global,
-    units: &[Compiled],
+    units: &[NamedUnit],
     procedures: &IndexMap<Name, usize>,
 ) -> Result<Vec<LinkFault>, AllocError>
     requires { procedures.now.entries ≡ meaning.procedures (map compiled_view units.now) }

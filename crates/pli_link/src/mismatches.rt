@@ -16,7 +16,7 @@ use crate::alike::is_same_signature;
 use crate::classes::{class_at, classes_of};
 use crate::global_fault::GlobalFault;
 use crate::names::{External, Names};
-use crate::units::{Compiled, LinkedName};
+use crate::units::{LinkedName, NamedUnit};
 use indexmap::IndexSet;
 use pli_base::Name;
 use pli_type_keys::TemplateKey;
@@ -24,7 +24,7 @@ use pli_unit_code::{Code, CodedGlobal, CodedSignature};
 use std::alloc::{AllocError, Global};
 
 /// The first unit whose external procedure has this name.
-fn unit_named<'a>(names: &Names<'a, '_>, name: &Name) -> Option<&'a Compiled>
+fn unit_named<'a>(names: &Names<'a, '_>, name: &Name) -> Option<&'a NamedUnit>
     requires { AreNames names.now }
     ensures { option_map (λ u. compiled_view u.now) result ≡ meaning.unit_named (units_in names.now) name.now }
 {
@@ -36,20 +36,25 @@ fn unit_named<'a>(names: &Names<'a, '_>, name: &Name) -> Option<&'a Compiled>
 fn is_unlike_procedure(
     code: &Code,
     signature: &CodedSignature,
-    procedure: Option<&Compiled>,
+    procedure: Option<&NamedUnit>,
 ) -> bool
     ensures { result ≡ spec.is_unlike_procedure (signature_at (code_view code.now) (signature_view signature.now)) (option_map (λ u. compiled_view u.now) procedure.entry) }
 {
     match procedure {
         None => false,
-        Some(unit) => !is_same_signature(&unit.code, &unit.code.signature, code, signature),
+        Some(unit) => !is_same_signature(
+            &unit.compiled.code,
+            &unit.compiled.code.signature,
+            code,
+            signature,
+        ),
     }
 }
 
 /// Whether an external variable of this class is unlike the first one of its name, or has a procedure's name.
 fn is_unlike(
     class: Option<usize>,
-    procedure: Option<&Compiled>,
+    procedure: Option<&NamedUnit>,
     first: Option<&External<'_>>,
 ) -> bool
     ensures { (known : List Template) (t : Option Template) → IsClass known t class → IsFirstClassed known first.entry
@@ -162,7 +167,7 @@ pub(crate) fn faulty_names<'a>(
     known: &mut IndexSet<TemplateKey<'a>>,
     names: &Names<'a, '_>,
     fault: GlobalFault,
-    units: &'a [Compiled],
+    units: &'a [NamedUnit],
 ) -> Result<Vec<LinkedName>, AllocError>
     requires names { AreNames names.now }
     requires classes { HaveClasses known.old.keys names.now }
@@ -171,14 +176,14 @@ pub(crate) fn faulty_names<'a>(
 {
     let mut linked = Vec::new(alloc);
     for unit in units {
-        let classes = classes_of(alloc, known, &unit.code)?;
+        let classes = classes_of(alloc, known, &unit.compiled.code)?;
         let found = names_with_fault(
             alloc,
             names,
             fault,
             &classes,
-            &unit.code,
-            &unit.code.globals,
+            &unit.compiled.code,
+            &unit.compiled.code.globals,
         )?;
         add_linked(&mut linked, unit.unit, &found)?;
     }

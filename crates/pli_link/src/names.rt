@@ -10,7 +10,7 @@ ghost use Rattle.pli_unit_code.specs.views.CodeView.{code_view, global_view};
 
 use crate::alike::template_at;
 use crate::classes::{class_at, classes_of};
-use crate::units::Compiled;
+use crate::units::NamedUnit;
 use indexmap::{IndexMap, IndexSet};
 use pli_base::Name;
 use pli_type_keys::TemplateKey;
@@ -28,7 +28,7 @@ pub(crate) struct External<'a> {
 /// What names mean to all units of a module.
 #[derive(Clone, Copy)]
 pub(crate) struct Names<'a, 'b> {
-    pub units: &'a [Compiled],
+    pub units: &'a [NamedUnit],
     /// External procedures, by the numbers of the first units that have one of their names.
     pub procedures: &'b IndexMap<Name, usize>,
     pub externals: &'b IndexMap<Name, External<'a>>,
@@ -52,13 +52,13 @@ fn note_procedure(
 /// The external procedures, by the numbers of their units.
 pub(crate) fn procedures(
     alloc: Global,
-    units: &[Compiled],
+    units: &[NamedUnit],
 ) -> Result<IndexMap<Name, usize>, AllocError>
     ensures { IfOk result (λ found. found.entries ≡ spec.procedures (map compiled_view units.now)) }
 {
     let mut found = IndexMap::new(alloc);
     for (number, unit) in units.iter().enumerate() {
-        note_procedure(&mut found, unit.procedure, number)?;
+        note_procedure(&mut found, unit.compiled.procedure, number)?;
     }
     Ok(found)
 }
@@ -107,15 +107,20 @@ fn note_shared<'a>(
 pub(crate) fn externals<'a>(
     alloc: Global,
     known: &mut IndexSet<TemplateKey<'a>>,
-    units: &'a [Compiled],
+    units: &'a [NamedUnit],
 ) -> Result<IndexMap<Name, External<'a>>, AllocError>
     ensures first { IfOk result (λ found. externals_view found.entries ≡ spec.externals (map compiled_view units.now)) }
     ensures classed { IfOk result (λ found. AreClassed (known_in known.new.keys) found.entries) }
 {
     let mut found = IndexMap::new(alloc);
     for unit in units {
-        let classes = classes_of(alloc, known, &unit.code)?;
-        note_shared(&mut found, &unit.code, &classes, &unit.code.globals)?;
+        let classes = classes_of(alloc, known, &unit.compiled.code)?;
+        note_shared(
+            &mut found,
+            &unit.compiled.code,
+            &classes,
+            &unit.compiled.code.globals,
+        )?;
     }
     Ok(found)
 }

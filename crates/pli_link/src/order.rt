@@ -4,7 +4,7 @@ ghost use Rattle.pli_link.specs.Link as link;
 ghost use Rattle.pli_link.specs.Units.{procedure_of};
 ghost use Rattle.pli_link.specs.views.UnitView.{compiled_view};
 
-use crate::units::{Compiled, LinkedName, procedure_of};
+use crate::units::{LinkedName, NamedUnit, procedure_of};
 use indexmap::IndexSet;
 use pli_base::Name;
 use std::alloc::{AllocError, Global};
@@ -18,12 +18,12 @@ pub(crate) fn sort(names: &mut Vec<LinkedName>) -> Result<(), AllocError>
 }
 
 /// The main procedures, in the order of their units.
-pub(crate) fn main_names(alloc: Global, units: &[Compiled]) -> Result<Vec<LinkedName>, AllocError>
+pub(crate) fn main_names(alloc: Global, units: &[NamedUnit]) -> Result<Vec<LinkedName>, AllocError>
     ensures { IfOk result (λ names. names.items ≡ map procedure_of (link.mains (map compiled_view units.now))) }
 {
     let mut names = Vec::new(alloc);
     for unit in units {
-        if unit.is_main {
+        if unit.compiled.is_main {
             names.push(procedure_of(unit))?;
         }
     }
@@ -33,14 +33,14 @@ pub(crate) fn main_names(alloc: Global, units: &[Compiled]) -> Result<Vec<Linked
 /// The procedures that have the name of an earlier one, in the order of their units.
 pub(crate) fn repeated_names(
     alloc: Global,
-    units: &[Compiled],
+    units: &[NamedUnit],
 ) -> Result<Vec<LinkedName>, AllocError>
     ensures { IfOk result (λ names. names.items ≡ link.defined_again [] (map compiled_view units.now)) }
 {
     let mut before = IndexSet::new(alloc);
     let mut names = Vec::new(alloc);
     for unit in units {
-        let is_new = before.insert(unit.procedure)?;
+        let is_new = before.insert(unit.compiled.procedure)?;
         if !is_new {
             names.push(procedure_of(unit))?;
         }

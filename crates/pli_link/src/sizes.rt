@@ -15,7 +15,7 @@ ghost use Rattle.pli_type_keys.specs.views.KeyView.{templated};
 
 use crate::alike::template_at;
 use crate::names::{External, Names};
-use crate::units::Compiled;
+use crate::units::NamedUnit;
 use indexmap::IndexMap;
 use pli_base::Name;
 use pli_map::{Description, size};
@@ -75,13 +75,13 @@ fn with_own(bytes: u32, code: &Code, globals: &[CodedGlobal]) -> Option<u32>
 }
 
 /// Bytes with those of the variables that units have for themselves, unless they are too many.
-fn with_all_own(units: &[Compiled]) -> Option<u32>
+fn with_all_own(units: &[NamedUnit]) -> Option<u32>
     ensures counts { result ≡ counted 0 (spec.all_own (map compiled_view units.now)) }
     ensures within { IfSome result (λ more. more ≤ 16777216) }
 {
     let mut bytes = 0;
     for unit in units {
-        bytes = with_own(bytes, &unit.code, &unit.code.globals)?;
+        bytes = with_own(bytes, &unit.compiled.code, &unit.compiled.code.globals)?;
     }
     Some(bytes)
 }
@@ -100,12 +100,12 @@ fn with_externals(bytes: u32, externals: &IndexMap<Name, External<'_>>) -> Optio
 }
 
 /// Whether units have too many instructions.
-fn are_instructions_too_many(units: &[Compiled]) -> bool
+fn are_instructions_too_many(units: &[NamedUnit]) -> bool
     ensures { result ≡ nat_lt 1000000 (sum_by (λ c. length c.code.instructions) (map compiled_view units.now)) }
 {
     let mut count = 0;
     for unit in units {
-        count += unit.code.instructions.len();
+        count += unit.compiled.code.instructions.len();
         if count > INSTRUCTION_LIMIT {
             return true;
         }

@@ -6,14 +6,21 @@ ghost use Rattle.pli_link.specs.views.UnitView.{compiled_view};
 use pli_base::Name;
 use pli_unit_code::Code;
 
-/// A unit that has been compiled: the member's name, and its external procedure with its code.
+/// What the tokens of a unit are compiled to: its external procedure with its code. It has no name of a member.
 #[derive(Drop)]
-pub struct Compiled {
-    pub unit: Name,
+pub struct CompiledUnit {
+    /// The name of its external procedure.
     pub procedure: Name,
     /// Whether it is a main procedure.
     pub is_main: bool,
     pub code: Code,
+}
+
+/// A unit to be linked: the name of its member, and what its tokens were compiled to.
+#[derive(Drop)]
+pub struct NamedUnit {
+    pub unit: Name,
+    pub compiled: CompiledUnit,
 }
 
 /// A name that a unit has: of its procedure, of an external variable or of an entry.
@@ -24,11 +31,11 @@ pub struct LinkedName {
 }
 
 /// The name of a unit's procedure, with the unit.
-pub(crate) fn procedure_of(unit: &Compiled) -> LinkedName
+pub(crate) fn procedure_of(unit: &NamedUnit) -> LinkedName
     ensures { result ≡ procedure_of (compiled_view unit.now) }
 {
     LinkedName {
-        name: unit.procedure,
+        name: unit.compiled.procedure,
         unit: unit.unit,
     }
 }

@@ -27,7 +27,7 @@ LinkedModulesKeepNumbers =
     (cs : List Compiled) (m : Module) → link_of cs ≡ Ok m → AllByRecursion KeepsItsNumbers cs
     → module_fits m ≡ true
 
--- what is linked of units that bytes can say is what its bytes are
+-- what is linked of at most 999 units that bytes can say is what its bytes are
 abbrev pub LinkedModulesAreLoaded : Type 0
 LinkedModulesAreLoaded =
     (cs : List Compiled) (m : Module) → link_of cs ≡ Ok m → length cs ≤ 999
@@ -42,12 +42,15 @@ pub record IsCompiledFrom (t : TypedUnit) (c : Compiled) : Type 0 where
   pub formed : IsWellFormed t
   pub short : is_too_long (code_of t) ≡ false
 
+-- units that are compiled from typed units, one for one
 abbrev pub AreCompiledFrom : List TypedUnit → List Compiled → Type 0
 AreCompiledFrom [] [] = Unit {0}
 AreCompiledFrom [] (c ∷ cs) = ⊥
 AreCompiledFrom (t ∷ ts) [] = ⊥
 AreCompiledFrom (t ∷ ts) (c ∷ cs) = IsCompiledFrom t c × AreCompiledFrom ts cs
 
+-- what is linked of at most 999 such units is what its bytes are, where they have no fault and are fewer than
+-- 2^32
 abbrev pub CompiledModulesAreLoaded : Type 0
 CompiledModulesAreLoaded =
     (ts : List TypedUnit) (cs : List Compiled) (m : Module) → AreCompiledFrom ts cs → link_of cs ≡ Ok m

@@ -11,7 +11,7 @@ use Rattle.pli_include.specs.Expansion.{Outcome}
 use Rattle.pli_members.specs.Members.{Member}
 use Rattle.pli_members.specs.declared.kind.MemberKind.{MemberKind}
 use Rattle.pli_members.specs.declared.kind.MemberKind.TheVariants.{Source, Include}
-use Rattle.pli_link.specs.Units.{Compiled}
+use Rattle.pli_link.specs.Units.{CompiledUnit, Compiled, as_unit}
 use Rattle.pli_gen_tree.specs.Encoding.{code_of}
 use Rattle.pli_gen_tree.specs.Limits.{is_too_long}
 use Rattle.pli_gen_tree.specs.WellNumbered.{IsWellNumbered}
@@ -19,7 +19,7 @@ use Rattle.pli_gen_stands.specs.Laws.{AreWellNumbered}
 use Rattle.pli_meaning_typed.specs.TypedPrograms.{AreTypedUnits, IsTypedUnit}
 use Rattle.pli_resolve.specs.ResolvedUnits.{ResolvedUnit, resolved_unit_of}
 use Rattle.pli_type.specs.NamedUnits.{named_unit, checked_unit}
-use Rattle.pli_type.specs.laws.Laws.{IsToldOfTypes}
+use Rattle.pli_type.specs.laws.Laws.{IsFault, IsToldOfTypes}
 use Rattle.pli_type.proofs.FaultCodes.{faults_are_of_types}
 use Rattle.pli_type_laws.specs.TypedUnits.{MainTakesNothing}
 use Rattle.pli_type_laws.proofs.CheckedUnits.{checked_is_typed}
@@ -29,7 +29,7 @@ use Rattle.pli_base.specs.Statements.{ExternalProcedure}
 use Rattle.pli_base.specs.Words.{Tokens}
 use Rattle.pli_declare.specs.Resolution.{resolution_faults}
 use Rattle.pli_meaning.specs.Programs.{of_member}
-use Rattle.pli_meaning.specs.Scratch.{Diagnostic, typed_unless, program_from, program_of, units_of, located, all_located, parsed_from, parsed_of, too_long, coded_from, compiled_from, compiled_of, diagnostics_in, diagnostic_line, all_text, all_units, text_in, units_in, sources, source_in, with_tree, trees_of}
+use Rattle.pli_meaning.specs.Scratch.{Diagnostic, typed_unless, program_from, program_of, units_of, located, all_located, parsed_from, parsed_of, too_long, compiled_tree, coded_from, compiled_texts, with_unit, compiled_from, compiled_of, diagnostics_in, diagnostic_line, all_text, all_units, text_in, units_in, sources, source_in, with_tree, trees_of}
 
 -- a list with an element is not empty
 filled : {A : Type 0} (xs ys : List A) (y : A) → xs ++ y ∷ ys ≡ [] → ⊥
@@ -79,9 +79,26 @@ program_read texts = by (unit_of texts) refl
     by (Ok unit) read = typed_read texts unit read (resolution_faults unit)
     by (Err fault) read = tt
 
+-- so what is compiled is a unit, or has a fault at least
+abbrev pub IsToldOfCompiling : Result CompiledUnit (List Fault) → Type 0
+IsToldOfCompiling (Ok c) = Unit {0}
+IsToldOfCompiling (Err faults) = IsFault faults
+
+long_told : (u : TypedUnit) (b : Bool) → IsToldOfCompiling (if b then Err (too_long ∷ []) else Ok (compiled_tree u))
+long_told u true = tt
+long_told u false = tt
+
+coded_told : (r : Result TypedUnit (List Fault)) → IsRead r → IsToldOfCompiling (coded_from r)
+coded_told (Ok u) h = long_told u (is_too_long (code_of u))
+coded_told (Err []) h = h
+coded_told (Err (fault ∷ faults)) h = tt
+
+pub compiled_told : (texts : Tokens) → IsToldOfCompiling (compiled_texts texts)
+compiled_told texts = coded_told (program_of texts) (program_read texts)
+
 -- the unit of a tree, with the name of a member
 abbrev unit_code : Name → TypedUnit → Compiled
-unit_code name u = record { unit = name; procedure = u.procedure; is_main = u.is_main; code = code_of u }
+unit_code name u = as_unit name (compiled_tree u)
 
 -- a unit without diagnostics: its tree is typed and numbered well, and this is its code, which is not too long
 record IsClean (name : Name) (r : Result TypedUnit (List Diagnostic)) (c : Result Compiled (List Diagnostic)) : Type 0 where
@@ -92,13 +109,13 @@ record IsClean (name : Name) (r : Result TypedUnit (List Diagnostic)) (c : Resul
   code : c ≡ Ok (unit_code name tree)
 
 chosen_clean : (name : Name) (origins : List Origin) (u : TypedUnit) (b : Bool) → is_too_long (code_of u) ≡ b → IsGood u
-    → diagnostics_in name (all_located name origins (if b then Err (too_long ∷ []) else Ok (unit_code name u))) ≡ []
-    → IsClean name (Ok u) (all_located name origins (if b then Err (too_long ∷ []) else Ok (unit_code name u)))
+    → diagnostics_in name (all_located name origins (with_unit name (if b then Err (too_long ∷ []) else Ok (compiled_tree u)))) ≡ []
+    → IsClean name (Ok u) (all_located name origins (with_unit name (if b then Err (too_long ∷ []) else Ok (compiled_tree u))))
 chosen_clean name origins u true is good e = absurd (text_filled name (located name origins too_long) [] e)
 chosen_clean name origins u false is good e = record { tree = u; spelled = refl; good = good; fits = is; code = refl }
 
 read_clean : (name : Name) (origins : List Origin) (r : Result TypedUnit (List Fault)) → IsRead r
-    → diagnostics_in name (all_located name origins (coded_from name r)) ≡ [] → IsClean name (all_located name origins r) (all_located name origins (coded_from name r))
+    → diagnostics_in name (all_located name origins (with_unit name (coded_from r))) ≡ [] → IsClean name (all_located name origins r) (all_located name origins (with_unit name (coded_from r)))
 read_clean name origins (Ok u) h e = chosen_clean name origins u (is_too_long (code_of u)) refl h e
 read_clean name origins (Err []) h e = absurd h
 read_clean name origins (Err (fault ∷ faults)) h e = absurd (text_filled name (located name origins fault) (map (located name origins) faults) e)

@@ -1,4 +1,4 @@
--- The laws, of members: what a build from scratch gives does what the source means.
+-- The laws, of members (own): what a build from scratch gives does what the source means.
 use Rattle.std.specs.Prelude.{◌≡◌, ◌≢◌, ℕ, ◌+◌, List}
 use Rattle.pli_base.specs.Name.{Name}
 use Rattle.pli_members.specs.Members.{Member}

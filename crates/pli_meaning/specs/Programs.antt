@@ -1,4 +1,4 @@
--- The program that units are.
+-- The program that units are (own).
 use Rattle.std.specs.Prelude.{ℕ, ◌+◌, List, [], ◌∷◌, if◌then◌else◌}
 use Rattle.pli_base.specs.Name.{Name}
 use Rattle.pli_type_tree.specs.TypedTree.{TypedUnit}

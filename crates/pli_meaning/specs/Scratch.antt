@@ -18,7 +18,7 @@ use Rattle.pli_parse_statement.specs.StatementReading.{unit_of}
 use Rattle.pli_base.specs.Statements.{ExternalProcedure}
 use Rattle.pli_declare.specs.Resolution.{resolution_faults}
 use Rattle.pli_link.specs.Link.{link_of}
-use Rattle.pli_link.specs.Units.{Compiled}
+use Rattle.pli_link.specs.Units.{CompiledUnit, Compiled, as_unit}
 use Rattle.pli_link.specs.declared.linking.LinkFault.{LinkFault}
 use Rattle.pli_link.specs.declared.linking.LinkFault.TheVariants as faults
 use Rattle.pli_link.specs.declared.units.LinkedName.{LinkedName}
@@ -86,25 +86,33 @@ parsed_of entries unit = parsed_from unit (outcome_of entries unit)
 abbrev pub too_long : Fault
 too_long = record { code = code.CodeTooLong; at = 0 }
 
+-- what a tree is compiled to
+abbrev pub compiled_tree : TypedUnit → CompiledUnit
+compiled_tree u = record { procedure = u.procedure; is_main = u.is_main; code = code_of u }
+
 -- the code of a tree, if it is not too long
-abbrev pub coded : Name → TypedUnit → Result Compiled (List Fault)
-coded unit u =
-    if is_too_long (code_of u) then Err (too_long ∷ [])
-    else Ok (record { unit = unit; procedure = u.procedure; is_main = u.is_main; code = code_of u })
+abbrev pub coded : TypedUnit → Result CompiledUnit (List Fault)
+coded u = if is_too_long (code_of u) then Err (too_long ∷ []) else Ok (compiled_tree u)
 
-abbrev pub coded_from : Name → Result TypedUnit (List Fault) → Result Compiled (List Fault)
-coded_from unit (Ok u) = coded unit u
-coded_from unit (Err faults) = Err faults
+-- the code of what was typed, or its faults
+abbrev pub coded_from : Result TypedUnit (List Fault) → Result CompiledUnit (List Fault)
+coded_from (Ok u) = coded u
+coded_from (Err faults) = Err faults
 
--- the tokens of a unit compiled, or the faults of the first pass that has any; nothing else than its name is
--- known of the unit, and not where its tokens come from
-abbrev pub compiled_texts : Name → Tokens → Result Compiled (List Fault)
-compiled_texts unit texts = coded_from unit (program_of texts)
+-- the tokens of a unit compiled, or the faults of the first pass that has any: what the tokens say is all
+-- that counts, and neither what their member is called nor where they come from
+abbrev pub compiled_texts : Tokens → Result CompiledUnit (List Fault)
+compiled_texts texts = coded_from (program_of texts)
+
+-- a unit that was compiled gets the name of its member
+abbrev pub with_unit : {E : Type 0} → (unit : Name) → Result CompiledUnit E → Result Compiled E
+with_unit unit (Ok c) = Ok (as_unit unit c)
+with_unit unit (Err e) = Err e
 
 -- an expansion compiled, or the fault of the expansion
 abbrev pub compiled_from : Name → Expansion → Result Compiled (List Diagnostic)
 compiled_from unit (Err stop) = Err (one stop.fault.code stop.fault.origin)
-compiled_from unit (Ok p) = all_located unit p.origins (compiled_texts unit p.texts)
+compiled_from unit (Ok p) = all_located unit p.origins (with_unit unit (compiled_texts p.texts))
 
 -- a unit compiled, or its diagnostics in the order of their tokens; a pass with faults is the last
 unfoldable pub compiled_of : List (Name × Member) → Name → Result Compiled (List Diagnostic)
@@ -136,13 +144,15 @@ abbrev pub diagnostics_in : Name → Result Compiled (List Diagnostic) → List 
 diagnostics_in unit (Ok c) = []
 diagnostics_in unit (Err diagnostics) = flat_map (diagnostic_line unit) diagnostics
 
--- the line of a fault of linking: `code text`, and the name and the unit where it has them
+-- the line of a fault of linking without a name: `code text`
 abbrev pub code_line : Code → List ℕ
 code_line c = code_label c ++ 32 ∷ code_text c ++ 10 ∷ []
 
+-- that of one with a name: `code text name unit`
 abbrev pub name_line : Code → LinkedName → List ℕ
 name_line c n = code_label c ++ 32 ∷ code_text c ++ 32 ∷ n.name ++ 32 ∷ n.unit ++ 10 ∷ []
 
+-- the line of a fault of linking
 abbrev pub link_line : LinkFault → List ℕ
 link_line faults.NoMainProcedure = code_line code.NoMainProcedure
 link_line (faults.TwoMainProcedures n) = name_line code.TwoMainProcedures n
@@ -190,13 +200,14 @@ all_units entries (e ∷ es) = units_in entries e.0 e.1.kind ++ all_units entrie
 unfoldable pub scratch : List (Name × Member) → Built
 scratch entries = built (all_text entries entries) (all_units entries entries)
 
--- the trees of units, each with the name of its member, if all have one
+-- the tree of one unit more, with the name of its member, if there is one
 abbrev pub with_tree : (unit : Name) → Result TypedUnit (List Diagnostic) → Option (List TypedUnit)
     → Option (List TypedUnit)
 with_tree unit (Ok u) (Some us) = Some (of_member unit u ∷ us)
 with_tree unit (Ok u) None = None
 with_tree unit (Err diagnostics) us = None
 
+-- the trees of units, each with the name of its member, if all have one
 abbrev pub trees_of : List (Name × Member) → List Name → Option (List TypedUnit)
 trees_of entries [] = Some []
 trees_of entries (unit ∷ units) = with_tree unit (parsed_of entries unit) (trees_of entries units)

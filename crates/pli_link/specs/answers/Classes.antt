@@ -37,6 +37,7 @@ abbrev pub class_in : Option (Option ℕ) → Option ℕ
 class_in None = None
 class_in (Some class) = class
 
+-- the class of the template of a number
 abbrev pub class_at : (classes : List (Option ℕ)) → (number : ℕ) → Option ℕ
 class_at classes number = class_in (slice_get classes number)
 

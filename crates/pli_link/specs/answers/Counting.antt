@@ -11,6 +11,7 @@ abbrev pub counted_one : (bytes : ℕ) → Description → Option ℕ
 counted_one bytes d =
     if is_oversized d || nat_lt byte_limit (bytes + size_of d) then None else Some (bytes + size_of d)
 
+-- goes on with the bytes so far, unless there are too many
 abbrev pub if_counted : Option ℕ → (ℕ → Option ℕ) → Option ℕ
 if_counted None more = None
 if_counted (Some bytes) more = more bytes

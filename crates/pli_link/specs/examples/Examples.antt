@@ -29,16 +29,20 @@ code_with signature descriptions globals = record {
   instructions = op.Return 0 ∷ [];
 }
 
+-- the code of a procedure without parameters, in a unit without globals
 abbrev pub plain : Code
 plain = code_with nothing [] []
 
+-- a compiled unit
 abbrev pub unit : Name → (procedure : Name) → Bool → Code → Compiled
 unit n procedure is_main code =
     record { unit = n; procedure = procedure; is_main = is_main; code = code }
 
+-- a name with its unit
 abbrev pub named : Name → (unit : Name) → LinkedName
 named n u = record { name = n; unit = u }
 
+-- a unit of a module
 abbrev pub linked : Name → (procedure : Name) → Code → (entries : List ℕ) → LinkedUnit
 linked n procedure code entries =
     record { unit = n; procedure = procedure; code = code; entries = entries }
@@ -68,10 +72,11 @@ NoneOfTwo =
     link_of (unit (codes "A") (codes "F") false plain ∷ unit (codes "Q") (codes "F") false plain ∷ [])
     ≡ Err (NoMainProcedure ∷ DefinedTwice (named (codes "F") (codes "Q")) ∷ [])
 
--- M calls Q, and shares a variable Z of four characters
+-- an entry of a procedure without parameters
 abbrev pub entry : Name → CodedGlobal
 entry name = EntryPoint name nothing
 
+-- M calls Q, and shares a variable Z of four characters
 abbrev pub calling : Code
 calling =
     code_with nothing (Character 4 ∷ []) (ExternalVariable (codes "Z") 0 ∷ entry (codes "Q") ∷ [])
@@ -82,16 +87,18 @@ NoneCalled =
     link_of (unit (codes "M") (codes "M") true calling ∷ [])
     ≡ Err (Unresolved (named (codes "Q") (codes "M")) ∷ [])
 
--- in Q the variable Z is a number, or is of four characters too
+-- Q has a variable Z of this description
 abbrev pub sharing : Description → Code
 sharing d = code_with nothing (d ∷ []) (ExternalVariable (codes "Z") 0 ∷ [])
 
+-- where it is a number, it is unlike that of M
 abbrev pub OtherShared : Type 0
 OtherShared =
     link_of (unit (codes "M") (codes "M") true calling
     ∷ unit (codes "Q") (codes "Q") false (sharing (FixedBinary 31)) ∷ [])
     ≡ Err (Mismatch (named (codes "Z") (codes "Q")) ∷ [])
 
+-- where it is of four characters too, both are linked
 abbrev pub SameShared : Type 0
 SameShared =
     link_of (unit (codes "M") (codes "M") true calling
@@ -103,10 +110,11 @@ SameShared =
       main = 0;
     })
 
--- the procedure that is called takes a bit, of which the entry says nothing
+-- a procedure that takes a bit
 abbrev pub taking : Code
 taking = code_with (record { parameters = 0 ∷ []; result = None }) (Bit 1 ∷ []) []
 
+-- such a Q is unlike the entry in M, which says nothing of it
 abbrev pub OtherTaken : Type 0
 OtherTaken =
     link_of (unit (codes "M") (codes "M") true calling ∷ unit (codes "Q") (codes "Q") false taking ∷ [])
@@ -137,16 +145,19 @@ ToldOnce =
 abbrev pub strings : Description
 strings = Array (record { low = pos 1; high = pos 100 } ∷ []) (Character 10000)
 
+-- the unit M with such variables
 abbrev pub with_strings : List CodedGlobal → Compiled
 with_strings globals = unit (codes "M") (codes "M") true (code_with nothing (strings ∷ []) globals)
 
--- 17 of a unit's own have more bytes than may live, and 16 have not
+-- 17 of a unit's own have more bytes than may live
 abbrev pub TooLarge : Type 0
 TooLarge = link_of (with_strings (replicate 17 (OwnVariable 0)) ∷ []) ≡ Err (ModuleTooLarge ∷ [])
 
+-- 16 of them
 abbrev pub many : List CodedGlobal
 many = replicate 16 (OwnVariable 0)
 
+-- they have not
 abbrev pub NotTooLarge : Type 0
 NotTooLarge =
     link_of (with_strings many ∷ [])
@@ -155,10 +166,11 @@ NotTooLarge =
       main = 0;
     })
 
--- a variable that several units share, or one unit declares several times, counts once
+-- one variable declared 17 times
 abbrev pub shared : List CodedGlobal
 shared = replicate 17 (ExternalVariable (codes "Z") 0)
 
+-- a variable that several units share, or one unit declares several times, counts once
 abbrev pub SharedOnce : Type 0
 SharedOnce =
     link_of (with_strings shared ∷ [])

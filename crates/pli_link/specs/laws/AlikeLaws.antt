@@ -17,6 +17,7 @@ option_decides test decides (Some a) (Some b) = Decides-like _ (ap Some) (λ e. 
 option_decides test decides None (Some b) = differ None (Some b) (λ e. cc)
 option_decides test decides (Some a) None = differ (Some a) None (λ e. cc)
 
+-- a signature of these parameters and this result
 abbrev signature : List (Option Description) → Option (Option Description) → FoundSignature
 signature ps r = record { parameters = ps; result = r }
 

@@ -24,7 +24,7 @@ first_members =
     (codes "M: PROC OPTIONS(MAIN);" ∷ codes "DCL X FIXED BIN(31);" ∷ codes "X = 2 + 3;" ∷ codes "PUT LIST(X);"
     ∷ codes "END M;" ∷ [])
 
--- its module
+-- its code
 abbrev pub first_code : Code
 first_code = record {
   signature = record { parameters = []; result = None };
@@ -46,12 +46,14 @@ first_code = record {
       ∷ op.Local 0 0 ∷ op.Load ∷ op.ToCharacters 14 ∷ op.Put ∷ op.Return 0 ∷ [];
 }
 
+-- its module
 abbrev pub first_module : Module
 first_module = record {
   units = record { unit = codes "M"; procedure = codes "M"; code = first_code; entries = [] } ∷ [];
   main = 0;
 }
 
+-- a build from scratch gives that module
 abbrev pub FirstIsMade : Type 0
 FirstIsMade = scratch first_members ≡ Made first_module
 

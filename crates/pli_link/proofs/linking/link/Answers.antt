@@ -2,15 +2,15 @@ use Rattle.std.proofs.Common.{◌≡◌, ℕ, rules, ◌∙◌, ap, sym, subst, 
 use Rattle.pli_link.specs.Link.{link_faults, linked_unit}
 use Rattle.pli_link.specs.Names.{procedures}
 use Rattle.pli_link.specs.answers.Tables.{AreSmall}
-use Rattle.pli_link.specs.declared.units.Compiled.{Compiled}
+use Rattle.pli_link.specs.declared.units.NamedUnit.{NamedUnit}
 use Rattle.pli_link.specs.views.UnitView.{compiled_view}
 use Rattle.pli_unit_code.specs.Modules.{LinkedUnit, Module}
 use Rattle.pli_link.proofs.LinkedUnits.{empty_list, main_seen, main_within, few_seen, few_units, linked_without}
 use Rattle.pli_link.proofs.MeantFirst.{few_are_small}
 use Rattle.pli_link.proofs.linking.link.Goals as goal
 
-abbrev main_of : List Compiled → Option ℕ
-main_of us = position (λ (u : Compiled). u.is_main) us
+abbrev main_of : List NamedUnit → Option ℕ
+main_of us = position (λ (u : NamedUnit). u.compiled.is_main) us
 
 abbrev module_with : List LinkedUnit → ℕ → Module
 module_with us main = record { units = us; main = main }

@@ -3,7 +3,7 @@ use Rattle.std.proofs.lemmas.List.{at_drop_more}
 use Rattle.pli_link.specs.Names.{firsts, all_shared, shared_by}
 use Rattle.pli_link.specs.views.NameView.{externals_view}
 use Rattle.pli_link.specs.views.UnitView.{compiled_view}
-use Rattle.pli_link.specs.declared.units.Compiled.{Compiled}
+use Rattle.pli_link.specs.declared.units.NamedUnit.{NamedUnit}
 use Rattle.pli_unit_code.specs.views.CodeView.{code_view, global_view}
 use Rattle.pli_link.specs.answers.Classes.{AreClasses, known_in}
 use Rattle.pli_link.proofs.ClassLemmas.{classed_stay}
@@ -20,13 +20,13 @@ loop-unit-preserved c =
     let rest = all_shared (map compiled_view (drop (i + 1) units)) in
     record {
       first =
-          ap (λ es. firsts es rest) (c.in_ok-note_shared.ensures.first ∙ ap (λ gs. firsts before (shared_by (code_view unit.code) (map global_view gs))) c.deref-in-loop-unit.ensures.value)
-          ∙ sym (firsts_behind before (shared_by (code_view unit.code) (map global_view unit.code.globals.items)) rest)
+          ap (λ es. firsts es rest) (c.in_ok-note_shared.ensures.first ∙ ap (λ gs. firsts before (shared_by (code_view unit.compiled.code) (map global_view gs))) c.deref-in-loop-unit.ensures.value)
+          ∙ sym (firsts_behind before (shared_by (code_view unit.compiled.code) (map global_view unit.compiled.code.globals.items)) rest)
           ∙ sym (at_drop_more (λ us. firsts before (all_shared (map compiled_view us))) units i unit (omega arith)
-          ∙ ap (λ (u : Compiled). firsts before (all_shared (compiled_view u ∷ map compiled_view (drop (i + 1) units)))) (sym c.unit-item.is))
+          ∙ ap (λ (u : NamedUnit). firsts before (all_shared (compiled_view u ∷ map compiled_view (drop (i + 1) units)))) (sym c.unit-item.is))
           ∙ c.loop-unit.invariant.first;
       classed =
           c.in_ok-note_shared.ensures.classed (known_in known)
-          (subst (AreClasses (known_in known) (code_view unit.code)) (sym c.deref.ensures.value) c.in_ok-classes.ensures.classes)
+          (subst (AreClasses (known_in known) (code_view unit.compiled.code)) (sym c.deref.ensures.value) c.in_ok-classes.ensures.classes)
           (classed_stay c.loop-unit.known.keys known c.loop-unit.found.entries c.in_ok-classes.ensures.grows c.loop-unit.invariant.classed);
     }

@@ -1,7 +1,6 @@
 -- Where reading and the declarations have no fault, types decide what a unit is compiled to.
 use Rattle.std.specs.Prelude.{◌≡◌, Ok, []}
 use Rattle.std.proofs.Common.{ap, sym, ◌∙◌}
-use Rattle.pli_base.specs.Name.{Name}
 use Rattle.pli_base.specs.Statements.{ExternalProcedure}
 use Rattle.pli_base.specs.Words.{Tokens}
 use Rattle.pli_declare.specs.Resolution.{resolution_faults}
@@ -10,9 +9,9 @@ use Rattle.pli_resolve.specs.ResolvedUnits.{resolved_unit_of}
 use Rattle.pli_type.specs.NamedUnits.{checked_unit}
 use Rattle.pli_meaning.specs.Scratch.{typed_unless, program_from, coded_from, compiled_texts}
 
-module _ (name : Name) (texts : Tokens) (u v : ExternalProcedure) where
+module _ (texts : Tokens) (u v : ExternalProcedure) where
   pub types_decide : unit_of texts ≡ Ok u → resolution_faults u ≡ [] → v ≡ u
-      → compiled_texts name texts ≡ coded_from name (checked_unit (resolved_unit_of v))
+      → compiled_texts texts ≡ coded_from (checked_unit (resolved_unit_of v))
   types_decide read none same =
-      ap (λ r. coded_from name (program_from r)) read ∙ ap (λ fs. coded_from name (typed_unless fs u)) none
-      ∙ ap (λ x. coded_from name (checked_unit (resolved_unit_of x))) (sym same)
+      ap (λ r. coded_from (program_from r)) read ∙ ap (λ fs. coded_from (typed_unless fs u)) none
+      ∙ ap (λ x. coded_from (checked_unit (resolved_unit_of x))) (sym same)

@@ -1,0 +1,2 @@
+mod FaultsTold
+mod TypedCompiled

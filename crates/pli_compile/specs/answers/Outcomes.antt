@@ -1,0 +1,46 @@
+-- What the passes of the compiler answer, apart from where it lies in memory.
+use Rattle.std.specs.Prelude.{◌≡◌, List, [], ◌∷◌, Result, Ok, Err}
+use Rattle.pli_base.specs.declared.token.Fault as fault
+use Rattle.pli_base.specs.declared.reading.ParseError.{ParseError}
+use Rattle.pli_base.specs.declared.reading.ParseError.TheVariants as parsing
+use Rattle.pli_declare.specs.declared.resolving.ResolveError.{ResolveError}
+use Rattle.pli_declare.specs.declared.resolving.ResolveError.TheVariants as resolving
+use Rattle.pli_type_statement.specs.declared.checking.CheckError.{CheckError}
+use Rattle.pli_type_statement.specs.declared.checking.CheckError.TheVariants as checking
+use Rattle.pli_link.specs.Units as link
+use Rattle.pli_gen_tree.specs.declared.generating.GenerateError.{GenerateError}
+use Rattle.pli_gen_tree.specs.declared.generating.GenerateError.TheVariants as generating
+use Rattle.pli_link.specs.views.UnitView.{compiled_unit_view}
+use Rattle.pli_link.specs.declared.units.CompiledUnit.{CompiledUnit}
+use Rattle.pli_meaning.specs.Scratch.{too_long}
+use Rattle.pli_compile.specs.declared.passes.CompileError.{CompileError}
+use Rattle.pli_compile.specs.declared.passes.CompileError.TheVariants.{Fault, Faults, OutOfMemory}
+
+-- the errors of the passes, as errors of compiling
+
+-- what reading has told
+abbrev pub of_parsing : ParseError → CompileError
+of_parsing (parsing.Fault f) = Fault f
+of_parsing parsing.OutOfMemory = OutOfMemory
+
+-- what declarations have told
+abbrev pub of_resolving : ResolveError → CompileError
+of_resolving (resolving.Faulty faults) = Faults faults
+of_resolving resolving.OutOfMemory = OutOfMemory
+
+-- what types have told
+abbrev pub of_checking : CheckError → CompileError
+of_checking (checking.Faults faults) = Faults faults
+of_checking checking.OutOfMemory = OutOfMemory
+
+-- what code has told
+abbrev pub of_generating : GenerateError → CompileError
+of_generating generating.TooLong = Fault too_long
+of_generating generating.OutOfMemory = OutOfMemory
+
+-- the unit compiled, or its faults, unless memory runs out
+abbrev pub Compiles : Result CompiledUnit CompileError → Result link.CompiledUnit (List fault.Fault) → Type 0
+Compiles (Ok c) compiled = compiled ≡ Ok (compiled_unit_view c)
+Compiles (Err (Fault f)) compiled = compiled ≡ Err (f ∷ [])
+Compiles (Err (Faults fs)) compiled = compiled ≡ Err fs.items
+Compiles (Err OutOfMemory) compiled = Unit {0}

@@ -1,0 +1,102 @@
+//! The passes of the compiler over the tokens of a unit.
+ghost use Rattle.std.specs.Prelude.{◌≡◌, ◌≤◌, length};
+ghost use Rattle.pli_base.specs.views.StatementView.{unit_view};
+ghost use Rattle.pli_resolve.specs.ResolvedUnits.{resolved_unit_of};
+ghost use Rattle.pli_type.specs.NamedUnits.{checked_unit};
+ghost use Rattle.pli_meaning.specs.Scratch.{coded_from, compiled_texts};
+ghost use Rattle.pli_compile.specs.answers.Outcomes.{Compiles, of_checking, of_generating, of_parsing, of_resolving};
+
+use pli_base::{Code, Fault, TokenText};
+use pli_declare::ResolveError;
+use pli_gen_tree::{GenerateError, generate};
+use pli_link::CompiledUnit;
+use pli_parse::{ParseError, parse};
+use pli_resolve::{ResolvedUnit, resolve_unit};
+use pli_type_statement::{CheckError, check};
+use std::alloc::Global;
+
+/// Why the tokens of a unit are not compiled.
+#[derive(Drop)]
+pub(crate) enum CompileError {
+    /// The one fault of a pass.
+    Fault(Fault),
+    /// All faults of the declarations and uses of names, or of types, in the order of their tokens.
+    Faults(Vec<Fault>),
+    OutOfMemory,
+}
+
+impl From<ParseError> for CompileError {
+    ghost from_gives = { λ error e. e ≡ of_parsing error };
+
+    fn from(error: ParseError) -> CompileError {
+        match error {
+            ParseError::Fault(fault) => CompileError::Fault(fault),
+            ParseError::OutOfMemory => CompileError::OutOfMemory,
+        }
+    }
+}
+
+impl From<ResolveError> for CompileError {
+    ghost from_gives = { λ error e. e ≡ of_resolving error };
+
+    fn from(error: ResolveError) -> CompileError {
+        match error {
+            ResolveError::Faulty(faults) => CompileError::Faults(faults),
+            ResolveError::OutOfMemory => CompileError::OutOfMemory,
+        }
+    }
+}
+
+impl From<CheckError> for CompileError {
+    ghost from_gives = { λ error e. e ≡ of_checking error };
+
+    fn from(error: CheckError) -> CompileError {
+        match error {
+            CheckError::Faults(faults) => CompileError::Faults(faults),
+            CheckError::OutOfMemory => CompileError::OutOfMemory,
+        }
+    }
+}
+
+impl From<GenerateError> for CompileError {
+    ghost from_gives = { λ error e. e ≡ of_generating error };
+
+    fn from(error: GenerateError) -> CompileError {
+        match error {
+            GenerateError::TooLong => CompileError::Fault(Fault {
+                code: Code::CodeTooLong,
+                at: 0,
+            }),
+            GenerateError::OutOfMemory => CompileError::OutOfMemory,
+        }
+    }
+}
+
+/// A unit without faults of declarations, compiled, or its faults of types, or that its code is too long.
+fn compile_resolved(
+    alloc: Global,
+    resolved: &ResolvedUnit<'_>,
+) -> Result<CompiledUnit, CompileError>
+    ensures { Compiles result (coded_from (checked_unit (resolved_unit_of (unit_view resolved.now)))) }
+{
+    let typed = check(alloc, resolved)?;
+    let code = generate(alloc, &typed)?;
+    Ok(CompiledUnit {
+        procedure: typed.procedure,
+        is_main: typed.is_main,
+        code,
+    })
+}
+
+/// The tokens of a unit, compiled, or the faults of the first pass that has any.
+pub(crate) fn compile_texts(
+    alloc: Global,
+    texts: &[TokenText],
+) -> Result<CompiledUnit, CompileError>
+    requires { length texts.now ≤ 200000 }
+    ensures { Compiles result (compiled_texts texts.now) }
+{
+    let tree = parse(alloc, texts)?;
+    let resolved = resolve_unit(alloc, &tree)?;
+    compile_resolved(alloc, &resolved)
+}
