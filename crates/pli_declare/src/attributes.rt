@@ -4,10 +4,13 @@ ghost use Rattle.std.specs.List.{flat_map};
 ghost use Rattle.pli_base.specs.views.DeclarationView.{item_view};
 ghost use Rattle.pli_declare_outline.specs.views.OutlineView.{outline_view, marks_view, mark_view};
 ghost use Rattle.pli_declare_variables.specs.AttributeNames.{area_in, locator_in};
+ghost use Rattle.pli_declare.specs.views.BlockView.{AreMeanings};
 ghost use Rattle.pli_declare.specs.Resolved.{of_marks, areas_at, locators_at, item_names, named_at};
 
 use crate::block::{Target, Use};
 use crate::look_up::{Looked, look_up};
+use crate::meanings::meanings;
+use crate::resolved::NamedMeanings;
 use crate::scopes::Scopes;
 use pli_base::Name;
 use pli_base::declaration::Item;
@@ -38,33 +41,39 @@ fn add_uses(
     Ok(())
 }
 
-/// The areas of the names of items, behind others.
-fn add_item_areas(
+/// The areas and the locators of the names of items, each behind others.
+fn add_item_names(
     scopes: &Scopes,
     here: usize,
     items: &[Item],
     areas: &mut Vec<Use>,
+    locators: &mut Vec<Use>,
 ) -> Result<(), AllocError>
-    ensures { OnOk result (areas.new.items ≡ areas.old.items ++ flat_map (item_names (outline_view scopes.now.outline.now) here area_in) (map item_view items.now)) }
+    ensures areas { OnOk result (areas.new.items ≡ areas.old.items ++ flat_map (item_names (outline_view scopes.now.outline.now) here area_in) (map item_view items.now)) }
+    ensures locators { OnOk result (locators.new.items ≡ locators.old.items ++ flat_map (item_names (outline_view scopes.now.outline.now) here locator_in) (map item_view items.now)) }
 {
     for item in items {
         let area = area_of(&item.attributes);
         add_uses(scopes, here, area.as_slice(), &item.names, areas)?;
+        let locator = locator_of(&item.attributes);
+        add_uses(scopes, here, locator, &item.names, locators)?;
     }
     Ok(())
 }
 
-/// The areas of the names that a mark declares, behind others.
-fn add_areas(
+/// The areas and the locators of the names that a mark declares, each behind others.
+fn add_names(
     scopes: &Scopes,
     here: usize,
     mark: &Mark,
     areas: &mut Vec<Use>,
+    locators: &mut Vec<Use>,
 ) -> Result<(), AllocError>
-    ensures { OnOk result (areas.new.items ≡ areas.old.items ++ areas_at (outline_view scopes.now.outline.now) here (mark_view mark.now)) }
+    ensures areas { OnOk result (areas.new.items ≡ areas.old.items ++ areas_at (outline_view scopes.now.outline.now) here (mark_view mark.now)) }
+    ensures locators { OnOk result (locators.new.items ≡ locators.old.items ++ locators_at (outline_view scopes.now.outline.now) here (mark_view mark.now)) }
 {
     match mark {
-        Mark::Declared(items) => add_item_areas(scopes, here, items, areas),
+        Mark::Declared(items) => add_item_names(scopes, here, items, areas, locators),
         Mark::Entered { procedure, .. } => {
             let area = returned_area(options_of(procedure));
             let names = area.as_slice();
@@ -74,64 +83,23 @@ fn add_areas(
     }
 }
 
-/// The area that each name declared by marks has in its OFFSET, or in that of its RETURNS.
-pub(crate) fn areas(
+/// What the names in the attributes of the names mean that marks declare.
+pub(crate) fn named_meanings(
     alloc: Global,
     scopes: &Scopes,
     marks: &[Placed],
-) -> Result<Vec<Use>, AllocError>
-    ensures { IfOk result (λ uses. uses.items ≡ of_marks (areas_at (outline_view scopes.now.outline.now)) (marks_view marks.now)) }
+) -> Result<NamedMeanings, AllocError>
+    ensures areas { IfOk result (λ named. AreMeanings named.areas (of_marks (areas_at (outline_view scopes.now.outline.now)) (marks_view marks.now))) }
+    ensures locators { IfOk result (λ named. AreMeanings named.locators (of_marks (locators_at (outline_view scopes.now.outline.now)) (marks_view marks.now))) }
 {
     let mut areas = Vec::new(alloc);
-    for placed in marks {
-        add_areas(scopes, placed.region, &placed.mark, &mut areas)?;
-    }
-    Ok(areas)
-}
-
-/// The locators of the names of items, behind others.
-fn add_item_locators(
-    scopes: &Scopes,
-    here: usize,
-    items: &[Item],
-    locators: &mut Vec<Use>,
-) -> Result<(), AllocError>
-    ensures { OnOk result (locators.new.items ≡ locators.old.items ++ flat_map (item_names (outline_view scopes.now.outline.now) here locator_in) (map item_view items.now)) }
-{
-    for item in items {
-        let names = locator_of(&item.attributes);
-        add_uses(scopes, here, names, &item.names, locators)?;
-    }
-    Ok(())
-}
-
-/// The locators of the names that a mark declares, behind others.
-fn add_locators(
-    scopes: &Scopes,
-    here: usize,
-    mark: &Mark,
-    locators: &mut Vec<Use>,
-) -> Result<(), AllocError>
-    ensures { OnOk result (locators.new.items ≡ locators.old.items ++ locators_at (outline_view scopes.now.outline.now) here (mark_view mark.now)) }
-{
-    match mark {
-        Mark::Declared(items) => add_item_locators(scopes, here, items, locators),
-        Mark::Entered { .. } | Mark::Labelled(_) | Mark::Used(_) | Mark::Jumped(_) => Ok(()),
-    }
-}
-
-/// The locator that each name declared by marks has in its BASED.
-pub(crate) fn locators(
-    alloc: Global,
-    scopes: &Scopes,
-    marks: &[Placed],
-) -> Result<Vec<Use>, AllocError>
-    ensures { IfOk result (λ uses. uses.items ≡ of_marks (locators_at (outline_view scopes.now.outline.now)) (marks_view marks.now)) }
-{
     let mut locators = Vec::new(alloc);
     for placed in marks {
         let here = placed.region;
-        add_locators(scopes, here, &placed.mark, &mut locators)?;
+        add_names(scopes, here, &placed.mark, &mut areas, &mut locators)?;
     }
-    Ok(locators)
+    Ok(NamedMeanings {
+        areas: meanings(alloc, &areas)?,
+        locators: meanings(alloc, &locators)?,
+    })
 }

@@ -15,6 +15,15 @@ use pli_declare_variables::Declaration;
 use std::alloc::{AllocError, Global};
 use std::marker::Model;
 
+/// What the names in the attributes of declared names mean, by the tokens of these.
+#[derive(Drop)]
+pub(crate) struct NamedMeanings {
+    /// The area that each has in its OFFSET, or in that of its RETURNS.
+    pub areas: IndexMap<u32, Target>,
+    /// The locator that each has in its BASED.
+    pub locators: IndexMap<u32, Target>,
+}
+
 /// A unit whose declarations have no faults: its tree, with what each of its blocks declares and what each name means. Contracts
 /// see the tree.
 #[derive(Drop)]
@@ -24,8 +33,7 @@ pub struct Resolved<'a> {
     pub(crate) outermost: Vec<Declaration<'a>>,
     pub(crate) blocks: Vec<Block<'a>>,
     pub(crate) meanings: IndexMap<u32, Target>,
-    pub(crate) areas: IndexMap<u32, Target>,
-    pub(crate) locators: IndexMap<u32, Target>,
+    pub(crate) named: NamedMeanings,
 }
 
 impl<'a> Model for Resolved<'a> {
@@ -40,7 +48,7 @@ impl<'a> Model for Resolved<'a> {
 
     ghost view = { λ r. r.unit.now };
 
-    ghost invariant = { λ r. IsResolvedOf (unit_view r.unit.now) r.regions.items r.outermost.items r.blocks.items r.meanings r.areas r.locators };
+    ghost invariant = { λ r. IsResolvedOf (unit_view r.unit.now) r.regions.items r.outermost.items r.blocks.items r.meanings r.named.areas r.named.locators };
 }
 
 /// The same meanings.
@@ -48,6 +56,19 @@ fn copied_meanings(meanings: &IndexMap<u32, Target>) -> Result<IndexMap<u32, Tar
     ensures { IfOk result (λ copied. (at : ℕ) → get nat_eq copied at ≡ get nat_eq meanings.now at) }
 {
     meanings.clone()
+}
+
+impl NamedMeanings {
+    /// The same meanings.
+    fn copy(&self) -> Result<NamedMeanings, AllocError>
+        ensures areas { IfOk result (λ copied. (at : ℕ) → get nat_eq copied.areas at ≡ get nat_eq self.now.areas at) }
+        ensures locators { IfOk result (λ copied. (at : ℕ) → get nat_eq copied.locators at ≡ get nat_eq self.now.locators at) }
+    {
+        Ok(NamedMeanings {
+            areas: copied_meanings(&self.areas)?,
+            locators: copied_meanings(&self.locators)?,
+        })
+    }
 }
 
 impl<'a> Resolved<'a> {
@@ -90,14 +111,14 @@ impl<'a> Resolved<'a> {
     pub fn area_at(&self, at: u32) -> Option<Target>
         ensures { result ≡ meaning_at (resolved_of (unit_view self.now)).areas at }
     {
-        self.areas.get(&at).copied()
+        self.named.areas.get(&at).copied()
     }
 
     /// The locator of the BASED of the name that is declared at a token, if it names one.
     pub fn locator_at(&self, at: u32) -> Option<Target>
         ensures { result ≡ meaning_at (resolved_of (unit_view self.now)).locators at }
     {
-        self.locators.get(&at).copied()
+        self.named.locators.get(&at).copied()
     }
     /// A resolved unit of the same tree.
     pub fn copy(&self, alloc: Global) -> Result<Resolved<'a>, AllocError>
@@ -109,8 +130,7 @@ impl<'a> Resolved<'a> {
             outermost: copied_declarations(alloc, &self.outermost)?,
             blocks: copied_blocks(alloc, &self.blocks)?,
             meanings: copied_meanings(&self.meanings)?,
-            areas: copied_meanings(&self.areas)?,
-            locators: copied_meanings(&self.locators)?,
+            named: self.named.copy()?,
         })
     }
 }

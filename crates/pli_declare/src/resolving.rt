@@ -14,14 +14,13 @@ ghost use Rattle.pli_declare.specs.views.ResolvedView.{IsResolved};
 ghost use Rattle.pli_declare.specs.answers.Walks.{AreParameters};
 ghost use Rattle.pli_declare.specs.declared.resolving.ResolveError.TheVariants.{OutOfMemory};
 
-use crate::attributes::{areas, locators};
+use crate::attributes::named_meanings;
 use crate::block::Block;
-use crate::meanings::meanings;
 use crate::parameters::parameters;
 use crate::resolved::Resolved;
 use crate::scopes::Scopes;
 use crate::unit::faults_told;
-use crate::uses::uses;
+use crate::uses::use_meanings;
 use pli_base::statement::Procedure;
 use pli_base::{Fault, Name};
 use pli_declare_constructs::Nesting;
@@ -124,17 +123,18 @@ fn resolved<'a>(
     ensures { IfOk result (λ r. r ≡ unit.now) }
 {
     let marks = marks_behind(scopes.outline);
-    let uses = uses(alloc, scopes, marks)?;
-    let areas = areas(alloc, scopes, marks)?;
-    let locators = locators(alloc, scopes, marks)?;
+    let regions = Vec::from_slice(alloc, &scopes.outline.regions)?;
+    let outermost = outermost(alloc, scopes.outline, scopes.tables)?;
+    let blocks = blocks(alloc, scopes.outline, scopes.tables)?;
+    let meanings = use_meanings(alloc, scopes, marks)?;
+    let named = named_meanings(alloc, scopes, marks)?;
     Ok(Resolved {
         unit,
-        regions: Vec::from_slice(alloc, &scopes.outline.regions)?,
-        outermost: outermost(alloc, scopes.outline, scopes.tables)?,
-        blocks: blocks(alloc, scopes.outline, scopes.tables)?,
-        meanings: meanings(alloc, &uses)?,
-        areas: meanings(alloc, &areas)?,
-        locators: meanings(alloc, &locators)?,
+        regions,
+        outermost,
+        blocks,
+        meanings,
+        named,
     })
 }
 

@@ -6,11 +6,14 @@ ghost use Rattle.pli_declare_scopes.specs.Scopes.{meant};
 ghost use Rattle.pli_declare_tables.specs.Tables.{scope_of};
 ghost use Rattle.pli_declare.specs.Resolved.{of_marks, used_as, uses_at};
 ghost use Rattle.pli_declare.specs.answers.Targets.{target_uses};
+ghost use Rattle.pli_declare.specs.views.BlockView.{AreMeanings};
 
 use crate::block::{Target, Use};
 use crate::look_up::{Looked, look_up};
+use crate::meanings::meanings;
 use crate::references::{is_function, names_of};
 use crate::scopes::Scopes;
+use indexmap::IndexMap;
 use pli_base::Name;
 use pli_base::syntax::Identifier;
 use pli_declare_outline::{Mark, Placed};
@@ -116,13 +119,17 @@ fn add_mark(
     }
 }
 
-/// What each reference and the label of each GOTO among marks mean.
-pub(crate) fn uses(alloc: Global, scopes: &Scopes, marks: &[Placed]) -> Result<Vec<Use>, AllocError>
-    ensures { IfOk result (λ uses. uses.items ≡ of_marks (uses_at (outline_view scopes.now.outline.now)) (marks_view marks.now)) }
+/// What each reference and the label of each GOTO among marks mean, by their tokens.
+pub(crate) fn use_meanings(
+    alloc: Global,
+    scopes: &Scopes,
+    marks: &[Placed],
+) -> Result<IndexMap<u32, Target>, AllocError>
+    ensures { IfOk result (λ meanings. AreMeanings meanings (of_marks (uses_at (outline_view scopes.now.outline.now)) (marks_view marks.now))) }
 {
     let mut uses = Vec::new(alloc);
     for placed in marks {
         add_mark(alloc, scopes, placed, &mut uses)?;
     }
-    Ok(uses)
+    meanings(alloc, &uses)
 }

@@ -1,3 +1,4 @@
 pub mod Outlines
+pub mod Walks
 pub mod examples
 pub mod views

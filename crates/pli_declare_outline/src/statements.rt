@@ -5,6 +5,7 @@ ghost use Rattle.pli_base.specs.views.SyntaxView.{expression_view, reference_vie
 ghost use Rattle.pli_base.specs.views.StatementView.{range_view, control_view, allocation_view, body_view, statement_view, statements_view, unit_view};
 ghost use Rattle.pli_base.specs.laws.StatementLaws.{boxed_view};
 ghost use Rattle.pli_declare_outline.specs.Outlines.{placed, optional_marks, range_marks, control_marks, both_marks, allocation_marks, expression_marks, reference_marks, label_marks, head_marks, regions_of, statement_marks, statement_regions, statements_marks, statements_regions, body_marks, body_regions, alternative_marks, alternative_regions, outline_of};
+ghost use Rattle.pli_declare_outline.specs.Walks.{own_marks};
 ghost use Rattle.pli_declare_outline.specs.views.OutlineView.{regions_view, marks_view, outline_view};
 
 use crate::expressions::{mark, mark_expression, mark_expressions, mark_reference};
@@ -82,7 +83,7 @@ fn mark_control(
 }
 
 /// The marks of the specification of a DO group, if there is one.
-pub fn mark_specification(
+fn mark_specification(
     alloc: Global,
     here: usize,
     control: &Option<Control>,
@@ -171,16 +172,20 @@ fn mark_references(
     Ok(())
 }
 
-/// The marks of a statement without statements inside it.
+/// The marks of a statement's own, apart from those of the statements inside it; a procedure begins the region of this number.
 pub fn mark_head<'a>(
     alloc: Global,
     here: usize,
     body: &'a Body,
+    region: usize,
     marks: &mut Vec<Placed<'a>>,
 ) -> Result<(), AllocError>
-    ensures { OnOk result (marks_view marks.new.items ≡ marks_view marks.old.items ++ placed here (head_marks (body_view body.now))) }
+    ensures { OnOk result (marks_view marks.new.items ≡ marks_view marks.old.items ++ placed here (own_marks region (body_view body.now))) }
 {
     match body {
+        Body::Procedure(procedure) => mark(here, Mark::Entered { procedure, region }, marks),
+        Body::Do { control, .. } => mark_specification(alloc, here, control, marks),
+        Body::If { condition, .. } => mark_expression(alloc, here, condition, marks),
         Body::Assign { target, value, .. } => {
             mark_reference(alloc, here, target, marks)?;
             mark_expression(alloc, here, value, marks)
@@ -206,10 +211,7 @@ pub fn mark_head<'a>(
         | Body::Stop
         | Body::Revert(_)
         | Body::Signal(_)
-        | Body::Procedure(_)
         | Body::Begin { .. }
-        | Body::Do { .. }
-        | Body::If { .. }
         | Body::On { .. } => Ok(()),
     }
 }

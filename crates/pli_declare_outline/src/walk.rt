@@ -1,13 +1,13 @@
 //! The regions and marks of statements with statements inside them.
-ghost use Rattle.std.specs.Prelude.{◌≡◌, ◌++◌, ◌+◌, ◌∷◌, [], length, OnOk, IfOk};
+ghost use Rattle.std.specs.Prelude.{◌≡◌, ◌+◌, ◌∷◌, length, OnOk, IfOk};
 ghost use Rattle.pli_base.specs.views.StatementView.{body_view, statement_view, statements_view, unit_view};
-ghost use Rattle.pli_base.specs.laws.StatementLaws.{boxed_view};
-ghost use Rattle.pli_declare_outline.specs.Outlines.{region_in, regions_in, regions_of, regions_among, regions_else, statement_marks, statement_regions, statements_marks, statements_regions, body_marks, body_regions, alternative_marks, alternative_regions, outline_of};
-ghost use Rattle.pli_declare_outline.specs.views.OutlineView.{region_view, regions_view, marks_view, outline_view};
+ghost use Rattle.pli_declare_outline.specs.Outlines.{regions_in, regions_of, regions_among, statement_marks, statement_regions, statements_marks, statements_regions, body_marks, body_regions, outline_of};
+ghost use Rattle.pli_declare_outline.specs.Walks.{Walked};
+ghost use Rattle.pli_declare_outline.specs.views.OutlineView.{region_view, outline_view};
 
-use crate::expressions::{mark, mark_expression};
+use crate::expressions::mark;
 use crate::region::{Mark, Outline, Placed, Region, RegionKind};
-use crate::statements::{mark_head, mark_label, mark_specification};
+use crate::statements::{mark_head, mark_label};
 use pli_base::statement::{Body, Procedure, Statement};
 use std::alloc::{AllocError, Global};
 
@@ -20,11 +20,10 @@ fn walk_statement<'a>(
     regions: &mut Vec<Region>,
     marks: &mut Vec<Placed<'a>>,
 ) -> Result<(), AllocError>
-    ensures regions { OnOk result (regions_view regions.new.items
-        ≡ regions_view regions.old.items ++ statement_regions here (length regions.old.items) (statement_view statement.now)) }
-    ensures marks { OnOk result (marks_view marks.new.items
-        ≡ marks_view marks.old.items ++ statement_marks here (length regions.old.items) (statement_view statement.now)) }
-    ensures count { OnOk result (length regions.new.items ≡ length regions.old.items + regions_in (statement_view statement.now)) }
+    ensures { OnOk result (Walked regions.old.items regions.new.items marks.old.items marks.new.items
+        (statement_regions here (length regions.old.items) (statement_view statement.now))
+        (statement_marks here (length regions.old.items) (statement_view statement.now))
+        (regions_in (statement_view statement.now))) }
 {
     mark_label(here, statement, marks)?;
     walk_body(alloc, here, &statement.body, regions, marks)
@@ -39,11 +38,10 @@ fn walk_statements<'a>(
     regions: &mut Vec<Region>,
     marks: &mut Vec<Placed<'a>>,
 ) -> Result<(), AllocError>
-    ensures regions { OnOk result (regions_view regions.new.items
-        ≡ regions_view regions.old.items ++ statements_regions here (length regions.old.items) (statements_view statements.now)) }
-    ensures marks { OnOk result (marks_view marks.new.items
-        ≡ marks_view marks.old.items ++ statements_marks here (length regions.old.items) (statements_view statements.now)) }
-    ensures count { OnOk result (length regions.new.items ≡ length regions.old.items + regions_among (statements_view statements.now)) }
+    ensures { OnOk result (Walked regions.old.items regions.new.items marks.old.items marks.new.items
+        (statements_regions here (length regions.old.items) (statements_view statements.now))
+        (statements_marks here (length regions.old.items) (statements_view statements.now))
+        (regions_among (statements_view statements.now))) }
 {
     for statement in statements {
         walk_statement(alloc, here, statement, regions, marks)?;
@@ -60,11 +58,10 @@ fn walk_region<'a>(
     regions: &mut Vec<Region>,
     marks: &mut Vec<Placed<'a>>,
 ) -> Result<(), AllocError>
-    ensures regions { OnOk result (regions_view regions.new.items
-        ≡ regions_view regions.old.items ++ region_view region ∷ statements_regions (length regions.old.items) (length regions.old.items + 1) (statements_view statements.now)) }
-    ensures marks { OnOk result (marks_view marks.new.items
-        ≡ marks_view marks.old.items ++ statements_marks (length regions.old.items) (length regions.old.items + 1) (statements_view statements.now)) }
-    ensures count { OnOk result (length regions.new.items ≡ length regions.old.items + (1 + regions_among (statements_view statements.now))) }
+    ensures { OnOk result (Walked regions.old.items regions.new.items marks.old.items marks.new.items
+        (region_view region ∷ statements_regions (length regions.old.items) (length regions.old.items + 1) (statements_view statements.now))
+        (statements_marks (length regions.old.items) (length regions.old.items + 1) (statements_view statements.now))
+        (1 + regions_among (statements_view statements.now))) }
 {
     let number = regions.len();
     regions.push(region)?;
@@ -80,11 +77,10 @@ fn walk_unit<'a>(
     regions: &mut Vec<Region>,
     marks: &mut Vec<Placed<'a>>,
 ) -> Result<(), AllocError>
-    ensures regions { OnOk result (regions_view regions.new.items
-        ≡ regions_view regions.old.items ++ region_view region ∷ statement_regions (length regions.old.items) (length regions.old.items + 1) (statement_view statement.now)) }
-    ensures marks { OnOk result (marks_view marks.new.items
-        ≡ marks_view marks.old.items ++ statement_marks (length regions.old.items) (length regions.old.items + 1) (statement_view statement.now)) }
-    ensures count { OnOk result (length regions.new.items ≡ length regions.old.items + (1 + regions_in (statement_view statement.now))) }
+    ensures { OnOk result (Walked regions.old.items regions.new.items marks.old.items marks.new.items
+        (region_view region ∷ statement_regions (length regions.old.items) (length regions.old.items + 1) (statement_view statement.now))
+        (statement_marks (length regions.old.items) (length regions.old.items + 1) (statement_view statement.now))
+        (1 + regions_in (statement_view statement.now))) }
 {
     let number = regions.len();
     regions.push(region)?;
@@ -100,27 +96,20 @@ fn walk_body<'a>(
     regions: &mut Vec<Region>,
     marks: &mut Vec<Placed<'a>>,
 ) -> Result<(), AllocError>
-    ensures regions { OnOk result (regions_view regions.new.items
-        ≡ regions_view regions.old.items ++ body_regions here (length regions.old.items) (body_view body.now)) }
-    ensures marks { OnOk result (marks_view marks.new.items
-        ≡ marks_view marks.old.items ++ body_marks here (length regions.old.items) (body_view body.now)) }
-    ensures count { OnOk result (length regions.new.items ≡ length regions.old.items + regions_of (body_view body.now)) }
+    ensures { OnOk result (Walked regions.old.items regions.new.items marks.old.items marks.new.items
+        (body_regions here (length regions.old.items) (body_view body.now))
+        (body_marks here (length regions.old.items) (body_view body.now))
+        (regions_of (body_view body.now))) }
 {
+    mark_head(alloc, here, body, regions.len(), marks)?;
     match body {
         Body::Procedure(procedure) => {
-            let region = regions.len();
-            mark(here, Mark::Entered { procedure, region }, marks)?;
             let region = Region {
                 kind: RegionKind::Procedure,
                 outer: Some(here),
             };
-            walk_region(
-                alloc,
-                region,
-                procedure.statements.as_slice(),
-                regions,
-                marks,
-            )
+            let statements = procedure.statements.as_slice();
+            walk_region(alloc, region, statements, regions, marks)
         }
         Body::Begin { statements, .. } => {
             let region = Region {
@@ -129,12 +118,7 @@ fn walk_body<'a>(
             };
             walk_region(alloc, region, statements.as_slice(), regions, marks)
         }
-        Body::Do {
-            control,
-            statements,
-            ..
-        } => {
-            mark_specification(alloc, here, control, marks)?;
+        Body::Do { statements, .. } => {
             let region = Region {
                 kind: RegionKind::Group,
                 outer: Some(here),
@@ -142,11 +126,10 @@ fn walk_body<'a>(
             walk_region(alloc, region, statements.as_slice(), regions, marks)
         }
         Body::If {
-            condition,
             consequence,
             alternative,
+            ..
         } => {
-            mark_expression(alloc, here, condition, marks)?;
             walk_statement(alloc, here, consequence, regions, marks)?;
             match alternative {
                 None => Ok(()),
@@ -171,7 +154,7 @@ fn walk_body<'a>(
         | Body::Call { .. }
         | Body::Goto(_)
         | Body::Return(_)
-        | Body::Put { .. } => mark_head(alloc, here, body, marks),
+        | Body::Put { .. } => Ok(()),
     }
 }
 

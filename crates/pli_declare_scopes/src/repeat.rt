@@ -52,8 +52,8 @@ fn judge(counts_above: bool, is_new: bool) -> Verdict
 pub fn verdicts(alloc: Global, items: &[Written]) -> Result<Vec<Verdict>, AllocError>
     ensures { IfOk result (λ verdicts. verdicts.items ≡ verdicts_of items.now) }
 {
-    let mut seen = IndexSet::with_capacity(alloc, items.len())?;
     let mut verdicts = Vec::with_capacity(alloc, items.len())?;
+    let mut seen = IndexSet::with_capacity(alloc, items.len())?;
     for item in items {
         let is_new = seen.insert(*item)?;
         let above = counts_above(&verdicts, item.owner);

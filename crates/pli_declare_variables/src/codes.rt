@@ -1,5 +1,5 @@
 //! The least fault of each item of a block, apart from names.
-ghost use Rattle.std.specs.Prelude.{◌≡◌, map, length, List, IfOk};
+ghost use Rattle.std.specs.Prelude.{◌≡◌, true, map, length, List, IfOk};
 ghost use Rattle.pli_base.specs.Name.{Name as Characters};
 ghost use Rattle.pli_base.specs.views.DeclarationView.{item_view};
 ghost use Rattle.pli_declare_attributes.specs.Faults as fault;
@@ -22,12 +22,14 @@ use pli_declare_tables::{Entity, Entry};
 use std::alloc::{AllocError, Global};
 
 /// The fault of an entry at its place, whose number of elements above may be cut at the limit, where a label and a procedure are as
-/// an item without anything.
-fn own_code(place: Place, entry: &Entry, nothing: &ItemFacts) -> Option<Code>
+/// an item without anything. An item that is known to be good has none.
+fn own_code(place: Place, entry: &Entry, nothing: &ItemFacts, is_good: bool) -> Option<Code>
     requires { item_view nothing.now.item.now ≡ no_item }
-    ensures { (p : SpecPlace) → place ≡ cut_place p → result ≡ fault.item_fault p (item_in (entry_view entry.now).entity) }
+    ensures { (p : SpecPlace) → place ≡ cut_place p → (is_good ≡ true → IsFaultless p (entry_view entry.now).entity)
+        → result ≡ fault.item_fault p (item_in (entry_view entry.now).entity) }
 {
     match &entry.entity {
+        Entity::Item { .. } if is_good => None,
         Entity::Item {
             facts,
             is_bad_level: _,
@@ -48,8 +50,30 @@ fn no_item(alloc: Global) -> Item
     }
 }
 
-/// The least of A3 to A7, A9 and A13 to A15 of each entry, but for the sizes of whole variables, where the parameters are those
-/// of the procedure that is the block.
+/// The least of A3 to A7, A9 and A13 to A15 of entries, each at its place, but for the sizes of whole variables. Where no item has a
+/// fault, only labels and procedures are looked at.
+pub(crate) fn codes_at(
+    alloc: Global,
+    entries: &[Entry],
+    places: &[Place],
+    are_good: bool,
+) -> Result<Vec<Option<Code>>, AllocError>
+    requires { length places.now ≡ length entries.now }
+    ensures { IfOk result (λ codes. (parameters : List Characters) → (are_good ≡ true → AreGood (entries_view entries.now) parameters)
+        → places.now ≡ map (cut_place_in (entries_view entries.now) parameters) (numbers_from 0 (length entries.now))
+        → codes.items ≡ map (place.own_code (entries_view entries.now) parameters) (numbers_from 0 (length entries.now))) }
+{
+    let nothing = no_item(alloc);
+    let nothing = ItemFacts::of(alloc, &nothing)?;
+    let mut codes = Vec::with_capacity(alloc, entries.len())?;
+    for number in 0..entries.len() {
+        let code = own_code(places[number], &entries[number], &nothing, are_good);
+        codes.push(code)?;
+    }
+    Ok(codes)
+}
+
+/// The same of each entry, where the parameters are those of the procedure that is the block.
 pub(crate) fn own_codes(
     alloc: Global,
     entries: &[Entry],
@@ -59,43 +83,5 @@ pub(crate) fn own_codes(
     ensures { IfOk result (λ codes. codes.items ≡ map (place.own_code (entries_view entries.now) parameters.now) (numbers_from 0 (length entries.now))) }
 {
     let places = places::places(alloc, entries, parameters)?;
-    let nothing = no_item(alloc);
-    let nothing = ItemFacts::of(alloc, &nothing)?;
-    let mut codes = Vec::with_capacity(alloc, entries.len())?;
-    for number in 0..entries.len() {
-        codes.push(own_code(places[number], &entries[number], &nothing))?;
-    }
-    Ok(codes)
-}
-
-/// The same of an entry that has no fault of its own, if it is an item.
-fn code_of_good(place: Place, entry: &Entry, nothing: &ItemFacts) -> Option<Code>
-    requires { item_view nothing.now.item.now ≡ no_item }
-    ensures { (p : SpecPlace) → place ≡ cut_place p → IsFaultless p (entry_view entry.now).entity
-        → result ≡ fault.item_fault p (item_in (entry_view entry.now).entity) }
-{
-    match entry.entity {
-        Entity::Item { .. } => None,
-        Entity::Label { .. } | Entity::Procedure { .. } => item_fault(place, nothing),
-    }
-}
-
-/// The same of entries, each at its place, where no item has a fault. Only labels and procedures are looked at.
-pub(crate) fn codes_of_good(
-    alloc: Global,
-    entries: &[Entry],
-    places: &[Place],
-) -> Result<Vec<Option<Code>>, AllocError>
-    requires { length places.now ≡ length entries.now }
-    ensures { IfOk result (λ codes. (parameters : List Characters) → AreGood (entries_view entries.now) parameters
-        → places.now ≡ map (cut_place_in (entries_view entries.now) parameters) (numbers_from 0 (length entries.now))
-        → codes.items ≡ map (place.own_code (entries_view entries.now) parameters) (numbers_from 0 (length entries.now))) }
-{
-    let nothing = no_item(alloc);
-    let nothing = ItemFacts::of(alloc, &nothing)?;
-    let mut codes = Vec::with_capacity(alloc, entries.len())?;
-    for number in 0..entries.len() {
-        codes.push(code_of_good(places[number], &entries[number], &nothing))?;
-    }
-    Ok(codes)
+    codes_at(alloc, entries, &places, false)
 }

@@ -45,8 +45,8 @@ impl<'a> Kind<'a> {
                 completed,
                 description,
             } => Kind::Item {
-                completed: completed.copy(alloc)?,
                 description: copied_description(alloc, description)?,
+                completed: completed.copy(alloc)?,
             },
             Kind::Label { region } => Kind::Label { region: *region },
             Kind::Procedure { returned, region } => Kind::Procedure {

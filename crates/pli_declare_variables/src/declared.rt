@@ -14,7 +14,7 @@ ghost use Rattle.pli_declare_variables.specs.Declarations.{AreGood, declared_in}
 ghost use Rattle.pli_declare_variables.specs.views.DeclarationView.{kind_view, declaration_view};
 ghost use Rattle.pli_declare_variables.specs.answers.Declaring.{kind_with, whole_at, IsFaultlessCut};
 
-use crate::codes::codes_of_good;
+use crate::codes::codes_at;
 use crate::declaration::{Declaration, Kind};
 use crate::descriptions::describe;
 use crate::items::is_variable;
@@ -104,7 +104,7 @@ pub fn declare<'a>(
     ensures { IfOk result (λ declarations. map declaration_view declarations.items ≡ declared_in (entries_view entries.now) parameters.now) }
 {
     let places = places::places(alloc, entries, parameters)?;
-    let codes = codes_of_good(alloc, entries, &places)?;
+    let codes = codes_at(alloc, entries, &places, true)?;
     let members = members_by_owner(alloc, entries)?;
     let mut declarations = Vec::with_capacity(alloc, entries.len())?;
     for number in 0..entries.len() {

@@ -139,10 +139,10 @@ pub(crate) fn places(
     requires { AreBehindOwners (entries_view entries.now) }
     ensures { IfOk result (λ places. places.items ≡ map (cut_place_in (entries_view entries.now) parameters.now) (numbers_from 0 (length entries.now))) }
 {
-    let parameters = set_of(alloc, parameters)?;
     let aboves = aboves(alloc, entries)?;
     let marks = with_members(alloc, entries)?;
     let mut places = Vec::with_capacity(alloc, entries.len())?;
+    let parameters = set_of(alloc, parameters)?;
     for number in 0..entries.len() {
         let place = place(&entries[number], &parameters, marks[number], aboves[number]);
         places.push(place)?;

@@ -1,4 +1,6 @@
 pub mod UnitParts
+pub mod PlacesPut
+pub mod WaysMade
 pub mod LookUps
 pub mod TablesAt
 pub mod SymbolsAt

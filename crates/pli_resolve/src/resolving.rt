@@ -97,9 +97,9 @@ fn unit_tables(
 {
     let list = statement_list(alloc, declared.unit())?;
     let regions = region_numbers(alloc, declared)?;
-    let maps = unit_maps(alloc, declared, &regions, &list.places, marks)?;
     let tables = block_tables(alloc, declared.blocks())?;
     let ways = ways(alloc, declared.outermost())?;
+    let maps = unit_maps(alloc, declared, &regions, &list.places, marks)?;
     Ok(UnitTables {
         regions,
         starts: list.starts,
@@ -116,7 +116,10 @@ pub fn resolve_unit(alloc: Global, unit: &Procedure) -> Result<ResolvedUnit<'_>,
 {
     let outline = pli_declare_outline::outline(alloc, unit)?;
     let declared = pli_declare::resolve(alloc, unit, &outline)?;
-    let tables = unit_tables(alloc, &declared, marks_behind(&outline))?;
+    let Ok(tables) = unit_tables(alloc, &declared, marks_behind(&outline)) else {
+        drop(declared);
+        return Err(ResolveError::OutOfMemory);
+    };
     Ok(ResolvedUnit {
         declared,
         tables,

@@ -2,6 +2,7 @@
 ghost use Rattle.std.specs.Prelude.{◌≡◌, ◌++◌, ◌+◌, ◌∷◌, [], length, OnOk, IfOk};
 ghost use Rattle.pli_base.specs.views.StatementView.{body_view, statement_view, statements_view, unit_view};
 ghost use Rattle.pli_declare_outline.specs.Outlines.{regions_in, regions_of, regions_among};
+ghost use Rattle.pli_resolve.specs.PlacesPut.{PlacesPut};
 ghost use Rattle.pli_resolve.specs.StatementPlaces.{statement_starts, statements_starts, body_starts, statement_places, statements_places, body_places, end_place, unit_starts, unit_places};
 
 use pli_base::statement::{Body, Procedure, Statement};
@@ -32,10 +33,10 @@ fn place_statement(
     starts: &mut Vec<u32>,
     places: &mut Vec<StatementPlace>,
 ) -> Result<(), AllocError>
-    ensures starts { OnOk result (starts.new.items ≡ starts.old.items ++ statement_starts (statement_view statement.now)) }
-    ensures places { OnOk result (places.new.items
-        ≡ places.old.items ++ statement_places here (length starts.old.items) (statement_view statement.now)) }
-    ensures count { OnOk result (length starts.new.items ≡ length starts.old.items + regions_in (statement_view statement.now)) }
+    ensures { OnOk result (PlacesPut starts.old.items starts.new.items places.old.items places.new.items
+        (statement_starts (statement_view statement.now))
+        (statement_places here (length starts.old.items) (statement_view statement.now))
+        (regions_in (statement_view statement.now))) }
 {
     places.push(StatementPlace {
         number: statement.number,
@@ -53,10 +54,10 @@ fn place_statements(
     starts: &mut Vec<u32>,
     places: &mut Vec<StatementPlace>,
 ) -> Result<(), AllocError>
-    ensures starts { OnOk result (starts.new.items ≡ starts.old.items ++ statements_starts (statements_view statements.now)) }
-    ensures places { OnOk result (places.new.items
-        ≡ places.old.items ++ statements_places here (length starts.old.items) (statements_view statements.now)) }
-    ensures count { OnOk result (length starts.new.items ≡ length starts.old.items + regions_among (statements_view statements.now)) }
+    ensures { OnOk result (PlacesPut starts.old.items starts.new.items places.old.items places.new.items
+        (statements_starts (statements_view statements.now))
+        (statements_places here (length starts.old.items) (statements_view statements.now))
+        (regions_among (statements_view statements.now))) }
 {
     for statement in statements {
         place_statement(here, statement, starts, places)?;
@@ -73,10 +74,10 @@ fn place_region(
     starts: &mut Vec<u32>,
     places: &mut Vec<StatementPlace>,
 ) -> Result<(), AllocError>
-    ensures starts { OnOk result (starts.new.items ≡ starts.old.items ++ number ∷ statements_starts (statements_view statements.now)) }
-    ensures places { OnOk result (places.new.items
-        ≡ places.old.items ++ (statements_places (length starts.old.items) (length starts.old.items + 1) (statements_view statements.now) ++ end_place (length starts.old.items) end)) }
-    ensures count { OnOk result (length starts.new.items ≡ length starts.old.items + (1 + regions_among (statements_view statements.now))) }
+    ensures { OnOk result (PlacesPut starts.old.items starts.new.items places.old.items places.new.items
+        (number ∷ statements_starts (statements_view statements.now))
+        (statements_places (length starts.old.items) (length starts.old.items + 1) (statements_view statements.now) ++ end_place (length starts.old.items) end)
+        (1 + regions_among (statements_view statements.now))) }
 {
     let region = starts.len();
     starts.push(number)?;
@@ -97,10 +98,10 @@ fn place_unit(
     starts: &mut Vec<u32>,
     places: &mut Vec<StatementPlace>,
 ) -> Result<(), AllocError>
-    ensures starts { OnOk result (starts.new.items ≡ starts.old.items ++ number ∷ statement_starts (statement_view statement.now)) }
-    ensures places { OnOk result (places.new.items
-        ≡ places.old.items ++ statement_places (length starts.old.items) (length starts.old.items + 1) (statement_view statement.now)) }
-    ensures count { OnOk result (length starts.new.items ≡ length starts.old.items + (1 + regions_in (statement_view statement.now))) }
+    ensures { OnOk result (PlacesPut starts.old.items starts.new.items places.old.items places.new.items
+        (number ∷ statement_starts (statement_view statement.now))
+        (statement_places (length starts.old.items) (length starts.old.items + 1) (statement_view statement.now))
+        (1 + regions_in (statement_view statement.now))) }
 {
     let region = starts.len();
     starts.push(number)?;
@@ -116,10 +117,10 @@ fn place_body(
     starts: &mut Vec<u32>,
     places: &mut Vec<StatementPlace>,
 ) -> Result<(), AllocError>
-    ensures starts { OnOk result (starts.new.items ≡ starts.old.items ++ body_starts number (body_view body.now)) }
-    ensures places { OnOk result (places.new.items
-        ≡ places.old.items ++ body_places here (length starts.old.items) (body_view body.now)) }
-    ensures count { OnOk result (length starts.new.items ≡ length starts.old.items + regions_of (body_view body.now)) }
+    ensures { OnOk result (PlacesPut starts.old.items starts.new.items places.old.items places.new.items
+        (body_starts number (body_view body.now))
+        (body_places here (length starts.old.items) (body_view body.now))
+        (regions_of (body_view body.now))) }
 {
     match body {
         Body::Procedure(procedure) => {

@@ -384,7 +384,10 @@ impl<'a> ResolvedUnit<'a> {
         ensures { IfOk result (λ copied. copied ≡ self.now) }
     {
         let tables = self.tables.copy(alloc)?;
-        let declared = self.declared.copy(alloc)?;
+        let Ok(declared) = self.declared.copy(alloc) else {
+            drop(tables);
+            return Err(AllocError);
+        };
         Ok(ResolvedUnit {
             declared,
             tables,

@@ -15,13 +15,13 @@ invariant_of-result c =
     let same : resolution_of o ≡ resolved_of u = ap resolution_of c.requires.outlined in
     let marks : marks_view c.marks_behind-marks.result.now ≡ inner_marks o.marks = c.marks_behind-marks.ensures in
     record {
-      regions_are = ap regions_view (c.in_ok-from_slice.ensures.items ∙ c.deref.ensures.value) ∙ ap (λ (r : plain.Resolved). r.regions) same;
+      regions_are = ap regions_view (c.in_ok-regions.ensures.items ∙ c.deref.ensures.value) ∙ ap (λ (r : plain.Resolved). r.regions) same;
       outermost_is = c.in_ok-outermost.ensures ∙ ap (λ (r : plain.Resolved). r.outermost) same;
       blocks_are = c.in_ok-blocks.ensures ∙ ap (λ (r : plain.Resolved). r.blocks) same;
       meanings_are = λ at. c.in_ok-meanings.ensures at
-          ∙ ap (λ (us : List Use). meaning_at us at) (c.deref-2.ensures.value ∙ c.in_ok-uses.ensures ∙ ap (of_marks (uses_at o)) marks ∙ ap (λ (r : plain.Resolved). r.uses) same);
-      areas_are = λ at. c.in_ok-meanings-2.ensures at
-          ∙ ap (λ (us : List Use). meaning_at us at) (c.deref-3.ensures.value ∙ c.in_ok-areas.ensures ∙ ap (of_marks (areas_at o)) marks ∙ ap (λ (r : plain.Resolved). r.areas) same);
-      locators_are = λ at. c.in_ok-meanings-3.ensures at
-          ∙ ap (λ (us : List Use). meaning_at us at) (c.deref-4.ensures.value ∙ c.in_ok-locators.ensures ∙ ap (of_marks (locators_at o)) marks ∙ ap (λ (r : plain.Resolved). r.locators) same);
+          ∙ ap (λ (us : List Use). meaning_at us at) (ap (of_marks (uses_at o)) marks ∙ ap (λ (r : plain.Resolved). r.uses) same);
+      areas_are = λ at. c.in_ok-named.ensures.areas at
+          ∙ ap (λ (us : List Use). meaning_at us at) (ap (of_marks (areas_at o)) marks ∙ ap (λ (r : plain.Resolved). r.areas) same);
+      locators_are = λ at. c.in_ok-named.ensures.locators at
+          ∙ ap (λ (us : List Use). meaning_at us at) (ap (of_marks (locators_at o)) marks ∙ ap (λ (r : plain.Resolved). r.locators) same);
     }

@@ -1,112 +1,125 @@
-use Rattle.std.proofs.Common.{◌≡◌, ◌++◌, ◌∷◌, ◌+◌, length, [], option_map, append_assoc, ap, ◌∙◌, sym}
+use Rattle.std.proofs.Common.{◌∷◌, ◌+◌, drop, ap, ◌∙◌, sym}
+use Rattle.std.proofs.lemmas.List.{drop_all, drop_more}
 use Rattle.std.proofs.lemmas.Result.{on_ok_weaker}
-use Rattle.pli_base.specs.views.StatementView.{body_view, control_view, statements_view, unit_view}
-use Rattle.pli_base.specs.laws.StatementLaws.{begin_made, do_made}
-use Rattle.pli_declare_outline.specs.Outlines.{Entered, placed, optional_marks, control_marks, regions_of, regions_among, region_in, body_regions, body_marks, statements_regions, statements_marks}
-use Rattle.pli_declare_outline.specs.views.OutlineView.{regions_view, marks_view}
-use Rattle.pli_declare_outline.specs.declared.region.RegionKind.TheVariants as kinds
-use Rattle.pli_base.specs.laws.StatementLaws.{unit_statements, procedure_body}
+use Rattle.pli_base.specs.Statements as tree
+use Rattle.pli_base.specs.views.SyntaxView.{expression_view}
+use Rattle.pli_base.specs.views.StatementView.{body_view, statement_view, statements_view, unit_view}
+use Rattle.pli_base.specs.laws.StatementLaws.{begin_made, do_made, if_made, on_made, boxed_view, unit_statements, procedure_body}
+use Rattle.pli_declare_outline.specs.Outlines.{label_marks, regions_among, regions_in, statements_regions, statements_marks, statement_regions, statement_marks}
+use Rattle.pli_declare_outline.proofs.Walking.{procedure, block, group, region_walked, marks_then, region_then, statements_then, none_walked, nothing_walked, if_walked, unit_walked}
 use Rattle.pli_declare_outline.proofs.walk.+walk.Goals as goal
 
-pub walk_body-returns-in-Begin-clause-regions : goal.walk_body-returns-in-Begin-clause-regions
-walk_body-returns-in-Begin-clause-regions t c =
-    let n = length c.args.regions.now.items in
-    let old = regions_view c.args.regions.now.items in
-    let here = c.args.here in
+pub walk_statement-returns : goal.walk_statement-returns
+walk_statement-returns t c =
+    let s = c.args.statement.now in
     on_ok_weaker
-    c.walk_region-in-Begin.result
-    (λ e. e ∙ ap (λ ss. old ++ region_in kinds.Begin here ∷ statements_regions n (n + 1) (statements_view ss)) c.as_slice-in-Begin.ensures.value
-    ∙ sym (ap (λ b. old ++ body_regions here n b) (ap body_view c.in-Begin.is ∙ begin_made c.in-Begin.statements c.in-Begin.end)))
-    c.walk_region-in-Begin.ensures.regions
+    c.walk_body.result
+    (marks_then c.args.here (label_marks s.label (body_view s.body)) _ _ _ _ _ _ _ _ c.in_ok-mark_label.ensures)
+    c.walk_body.ensures
 
-pub walk_body-returns-in-Begin-clause-marks : goal.walk_body-returns-in-Begin-clause-marks
-walk_body-returns-in-Begin-clause-marks t c =
-    let n = length c.args.regions.now.items in
-    let old = marks_view c.args.marks.now.items in
+pub walk_statements-loop-statement-init : goal.walk_statements-loop-statement-init
+walk_statements-loop-statement-init t c = λ regions marks w. w
+
+pub walk_statements-loop-statement-preserved : goal.walk_statements-loop-statement-preserved
+walk_statements-loop-statement-preserved t c =
+    let l = c.loop-statement in
+    let x = c.statement-item.result in
+    let step = drop_more c.args.statements.now l.statement-index x c.loop-statement-test.true
+    ∙ ap (λ y. y ∷ drop (l.statement-index + 1) c.args.statements.now) (sym c.statement-item.is) in
+    λ regions marks w. l.invariant regions marks (statements_then c.args.here x _ _ _ _ _ _ _ _ step c.in_ok-walk_statement.ensures w)
+
+pub walk_statements-returns : goal.walk_statements-returns
+walk_statements-returns t c =
+    let l = c.loop-statement in
+    l.invariant _ _ (none_walked c.args.here _ _ _ (drop_all l.statement-index c.args.statements.now c.loop-statement-test.false))
+
+pub walk_region-returns : goal.walk_region-returns
+walk_region-returns t c =
+    let ss = statements_view c.args.statements.now in
     on_ok_weaker
-    c.walk_region-in-Begin.result
-    (λ e. e ∙ ap (λ ss. old ++ statements_marks n (n + 1) (statements_view ss)) c.as_slice-in-Begin.ensures.value
-    ∙ sym (ap (λ b. old ++ body_marks c.args.here n b) (ap body_view c.in-Begin.is ∙ begin_made c.in-Begin.statements c.in-Begin.end)))
-    c.walk_region-in-Begin.ensures.marks
+    c.walk_statements.result
+    (region_then c.args.region c.len-number.result (regions_among ss) c.args.regions.now.items _ _ _ _ (λ n m. statements_regions n m ss) (λ n m. statements_marks n m ss) (c.len-number.ensures ∙ c.args.regions.now.ok.0) c.in_ok-push.ensures.items)
+    c.walk_statements.ensures
 
-pub walk_body-returns-in-Begin-clause-count : goal.walk_body-returns-in-Begin-clause-count
-walk_body-returns-in-Begin-clause-count t c =
-    let n = length c.args.regions.now.items in
+pub walk_unit-returns : goal.walk_unit-returns
+walk_unit-returns t c =
+    let s = statement_view c.args.statement.now in
     on_ok_weaker
-    c.walk_region-in-Begin.result
-    (λ e. e ∙ ap (λ ss. n + (1 + regions_among (statements_view ss))) c.as_slice-in-Begin.ensures.value
-    ∙ sym (ap (λ b. n + regions_of b) (ap body_view c.in-Begin.is ∙ begin_made c.in-Begin.statements c.in-Begin.end)))
-    c.walk_region-in-Begin.ensures.count
+    c.walk_statement.result
+    (region_then c.args.region c.len-number.result (regions_in s) c.args.regions.now.items _ _ _ _ (λ n m. statement_regions n m s) (λ n m. statement_marks n m s) (c.len-number.ensures ∙ c.args.regions.now.ok.0) c.in_ok-push.ensures.items)
+    c.walk_statement.ensures
 
-pub walk_body-returns-in_ok-mark_specification-in-Do-clause-regions : goal.walk_body-returns-in_ok-mark_specification-in-Do-clause-regions
-walk_body-returns-in_ok-mark_specification-in-Do-clause-regions t c =
-    let n = length c.args.regions.now.items in
-    let old = regions_view c.args.regions.now.items in
-    let here = c.args.here in
-    on_ok_weaker
-    c.walk_region-in-Do.result
-    (λ e. e ∙ ap (λ ss. old ++ region_in kinds.Group here ∷ statements_regions n (n + 1) (statements_view ss)) c.as_slice-in-Do.ensures.value
-    ∙ sym (ap (λ b. old ++ body_regions here n b) (ap body_view c.in-Do.is ∙ do_made c.in-Do.control c.in-Do.statements c.in-Do.end)))
-    c.walk_region-in-Do.ensures.regions
-
-pub walk_body-returns-in_ok-mark_specification-in-Do-clause-marks : goal.walk_body-returns-in_ok-mark_specification-in-Do-clause-marks
-walk_body-returns-in_ok-mark_specification-in-Do-clause-marks t c =
-    let n = length c.args.regions.now.items in
-    let old = marks_view c.args.marks.now.items in
-    let here = c.args.here in
-    let head = placed here (optional_marks control_marks (option_map control_view c.in-Do.control)) in
-    on_ok_weaker
-    c.walk_region-in-Do.result
-    (λ e. e ∙ ap (λ ss. marks_view c.mark_specification.new.marks.items ++ statements_marks n (n + 1) (statements_view ss)) c.as_slice-in-Do.ensures.value
-    ∙ ap (λ ms. ms ++ statements_marks n (n + 1) (statements_view c.in-Do.statements.items)) c.in_ok-mark_specification-in-Do.ensures
-    ∙ append_assoc old head _
-    ∙ sym (ap (λ b. old ++ body_marks here n b) (ap body_view c.in-Do.is ∙ do_made c.in-Do.control c.in-Do.statements c.in-Do.end)))
-    c.walk_region-in-Do.ensures.marks
-
-pub walk_body-returns-in_ok-mark_specification-in-Do-clause-count : goal.walk_body-returns-in_ok-mark_specification-in-Do-clause-count
-walk_body-returns-in_ok-mark_specification-in-Do-clause-count t c =
-    let n = length c.args.regions.now.items in
-    on_ok_weaker
-    c.walk_region-in-Do.result
-    (λ e. e ∙ ap (λ ss. n + (1 + regions_among (statements_view ss))) c.as_slice-in-Do.ensures.value
-    ∙ sym (ap (λ b. n + regions_of b) (ap body_view c.in-Do.is ∙ do_made c.in-Do.control c.in-Do.statements c.in-Do.end)))
-    c.walk_region-in-Do.ensures.count
-
-pub walk_body-returns-in_ok-mark-in-Procedure-clause-regions : goal.walk_body-returns-in_ok-mark-in-Procedure-clause-regions
-walk_body-returns-in_ok-mark-in-Procedure-clause-regions t c =
-    let n = length c.args.regions.now.items in
-    let old = regions_view c.args.regions.now.items in
-    let here = c.args.here in
+pub walk_body-returns-in-Procedure : goal.walk_body-returns-in-Procedure
+walk_body-returns-in-Procedure t c =
     let p = c.in-Procedure.procedure in
     on_ok_weaker
     c.walk_region.result
-    (λ e. e ∙ ap (λ ss. old ++ region_in kinds.Procedure here ∷ statements_regions n (n + 1) ss) (ap statements_view c.as_slice.ensures.value ∙ sym (unit_statements p))
-    ∙ sym (ap (λ b. old ++ body_regions here n b) (ap body_view c.in-Procedure.is ∙ procedure_body p)))
-    c.walk_region.ensures.regions
+    (region_walked c.args.here c.len.result _ _ _ _ _ _ _ _ _ _
+    (procedure (unit_view p).heading (unit_view p).statements (unit_view p).end)
+    (ap body_view c.in-Procedure.is ∙ procedure_body p)
+    (ap statements_view c.as_slice-statements.ensures.value ∙ sym (unit_statements p))
+    (c.len.ensures ∙ c.args.regions.now.ok.0)
+    c.in_ok-mark_head.ensures)
+    c.walk_region.ensures
 
-pub walk_body-returns-in_ok-mark-in-Procedure-clause-marks : goal.walk_body-returns-in_ok-mark-in-Procedure-clause-marks
-walk_body-returns-in_ok-mark-in-Procedure-clause-marks t c =
-    let n = length c.args.regions.now.items in
-    let old = marks_view c.args.marks.now.items in
-    let here = c.args.here in
-    let p = c.in-Procedure.procedure in
-    let head = placed here (Entered (unit_view p).heading n ∷ []) in
-    let entered : marks_view c.mark.new.marks.items ≡ old ++ head =
-    c.in_ok-mark-in-Procedure.ensures ∙ ap (λ r. old ++ placed here (Entered (unit_view p).heading r ∷ [])) (c.len-region.ensures ∙ c.args.regions.now.ok.0) in
+pub walk_body-returns-in-Begin : goal.walk_body-returns-in-Begin
+walk_body-returns-in-Begin t c =
+    let b = c.in-Begin in
     on_ok_weaker
-    c.walk_region.result
-    (λ e. e ∙ ap (λ ss. marks_view c.mark.new.marks.items ++ statements_marks n (n + 1) ss) (ap statements_view c.as_slice.ensures.value ∙ sym (unit_statements p))
-    ∙ ap (λ ms. ms ++ statements_marks n (n + 1) (unit_view p).statements) entered
-    ∙ append_assoc old head _
-    ∙ sym (ap (λ b. old ++ body_marks here n b) (ap body_view c.in-Procedure.is ∙ procedure_body p)))
-    c.walk_region.ensures.marks
+    c.walk_region-in-Begin.result
+    (region_walked c.args.here c.len.result _ _ _ _ _ _ _ _ _ _
+    (block (statements_view b.statements.items) b.end)
+    (ap body_view b.is ∙ begin_made b.statements b.end)
+    (ap statements_view c.as_slice.ensures.value)
+    (c.len.ensures ∙ c.args.regions.now.ok.0)
+    c.in_ok-mark_head.ensures)
+    c.walk_region-in-Begin.ensures
 
-pub walk_body-returns-in_ok-mark-in-Procedure-clause-count : goal.walk_body-returns-in_ok-mark-in-Procedure-clause-count
-walk_body-returns-in_ok-mark-in-Procedure-clause-count t c =
-    let n = length c.args.regions.now.items in
-    let p = c.in-Procedure.procedure in
+pub walk_body-returns-in-Do : goal.walk_body-returns-in-Do
+walk_body-returns-in-Do t c =
+    let b = c.in-Do in
     on_ok_weaker
-    c.walk_region.result
-    (λ e. e ∙ ap (λ ss. n + (1 + regions_among ss)) (ap statements_view c.as_slice.ensures.value ∙ sym (unit_statements p))
-    ∙ sym (ap (λ b. n + regions_of b) (ap body_view c.in-Procedure.is ∙ procedure_body p)))
-    c.walk_region.ensures.count
+    c.walk_region-in-Do.result
+    (region_walked c.args.here c.len.result _ _ _ _ _ _ _ _ _ _
+    (group _ (statements_view b.statements.items) b.end)
+    (ap body_view b.is ∙ do_made b.control b.statements b.end)
+    (ap statements_view c.as_slice-in-Do.ensures.value)
+    (c.len.ensures ∙ c.args.regions.now.ok.0)
+    c.in_ok-mark_head.ensures)
+    c.walk_region-in-Do.ensures
+
+pub walk_body-returns-in-None : goal.walk_body-returns-in-None
+walk_body-returns-in-None t c =
+    let b = c.in-If in
+    if_walked c.args.here c.len.result (expression_view b.condition) _ tree.NoElse _ _ _ _ _ _ _ _
+    (ap body_view b.is ∙ if_made b.condition b.consequence b.alternative
+    ∙ ap (λ s. tree.If (expression_view b.condition) (statement_view s) (boxed_view b.alternative)) (sym c.deref.ensures)
+    ∙ ap (λ a. tree.If (expression_view b.condition) (statement_view c.deref.result.now) (boxed_view a)) c.in-None.is)
+    c.in_ok-mark_head.ensures
+    c.in_ok-walk_statement-in-If.ensures
+    (nothing_walked _ _)
+
+pub walk_body-returns-in-Some : goal.walk_body-returns-in-Some
+walk_body-returns-in-Some t c =
+    let b = c.in-If in
+    let first = statement_view c.deref.result.now in
+    on_ok_weaker
+    c.walk_statement-in-Some.result
+    (if_walked c.args.here c.len.result (expression_view b.condition) _ _ _ _ _ _ _ _ _ _
+    (ap body_view b.is ∙ if_made b.condition b.consequence b.alternative
+    ∙ ap (λ s. tree.If (expression_view b.condition) (statement_view s) (boxed_view b.alternative)) (sym c.deref.ensures)
+    ∙ ap (λ a. tree.If (expression_view b.condition) first (boxed_view a)) c.in-Some.is
+    ∙ ap (λ s. tree.If (expression_view b.condition) first (tree.Else (statement_view s))) (sym c.deref-in-Some.ensures))
+    c.in_ok-mark_head.ensures
+    c.in_ok-walk_statement-in-If.ensures)
+    c.walk_statement-in-Some.ensures
+
+pub walk_body-returns-in-On : goal.walk_body-returns-in-On
+walk_body-returns-in-On t c =
+    let b = c.in-On in
+    on_ok_weaker
+    c.walk_unit.result
+    (unit_walked c.args.here c.len.result b.condition _ _ _ _ _ _ _
+    (ap body_view b.is ∙ on_made b.condition b.unit ∙ ap (λ s. tree.On b.condition (statement_view s)) (sym c.deref-in-On.ensures))
+    c.in_ok-mark_head.ensures)
+    c.walk_unit.ensures

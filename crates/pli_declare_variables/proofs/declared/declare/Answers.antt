@@ -16,8 +16,8 @@ use Rattle.pli_declare_variables.proofs.Placing.{element_at}
 use Rattle.pli_declare_variables.proofs.Sound.{codes_sound}
 use Rattle.pli_declare_variables.proofs.declared.declare.Goals as goal
 
-pub codes_of_good-requires : goal.codes_of_good-requires
-codes_of_good-requires c =
+pub codes_at-requires : goal.codes_at-requires
+codes_at-requires c =
     ap (λ (xs : List Place). length xs) (c.deref.ensures.value ∙ c.in_ok-places.ensures)
     ∙ mapped_length (cut_place_in (entries_view c.args.entries.now) c.args.parameters.now) (length c.args.entries.now)
 
@@ -25,7 +25,7 @@ pub whole_description-requires-clause-sound : goal.whole_description-requires-cl
 whole_description-requires-clause-sound c =
     let entries = entries_view c.args.entries.now in
     let names = c.args.parameters.now in
-    let same : c.deref-in-loop-number-2.result.now ≡ own_codes entries names = c.deref-in-loop-number-2.ensures.value ∙ all_codes c.args.entries.now names c.in_ok-codes.codes.items (c.in_ok-codes.ensures names c.requires.good (c.deref.ensures.value ∙ c.in_ok-places.ensures)) in
+    let same : c.deref-in-loop-number-2.result.now ≡ own_codes entries names = c.deref-in-loop-number-2.ensures.value ∙ all_codes c.args.entries.now names c.in_ok-codes.codes.items (c.in_ok-codes.ensures names (λ e. c.requires.good) (c.deref.ensures.value ∙ c.in_ok-places.ensures)) in
     subst (ShapesAreSound entries) (sym same) (codes_sound entries names)
 
 pub index-requires : goal.index-requires
@@ -55,7 +55,7 @@ loop-number-preserved c =
     let e = c.index-entries-number.result in
     let place = element_at (cut_place_in entries names) c.in_ok-places.places.items count n c.index.result.now c.in_ok-places.ensures lt c.index.ensures in
     let view : _ ≡ entry_view e = view_at program n e lt c.index-entries-number.is in
-    let same : c.deref-in-loop-number-2.result.now ≡ own_codes entries names = c.deref-in-loop-number-2.ensures.value ∙ all_codes program names c.in_ok-codes.codes.items (c.in_ok-codes.ensures names c.requires.good (c.deref.ensures.value ∙ c.in_ok-places.ensures)) in
+    let same : c.deref-in-loop-number-2.result.now ≡ own_codes entries names = c.deref-in-loop-number-2.ensures.value ∙ all_codes program names c.in_ok-codes.codes.items (c.in_ok-codes.ensures names (λ e. c.requires.good) (c.deref.ensures.value ∙ c.in_ok-places.ensures)) in
     let described = c.in_ok-description.ensures ∙ whole entries names count c.deref-in-loop-number-2.result.now n (sym (length-map program entry_view)) same in
     let kind = kind_at entries names n (entry_view e) c.index.result.now (option_map description_view c.in_ok-description.description) (kind_view c.in_ok-kind.field-0) view place described c.in_ok-kind.ensures in
     let d : Declaration = record { identifier = e.identifier; owner = e.owner; kind = c.in_ok-kind.field-0 } in

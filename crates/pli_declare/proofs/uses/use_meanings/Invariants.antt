@@ -1,7 +1,7 @@
 use Rattle.std.proofs.Common.{◌≡◌, ◌++◌, drop}
 use Rattle.pli_declare_outline.specs.views.OutlineView.{outline_view, marks_view}
 use Rattle.pli_declare.specs.Resolved.{of_marks, uses_at}
-use Rattle.pli_declare.proofs.uses.uses.Given as goal
+use Rattle.pli_declare.proofs.uses.use_meanings.Given as goal
 
 -- the uses so far in front of those of what is left
 abbrev pub invariant-loop-placed : goal.invariant-loop-placed

@@ -1,4 +1,4 @@
-use Rattle.std.proofs.Common.{false, None, List, get_or, length, sym, ap, subst, ◌∙◌, arith}
+use Rattle.std.proofs.Common.{◌≡◌, true, false, None, List, get_or, length, sym, ap, subst, ◌∙◌, arith}
 use Rattle.std.proofs.lemmas.List.{length-map}
 use Rattle.pli_declare_attributes.specs.Faults.{item_fault}
 use Rattle.pli_declare_attributes.specs.declared.place.Place.{Place}
@@ -11,7 +11,7 @@ use Rattle.pli_declare_variables.specs.answers.Walks.{cut_place_in}
 use Rattle.pli_declare_variables.proofs.Faultless.{without}
 use Rattle.pli_declare_variables.proofs.Levelled.{view_at}
 use Rattle.pli_declare_variables.proofs.Numbers.{mapped_at, mapped_more}
-use Rattle.pli_declare_variables.proofs.codes.codes_of_good.Goals as goal
+use Rattle.pli_declare_variables.proofs.codes.codes_at.Goals as goal
 
 abbrev no_place : Place
 no_place = record { position = AtLevelOne; has_members = false; in_array = false; elements_above = None; built_in_name = false }
@@ -22,10 +22,10 @@ loop-number-preserved c = λ names good placed.
     let entries = entries_view program in
     let n = c.loop-number.number in
     let lt = c.loop-number-test.true in
-    let e = c.index-entries-number.result in
-    let view = view_at program n e lt c.index-entries-number.is in
-    let fine = without entries names n (entry_view e).entity (ap (λ (x : plain.Entry). x.entity) view)
-    (subst (λ (x : plain.Entry). IsGood entries names n x.entity) view (good n (omega (arith, lt, length-map program entry_view)))) in
+    let x = c.index-entries-number.result in
+    let view = view_at program n x lt c.index-entries-number.is in
+    let fine = λ (e : c.args.are_good ≡ true). without entries names n (entry_view x).entity (ap (λ (x : plain.Entry). x.entity) view)
+    (subst (λ (x : plain.Entry). IsGood entries names n x.entity) view (good e n (omega (arith, lt, length-map program entry_view)))) in
     let place = ap (λ (ps : List Place). get_or ps n no_place) placed ∙ mapped_at (cut_place_in entries names) (length program) n no_place lt in
-    let here = c.code_of_good.ensures (place_in entries names n) place fine ∙ ap (λ (x : plain.Entry). item_fault (place_in entries names n) (item_in x.entity)) (sym view) in
-    c.in_ok-push.ensures.items ∙ mapped_more (own_code entries names) c.loop-number.codes.items n c.code_of_good.result (c.loop-number.invariant names good placed) here
+    let here = c.own_code-code.ensures (place_in entries names n) place fine ∙ ap (λ (x : plain.Entry). item_fault (place_in entries names n) (item_in x.entity)) (sym view) in
+    c.in_ok-push.ensures.items ∙ mapped_more (own_code entries names) c.loop-number.codes.items n c.own_code-code.result (c.loop-number.invariant names good placed) here
