@@ -1,5 +1,6 @@
 -- Lists whose members say the same one by one say the same as lists of the tree.
-use Rattle.std.proofs.Common.{◌≡◌, List, [], ◌∷◌, map, refl, ap, ◌∙◌, sym}
+use Rattle.std.proofs.Common.{◌≡◌, ℕ, ◌+◌, ◌<◌, List, [], ◌∷◌, ◌++◌, length, map, take, get_or, refl, ap, ◌∙◌, sym}
+use Rattle.std.proofs.lemmas.List.{map_push, take_more}
 use Rattle.pli_base.specs.Syntax.{Expressions, Empty, Listed, JoinedParts, Alone, Joined}
 use Rattle.pli_base.specs.Syntax as syntax
 use Rattle.pli_base.specs.views.SyntaxView.{expression_view, expressions_view, arguments_view, joined_view}
@@ -9,6 +10,14 @@ use Rattle.pli_copy.specs.views.PartView.{part_view}
 use Rattle.pli_base.specs.Statements as tree
 use Rattle.pli_base.specs.views.StatementView.{statement_view, statements_view}
 use Rattle.pli_base.specs.declared.statement.Statement.{Statement}
+
+-- one item more was copied
+pub one_more : {X Y : Type 0} (view : X → Y) (new copied : List X) (x y : X) (xs : List X) (i : ℕ) → i < length xs → y ≡ get_or xs i y → new ≡ copied ++ x ∷ []
+    → view x ≡ view y → map view copied ≡ map view (take i xs) → map view new ≡ map view (take (i + 1) xs)
+one_more view new copied x y xs i within at made same so_far =
+    let taken : take (i + 1) xs ≡ take i xs ++ y ∷ [] = take_more xs i y within ∙ ap (λ z. take i xs ++ z ∷ []) (sym at) in
+    ap (map view) made ∙ map_push view copied x ∙ ap (λ vs. vs ++ view x ∷ []) so_far ∙ ap (λ v. map view (take i xs) ++ v ∷ []) same
+    ∙ sym (map_push view (take i xs) y) ∙ ap (map view) (sym taken)
 
 -- expressions
 abbrev listed : List syntax.Expression → Expressions

@@ -1,3 +1,4 @@
 pub mod Earlier
+pub mod Operands
 pub mod Reading
 pub mod TablesView

@@ -1,5 +1,5 @@
 //! The items of a deck's tables at the front of bytes.
-ghost use Rattle.std.specs.Prelude.{◌≡◌, ℕ, List, map};
+ghost use Rattle.std.specs.Prelude.{◌≡◌, ℕ, List, map, if◌then◌else◌};
 ghost use Rattle.pli_deck.specs.Fields.{Field, many, u2, list, made, ◌⊗◌};
 ghost use Rattle.pli_deck.specs.Decks as plain;
 ghost use Rattle.pli_deck.specs.DeckFields as deck_fields;
@@ -77,6 +77,24 @@ fn entry_of(alloc: Global, bytes: &[u8]) -> Result<(DeckGlobal, &[u8]), ReadErro
     Ok((DeckGlobal::ExternalEntry { name, signature }, rest))
 }
 
+/// An external variable, which is CONTROLLED or STATIC.
+#[tactic(auto, unfolding(pli_deck::specs::DeckFields::name))]
+fn external_of(bytes: &[u8], is_controlled: bool) -> Result<(DeckGlobal, &[u8]), ReadError>
+    ensures { Gives (λ x. (global_view x.0, x.1.now)) result
+        (made (λ p. if is_controlled then plain.ExternalControlled p.0 p.1 else plain.ExternalStatic p.0 p.1) (deck_fields.name ⊗ u2) bytes.now) }
+{
+    let (text, rest) = name_text_of(bytes)?;
+    let Some(name) = upper_name(text) else {
+        return Err(ReadError::Fault(Fault::OutOfRange));
+    };
+    let (template, rest) = short_of(rest)?;
+    if is_controlled {
+        Ok((DeckGlobal::ExternalControlled { name, template }, rest))
+    } else {
+        Ok((DeckGlobal::ExternalStatic { name, template }, rest))
+    }
+}
+
 /// Reads a global.
 pub struct Globals;
 
@@ -89,7 +107,7 @@ impl ReadsOne for Globals {
 
     ghost field = { deck_fields.global };
 
-    #[tactic(auto, unfolding(pli_deck::specs::DeckFields::global, pli_deck::specs::DeckFields::name))]
+    #[tactic(auto, unfolding(pli_deck::specs::DeckFields::global))]
     fn read<'a>(
         &self,
         alloc: Global,
@@ -105,22 +123,8 @@ impl ReadsOne for Globals {
                 let (template, rest) = short_of(rest)?;
                 Ok((DeckGlobal::Controlled(template), rest))
             }
-            2 => {
-                let (text, rest) = name_text_of(rest)?;
-                let Some(name) = upper_name(text) else {
-                    return Err(ReadError::Fault(Fault::OutOfRange));
-                };
-                let (template, rest) = short_of(rest)?;
-                Ok((DeckGlobal::ExternalStatic { name, template }, rest))
-            }
-            3 => {
-                let (text, rest) = name_text_of(rest)?;
-                let Some(name) = upper_name(text) else {
-                    return Err(ReadError::Fault(Fault::OutOfRange));
-                };
-                let (template, rest) = short_of(rest)?;
-                Ok((DeckGlobal::ExternalControlled { name, template }, rest))
-            }
+            2 => external_of(rest, false),
+            3 => external_of(rest, true),
             4 => entry_of(alloc, rest),
             _ => Err(ReadError::Fault(Fault::OutOfRange)),
         }
@@ -177,7 +181,7 @@ impl ReadsOne for Instructions {
 
     ghost field = { instruction };
 
-    #[tactic(auto, using(crate::proofs::OperandReading::none_beyond), unfolding(pli_deck::specs::Instructions::instruction, pli_deck::specs::Instructions::reader_of))]
+    #[tactic(auto, unfolding(pli_deck::specs::Instructions::instruction, pli_deck::specs::Instructions::reader_of))]
     fn read<'a>(
         &self,
         _alloc: Global,

@@ -1,11 +1,11 @@
 -- Members one behind the other.
-use Rattle.std.proofs.Common.{◌≡◌, ℕ, zero, suc, ◌+◌, ◌<◌, ◌≤◌, List, [], ◌∷◌, length, get_or, take, drop, Some, None, refl, ap, sym, ◌∙◌, arith}
+use Rattle.std.proofs.Common.{◌≡◌, ℕ, zero, suc, ◌+◌, ◌<◌, ◌≤◌, max, List, [], ◌∷◌, length, get_or, take, drop, Some, None, refl, ap, sym, ◌∙◌, arith}
 use Rattle.std.specs.Int.{next_multiple_of}
 use Rattle.std.proofs.lemmas.List.{at_drop_more}
 use Rattle.pli_map.specs.Description as tree
 use Rattle.pli_map.specs.views.DescriptionView.{description_view, members_view}
 use Rattle.pli_map.specs.Parts.{PlacedPart, member_behind}
-use Rattle.pli_map.specs.Sizes.{alignment_of, size_of, end_behind}
+use Rattle.pli_map.specs.Sizes.{alignment_of, greatest_alignment, size_of, end_behind}
 use Rattle.pli_map.specs.declared.description.Description.{Description}
 
 -- members end no earlier than they begin
@@ -42,6 +42,21 @@ pub over_by_member : (at : ℕ) (left : tree.Members) (d : tree.Description) (ds
 over_by_member at left d ds whole left_is end over =
     let e : end_behind (next_multiple_of at (alignment_of d) + size_of d) ds ≡ whole = sym (ap (end_behind at) left_is) ∙ end in
     omega (arith, later (next_multiple_of at (alignment_of d) + size_of d) ds, e)
+
+-- behind one more member, what is left ends where it ended before
+pub end_by_member : (at next : ℕ) (left : tree.Members) (d : tree.Description) (ds : tree.Members) (whole bytes alignment : ℕ) → left ≡ tree.MemberThen d ds
+    → end_behind at left ≡ whole → bytes ≡ size_of d → alignment ≡ alignment_of d → next ≡ next_multiple_of at alignment + bytes → end_behind next ds ≡ whole
+end_by_member at next left d ds whole bytes alignment left_is end bytes_are alignment_is next_is =
+    let place : next ≡ next_multiple_of at (alignment_of d) + size_of d =
+    next_is ∙ ap (λ n. next_multiple_of at n + bytes) alignment_is ∙ ap (λ n. next_multiple_of at (alignment_of d) + n) bytes_are in
+    ap (λ n. end_behind n ds) place ∙ sym (ap (end_behind at) left_is) ∙ end
+
+-- with one more member, the greatest alignment is that of all
+pub alignment_by_member : (before now : ℕ) (left : tree.Members) (d : tree.Description) (ds : tree.Members) (greatest alignment : ℕ) → left ≡ tree.MemberThen d ds
+    → max before (greatest_alignment left) ≡ greatest → alignment ≡ alignment_of d → now ≡ max before alignment → max now (greatest_alignment ds) ≡ greatest
+alignment_by_member before now left d ds greatest alignment left_is all alignment_is now_is =
+    let first : greatest_alignment left ≡ max (alignment_of d) (greatest_alignment ds) = ap greatest_alignment left_is in
+    omega arith
 
 -- what is left of members begins with the one at hand
 pub next_member : (xs : List Description) (i : ℕ) (x : Description) → i < length xs → x ≡ get_or xs i x

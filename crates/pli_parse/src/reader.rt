@@ -326,24 +326,42 @@ fn if_at<'a>(
     ensures place { IfOk result (Counts at number texts.now) }
 {
     let condition = expression_in(alloc, levels, at, texts)?;
-    let behind = word_taken(b"THEN", Code::ThenExpected, condition.next, condition.rest)?;
+    let behind = match word_taken(b"THEN", Code::ThenExpected, condition.next, condition.rest) {
+        Ok(behind) => behind,
+        Err(error) => {
+            drop(condition);
+            return Err(error);
+        }
+    };
     let inner = Context {
         standing: Standing::AsClause,
         in_unit: context.in_unit,
     };
-    let first = statement_at(alloc, levels, inner, condition.next + 1, number, behind)?;
+    let first = match statement_at(alloc, levels, inner, condition.next + 1, number, behind) {
+        Ok(first) => first,
+        Err(error) => {
+            drop(condition);
+            return Err(error);
+        }
+    };
     let consequence = Box::new(alloc, first.value)?;
-    let second = alternative_at(alloc, levels, context, first.next, first.number, first.rest)?;
-    Ok(Counted {
-        value: Body::If {
-            condition: condition.value,
-            consequence,
-            alternative: second.value,
-        },
-        number: second.number,
-        next: second.next,
-        rest: second.rest,
-    })
+    match alternative_at(alloc, levels, context, first.next, first.number, first.rest) {
+        Ok(second) => Ok(Counted {
+            value: Body::If {
+                condition: condition.value,
+                consequence,
+                alternative: second.value,
+            },
+            number: second.number,
+            next: second.next,
+            rest: second.rest,
+        }),
+        Err(error) => {
+            drop(condition);
+            drop(consequence);
+            Err(error)
+        }
+    }
 }
 
 /// What stands behind ON.

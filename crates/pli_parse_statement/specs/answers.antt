@@ -1,1 +1,2 @@
+pub mod ControlAnswers
 pub mod StatementAnswers

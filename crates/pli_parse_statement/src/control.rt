@@ -1,10 +1,11 @@
 //! The specification of a DO group.
 ghost use Rattle.std.specs.Prelude.{◌≡◌, ◌≤◌, ◌+◌, length, option_map, codes, IfOk};
-ghost use Rattle.pli_base.specs.views.SyntaxView.{expression_view};
+ghost use Rattle.pli_base.specs.views.SyntaxView.{expression_view, reference_view};
 ghost use Rattle.pli_base.specs.views.StatementView.{control_view};
 ghost use Rattle.pli_base.specs.views.StatementView as views;
 ghost use Rattle.pli_parse_statement.specs.StatementReading.{expression_in, parenthesized, optional_at, range_at, specified, control_from, control_at};
 ghost use Rattle.pli_parse_statement.specs.StatementReading as reading;
+ghost use Rattle.pli_parse_statement.specs.answers.ControlAnswers.{limited};
 ghost use Rattle.pli_parse_statement.specs.answers.StatementAnswers.{specified_view, BehindWhile};
 ghost use Rattle.pli_base.specs.answers.ReadingAnswers.{Gives, Advances, Continues, front_view};
 
@@ -13,7 +14,7 @@ use crate::cursor::{
 };
 use crate::word::{RangeWord, range_first};
 use pli_base::statement::{Control, Range};
-use pli_base::syntax::Expression;
+use pli_base::syntax::{Expression, Reference};
 use pli_base::{Code, Front, ParseError, Sign, TokenText};
 use std::alloc::Global;
 
@@ -107,31 +108,80 @@ fn range_at<'a>(
         None => Ok(Front::new(None, at, texts)),
         Some((RangeWord::To, behind)) => {
             let to = expression_in(alloc, levels, at + 1, behind)?;
-            let by = optional_expression(alloc, levels, b"BY", to.next, to.rest)?;
-            Ok(Front::new(
-                Some(Range::To {
-                    to: to.value,
-                    by: by.value,
-                }),
-                by.next,
-                by.rest,
-            ))
+            match optional_expression(alloc, levels, b"BY", to.next, to.rest) {
+                Ok(by) => {
+                    let range = Range::To {
+                        to: to.value,
+                        by: by.value,
+                    };
+                    Ok(Front::new(Some(range), by.next, by.rest))
+                }
+                Err(error) => {
+                    drop(to);
+                    Err(error)
+                }
+            }
         }
         Some((RangeWord::By, behind)) => {
             let by = expression_in(alloc, levels, at + 1, behind)?;
-            let to = optional_expression(alloc, levels, b"TO", by.next, by.rest)?;
-            Ok(Front::new(
-                Some(Range::By {
-                    by: by.value,
-                    to: to.value,
-                }),
-                to.next,
-                to.rest,
-            ))
+            match optional_expression(alloc, levels, b"TO", by.next, by.rest) {
+                Ok(to) => {
+                    let range = Range::By {
+                        by: by.value,
+                        to: to.value,
+                    };
+                    Ok(Front::new(Some(range), to.next, to.rest))
+                }
+                Err(error) => {
+                    drop(by);
+                    Err(error)
+                }
+            }
         }
         Some((RangeWord::Repeat, behind)) => {
             let next = expression_in(alloc, levels, at + 1, behind)?;
             Ok(Front::new(Some(Range::Repeat(next.value)), next.next, next.rest))
+        }
+    }
+}
+
+/// What limits or continues an iteration, behind its variable and its first value.
+#[tactic(auto)]
+fn limited<'a>(
+    alloc: Global,
+    levels: u32,
+    variable: Reference,
+    equals: u32,
+    first: Front<'a, Expression>,
+) -> Result<Front<'a, Option<Control>>, ParseError>
+    requires { first.next + length first.rest.now ≤ 200000 }
+    ensures value { Gives (front_view (option_map control_view)) result (limited levels (reference_view variable) equals (front_view expression_view first.entry)) }
+    ensures place { IfOk result (Continues first.entry.next first.entry.rest.now) }
+{
+    let range = match range_at(alloc, levels, first.next, first.rest) {
+        Ok(range) => range,
+        Err(error) => {
+            drop(variable);
+            drop(first);
+            return Err(error);
+        }
+    };
+    match optional_condition(alloc, levels, range.next, range.rest) {
+        Ok(condition) => {
+            let control = Control::Iterate {
+                variable,
+                equals,
+                first: first.value,
+                range: range.value,
+                condition: condition.value,
+            };
+            Ok(Front::new(Some(control), condition.next, condition.rest))
+        }
+        Err(error) => {
+            drop(variable);
+            drop(first);
+            drop(range);
+            Err(error)
         }
     }
 }
@@ -149,27 +199,20 @@ fn iteration_at<'a>(
     ensures place { IfOk result (Advances at texts.now) }
 {
     let variable = reference_in(alloc, levels, at, texts)?;
-    let behind = equals_taken(Code::BadDo, variable.next, variable.rest)?;
-    let first = expression_in(alloc, levels, variable.next + 1, behind)?;
-    let range = range_at(alloc, levels, first.next, first.rest)?;
-    let condition = match optional_condition(alloc, levels, range.next, range.rest) {
-        Ok(condition) => condition,
+    let behind = match equals_taken(Code::BadDo, variable.next, variable.rest) {
+        Ok(behind) => behind,
         Err(error) => {
-            drop(range);
+            drop(variable);
             return Err(error);
         }
     };
-    Ok(Front::new(
-        Some(Control::Iterate {
-            variable: variable.value,
-            equals: variable.next,
-            first: first.value,
-            range: range.value,
-            condition: condition.value,
-        }),
-        condition.next,
-        condition.rest,
-    ))
+    match expression_in(alloc, levels, variable.next + 1, behind) {
+        Ok(first) => limited(alloc, levels, variable.value, variable.next, first),
+        Err(error) => {
+            drop(variable);
+            Err(error)
+        }
+    }
 }
 
 /// What stands behind DO: WHILE with its condition, an iteration, or nothing.

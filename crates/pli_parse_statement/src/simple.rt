@@ -59,14 +59,27 @@ pub fn assignment_at<'a>(
     ensures place { IfOk result (Advances at texts.now) }
 {
     let target = reference_in(alloc, levels, at, texts)?;
-    let behind = equals_taken(Code::NotAStatement, target.next, target.rest)?;
-    let value = expression_in(alloc, levels, target.next + 1, behind)?;
-    let body = Body::Assign {
-        target: target.value,
-        equals: target.next,
-        value: value.value,
+    let behind = match equals_taken(Code::NotAStatement, target.next, target.rest) {
+        Ok(behind) => behind,
+        Err(error) => {
+            drop(target);
+            return Err(error);
+        }
     };
-    stopped(body, value.next, value.rest)
+    match expression_in(alloc, levels, target.next + 1, behind) {
+        Ok(value) => {
+            let body = Body::Assign {
+                target: target.value,
+                equals: target.next,
+                value: value.value,
+            };
+            stopped(body, value.next, value.rest)
+        }
+        Err(error) => {
+            drop(target);
+            Err(error)
+        }
+    }
 }
 
 /// A condition.
@@ -313,8 +326,13 @@ fn return_at<'a>(
     match behind_open(texts) {
         Some(inside) => {
             let value = expression_in(alloc, levels, at + 1, inside)?;
-            let rest = close_taken(value.next, value.rest)?;
-            stopped(Body::Return(Some(value.value)), value.next + 1, rest)
+            match close_taken(value.next, value.rest) {
+                Ok(rest) => stopped(Body::Return(Some(value.value)), value.next + 1, rest),
+                Err(error) => {
+                    drop(value);
+                    Err(error)
+                }
+            }
         }
         None => stopped(Body::Return(None), at, texts),
     }

@@ -3,7 +3,7 @@ use Rattle.pli_base.specs.Syntax.{Named}
 use Rattle.pli_base.specs.views.SyntaxView.{expression_view, arguments_view, joined_view}
 use Rattle.pli_base.specs.laws.SyntaxLaws.{reference_joined, reference_out}
 use Rattle.pli_base.specs.declared.syntax.Reference.{out-Reference}
-use Rattle.pli_copy.proofs.Alike.{expressions_alike, parts_alike}
+use Rattle.pli_copy.proofs.Alike.{expressions_alike, one_more, parts_alike}
 use Rattle.pli_copy.specs.views.PartView.{part_view}
 use Rattle.pli_copy.proofs.expression.+copied.Goals as goal
 
@@ -29,3 +29,15 @@ copied_reference-returns t c =
     ∙ ap (λ a. Named x.first.name a (joined_view joined.items)) c.in_ok-first.ensures.arguments
     ∙ ap (Named x.first.name (arguments_view x.first.arguments)) (c.in_ok-joined.ensures ∙ ap joined_view c.as_slice.ensures.value)
     ∙ sym (reference_out c.args.reference.now)
+
+pub copied_expressions-loop-expression-preserved : goal.copied_expressions-loop-expression-preserved
+copied_expressions-loop-expression-preserved t c =
+    let l = c.loop-expression in
+    one_more expression_view c.push.new.self.items l.copied.items c.in_ok-copied_expression.field-0 c.expression-item.result c.args.expressions.now l.expression-index
+    c.loop-expression-test.true c.expression-item.is c.in_ok-push.ensures.items c.in_ok-copied_expression.ensures l.invariant
+
+pub copied_parts-loop-part-preserved : goal.copied_parts-loop-part-preserved
+copied_parts-loop-part-preserved t c =
+    let l = c.loop-part in
+    one_more part_view c.push.new.self.items l.copied.items c.in_ok-copied_joined.field-0 c.part-item.result c.args.parts.now l.part-index
+    c.loop-part-test.true c.part-item.is c.in_ok-push.ensures.items c.in_ok-copied_joined.ensures l.invariant

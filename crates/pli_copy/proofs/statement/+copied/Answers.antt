@@ -5,7 +5,7 @@ use Rattle.pli_base.specs.Statements as tree
 use Rattle.pli_base.specs.views.StatementView.{control_view, option_view, body_view, statement_view, statements_view}
 use Rattle.pli_base.specs.laws.StatementLaws.{begin_made, do_made, unit_made, unit_out}
 use Rattle.pli_base.specs.declared.statement.Procedure.{out-Procedure}
-use Rattle.pli_copy.proofs.Alike.{statements_alike}
+use Rattle.pli_copy.proofs.Alike.{one_more, statements_alike}
 use Rattle.pli_copy.proofs.statement.+copied.Goals as goal
 
 abbrev whole : Identifier → ℕ → List Identifier → List tree.ProcedureOption → tree.Statements → ℕ → tree.ExternalProcedure
@@ -62,3 +62,9 @@ copied_body-returns-in-Do t c =
     c.copied_group.result _ _
     (λ x e. e ∙ ap (λ ss. tree.Do (option_map control_view b.control) (statements_view ss) b.end) c.as_slice-in-Do.ensures.value ∙ sym (ap body_view b.is ∙ do_made b.control b.statements b.end))
     c.copied_group.ensures
+
+pub copied_statements-loop-statement-preserved : goal.copied_statements-loop-statement-preserved
+copied_statements-loop-statement-preserved t c =
+    let l = c.loop-statement in
+    one_more statement_view c.push.new.self.items l.copied.items c.in_ok-copied_statement.field-0 c.statement-item.result c.args.statements.now l.statement-index
+    c.loop-statement-test.true c.statement-item.is c.in_ok-push.ensures.items c.in_ok-copied_statement.ensures l.invariant

@@ -1,70 +1,37 @@
-use Rattle.std.proofs.Common.{refl, arith}
-use Rattle.std.proofs.lemmas.Result.{err_from_is_err_and}
+use Rattle.std.proofs.Common.{arith}
 use Rattle.pli_deck.specs.declared.instruction.Instruction.TheVariants as op
 use Rattle.pli_deck.specs.Fields.{u2}
 use Rattle.pli_deck.specs.Instructions.{condition, reader_of}
-use Rattle.pli_deck_read.proofs.OperandReading.{one_err, one_ok}
+use Rattle.pli_deck_read.proofs.OperandReading.{bare, of_one}
 use Rattle.pli_deck_read.proofs.operations.condition_or_print.Goals as goal
 
-pub returns-in_err-condition-in-57 : goal.returns-in_err-condition-in-57
+pub returns-in-57 : goal.returns-in-57
 unfolding reader_of
-returns-in_err-condition-in-57 c =
-    let p = err_from_is_err_and c.from_residual.result c.from_residual.ensures.1 in
-    rw (p.1, p.2, c.in-57.is) (one_err condition op.Revert c.args.bytes.now c.in_err-condition-in-57.field-0.0 c.in_err-condition-in-57.ensures)
+returns-in-57 c = rw c.in-57.is (of_one condition op.Revert _ _ _ c.byte_within.ensures)
 
-pub returns-in_err-condition-in-58 : goal.returns-in_err-condition-in-58
+pub returns-in-58 : goal.returns-in-58
 unfolding reader_of
-returns-in_err-condition-in-58 c =
-    let p = err_from_is_err_and c.from_residual-in_err-condition-in-58.result c.from_residual-in_err-condition-in-58.ensures.1 in
-    rw (p.1, p.2, c.in-58.is) (one_err condition op.Signal c.args.bytes.now c.in_err-condition-in-58.field-0.0 c.in_err-condition-in-58.ensures)
-
-pub returns-in_err-number-in-61 : goal.returns-in_err-number-in-61
-unfolding reader_of
-returns-in_err-number-in-61 c =
-    let p = err_from_is_err_and c.from_residual-in_err-number-in-61.result c.from_residual-in_err-number-in-61.ensures.1 in
-    rw (p.1, p.2, c.in-61.is) (one_err u2 op.SetTemporary c.args.bytes.now c.in_err-number-in-61.field-0.0 c.in_err-number-in-61.ensures)
-
-pub returns-in_err-number-in-62 : goal.returns-in_err-number-in-62
-unfolding reader_of
-returns-in_err-number-in-62 c =
-    let p = err_from_is_err_and c.from_residual-in_err-number-in-62.result c.from_residual-in_err-number-in-62.ensures.1 in
-    rw (p.1, p.2, c.in-62.is) (one_err u2 op.TakeTemporary c.args.bytes.now c.in_err-number-in-62.field-0.0 c.in_err-number-in-62.ensures)
-
-pub returns-in_ok-condition-in-57 : goal.returns-in_ok-condition-in-57
-unfolding reader_of
-returns-in_ok-condition-in-57 c =
-    rw c.in-57.is (one_ok condition op.Revert c.args.bytes.now c.in_ok-condition-in-57.condition c.in_ok-condition-in-57.rest.now c.in_ok-condition-in-57.ensures)
-
-pub returns-in_ok-condition-in-58 : goal.returns-in_ok-condition-in-58
-unfolding reader_of
-returns-in_ok-condition-in-58 c =
-    rw c.in-58.is (one_ok condition op.Signal c.args.bytes.now c.in_ok-condition-in-58.condition c.in_ok-condition-in-58.rest.now c.in_ok-condition-in-58.ensures)
+returns-in-58 c = rw c.in-58.is (of_one condition op.Signal _ _ _ c.byte_within-in-58.ensures)
 
 pub returns-in-59 : goal.returns-in-59
 unfolding reader_of
-returns-in-59 c =
-    rw c.in-59.is refl
+returns-in-59 c = rw c.in-59.is (bare op.Put _)
 
 pub returns-in-60 : goal.returns-in-60
 unfolding reader_of
-returns-in-60 c =
-    rw c.in-60.is refl
+returns-in-60 c = rw c.in-60.is (bare op.Skip _)
 
-pub returns-in_ok-number-in-61 : goal.returns-in_ok-number-in-61
+pub returns-in-61 : goal.returns-in-61
 unfolding reader_of
-returns-in_ok-number-in-61 c =
-    rw c.in-61.is (one_ok u2 op.SetTemporary c.args.bytes.now c.in_ok-number-in-61.number c.in_ok-number-in-61.rest.now c.in_ok-number-in-61.ensures)
+returns-in-61 c = rw c.in-61.is (of_one u2 op.SetTemporary _ _ _ c.short.ensures)
 
-pub returns-in_ok-number-in-62 : goal.returns-in_ok-number-in-62
+pub returns-in-62 : goal.returns-in-62
 unfolding reader_of
-returns-in_ok-number-in-62 c =
-    rw c.in-62.is (one_ok u2 op.TakeTemporary c.args.bytes.now c.in_ok-number-in-62.number c.in_ok-number-in-62.rest.now c.in_ok-number-in-62.ensures)
+returns-in-62 c = rw c.in-62.is (of_one u2 op.TakeTemporary _ _ _ c.short-in-62.ensures)
 
 pub returns-in-63 : goal.returns-in-63
 unfolding reader_of
-returns-in-63 c =
-    rw c.in-63.is refl
+returns-in-63 c = rw c.in-63.is (bare op.IsWithin _)
 
 pub returns-in_default : goal.returns-in_default
-returns-in_default c =
-    absurd (omega (arith, c.requires, c.in_default))
+returns-in_default c = absurd (omega (arith, c.requires, c.in_default))

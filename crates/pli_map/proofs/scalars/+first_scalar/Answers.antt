@@ -1,10 +1,10 @@
-use Rattle.std.proofs.Common.{◌≡◌, ℕ, ◌+◌, ◌*◌, ◌/◌, ◌%◌, ◌<◌, min, Some, None, option_map, ap, ◌∙◌, arith}
+use Rattle.std.proofs.Common.{◌≡◌, ℕ, ◌+◌, ◌*◌, ◌/◌, ◌%◌, ◌<◌, min, Some, None, option_map, refl, sym, ap, ◌∙◌, arith}
 use Rattle.std.specs.Int.{next_multiple_of}
 use Rattle.pli_map.specs.Description.{Description}
 use Rattle.pli_map.specs.Scalars.{scalars_in, first_scalar}
 use Rattle.pli_map.specs.Sizes.{count_of, stride_of}
 use Rattle.pli_map.specs.views.DescriptionView.{description_view}
-use Rattle.pli_map.proofs.FoundScalars.{behind_member, quotient_cut, none_in_element, some_in_element}
+use Rattle.pli_map.proofs.FoundScalars.{found_here, behind_member, quotient_cut, none_in_element, some_in_element}
 use Rattle.pli_map.proofs.Members.{next_member}
 use Rattle.pli_map.proofs.scalars.+first_scalar.Goals as goal
 
@@ -53,3 +53,7 @@ scalar_of_element-returns t c =
     some_in_element 18446744073709551615 index (c.args.offset / stride_of d) c.every_element.result (count_of c.args.bounds.now) c.saturating_mul-before.result
     (scalars_in d) c.in_ok-first_scalar.field-0 c.saturating_add.result (first_scalar d (c.args.offset % stride_of d) part) index_is c.every_element.ensures
     c.if-index-every_element.false before c.saturating_add.ensures inner
+
+pub first_scalar-returns-then-stands_here : goal.first_scalar-returns-then-stands_here
+first_scalar-returns-then-stands_here t c =
+    rw (found_here (description_view c.args.whole.now) c.args.offset (description_view c.args.part.now) (sym c.stands_here.ensures ∙ c.if-stands_here.true)) refl

@@ -24,13 +24,12 @@ do_at-returns-clause-value t c = rw (c.in_ok-control.ensures.value, c.in-Ok.ensu
 pub do_at-returns-clause-numbers : goal.do_at-returns-clause-numbers
 do_at-returns-clause-numbers t c = rw (list_made c.in-Ok-list_in.list.value.statements) (omega (arith, c.in-Ok-list_in.ensures.numbers))
 
-pub if_at-returns-in_err-second-clause-value : goal.if_at-returns-in_err-second-clause-value
-if_at-returns-in_err-second-clause-value t c =
-    let p = err_from_is_err_and c.from_residual-in_err-second.result c.from_residual-in_err-second.ensures.1 in
-    rw (p.1, p.2)
-    (alternative_fails (inside_at c.args.levels) (context_view c.args.context) c.args.at c.args.number c.in_ok-first.first.number c.args.texts.now c.in_ok-behind.behind.now
-    (front_view expression_view c.in_ok-condition.condition) (counted_view statement_view c.in_ok-first.first) c.in_err-second.field-0.0
-    c.in_ok-condition.ensures.value c.in_ok-behind.ensures.value c.in_ok-first.ensures.value c.in_ok-first.ensures.numbers c.in_err-second.ensures.value)
+pub if_at-returns-in-Err-alternative_at-clause-value : goal.if_at-returns-in-Err-alternative_at-clause-value
+if_at-returns-in-Err-alternative_at-clause-value t c =
+    let first = c.in-Ok-statement_at.first in
+    alternative_fails (inside_at c.args.levels) (context_view c.args.context) c.args.at c.args.number first.number c.args.texts.now c.in-Ok.behind.now
+    (front_view expression_view c.in_ok-condition.condition) (counted_view statement_view first) c.in-Err-alternative_at.error
+    c.in_ok-condition.ensures.value c.in-Ok.ensures.value c.in-Ok-statement_at.ensures.value c.in-Ok-statement_at.ensures.numbers c.in-Err-alternative_at.ensures.value
 
 pub list_in-returns-in_err-ended-in-EndsHere-clause-value : goal.list_in-returns-in_err-ended-in-EndsHere-clause-value
 list_in-returns-in_err-ended-in-EndsHere-clause-value t c =

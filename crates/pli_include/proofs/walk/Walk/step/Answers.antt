@@ -1,4 +1,4 @@
-use Rattle.std.proofs.Common.{◌≡◌, ℕ, ◌<◌, List, [], ◌∷◌, ◌++◌, length, get_or, Some, Ok, Err, true, sym, ap, subst, ◌∙◌, refl, arith}
+use Rattle.std.proofs.Common.{◌≡◌, ℕ, ◌<◌, ◌≤◌, List, [], ◌∷◌, ◌++◌, ◌+◌, length, get_or, Some, Ok, Err, true, sym, ap, subst, ◌∙◌, refl, arith}
 use Rattle.std.specs.Option.{is_some}
 use Rattle.std.specs.Prelude.{Result, Option, IfOk}
 use Rattle.std.specs.declared.alloc.AllocError.{AllocError}
@@ -34,6 +34,11 @@ passes : (limit : ℕ) (look : Look) (r : Result (Option ExpansionFault) AllocEr
     → IfOk r (λ fault. goes_on limit look fault s fs ≡ y)
 passes limit look (Ok fault) s fs x y h e = h ∙ e
 passes limit look (Err error) s fs x y h e = tt
+
+-- what follows from two parts of an answer is part of it
+both_parts : {X E : Type 0} (r : Result X E) (a b x y : ℕ) (P : Type 0) → IfOk r (λ v. a ≡ b) → IfOk r (λ v. x ≤ y) → (a ≡ b → x ≤ y → P) → IfOk r (λ v. P)
+both_parts (Ok v) a b x y P h k more = more h k
+both_parts (Err error) a b x y P h k more = tt
 
 pub enter-requires-clause-under_way : goal.enter-requires-clause-under_way
 enter-requires-clause-under_way c =
@@ -89,3 +94,21 @@ returns-in_ok-push-in-Include-clause-same c =
     (tokens_are look s.progress.looked s.texts.items s.path.keys s.frames.items c.args.frame c.index.result.now tokens c.requires.under_way c.index.ensures c.tokens-tokens.ensures)
     r g refl refl
     (subst (λ p. Reads 200000 c.args.frame.name tokens c.args.frame.next s.progress p t) c.in-Include.is c.in_ok-read_tokens.ensures))
+
+pub returns-in-End-clause-less : goal.returns-in-End-clause-less
+returns-in-End-clause-less c =
+    omega (arith, length_push c.args.self.now.frames.items c.args.frame, c.in_ok-read_tokens.ensures.left)
+
+pub returns-in-Fault-clause-less : goal.returns-in-Fault-clause-less
+returns-in-Fault-clause-less c =
+    omega (arith, length_push c.args.self.now.frames.items c.args.frame, c.in_ok-read_tokens.ensures.left)
+
+pub returns-in_ok-push-in-Include-clause-less : goal.returns-in_ok-push-in-Include-clause-less
+returns-in_ok-push-in-Include-clause-less c =
+    let frames = c.args.self.now.frames.items in
+    let on : OpenMember = record { name = c.args.frame.name; slot = c.args.frame.slot; next = c.in-Include.request.next } in
+    let left = subst (λ p. Reads 200000 c.args.frame.name c.tokens-tokens.result.now c.args.frame.next c.args.self.now.progress p c.read_tokens.new.progress)
+    c.in-Include.is c.in_ok-read_tokens.ensures in
+    let opened : length c.push.new.self.items ≡ length frames + 1 = ap length c.in_ok-push-in-Include.ensures.items ∙ length_push frames on in
+    both_parts c.enter.result _ _ _ _ _ c.enter.ensures.read c.enter.ensures.frames
+    (λ same longer. omega (arith, length_push frames c.args.frame, left.left, opened, same, longer))

@@ -1,0 +1,117 @@
+//! The operands of an instruction, one behind another.
+ghost use Rattle.std.specs.Prelude.{◌≡◌};
+ghost use Rattle.pli_deck.specs.Fields.{u1, u2, u4, from_to, signed, unknown};
+ghost use Rattle.pli_deck_read.specs.Operands.{operands_view, kept, Reads};
+
+use crate::error::ReadError;
+use crate::reading::{byte_of, byte_within, short_of, signed_within, word_of};
+use pli_deck::{Fault, Instruction};
+
+/// The bytes from which operands are read. The first error is kept, and what is read behind it says nothing: so whether
+/// all went well is asked once, behind the last operand.
+#[derive(Drop)]
+pub struct Operands<'a> {
+    pub rest: &'a [u8],
+    pub error: Option<ReadError>,
+}
+
+impl<'a> Operands<'a> {
+    /// Keeps the error, unless there was one before.
+    fn failed(&mut self, error: ReadError)
+        ensures same { self.new.rest ≡ self.old.rest }
+        ensures first { self.new.error ≡ kept self.old.error error }
+    {
+        match self.error {
+            None => self.error = Some(error),
+            Some(_) => {}
+        }
+    }
+
+    /// One byte.
+    pub fn byte(&mut self) -> u8
+        ensures { Reads u1.read (operands_view self.old) result (operands_view self.new) }
+    {
+        match byte_of(self.rest) {
+            Ok((number, rest)) => {
+                self.rest = rest;
+                number
+            }
+            Err(error) => {
+                self.failed(error);
+                0
+            }
+        }
+    }
+
+    /// One byte from `low` to `high`.
+    pub fn byte_within(&mut self, low: u8, high: u8) -> u8
+        ensures { Reads (from_to low high u1).read (operands_view self.old) result (operands_view self.new) }
+    {
+        match byte_within(self.rest, low, high) {
+            Ok((number, rest)) => {
+                self.rest = rest;
+                number
+            }
+            Err(error) => {
+                self.failed(error);
+                0
+            }
+        }
+    }
+
+    /// A number of two bytes.
+    pub fn short(&mut self) -> u16
+        ensures { Reads u2.read (operands_view self.old) result (operands_view self.new) }
+    {
+        match short_of(self.rest) {
+            Ok((number, rest)) => {
+                self.rest = rest;
+                number
+            }
+            Err(error) => {
+                self.failed(error);
+                0
+            }
+        }
+    }
+
+    /// A number of four bytes.
+    pub fn word(&mut self) -> u32
+        ensures { Reads u4.read (operands_view self.old) result (operands_view self.new) }
+    {
+        match word_of(self.rest) {
+            Ok((number, rest)) => {
+                self.rest = rest;
+                number
+            }
+            Err(error) => {
+                self.failed(error);
+                0
+            }
+        }
+    }
+
+    /// A signed number of four bytes that is at most `bound` from 0.
+    pub fn signed_within(&mut self, bound: u32) -> i32
+        ensures { Reads (signed bound).read (operands_view self.old) result (operands_view self.new) }
+    {
+        match signed_within(self.rest, bound) {
+            Ok((number, rest)) => {
+                self.rest = rest;
+                number
+            }
+            Err(error) => {
+                self.failed(error);
+                0
+            }
+        }
+    }
+
+    /// No instruction has the code: that is an error, and any instruction stands for it.
+    pub fn unknown(&mut self) -> Instruction
+        ensures { Reads unknown (operands_view self.old) result (operands_view self.new) }
+    {
+        self.failed(ReadError::Fault(Fault::OutOfRange));
+        Instruction::Stop
+    }
+}
