@@ -119,18 +119,11 @@ fn string_conversions(
 ) -> Result<Option<Vec<Operation>>, AllocError>
     ensures { IfOk result (λ made. option_map (λ v. map operation_view v.items) made ≡ spec.string_conversions kind) }
 {
-    let mut made = Vec::new(alloc);
     match kind {
-        ExpressionType::Characters => Ok(Some(made)),
-        ExpressionType::Bits => {
-            made.push(Operation::FromBits)?;
-            Ok(Some(made))
-        }
+        ExpressionType::Characters => Ok(Some(Vec::new(alloc))),
+        ExpressionType::Bits => Ok(Some(vec![in alloc; Operation::FromBits]?)),
         _ => match kind.width() {
-            Some(width) => {
-                made.push(Operation::ToCharacters { width })?;
-                Ok(Some(made))
-            }
+            Some(width) => Ok(Some(vec![in alloc; Operation::ToCharacters { width }]?)),
             None => Ok(None),
         },
     }

@@ -1,5 +1,5 @@
 //! The types of what built-in functions give.
-ghost use Rattle.std.specs.Prelude.{◌≡◌, IfOk, length, map, option_map};
+ghost use Rattle.std.specs.Prelude.{◌≡◌, [], ◌∷◌, IfOk, length, map, option_map};
 ghost use Rattle.pli_operation.specs.views.OperationView.{operation_view};
 ghost use Rattle.pli_type.specs.ExpressionTypes as ext;
 ghost use Rattle.pli_type.specs.FunctionCalls as spec;
@@ -21,6 +21,61 @@ const A_COUNT: ExpressionType = ExpressionType::FixedBinary {
     precision: COUNT_PRECISION,
 };
 
+/// The type of what a built-in function gives of one value.
+fn type_of_one(
+    greatest: u8,
+    function: BuiltInFunction,
+    value: ExpressionType,
+) -> Option<ExpressionType>
+    ensures { result ≡ spec.call_type greatest function (value ∷ []) }
+{
+    match function {
+        BuiltInFunction::Abs => {
+            let precision = value.precision(greatest)?;
+            Some(ExpressionType::FixedBinary { precision })
+        }
+        BuiltInFunction::Sign => {
+            value.precision(greatest)?;
+            Some(A_COUNT)
+        }
+        BuiltInFunction::Length => match value {
+            ExpressionType::Characters | ExpressionType::Bits => Some(A_COUNT),
+            _ => None,
+        },
+        _ => None,
+    }
+}
+
+/// The type of what a built-in function gives of two values.
+fn type_of_two(
+    greatest: u8,
+    function: BuiltInFunction,
+    left: ExpressionType,
+    right: ExpressionType,
+) -> Option<ExpressionType>
+    ensures { result ≡ spec.call_type greatest function (left ∷ right ∷ []) }
+{
+    match function {
+        BuiltInFunction::Max | BuiltInFunction::Min => {
+            let (p, q) = precisions(greatest, left, right)?;
+            Some(ExpressionType::FixedBinary {
+                precision: p.max(q),
+            })
+        }
+        BuiltInFunction::Mod => {
+            let (_, precision) = precisions(greatest, left, right)?;
+            Some(ExpressionType::FixedBinary { precision })
+        }
+        BuiltInFunction::Index => match (left, right) {
+            (ExpressionType::Characters, ExpressionType::Characters)
+            | (ExpressionType::Bits, ExpressionType::Bits) => Some(A_COUNT),
+            _ => None,
+        },
+        BuiltInFunction::Substring => part_type(greatest, left, right),
+        _ => None,
+    }
+}
+
 /// The type of what a built-in function gives of values of these types, or none where it does not take them. A built-
 /// in function converts nothing. ABS gives the precision of its operand, MAX and MIN the greater one, MOD that of its
 /// second operand (own).
@@ -31,35 +86,10 @@ pub fn call_type(
 ) -> Option<ExpressionType>
     ensures { result ≡ spec.call_type greatest function kinds.now }
 {
-    match (function, kinds) {
-        (BuiltInFunction::Abs, [x]) => {
-            let precision = x.precision(greatest)?;
-            Some(ExpressionType::FixedBinary { precision })
-        }
-        (BuiltInFunction::Sign, [x]) => {
-            x.precision(greatest)?;
-            Some(A_COUNT)
-        }
-        (BuiltInFunction::Length, [ExpressionType::Characters | ExpressionType::Bits]) => {
-            Some(A_COUNT)
-        }
-        (BuiltInFunction::Max | BuiltInFunction::Min, [x, y]) => {
-            let (left, right) = precisions(greatest, *x, *y)?;
-            Some(ExpressionType::FixedBinary {
-                precision: left.max(right),
-            })
-        }
-        (BuiltInFunction::Mod, [x, y]) => {
-            let (_, precision) = precisions(greatest, *x, *y)?;
-            Some(ExpressionType::FixedBinary { precision })
-        }
-        (
-            BuiltInFunction::Index,
-            [ExpressionType::Characters, ExpressionType::Characters]
-            | [ExpressionType::Bits, ExpressionType::Bits],
-        ) => Some(A_COUNT),
-        (BuiltInFunction::Substring, [s, i]) => part_type(greatest, *s, *i),
-        (BuiltInFunction::Substring, [s, i, n]) => {
+    match (kinds, function) {
+        ([x], _) => type_of_one(greatest, function, *x),
+        ([x, y], _) => type_of_two(greatest, function, *x, *y),
+        ([s, i, n], BuiltInFunction::Substring) => {
             n.precision(greatest)?;
             part_type(greatest, *s, *i)
         }

@@ -1,8 +1,8 @@
 -- One step behind another, where each gives a value or a fault.
-use Rattle.std.proofs.Common.{◌≡◌, Result, Ok, Err, List, [], ◌∷◌, ◌++◌, refl, ap, sym, subst, append_assoc}
+use Rattle.std.proofs.Common.{◌≡◌, Result, Ok, Err, IsErrAnd, List, [], ◌∷◌, ◌++◌, refl, ap, sym, subst, append_assoc}
 use Rattle.pli_base.specs.Reading.{◌>>=◌}
 use Rattle.pli_base.specs.declared.token.Fault.{Fault}
-use Rattle.pli_type_expression.specs.answers.TypingAnswers.{Fails}
+use Rattle.pli_type_expression.specs.answers.TypingAnswers.{Fails, Gives}
 use Rattle.pli_type_expression.specs.declared.answer.TypeError.{TypeError}
 use Rattle.pli_type_expression.specs.declared.answer.TypeError.TheVariants as errors
 
@@ -15,6 +15,12 @@ fails_on (errors.Fault f) r k p = ap (λ s. s >>= k) p
 -- what is equal fails alike
 pub fails_as : {Y : Type 0} (e : TypeError) (r s : Result Y Fault) → r ≡ s → Fails e s → Fails e r
 fails_as e r s q p = let P : Result _ Fault → Type 0 = λ t. Fails e t in subst P (sym q) p
+
+-- where a step fails, what a `?` returns fails alike
+pub exits : {X Y : Type 0} (view : X → Y) (r : Result X TypeError) (e : TypeError) (typed : Result Y Fault)
+    → IsErrAnd r (λ d. d ≡ e) → Fails e typed → Gives view r typed
+exits view (Ok x) e typed is p = absurd is
+exits view (Err d) e typed is p = subst (λ d. Fails d typed) (sym is) p
 
 pub bind_assoc : {X Y Z : Type 0} (r : Result X Fault) (f : X → Result Y Fault) (g : Y → Result Z Fault)
     → ((r >>= f) >>= g) ≡ (r >>= λ x. f x >>= g)

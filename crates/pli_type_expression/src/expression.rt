@@ -111,7 +111,13 @@ pub fn denoted<'a>(
             right,
         } => {
             let left_value = value_of(alloc, naming, left)?;
-            let right_value = value_of(alloc, naming, right)?;
+            let right_value = match value_of(alloc, naming, right) {
+                Ok(value) => value,
+                Err(error) => {
+                    drop(left_value);
+                    return Err(error);
+                }
+            };
             let combined = infix(
                 alloc,
                 greatest(naming),
@@ -178,12 +184,18 @@ fn with_part(
 {
     match joined.joining {
         Joining::Member => {
-            let more = subscripts_in(alloc, naming, &joined.part)?;
+            let more = match subscripts_in(alloc, naming, &joined.part) {
+                Ok(more) => more,
+                Err(error) => {
+                    drop(segment);
+                    return Err(error);
+                }
+            };
             let longer = segment.with_more(more)?;
             Ok(longer)
         }
         Joining::Located => {
-            segment.ended(alloc, naming, Role::Locator)?;
+            drop(segment.ended(alloc, naming, Role::Locator)?);
             begun(alloc, naming, false, true, &joined.part)
         }
     }

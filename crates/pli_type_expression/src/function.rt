@@ -88,8 +88,8 @@ fn of_values(
     let mut kinds = Vec::new(alloc);
     let mut operands = Vec::new(alloc);
     for value in values {
-        kinds.push(value.kind)?;
         operands.push(value.expression)?;
+        kinds.push(value.kind)?;
     }
     Ok(call(greatest, function, kinds.as_slice(), operands))
 }
@@ -108,6 +108,7 @@ fn quotient_of(
         return Ok(None);
     };
     let Some(right) = values.next() else {
+        drop(left);
         return Ok(None);
     };
     quotient(alloc, greatest, left, right, written)

@@ -38,10 +38,16 @@ fn dummy(
         return Ok(None);
     };
     match converted(alloc, greatest, description, value)? {
-        Some(value) => Ok(Some(TypedArgument::ByDummy {
-            description: description.copy(alloc)?,
-            value,
-        })),
+        Some(value) => {
+            let description = match description.copy(alloc) {
+                Ok(description) => description,
+                Err(error) => {
+                    drop(value);
+                    return Err(error);
+                }
+            };
+            Ok(Some(TypedArgument::ByDummy { description, value }))
+        }
         None => Ok(None),
     }
 }

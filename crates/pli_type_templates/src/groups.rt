@@ -77,6 +77,7 @@ pub(crate) fn variable_template(
     for member in members {
         put_item(alloc, &planned.plan, *member, &mut scalars)?;
     }
+    drop(planned);
     let description = made.description.copy(alloc)?;
     Ok(Template {
         description,

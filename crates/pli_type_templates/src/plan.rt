@@ -93,9 +93,9 @@ fn array_from<'a>(
     let count = count_of(bounds)?;
     let planned = plan_from(alloc, element, first)?;
     let distance = planned.end - first;
+    let element = Box::new(alloc, planned.plan)?;
     let scalars = count.checked_mul(distance).ok_or(AllocError)?;
     let end = first.checked_add(scalars).ok_or(AllocError)?;
-    let element = Box::new(alloc, planned.plan)?;
     let level = Level { count, distance };
     Ok(Planned {
         plan: Plan::Array { level, element },

@@ -1,6 +1,5 @@
 use Rattle.std.proofs.Common.{rules, ◌≡◌, map, drop, length, false, true, [], Some, None, Ok, ap, ◌∙◌, sym, arith, Vec, Global}
 use Rattle.std.proofs.lemmas.Bool.{or_parts}
-use Rattle.std.proofs.lemmas.Result.{err_from_is_err_and}
 use Rattle.pli_base.specs.views.SyntaxView as syntax
 use Rattle.pli_base.specs.Syntax.{Given}
 use Rattle.pli_base.specs.laws.SyntaxLaws.{reference_out}
@@ -15,12 +14,13 @@ use Rattle.pli_type.specs.Typing as typing
 use Rattle.pli_type_names.specs.UnitNaming.{compiled_in, naming_in}
 use Rattle.pli_type_tree.specs.views.TypedView.{expression_view}
 use Rattle.pli_type_expression.specs.views.TypingView.{argument_view, denoted_view, of_name, role_view, segment_view}
-use Rattle.pli_type_expression.proofs.Binds.{fails_as, fails_on, bind_ok}
+use Rattle.pli_type_expression.proofs.Binds.{exits, fails_as, fails_on, bind_ok}
 use Rattle.pli_type_expression.proofs.Called.{gives_as, call_unmeant, call_typed}
 use Rattle.pli_type_expression.proofs.Meanings.{begun_at_variable, begun_at_function, call_given, begun_beside_function, begun_beside_procedure, begun_alone, procedure_unmeant}
 use Rattle.pli_type_expression.proofs.Sizes.{item_size, part_size, expression_size, reference_size, arguments_size, list_size, parts_size}
 use Rattle.pli_type_expression.proofs.Walks.{written_ends, written_unbegun, written_unended, parenthesized_typed, parenthesized_unmeant, prefix_typed, prefix_unmeant, prefix_refused, infix_typed, left_unmeant, right_unmeant, infix_refused}
 use Rattle.pli_type_expression.specs.Segments.{next_segment, function_typed}
+use Rattle.pli_type_expression.specs.declared.answer.TypeError.TheVariants.{OutOfMemory}
 use Rattle.pli_type_expression.specs.declared.argument.Argument.{Argument}
 use Rattle.pli_type_tree.specs.declared.expression.TypedExpression.{TypedExpression}
 use Rattle.pli_type_expression.proofs.Built.{item_built, part_built, reference_built, constant_built}
@@ -48,15 +48,14 @@ all_arguments-denoted-requires t c =
 
 pub all_arguments-returns-in_err-argument : goal.all_arguments-returns-in_err-argument
 all_arguments-returns-in_err-argument t c =
-    let p = err_from_is_err_and c.from_residual.result c.from_residual.ensures.1 in
-    rw (p.1, p.2)
+    exits _ c.from_residual.result c.in_err-argument.field-0.0 _ c.from_residual.ensures.1
     (fails_as c.in_err-argument.field-0.0 _ _ c.loop-place.invariant.typed
     (argument_undenoted (naming_in c.args.naming.now) c.args.list.now c.loop-place.place c.index-list-place.result (omega arith) c.index-list-place.is
     (map role_view c.args.roles.now) c.loop-place.arguments.items (role_view c.role_at-role.result) c.in_err-argument.field-0.0 c.role_at-role.ensures c.in_err-argument.ensures))
 
 pub all_arguments-returns-in_err-push : goal.all_arguments-returns-in_err-push
 all_arguments-returns-in_err-push t c =
-    let p = err_from_is_err_and c.from_residual-in_err-push.result c.from_residual-in_err-push.ensures.1 in rw (p.1, p.2) tt
+    exits _ c.from_residual-in_err-push.result OutOfMemory _ c.from_residual-in_err-push.ensures.1 tt
 
 pub all_arguments-loop-place-smaller : goal.all_arguments-loop-place-smaller
 all_arguments-loop-place-smaller t c = search rules
@@ -98,15 +97,14 @@ all_subscripts-value_of-requires t c =
 
 pub all_subscripts-returns-in_err-value : goal.all_subscripts-returns-in_err-value
 all_subscripts-returns-in_err-value t c =
-    let p = err_from_is_err_and c.from_residual.result c.from_residual.ensures.1 in
-    rw (p.1, p.2)
+    exits _ c.from_residual.result c.in_err-value.field-0.0 _ c.from_residual.ensures.1
     (fails_as c.in_err-value.field-0.0 _ _ c.loop-expression.invariant.typed
     (subscript_valueless (naming_in c.args.naming.now) c.args.list.now c.loop-expression.expression-index c.expression-item.result (omega arith) c.expression-item.is
     c.loop-expression.subscripts.items c.in_err-value.field-0.0 c.in_err-value.ensures))
 
 pub all_subscripts-returns-in_err-push : goal.all_subscripts-returns-in_err-push
 all_subscripts-returns-in_err-push t c =
-    let p = err_from_is_err_and c.from_residual-in_err-push.result c.from_residual-in_err-push.ensures.1 in rw (p.1, p.2) tt
+    exits _ c.from_residual-in_err-push.result OutOfMemory _ c.from_residual-in_err-push.ensures.1 tt
 
 pub all_subscripts-loop-expression-smaller : goal.all_subscripts-loop-expression-smaller
 all_subscripts-loop-expression-smaller t c = search rules
@@ -134,8 +132,7 @@ continued-with_part-requires t c =
 pub continued-returns-in_err-segment : goal.continued-returns-in_err-segment
 continued-returns-in_err-segment t c =
     let n = naming_in c.args.naming.now in
-    let p = err_from_is_err_and c.from_residual.result c.from_residual.ensures.1 in
-    rw (p.1, p.2)
+    exits _ c.from_residual.result c.in_err-segment.field-0.0 _ c.from_residual.ensures.1
     (fails_as c.in_err-segment.field-0.0 _ _ c.loop-part.invariant.last
     (part_fails n (segment_view n c.loop-part.segment) c.args.joined.now c.loop-part.part-index c.part-item.result (omega arith) c.part-item.is c.in_err-segment.field-0.0 c.in_err-segment.ensures))
 
@@ -161,8 +158,7 @@ all_subscripts-returns-in_err-one t c =
     let x = c.expression-item.result in
     let e = c.in_err-one.field-0.0 in
     let v = value_view c.in_ok-value.value in
-    let p = err_from_is_err_and c.from_residual-in_err-one.result c.from_residual-in_err-one.ensures.1 in
-    rw (p.1, p.2)
+    exits _ c.from_residual-in_err-one.result e _ c.from_residual-in_err-one.ensures.1
     (fails_as e _ _ c.loop-expression.invariant.typed (subscript_no_number n c.args.list.now c.loop-expression.expression-index x (omega arith) c.expression-item.is c.loop-expression.subscripts.items v e c.in_ok-value.ensures
     (fails_as e _ _ (ap (λ g. typing.subscript_value g (typing.first_token (syntax.expression_view x)) v) (sym c.greatest.ensures)) c.in_err-one.ensures)))
 
@@ -234,8 +230,7 @@ begun_with-returns-in_err-subscripts-in-Variable t c =
     let w = n.meaning c.args.at in
     let list = syntax.expressions_view c.args.list.now in
     let e = c.in_err-subscripts-in-Variable.field-0.0 in
-    let p = err_from_is_err_and c.from_residual.result c.from_residual.ensures.1 in
-    rw (p.1, p.2)
+    exits _ c.from_residual.result e _ c.from_residual.ensures.1
     (fails_as e _ _ (begun_at_variable n w c.in-Variable.field-0 c.in-Variable.ensures c.args.call c.args.located c.args.at list) (fails_on e (typing.all_subscripts n list) (λ xs. Ok (of_name w c.args.located c.args.at xs)) c.in_err-subscripts-in-Variable.ensures))
 
 pub begun_with-returns-in_ok-subscripts-in-Variable : goal.begun_with-returns-in_ok-subscripts-in-Variable
@@ -252,8 +247,7 @@ begun_with-returns-in_err-value-in-Function t c =
     let w = n.meaning c.args.at in
     let list = syntax.expressions_view c.args.list.now in
     let e = c.in_err-value-in-Function.field-0.0 in
-    let p = err_from_is_err_and c.from_residual-in_err-value-in-Function.result c.from_residual-in_err-value-in-Function.ensures.1 in
-    rw (p.1, p.2)
+    exits _ c.from_residual-in_err-value-in-Function.result e _ c.from_residual-in_err-value-in-Function.ensures.1
     (fails_as e _ _ (ap (λ k. typing.begun n w k c.args.located c.args.at (Given list)) c.if-call.true
     ∙ begun_at_function n w c.in-Function.function c.in-Function.ensures c.args.located c.args.at list) (fails_on e (function_typed n c.in-Function.function c.args.at list) (λ v. Ok (typing.OfFunction v)) c.in_err-value-in-Function.ensures))
 
@@ -272,8 +266,7 @@ begun_with-returns-in_err-all_arguments-in-Function t c =
     let w = n.meaning c.args.at in
     let list = syntax.expressions_view c.args.list.now in
     let e = c.in_err-all_arguments-in-Function.field-0.0 in
-    let p = err_from_is_err_and c.from_residual-in_err-all_arguments-in-Function.result c.from_residual-in_err-all_arguments-in-Function.ensures.1 in
-    rw (p.1, p.2)
+    exits _ c.from_residual-in_err-all_arguments-in-Function.result e _ c.from_residual-in_err-all_arguments-in-Function.ensures.1
     (fails_as e _ _ (ap (λ k. typing.begun n w k c.args.located c.args.at (Given list)) c.if-call.false
     ∙ begun_beside_function n w c.in-Function.function c.in-Function.ensures c.args.located c.args.at list) (fails_on e (typing.all_arguments n [] list) (λ gs. Ok (of_name w c.args.located c.args.at [])) c.in_err-all_arguments-in-Function.ensures))
 
@@ -303,8 +296,7 @@ begun_with-returns-in_err-arguments-in-Procedure t c =
     let w = n.meaning c.args.at in
     let list = syntax.expressions_view c.args.list.now in
     let e = c.in_err-arguments-in-Procedure.field-0.0 in
-    let p = err_from_is_err_and c.from_residual-in_err-arguments-in-Procedure.result c.from_residual-in_err-arguments-in-Procedure.ensures.1 in
-    rw (p.1, p.2)
+    exits _ c.from_residual-in_err-arguments-in-Procedure.result e _ c.from_residual-in_err-arguments-in-Procedure.ensures.1
     (procedure_unmeant n w c.in-Procedure.procedure c.in-Procedure.ensures c.args.call c.args.located c.args.at list e c.in_err-arguments-in-Procedure.ensures)
 
 pub begun_with-returns-then-call-2 : goal.begun_with-returns-then-call-2
@@ -324,8 +316,7 @@ called-returns-in_err-all_arguments t c =
     let xs = c.args.list.now in
     let no : calls.roles_of c.args.function (length xs) ≡ None = search rules in
     let e = c.in_err-all_arguments.field-0.0 in
-    let p = err_from_is_err_and c.from_residual.result c.from_residual.ensures.1 in
-    rw (p.1, p.2)
+    exits _ c.from_residual.result e _ c.from_residual.ensures.1
     (call_unmeant n c.args.function c.args.at xs None no e c.in_err-all_arguments.ensures)
 
 pub called-returns-in_default : goal.called-returns-in_default
@@ -341,8 +332,7 @@ called-returns-in_err-arguments t c =
     let xs = c.args.list.now in
     let given : calls.roles_of c.args.function (length xs) ≡ Some (map role_view c.in-Some.roles.now) = search rules in
     let e = c.in_err-arguments.field-0.0 in
-    let p = err_from_is_err_and c.from_residual-in_err-arguments.result c.from_residual-in_err-arguments.ensures.1 in
-    rw (p.1, p.2)
+    exits _ c.from_residual-in_err-arguments.result e _ c.from_residual-in_err-arguments.ensures.1
     (call_unmeant n c.args.function c.args.at xs (Some (map role_view c.in-Some.roles.now)) given e c.in_err-arguments.ensures)
 
 pub called-returns : goal.called-returns
@@ -381,20 +371,18 @@ pub with_part-begun-requires : goal.with_part-begun-requires
 with_part-begun-requires t c =
     (omega (arith, c.decreases), c.requires)
 
-pub with_part-returns-in_err-more-in-Member : goal.with_part-returns-in_err-more-in-Member
-with_part-returns-in_err-more-in-Member t c =
+pub with_part-returns-in-Err : goal.with_part-returns-in-Err
+with_part-returns-in-Err t c =
     let n = naming_in c.args.naming.now in
     let s = segment_view n c.args.segment in
     let name = c.args.joined.now.part.name in
     let given = syntax.arguments_view c.args.joined.now.part.arguments in
-    let e = c.in_err-more-in-Member.field-0.0 in
-    let p = err_from_is_err_and c.from_residual.result c.from_residual.ensures.1 in
-    rw (p.1, p.2)
-    (fails_as e _ _ (ap (λ j. next_segment n s j name given) c.in-Member.is) (fails_on e (typing.subscripts_in n given) (λ xs. Ok (typing.with_more s xs)) c.in_err-more-in-Member.ensures))
+    let e = c.in-Err.error in
+    fails_as e _ _ (ap (λ j. next_segment n s j name given) c.in-Member.is) (fails_on e (typing.subscripts_in n given) (λ xs. Ok (typing.with_more s xs)) c.in-Err.ensures)
 
 pub with_part-returns-in_err-longer-in-Member : goal.with_part-returns-in_err-longer-in-Member
 with_part-returns-in_err-longer-in-Member t c =
-    let p = err_from_is_err_and c.from_residual-in_err-longer-in-Member.result c.from_residual-in_err-longer-in-Member.ensures.1 in rw (p.1, p.2) tt
+    exits _ c.from_residual.result OutOfMemory _ c.from_residual.ensures.1 tt
 
 pub with_part-returns-in_ok-longer-in-Member : goal.with_part-returns-in_ok-longer-in-Member
 with_part-returns-in_ok-longer-in-Member t c =
@@ -402,9 +390,9 @@ with_part-returns-in_ok-longer-in-Member t c =
     let s = segment_view n c.args.segment in
     let name = c.args.joined.now.part.name in
     let given = syntax.arguments_view c.args.joined.now.part.arguments in
-    let xs = map expression_view c.in_ok-more-in-Member.more.items in
+    let xs = map expression_view c.in-Ok.more.items in
     ap (λ j. next_segment n s j name given) c.in-Member.is
-    ∙ bind_ok (typing.subscripts_in n given) xs (λ xs. Ok (typing.with_more s xs)) c.in_ok-more-in-Member.ensures ∙ ap (λ t. Ok t) (sym (c.in_ok-longer-in-Member.ensures n))
+    ∙ bind_ok (typing.subscripts_in n given) xs (λ xs. Ok (typing.with_more s xs)) c.in-Ok.ensures ∙ ap (λ t. Ok t) (sym (c.in_ok-longer-in-Member.ensures n))
 
 pub with_part-returns-in_err-ended-in-Located : goal.with_part-returns-in_err-ended-in-Located
 with_part-returns-in_err-ended-in-Located t c =
@@ -413,8 +401,7 @@ with_part-returns-in_err-ended-in-Located t c =
     let name = c.args.joined.now.part.name in
     let given = syntax.arguments_view c.args.joined.now.part.arguments in
     let e = c.in_err-ended-in-Located.field-0.0 in
-    let p = err_from_is_err_and c.from_residual-in_err-ended-in-Located.result c.from_residual-in_err-ended-in-Located.ensures.1 in
-    rw (p.1, p.2)
+    exits _ c.from_residual-in_err-ended-in-Located.result e _ c.from_residual-in_err-ended-in-Located.ensures.1
     (fails_as e _ _ (ap (λ j. next_segment n s j name given) c.in-Located.is) (fails_on e (typing.ended AsLocator s) (λ l. typing.begun n (n.meaning name.at) false true name.at given) c.in_err-ended-in-Located.ensures))
 
 pub with_part-returns-in_ok-ended-in-Located : goal.with_part-returns-in_ok-ended-in-Located
@@ -441,16 +428,14 @@ referred-continued-requires t c =
 
 pub referred-returns-in_err-first : goal.referred-returns-in_err-first
 referred-returns-in_err-first t c =
-    let p = err_from_is_err_and c.from_residual.result c.from_residual.ensures.1 in
-    rw (p.1, p.2)
+    exits _ c.from_residual.result c.in_err-first.field-0.0 _ c.from_residual.ensures.1
     (written_unbegun (naming_in c.args.naming.now) (role_view c.args.role) c.args.reference.now c.as_slice-joined.result.now c.is_call-call.result c.as_slice-joined.ensures.value c.is_call-call.ensures
     c.in_err-first.field-0.0 c.in_err-first.ensures)
 
 pub referred-returns-in_err-last : goal.referred-returns-in_err-last
 referred-returns-in_err-last t c =
     let n = naming_in c.args.naming.now in
-    let p = err_from_is_err_and c.from_residual-in_err-last.result c.from_residual-in_err-last.ensures.1 in
-    rw (p.1, p.2)
+    exits _ c.from_residual-in_err-last.result c.in_err-last.field-0.0 _ c.from_residual-in_err-last.ensures.1
     (written_unended n (role_view c.args.role) c.args.reference.now c.as_slice-joined.result.now c.is_call-call.result c.as_slice-joined.ensures.value c.is_call-call.ensures
     (segment_view n c.in_ok-first.first) c.in_err-last.field-0.0 c.in_ok-first.ensures c.in_err-last.ensures)
 
@@ -469,8 +454,7 @@ pub value_of-returns-in_err-denoted : goal.value_of-returns-in_err-denoted
 value_of-returns-in_err-denoted t c =
     let e = c.in_err-denoted.field-0.0 in
     let x = syntax.expression_view c.args.expression.now in
-    let p = err_from_is_err_and c.from_residual.result c.from_residual.ensures.1 in
-    rw (p.1, p.2)
+    exits _ c.from_residual.result e _ c.from_residual.ensures.1
     (fails_on e (typing.denoted (naming_in c.args.naming.now) AsValue x) (λ d. typing.one_value (typing.first_token x) (calls.meant_as d)) c.in_err-denoted.ensures)
 
 pub value_of-returns : goal.value_of-returns
@@ -497,7 +481,7 @@ denoted-constant-requires t c =
 
 pub denoted-returns-in_err-literal-in-Constant : goal.denoted-returns-in_err-literal-in-Constant
 denoted-returns-in_err-literal-in-Constant t c =
-    let p = err_from_is_err_and c.from_residual.result c.from_residual.ensures.1 in rw (p.1, p.2) tt
+    exits _ c.from_residual.result OutOfMemory _ c.from_residual.ensures.1 tt
 
 pub denoted-returns-in_ok-literal-in-Constant : goal.denoted-returns-in_ok-literal-in-Constant
 denoted-returns-in_ok-literal-in-Constant t c =
@@ -517,8 +501,7 @@ denoted-returns-in_err-value-in-Parenthesized t c =
     let b = c.in-Parenthesized in
     let here = λ (e : Expression). typing.value_of n (syntax.expression_view e) in
     let e = c.in_err-value-in-Parenthesized.field-0.0 in
-    let p = err_from_is_err_and c.from_residual-in_err-value-in-Parenthesized.result c.from_residual-in_err-value-in-Parenthesized.ensures.1 in
-    rw (p.1, p.2)
+    exits _ c.from_residual-in_err-value-in-Parenthesized.result e _ c.from_residual-in_err-value-in-Parenthesized.ensures.1
     (fails_as e _ _ (ap (λ e. typing.denoted n role (syntax.expression_view e)) b.is) (parenthesized_unmeant n role b.at (syntax.expression_view b.inner.value) e (fails_as e _ _ (sym (ap here c.deref.ensures)) c.in_err-value-in-Parenthesized.ensures)))
 
 pub denoted-returns-in_ok-value-in-Parenthesized : goal.denoted-returns-in_ok-value-in-Parenthesized
@@ -542,8 +525,7 @@ denoted-returns-in_err-operand_value-in-Prefix t c =
     let b = c.in-Prefix in
     let here = λ (e : Expression). typing.value_of n (syntax.expression_view e) in
     let e = c.in_err-operand_value-in-Prefix.field-0.0 in
-    let p = err_from_is_err_and c.from_residual-in_err-operand_value-in-Prefix.result c.from_residual-in_err-operand_value-in-Prefix.ensures.1 in
-    rw (p.1, p.2)
+    exits _ c.from_residual-in_err-operand_value-in-Prefix.result e _ c.from_residual-in_err-operand_value-in-Prefix.ensures.1
     (fails_as e _ _ (ap (λ e. typing.denoted n role (syntax.expression_view e)) b.is) (prefix_unmeant n role b.operator b.at (syntax.expression_view b.operand.value) e (fails_as e _ _ (sym (ap here c.deref-in-Prefix.ensures)) c.in_err-operand_value-in-Prefix.ensures)))
 
 pub denoted-returns-in_err-given-in-Prefix : goal.denoted-returns-in_err-given-in-Prefix
@@ -554,8 +536,7 @@ denoted-returns-in_err-given-in-Prefix t c =
     let v = value_view c.in_ok-operand_value-in-Prefix.operand_value in
     let here = λ (e : Expression). typing.value_of n (syntax.expression_view e) in
     let e = c.in_err-given-in-Prefix.field-0.0 in
-    let p = err_from_is_err_and c.from_residual-in_err-given-in-Prefix.result c.from_residual-in_err-given-in-Prefix.ensures.1 in
-    rw (p.1, p.2)
+    exits _ c.from_residual-in_err-given-in-Prefix.result e _ c.from_residual-in_err-given-in-Prefix.ensures.1
     (fails_as e _ _ (ap (λ e. typing.denoted n role (syntax.expression_view e)) b.is) (prefix_refused n role b.operator b.at (syntax.expression_view b.operand.value) v e (sym (ap here c.deref-in-Prefix.ensures) ∙ c.in_ok-operand_value-in-Prefix.ensures)
     (fails_as e _ _ (ap (λ g. typing.or_fault WrongOperandType b.at (types.prefix_value g b.operator v)) (sym c.greatest.ensures)) c.in_err-given-in-Prefix.ensures)))
 
@@ -589,13 +570,12 @@ denoted-returns-in_err-left_value-in-Infix t c =
     let right = syntax.expression_view b.right.value in
     let here = λ (e : Expression). typing.value_of n (syntax.expression_view e) in
     let e = c.in_err-left_value-in-Infix.field-0.0 in
-    let p = err_from_is_err_and c.from_residual-in_err-left_value-in-Infix.result c.from_residual-in_err-left_value-in-Infix.ensures.1 in
-    rw (p.1, p.2)
+    exits _ c.from_residual-in_err-left_value-in-Infix.result e _ c.from_residual-in_err-left_value-in-Infix.ensures.1
     (fails_as e _ _ (ap (λ e. typing.denoted n role (syntax.expression_view e)) b.is)
     (left_unmeant n role b.operator b.at left right e (fails_as e _ _ (sym (ap here c.deref-in-Infix.ensures)) c.in_err-left_value-in-Infix.ensures)))
 
-pub denoted-returns-in_err-right_value-in-Infix : goal.denoted-returns-in_err-right_value-in-Infix
-denoted-returns-in_err-right_value-in-Infix t c =
+pub denoted-returns-in-Err : goal.denoted-returns-in-Err
+denoted-returns-in-Err t c =
     let n = naming_in c.args.naming.now in
     let role = role_view c.args.role in
     let b = c.in-Infix in
@@ -603,11 +583,9 @@ denoted-returns-in_err-right_value-in-Infix t c =
     let right = syntax.expression_view b.right.value in
     let here = λ (e : Expression). typing.value_of n (syntax.expression_view e) in
     let v = value_view c.in_ok-left_value-in-Infix.left_value in
-    let e = c.in_err-right_value-in-Infix.field-0.0 in
-    let p = err_from_is_err_and c.from_residual-in_err-right_value-in-Infix.result c.from_residual-in_err-right_value-in-Infix.ensures.1 in
-    rw (p.1, p.2)
-    (fails_as e _ _ (ap (λ e. typing.denoted n role (syntax.expression_view e)) b.is)
-    (right_unmeant n role b.operator b.at left right v e (sym (ap here c.deref-in-Infix.ensures) ∙ c.in_ok-left_value-in-Infix.ensures) (fails_as e _ _ (sym (ap here c.deref-in-Infix-2.ensures)) c.in_err-right_value-in-Infix.ensures)))
+    let e = c.in-Err.error in
+    fails_as e _ _ (ap (λ e. typing.denoted n role (syntax.expression_view e)) b.is)
+    (right_unmeant n role b.operator b.at left right v e (sym (ap here c.deref-in-Infix.ensures) ∙ c.in_ok-left_value-in-Infix.ensures) (fails_as e _ _ (sym (ap here c.deref-in-Infix-2.ensures)) c.in-Err.ensures))
 
 pub denoted-returns-in_err-combined-in-Infix : goal.denoted-returns-in_err-combined-in-Infix
 denoted-returns-in_err-combined-in-Infix t c =
@@ -618,13 +596,12 @@ denoted-returns-in_err-combined-in-Infix t c =
     let right = syntax.expression_view b.right.value in
     let here = λ (e : Expression). typing.value_of n (syntax.expression_view e) in
     let v = value_view c.in_ok-left_value-in-Infix.left_value in
-    let w = value_view c.in_ok-right_value-in-Infix.right_value in
+    let w = value_view c.in-Ok.value in
     let e = c.in_err-combined-in-Infix.field-0.0 in
-    let p = err_from_is_err_and c.from_residual-in_err-combined-in-Infix.result c.from_residual-in_err-combined-in-Infix.ensures.1 in
-    rw (p.1, p.2)
+    exits _ c.from_residual-in_err-combined-in-Infix.result e _ c.from_residual-in_err-combined-in-Infix.ensures.1
     (fails_as e _ _ (ap (λ e. typing.denoted n role (syntax.expression_view e)) b.is)
     (infix_refused n role b.operator b.at left right v w e (sym (ap here c.deref-in-Infix.ensures) ∙ c.in_ok-left_value-in-Infix.ensures)
-    (sym (ap here c.deref-in-Infix-2.ensures) ∙ c.in_ok-right_value-in-Infix.ensures)
+    (sym (ap here c.deref-in-Infix-2.ensures) ∙ c.in-Ok.ensures)
     (fails_as e _ _ (ap (λ g. typing.or_fault WrongOperandType b.at (types.infix_value g b.operator v w)) (sym c.greatest-in-Infix.ensures)) c.in_err-combined-in-Infix.ensures)))
 
 pub denoted-returns-in_ok-combined-in-Infix : goal.denoted-returns-in_ok-combined-in-Infix
@@ -636,8 +613,8 @@ denoted-returns-in_ok-combined-in-Infix t c =
     let right = syntax.expression_view b.right.value in
     let here = λ (e : Expression). typing.value_of n (syntax.expression_view e) in
     let v = value_view c.in_ok-left_value-in-Infix.left_value in
-    let w = value_view c.in_ok-right_value-in-Infix.right_value in
+    let w = value_view c.in-Ok.value in
     ap (λ e. typing.denoted n role (syntax.expression_view e)) b.is
     ∙ infix_typed n role b.operator b.at left right v w (value_view c.in_ok-combined-in-Infix.combined) (sym (ap here c.deref-in-Infix.ensures) ∙ c.in_ok-left_value-in-Infix.ensures)
-    (sym (ap here c.deref-in-Infix-2.ensures) ∙ c.in_ok-right_value-in-Infix.ensures)
+    (sym (ap here c.deref-in-Infix-2.ensures) ∙ c.in-Ok.ensures)
     (ap (λ g. typing.or_fault WrongOperandType b.at (types.infix_value g b.operator v w)) (sym c.greatest-in-Infix.ensures) ∙ c.in_ok-combined-in-Infix.ensures)
