@@ -6,3 +6,4 @@ pub mod LinkedUnits
 pub mod MeantFirst
 pub mod MismatchLemmas
 pub mod NameTables
+pub mod RepeatedNames

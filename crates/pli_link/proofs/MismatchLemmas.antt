@@ -36,7 +36,8 @@ one_global cs f code gs i g names new whole r within is told next all =
     ∙ ap (λ (x : CodedGlobal). each_once names (faulty_names cs f code (global_view x ∷ map global_view (drop (i + 1) gs)))) (sym is))
     ∙ all
 
-drop_past : {A : Type 0} (xs : List A) (i : ℕ) → length xs ≤ i → drop i xs ≡ []
+-- nothing is left behind the last
+pub drop_past : {A : Type 0} (xs : List A) (i : ℕ) → length xs ≤ i → drop i xs ≡ []
 drop_past [] zero le = refl
 drop_past [] (suc i) le = refl
 drop_past (x ∷ xs) zero le = absurd (omega (arith, le))

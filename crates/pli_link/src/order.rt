@@ -1,5 +1,5 @@
 //! Names of procedures, and names in order.
-ghost use Rattle.std.specs.Prelude.{◌≡◌, [], map, OnOk, IfOk};
+ghost use Rattle.std.specs.Prelude.{◌≡◌, ◌++◌, ◌∷◌, [], map, OnOk, IfOk, if◌then◌else◌};
 ghost use Rattle.pli_link.specs.Link as link;
 ghost use Rattle.pli_link.specs.Units.{procedure_of};
 ghost use Rattle.pli_link.specs.views.UnitView.{compiled_view};
@@ -30,6 +30,20 @@ pub(crate) fn main_names(alloc: Global, units: &[NamedUnit]) -> Result<Vec<Linke
     Ok(names)
 }
 
+/// Appends the procedure of a unit, unless its name is new.
+fn add_repeated(
+    names: &mut Vec<LinkedName>,
+    unit: &NamedUnit,
+    is_new: bool,
+) -> Result<(), AllocError>
+    ensures { OnOk result (names.new.items ≡ names.old.items ++ (if is_new then [] else procedure_of (compiled_view unit.now) ∷ [])) }
+{
+    if !is_new {
+        names.push(procedure_of(unit))?;
+    }
+    Ok(())
+}
+
 /// The procedures that have the name of an earlier one, in the order of their units.
 pub(crate) fn repeated_names(
     alloc: Global,
@@ -41,9 +55,7 @@ pub(crate) fn repeated_names(
     let mut names = Vec::new(alloc);
     for unit in units {
         let is_new = before.insert(unit.compiled.procedure)?;
-        if !is_new {
-            names.push(procedure_of(unit))?;
-        }
+        add_repeated(&mut names, unit, is_new)?;
     }
     Ok(names)
 }

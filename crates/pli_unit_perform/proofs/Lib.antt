@@ -2,6 +2,7 @@ pub mod Beginnings
 pub mod DummyArguments
 pub mod Ends
 pub mod EnteredBlocks
+pub mod FoundInTables
 pub mod GivenPlaces
 pub mod LinkedGlobals
 pub mod LinkedUnits

@@ -1,11 +1,30 @@
 use Rattle.std.proofs.Common.{◌∙◌, ap, sym, subst, arith, map}
+use Rattle.std.proofs.lemmas.Grind.{common_steps}
 use Rattle.pli_link.specs.Mismatches.{each_once, faulty_names, linked_in}
 use Rattle.pli_link.specs.answers.Classes.{AreClasses, known_in}
 use Rattle.pli_link.specs.answers.Tables.{HaveClasses, units_in}
 use Rattle.pli_unit_code.specs.views.CodeView.{code_view, global_view}
-use Rattle.pli_link.proofs.ClassLemmas.{classed_stay, grows_on}
+use Rattle.pli_link.proofs.ClassLemmas.{classed_stay, grows_not, grows_on}
 use Rattle.pli_link.proofs.MismatchLemmas.{one_unit}
 use Rattle.pli_link.proofs.mismatches.faulty_names.Goals as goal
+
+pub loop-unit-init : goal.loop-unit-init
+loop-unit-init c = (grind (arith, common_steps), grows_not c.args.known.now.keys)
+
+pub returns-in_err-classes-clause-grows : goal.returns-in_err-classes-clause-grows
+returns-in_err-classes-clause-grows c =
+    grows_on c.args.known.now.keys c.loop-unit.known.keys c.classes_of.new.known.keys c.loop-unit.invariant.1 c.classes_of.ensures.grows
+
+pub returns-in_err-found-clause-grows : goal.returns-in_err-found-clause-grows
+returns-in_err-found-clause-grows c =
+    grows_on c.args.known.now.keys c.loop-unit.known.keys c.classes_of.new.known.keys c.loop-unit.invariant.1 c.classes_of.ensures.grows
+
+pub returns-in_err-add_linked-clause-grows : goal.returns-in_err-add_linked-clause-grows
+returns-in_err-add_linked-clause-grows c =
+    grows_on c.args.known.now.keys c.loop-unit.known.keys c.classes_of.new.known.keys c.loop-unit.invariant.1 c.classes_of.ensures.grows
+
+pub returns-clause-grows : goal.returns-clause-grows
+returns-clause-grows c = c.loop-unit.invariant.1
 
 pub loop-unit-preserved : goal.loop-unit-preserved
 loop-unit-preserved c =
