@@ -67,7 +67,14 @@ impl Compiler {
         ensures refused { OnErr result (self.new ≡ self.old) }
     {
         let compiled = outcome_of(self.alloc, texts)?;
-        self.count = self.count.saturating_add(1);
+        self.counted();
         Ok(compiled)
+    }
+
+    /// One unit more.
+    fn counted(&mut self)
+        ensures { self.new ≡ min (self.old + 1) (2 ^ 64 - 1) }
+    {
+        self.count = self.count.saturating_add(1);
     }
 }
