@@ -1,5 +1,5 @@
-//! Tests of the blocks, symbols and meanings of names of resolved units.
+//! Tests of how texts are read, what their declarations say, and what the names in them mean.
 #![tactic(auto)]
 
 #[cfg(test)]
-mod resolved;
+mod tests;

@@ -20,6 +20,11 @@ impl Shown {
         }
     }
 
+    /// Notes that memory was refused, so that what is shown is given to nobody.
+    pub fn refuse(&mut self) {
+        self.refused = true;
+    }
+
     /// Puts a text behind what is shown.
     pub fn put(&mut self, text: &str) {
         if self.text.push_str(text).is_err() {

@@ -1,5 +1,0 @@
-//! Trees as text.
-
-pub mod expression;
-pub mod item;
-pub mod statement;
