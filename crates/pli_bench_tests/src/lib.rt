@@ -15,3 +15,5 @@ mod long_sessions;
 mod machine;
 #[cfg(test)]
 mod serving;
+#[cfg(test)]
+mod statuses;

@@ -1,10 +1,6 @@
 //! The workbench as a program: commands from standard input, answers to standard output.
 #![tactic(auto)]
 
-mod arguments;
-mod go;
-mod laws;
-
 use pli_base::Device;
 use std::process::ExitCode;
 
@@ -20,8 +16,5 @@ fn main(rt: HostRuntime) -> ExitCode {
     let mut reader = Device::over(rt.stdin());
     let mut writer = Device::over(rt.stdout());
     let mut errors = Device::over(rt.stderr());
-    ExitCode::from(go::go(alloc, &words, &mut reader, &mut writer, &mut errors))
+    ExitCode::from(pli_command_line::go(alloc, &words, &mut reader, &mut writer, &mut errors))
 }
-
-#[cfg(test)]
-mod tests;

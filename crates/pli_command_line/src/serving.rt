@@ -1,8 +1,8 @@
 //! The program over any reader and writers.
 ghost use Rattle.std.specs.Prelude.{◌≡◌, ◌≢◌, ◌≤◌, ◌<◌, ◌+◌, ℕ, drop, map};
 ghost use Rattle.std.specs.String.{string_bytes};
-ghost use Rattle.pliwb.specs.CommandLine.{Gives};
-ghost use Rattle.pliwb.specs.Statuses.{EndsServed, BreaksOff, devices, Refused, Tells, status_of, reads_limit};
+ghost use Rattle.pli_command_line.specs.CommandLine.{Gives};
+ghost use Rattle.pli_command_line.specs.Statuses.{EndsServed, BreaksOff, devices, Refused, Tells, status_of, reads_limit};
 
 use crate::arguments::{ArgumentsError, read_arguments};
 use pli_base::{Sink, Source, put_all};

@@ -9,9 +9,9 @@ use Rattle.pli_bench.specs.Exchanges.{Span, span}
 use Rattle.pli_bench.specs.Runs.{Bytes, Service, Served, Takes, Blames, piece_limit}
 use Rattle.pli_bench.specs.declared.serving.Next.{Next}
 use Rattle.pli_bench.specs.declared.serving.ServeFault.{ServeFault}
-use Rattle.pliwb.specs.CommandLine.{Refuses, faults}
-use Rattle.pliwb.specs.declared.arguments.ArgumentsError.{ArgumentsError}
-use Rattle.pliwb.specs.declared.arguments.ArgumentsError.TheVariants.{Usage, OutOfMemory}
+use Rattle.pli_command_line.specs.CommandLine.{Refuses, faults}
+use Rattle.pli_command_line.specs.declared.arguments.ArgumentsError.{ArgumentsError}
+use Rattle.pli_command_line.specs.declared.arguments.ArgumentsError.TheVariants.{Usage, OutOfMemory}
 
 -- the greatest number of reads
 abbrev pub reads_limit : ℕ

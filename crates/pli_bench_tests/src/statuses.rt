@@ -1,9 +1,7 @@
-//! The program over memory.
-ghost use Rattle.std.specs.Prelude.{None};
-
-use crate::arguments::ArgumentsError;
-use crate::go::{go, refuse, serve};
-use pli_base::{Device, Failed, Sink, Source};
+//! The program over memory: its statuses, and what it tells.
+use crate::devices::{Kept, Pieces};
+use pli_base::Device;
+use pli_command_line::{ArgumentsError, go, refuse, serve};
 use std::alloc::Global;
 use std::io::Cursor;
 use std::test::Fail;
@@ -82,58 +80,11 @@ fn statuses(rt: HostRuntime) -> Result<(), Fail> {
     Ok(())
 }
 
-/// A device that moves bytes a few at a time, and fails after so many calls.
-#[derive(Drop)]
-struct Failing<'a> {
-    left: &'a [u8],
-    kept: Vec<u8>,
-    calls: u32,
-    failed: bool,
-}
-
-impl<'a> Source for Failing<'a> {
-    ghost remaining = { λ _. None };
-
-    ghost failed = { λ d. d.failed };
-
-    ghost takes = { λ _. 0 };
-
-    fn take(&mut self, buffer: &mut [u8]) -> Result<usize, Failed> {
-        self.failed = self.failed || self.calls == 0;
-        if self.failed {
-            return Err(Failed);
-        }
-        self.calls -= 1;
-        let count = self.left.len().min(buffer.len()).min(30);
-        let (front, left) = self.left.split_at(count);
-        for (place, byte) in front.iter().enumerate() {
-            buffer[place] = *byte;
-        }
-        self.left = left;
-        Ok(count)
-    }
-}
-
-impl<'a> Sink for Failing<'a> {
-    ghost contents = { λ _. None };
-
-    ghost failed = { λ d. d.failed };
-
-    fn put(&mut self, bytes: &[u8]) -> Result<usize, Failed> {
-        self.failed = self.failed || self.calls == 0 || self.kept.extend_from_slice(bytes).is_err();
-        if self.failed {
-            return Err(Failed);
-        }
-        self.calls -= 1;
-        Ok(bytes.len())
-    }
-}
-
-/// A device over the program, which moves bytes so many times.
-fn device(alloc: Global, calls: u32) -> Failing<'static> {
-    Failing {
+/// A reader of the program, which moves a few bytes so many times.
+fn reader_of(calls: u32) -> Pieces<'static> {
+    Pieces {
         left: PROGRAM.as_bytes(),
-        kept: Vec::new(alloc),
+        piece: 30,
         calls,
         failed: false,
     }
@@ -142,13 +93,13 @@ fn device(alloc: Global, calls: u32) -> Failing<'static> {
 /// The status where the devices fail after so many calls, and what was written.
 fn served_by(rt: &HostRuntime, takes: u32, puts: u32) -> (u8, Vec<u8>, bool) {
     let alloc = rt.alloc();
-    let mut reader = device(alloc, takes);
-    let mut writer = device(alloc, puts);
-    let mut errors = device(alloc, 99);
+    let mut reader = reader_of(takes);
+    let mut writer = Kept::new(alloc, puts);
+    let mut errors = Kept::new(alloc, 99);
     let words: Vec<String> = Vec::new(alloc);
     let status = go(alloc, &words, &mut reader, &mut writer, &mut errors);
-    let Failing { kept, .. } = writer;
-    (status, kept, errors.kept.is_empty())
+    let Kept { bytes, .. } = writer;
+    (status, bytes, errors.bytes.is_empty())
 }
 
 #[test]
@@ -173,8 +124,8 @@ fn failing_devices(rt: HostRuntime) {
 fn too_many_reads(rt: HostRuntime) {
     let alloc = rt.alloc();
     for (reads, wanted) in [(0, 1), (1, 1), (3, 1), (4, 0)] {
-        let mut reader = device(alloc, 99);
-        let mut writer = device(alloc, 99);
+        let mut reader = reader_of(99);
+        let mut writer = Kept::new(alloc, 99);
         assert_eq!(rt;
             serve(alloc, 9, &mut reader, &mut writer, reads),
             wanted,
@@ -185,10 +136,10 @@ fn too_many_reads(rt: HostRuntime) {
 
 #[test]
 fn want_of_memory(rt: HostRuntime) {
-    let mut errors = device(rt.alloc(), 9);
+    let mut errors = Kept::new(rt.alloc(), 9);
     assert_eq!(rt; refuse(ArgumentsError::OutOfMemory, &mut errors), 3);
-    assert!(rt; errors.kept.is_empty());
+    assert!(rt; errors.bytes.is_empty());
     let usage = ArgumentsError::Usage(String::new(rt.alloc()));
-    let mut broken = device(rt.alloc(), 0);
+    let mut broken = Kept::new(rt.alloc(), 0);
     assert_eq!(rt; refuse(usage, &mut broken), 2);
 }

@@ -1,0 +1,2 @@
+mod DevicesServed
+mod Steps
