@@ -26,7 +26,7 @@ use Rattle.pli_parse_declaration.specs.declared.list.Separator.TheVariants.{Comm
 use Rattle.pli_base.specs.Reading.{read_as, mapped, taken, enclosed, if_open, or_none}
 use Rattle.pli_parse_declaration.specs.DeclarationGrammar.{SpellsListed}
 use Rattle.pli_parse_declaration.proofs.DeclarationFaults.{identifier_sound, Stands, IsSound, misfit_stands, at_least, stands_behind, stands_then, stands_made, mapped_stands, taken_then, enclosed_stands, optional_stands, list_sound, returned_stands}
-use Rattle.pli_parse.proofs.WordsFirst.{range_less, place_less, put_less, option_less}
+use Rattle.pli_parse.proofs.WordsFirst.{range_begins, place_begins, put_begins, option_begins}
 use Rattle.pli_parse_statement.specs.StatementWords.{condition_of, behind_word}
 use Rattle.pli_parse_statement.specs.StatementReading.{uncounted, expression_in, reference_in, stopped, closing, parenthesized, is_equals, assignment_at, condition_from, condition_at, if_word, optional_at, RangeWord, ToWord, ByWord, RepeatWord, range_first, range_from, range_at, Specified, Unspecified, Conditioned, Iterated, specified, control_from, control_at, PlaceWord, InWord, SetWord, place_first, placed_by, places_from, allocation_at, PutWord, SkipWord, ListWord, put_first, put_by, put_from, put_begun, put_at, call_at, OptionWord, OptionsWord, ReturnsWord, RecursiveWord, option_first, main_at, options_by, options_from, heading_at}
 use Rattle.pli_parse.proofs.StatementReadTools.{expression_reads, parenthesized_reads, list_reads, behind_is}
@@ -109,13 +109,13 @@ range_stands levels p ts = by (range_first ts) refl
     by None e = passes_none p ts
     by (Some (ToWord, us)) e =
         at_least 1 0 p ts (range_from levels p ts (Some (ToWord, us))) (omega arith)
-        (behind_first 1 p ts us (range_from levels p ts (Some (ToWord, us))) (range_less ts (ToWord, us) e) (two_stand levels (codes "BY") (λ x y. Some (To x y)) (p + 1) us))
+        (behind_first 1 p ts us (range_from levels p ts (Some (ToWord, us))) (ap length (range_begins ts us ToWord e)) (two_stand levels (codes "BY") (λ x y. Some (To x y)) (p + 1) us))
     by (Some (ByWord, us)) e =
         at_least 1 0 p ts (range_from levels p ts (Some (ByWord, us))) (omega arith)
-        (behind_first 1 p ts us (range_from levels p ts (Some (ByWord, us))) (range_less ts (ByWord, us) e) (two_stand levels (codes "TO") (λ x y. Some (By x y)) (p + 1) us))
+        (behind_first 1 p ts us (range_from levels p ts (Some (ByWord, us))) (ap length (range_begins ts us ByWord e)) (two_stand levels (codes "TO") (λ x y. Some (By x y)) (p + 1) us))
     by (Some (RepeatWord, us)) e =
         at_least 1 0 p ts (range_from levels p ts (Some (RepeatWord, us))) (omega arith)
-        (behind_first 1 p ts us (range_from levels p ts (Some (RepeatWord, us))) (range_less ts (RepeatWord, us) e)
+        (behind_first 1 p ts us (range_from levels p ts (Some (RepeatWord, us))) (ap length (range_begins ts us RepeatWord e))
         (mapped_stands 1 (p + 1) us (λ next. Some (Repeat next)) (expression_in levels (p + 1) us) (expression_sound levels (p + 1) us)))
 
 conditioned_less : (ts us : Tokens) → specified ts ≡ Conditioned us → length ts ≡ suc (length us)
@@ -159,7 +159,7 @@ abbrev made_of : Identifier → Option Reference → Option Reference → Alloca
 made_of n area target = record { name = n; area = area; target = target }
 
 second_place : (ts us : Tokens) (w : PlaceWord) (p : ℕ) → place_first ts ≡ Some (w, us) → IsToldOf p ts (record { code = BadOption; at = p })
-second_place ts us w p e = let one : length ts ≡ suc (length us) = place_less ts (w, us) e in told_first BadOption refl p ts (omega arith)
+second_place ts us w p e = let one : length ts ≡ suc (length us) = ap length (place_begins ts us w e) in told_first BadOption refl p ts (omega arith)
 
 both_stand : (levels bound : ℕ) (n : Identifier) (area target : Reference) (p : ℕ) (ts : Tokens) → Stands 0 p ts (places_from levels (suc bound) (made_of n (Some area) (Some target)) p ts)
 unfolding places_from
@@ -187,7 +187,7 @@ area_stands levels bound n area p ts = by (place_first ts) refl
     by : (o : Option (PlaceWord × Tokens)) → place_first ts ≡ o → Stands 0 p ts (placed_by levels (places_from levels (suc bound)) (made_of n (Some area) None) p ts o (Some area) None)
     by None e = passes_none p ts
     by (Some (InWord, us)) e = second_place ts us InWord p e
-    by (Some (SetWord, us)) e = place_stands levels (λ r. places_from levels (suc bound) (made_of n (Some area) (Some r))) (λ r q vs. both_stand levels bound n area r q vs) p ts us (place_less ts (SetWord, us) e)
+    by (Some (SetWord, us)) e = place_stands levels (λ r. places_from levels (suc bound) (made_of n (Some area) (Some r))) (λ r q vs. both_stand levels bound n area r q vs) p ts us (ap length (place_begins ts us SetWord e))
 
 target_stands : (levels bound : ℕ) (n : Identifier) (target : Reference) (p : ℕ) (ts : Tokens) → Stands 0 p ts (places_from levels (suc (suc bound)) (made_of n None (Some target)) p ts)
 unfolding places_from
@@ -196,7 +196,7 @@ target_stands levels bound n target p ts = by (place_first ts) refl
     by : (o : Option (PlaceWord × Tokens)) → place_first ts ≡ o → Stands 0 p ts (placed_by levels (places_from levels (suc bound)) (made_of n None (Some target)) p ts o None (Some target))
     by None e = passes_none p ts
     by (Some (SetWord, us)) e = second_place ts us SetWord p e
-    by (Some (InWord, us)) e = place_stands levels (λ r. places_from levels (suc bound) (made_of n (Some r) (Some target))) (λ r q vs. both_stand levels bound n r target q vs) p ts us (place_less ts (InWord, us) e)
+    by (Some (InWord, us)) e = place_stands levels (λ r. places_from levels (suc bound) (made_of n (Some r) (Some target))) (λ r q vs. both_stand levels bound n r target q vs) p ts us (ap length (place_begins ts us InWord e))
 
 places_stand : (levels bound : ℕ) (n : Identifier) (p : ℕ) (ts : Tokens) → Stands 0 p ts (places_from levels (suc (suc (suc bound))) (made_of n None None) p ts)
 unfolding places_from
@@ -204,8 +204,8 @@ places_stand levels bound n p ts = by (place_first ts) refl
   where
     by : (o : Option (PlaceWord × Tokens)) → place_first ts ≡ o → Stands 0 p ts (placed_by levels (places_from levels (suc (suc bound))) (made_of n None None) p ts o None None)
     by None e = passes_none p ts
-    by (Some (InWord, us)) e = place_stands levels (λ r. places_from levels (suc (suc bound)) (made_of n (Some r) None)) (λ r q vs. area_stands levels bound n r q vs) p ts us (place_less ts (InWord, us) e)
-    by (Some (SetWord, us)) e = place_stands levels (λ r. places_from levels (suc (suc bound)) (made_of n None (Some r))) (λ r q vs. target_stands levels bound n r q vs) p ts us (place_less ts (SetWord, us) e)
+    by (Some (InWord, us)) e = place_stands levels (λ r. places_from levels (suc (suc bound)) (made_of n (Some r) None)) (λ r q vs. area_stands levels bound n r q vs) p ts us (ap length (place_begins ts us InWord e))
+    by (Some (SetWord, us)) e = place_stands levels (λ r. places_from levels (suc (suc bound)) (made_of n None (Some r))) (λ r q vs. target_stands levels bound n r q vs) p ts us (ap length (place_begins ts us SetWord e))
 
 pub allocation_sound : (levels : ℕ) → IsSound (allocation_at levels)
 unfolding allocation_at
@@ -214,7 +214,7 @@ allocation_sound levels p ts =
 
 -- SKIP and LIST stand once
 second_option : (ts us : Tokens) (w : PutWord) (p : ℕ) → put_first ts ≡ Some (w, us) → IsToldOf p ts (record { code = BadOption; at = p })
-second_option ts us w p e = let one : length ts ≡ suc (length us) = put_less ts (w, us) e in told_first BadOption refl p ts (omega arith)
+second_option ts us w p e = let one : length ts ≡ suc (length us) = ap length (put_begins ts us w e) in told_first BadOption refl p ts (omega arith)
 
 put_both : (levels bound : ℕ) (x : Expression) (xs : List Expression) (p : ℕ) (ts : Tokens) → Stands 0 p ts (put_from levels (suc bound) true (x ∷ xs) p ts)
 unfolding put_from
@@ -261,7 +261,7 @@ put_listed levels bound x xs p ts = by (put_first ts) refl
   where
     by : (o : Option (PutWord × Tokens)) → put_first ts ≡ o → Stands 0 p ts (put_by levels (put_from levels (suc bound)) false (x ∷ xs) p ts o)
     by None e = passes_none p ts
-    by (Some (SkipWord, us)) e = behind_skip levels (put_from levels (suc bound)) (x ∷ xs) (λ q vs. put_both levels bound x xs q vs) p ts us (put_less ts (SkipWord, us) e)
+    by (Some (SkipWord, us)) e = behind_skip levels (put_from levels (suc bound)) (x ∷ xs) (λ q vs. put_both levels bound x xs q vs) p ts us (ap length (put_begins ts us SkipWord e))
     by (Some (ListWord, us)) e = second_option ts us ListWord p e
 
 put_skipped : (levels bound p : ℕ) (ts : Tokens) → Stands 0 p ts (put_from levels (suc (suc bound)) true [] p ts)
@@ -271,7 +271,7 @@ put_skipped levels bound p ts = by (put_first ts) refl
     by : (o : Option (PutWord × Tokens)) → put_first ts ≡ o → Stands 0 p ts (put_by levels (put_from levels (suc bound)) true [] p ts o)
     by None e = passes_none p ts
     by (Some (SkipWord, us)) e = second_option ts us SkipWord p e
-    by (Some (ListWord, us)) e = behind_list levels (put_from levels (suc bound)) true (λ y ys q vs. put_both levels bound y ys q vs) p ts us (put_less ts (ListWord, us) e)
+    by (Some (ListWord, us)) e = behind_list levels (put_from levels (suc bound)) true (λ y ys q vs. put_both levels bound y ys q vs) p ts us (ap length (put_begins ts us ListWord e))
 
 put_none : (levels bound p : ℕ) (ts : Tokens) → Stands 0 p ts (put_from levels (suc (suc (suc bound))) false [] p ts)
 unfolding put_from
@@ -279,8 +279,8 @@ put_none levels bound p ts = by (put_first ts) refl
   where
     by : (o : Option (PutWord × Tokens)) → put_first ts ≡ o → Stands 0 p ts (put_by levels (put_from levels (suc (suc bound))) false [] p ts o)
     by None e = passes_none p ts
-    by (Some (SkipWord, us)) e = behind_skip levels (put_from levels (suc (suc bound))) [] (λ q vs. put_skipped levels bound q vs) p ts us (put_less ts (SkipWord, us) e)
-    by (Some (ListWord, us)) e = behind_list levels (put_from levels (suc (suc bound))) false (λ y ys q vs. put_listed levels bound y ys q vs) p ts us (put_less ts (ListWord, us) e)
+    by (Some (SkipWord, us)) e = behind_skip levels (put_from levels (suc (suc bound))) [] (λ q vs. put_skipped levels bound q vs) p ts us (ap length (put_begins ts us SkipWord e))
+    by (Some (ListWord, us)) e = behind_list levels (put_from levels (suc (suc bound))) false (λ y ys q vs. put_listed levels bound y ys q vs) p ts us (ap length (put_begins ts us ListWord e))
 
 pub put_stands : (levels p : ℕ) (ts : Tokens) → Stands 0 p ts (put_at levels p ts)
 unfolding put_at
@@ -317,20 +317,20 @@ options_stand (suc bound) p ts small = by (option_first ts) refl (options_stand 
     by : (o : Option (OptionWord × Tokens)) → option_first ts ≡ o → ((q : ℕ) (us : Tokens) → length us < bound → Stands 0 q us (options_from bound q us)) → Stands {A = List ProcedureOption} 0 p ts (options_by (options_from bound) p ts o)
     by None e more = passes_none p ts
     by (Some (OptionsWord, us)) e more =
-        let one : length ts ≡ suc (length us) = option_less ts (OptionsWord, us) e in
+        let one : length ts ≡ suc (length us) = ap length (option_begins ts us OptionsWord e) in
         let read : Result (Front (List ProcedureOption)) Fault = options_by (options_from bound) p ts (Some (OptionsWord, us)) in
         at_least 1 0 p ts read (omega arith)
         (behind_first 1 p ts us read one
         (stands_then 1 0 (p + 1) us (main_at (p + 1) us) (λ x. mapped (λ xs. x.value ∷ xs) (options_from bound x.next x.rest)) (main_sound (p + 1) us) (λ x s. then_more x.value x.next x.rest more (omega (arith, s.0, s.1)))))
     by (Some (ReturnsWord, us)) e more =
-        let one : length ts ≡ suc (length us) = option_less ts (ReturnsWord, us) e in
+        let one : length ts ≡ suc (length us) = ap length (option_begins ts us ReturnsWord e) in
         let read : Result (Front (List ProcedureOption)) Fault = options_by (options_from bound) p ts (Some (ReturnsWord, us)) in
         at_least 1 0 p ts read (omega arith)
         (behind_first 3 p ts us read one
         (stands_then 3 0 (p + 1) us (returned_at (p + 1) us) (λ x. mapped (λ xs. Returns x.value ∷ xs) (options_from bound x.next x.rest)) (returned_stands (p + 1) us)
         (λ x s. then_more (Returns x.value) x.next x.rest more (omega (arith, s.0, s.1)))))
     by (Some (RecursiveWord, us)) e more =
-        let one : length ts ≡ suc (length us) = option_less ts (RecursiveWord, us) e in
+        let one : length ts ≡ suc (length us) = ap length (option_begins ts us RecursiveWord e) in
         let read : Result (Front (List ProcedureOption)) Fault = options_by (options_from bound) p ts (Some (RecursiveWord, us)) in
         at_least 1 0 p ts read (omega arith) (behind_first 0 p ts us read one (then_more Recursive (p + 1) us more (omega arith)))
 

@@ -1,5 +1,5 @@
 -- What is read is spelled so: statements and the unit.
-use Rattle.std.proofs.Common.{◌≡◌, ◌+◌, ℕ, suc, zero, Bool, true, false, cond, [], ◌∷◌, ◌++◌, Option, Some, None, Result, Ok, length, refl, ap, ◌∙◌, sym, subst, arith, append_assoc, length-append}
+use Rattle.std.proofs.Common.{◌≡◌, ◌+◌, ⊎_elim, ℕ, suc, zero, Bool, true, false, cond, [], ◌∷◌, ◌++◌, Option, Some, None, Result, Ok, length, refl, ap, ◌∙◌, sym, subst, arith, append_assoc, length-append}
 use Rattle.std.proofs.lemmas.List.{append-nil}
 use Rattle.pli_base.specs.Name.{Name}
 use Rattle.pli_base.specs.Words.{Tokens, is_procedure}
@@ -20,7 +20,7 @@ use Rattle.pli_parse_statement.specs.StatementReading.{Inside, Listing, inner_li
 use Rattle.pli_parse_statement.specs.StatementGrammar.{SpellsHeading, SpellsEnd, SpellsStatement, SpellsStatements, SpellsUnit}
 use Rattle.pli_parse_statement.specs.declared.keyword.Keyword.{Keyword}
 use Rattle.pli_parse_statement.specs.declared.keyword.Keyword.TheVariants as words
-use Rattle.pli_parse.proofs.StatementReadFirst.{none_begins, empty_begins, word_begins, two_words_begin, label_spelled}
+use Rattle.pli_parse.proofs.StatementReadFirst.{none_begins, empty_begins, OneWord, TwoWords, never_go, keyword_begins, label_spelled}
 use Rattle.pli_parse.proofs.StatementReadHeading.{heading_reads}
 use Rattle.pli_parse.proofs.StatementReadStands.{LabelFits, label_fits}
 use Rattle.pli_parse.proofs.StatementReadSimple.{BodySpelled, BodyRead, NoneBegins, assignment_read, null_read, go_read, revert_read, signal_read, stop_read, allocate_read, free_read, goto_read, call_read, put_read, return_read, declare_read}
@@ -32,58 +32,49 @@ module _ (inside : Option Inside) (levels : ℕ) (inner : InsideReads levels ins
   none : begins_assignment ts ≡ false → NoneBegins p ts
   none h front rest shape begins = none_begins p ts front rest h shape begins
 
+  -- behind a keyword of one word
+  module _ (us : Tokens) (n : Name) (first : ts ≡ Word n ∷ us) (nothing : NoneBegins p ts) where
+    word_read : (keyword : Keyword) → keyword_of n ≡ Some keyword
+        → misplacement c keyword (is_labelled label) c.in_unit ≡ None
+        → (y : Front Body) → keyed_at levels inside c label p k us keyword ≡ Ok y
+        → BodyRead c levels label p k ts y
+    word_read words.Procedure word placed y h =
+        procedure_read inside levels inner c label p k ts us n first nothing word placed y h
+    word_read words.Declare word placed y h =
+        declare_read c levels label p k fits ts us n first nothing word placed y h
+    word_read words.End word placed y h = cc
+    word_read words.Begin word placed y h =
+        begin_read inside levels inner c label p k ts us n first nothing fits word y h
+    word_read words.Do word placed y h =
+        do_read inside levels inner c label p k ts us n first nothing fits word placed y h
+    word_read words.If word placed y h =
+        if_read inside levels inner c label p k ts us n first nothing fits word placed y h
+    word_read words.On word placed y h =
+        on_read inside levels inner c label p k ts us n first nothing fits word placed y h
+    word_read words.Revert word placed y h =
+        revert_read c levels label p k fits ts us n first nothing word y h
+    word_read words.Signal word placed y h =
+        signal_read c levels label p k fits ts us n first nothing word y h
+    word_read words.Stop word placed y h = stop_read c levels label p k fits ts us n first nothing word y h
+    word_read words.Allocate word placed y h =
+        allocate_read c levels label p k fits ts us n first nothing word y h
+    word_read words.Free word placed y h = free_read c levels label p k fits ts us n first nothing word y h
+    word_read words.Call word placed y h = call_read c levels label p k fits ts us n first nothing word y h
+    word_read words.Goto word placed y h = goto_read c levels label p k fits ts us n first nothing word y h
+    word_read words.GoTo word placed y h = absurd (never_go n word)
+    word_read words.Return word placed y h =
+        return_read c levels label p k fits ts us n first nothing word placed y h
+    word_read words.Put word placed y h = put_read c levels label p k fits ts us n first nothing word y h
+
   -- behind a keyword
   keyed_read : (us : Tokens) (keyword : Keyword) → kind_of ts ≡ Keyed keyword us → misplacement c keyword (is_labelled label) c.in_unit ≡ None
       → (y : Front Body) → keyed_at levels inside c label p k us keyword ≡ Ok y → BodyRead c levels label p k ts y
-  keyed_read us words.Procedure kind placed y h =
-      let w = word_begins ts us words.Procedure kind (λ e. cc) in
-      procedure_read inside levels inner c label p k ts us w.1.0 w.1.1 (none w.0) w.1.2 placed y h
-  keyed_read us words.Declare kind placed y h =
-      let w = word_begins ts us words.Declare kind (λ e. cc) in
-      declare_read c levels label p k fits ts us w.1.0 w.1.1 (none w.0) w.1.2 placed y h
-  keyed_read us words.End kind placed y h = cc
-  keyed_read us words.Begin kind placed y h =
-      let w = word_begins ts us words.Begin kind (λ e. cc) in
-      begin_read inside levels inner c label p k ts us w.1.0 w.1.1 (none w.0) fits w.1.2 y h
-  keyed_read us words.Do kind placed y h =
-      let w = word_begins ts us words.Do kind (λ e. cc) in
-      do_read inside levels inner c label p k ts us w.1.0 w.1.1 (none w.0) fits w.1.2 placed y h
-  keyed_read us words.If kind placed y h =
-      let w = word_begins ts us words.If kind (λ e. cc) in
-      if_read inside levels inner c label p k ts us w.1.0 w.1.1 (none w.0) fits w.1.2 placed y h
-  keyed_read us words.On kind placed y h =
-      let w = word_begins ts us words.On kind (λ e. cc) in
-      on_read inside levels inner c label p k ts us w.1.0 w.1.1 (none w.0) fits w.1.2 placed y h
-  keyed_read us words.Revert kind placed y h =
-      let w = word_begins ts us words.Revert kind (λ e. cc) in
-      revert_read c levels label p k fits ts us w.1.0 w.1.1 (none w.0) w.1.2 y h
-  keyed_read us words.Signal kind placed y h =
-      let w = word_begins ts us words.Signal kind (λ e. cc) in
-      signal_read c levels label p k fits ts us w.1.0 w.1.1 (none w.0) w.1.2 y h
-  keyed_read us words.Stop kind placed y h =
-      let w = word_begins ts us words.Stop kind (λ e. cc) in
-      stop_read c levels label p k fits ts us w.1.0 w.1.1 (none w.0) w.1.2 y h
-  keyed_read us words.Allocate kind placed y h =
-      let w = word_begins ts us words.Allocate kind (λ e. cc) in
-      allocate_read c levels label p k fits ts us w.1.0 w.1.1 (none w.0) w.1.2 y h
-  keyed_read us words.Free kind placed y h =
-      let w = word_begins ts us words.Free kind (λ e. cc) in
-      free_read c levels label p k fits ts us w.1.0 w.1.1 (none w.0) w.1.2 y h
-  keyed_read us words.Call kind placed y h =
-      let w = word_begins ts us words.Call kind (λ e. cc) in
-      call_read c levels label p k fits ts us w.1.0 w.1.1 (none w.0) w.1.2 y h
-  keyed_read us words.Goto kind placed y h =
-      let w = word_begins ts us words.Goto kind (λ e. cc) in
-      goto_read c levels label p k fits ts us w.1.0 w.1.1 (none w.0) w.1.2 y h
-  keyed_read us words.GoTo kind placed y h =
-      let w = two_words_begin ts us kind in
-      go_read c levels label p k fits ts us w.1 (none w.0) y h
-  keyed_read us words.Return kind placed y h =
-      let w = word_begins ts us words.Return kind (λ e. cc) in
-      return_read c levels label p k fits ts us w.1.0 w.1.1 (none w.0) w.1.2 placed y h
-  keyed_read us words.Put kind placed y h =
-      let w = word_begins ts us words.Put kind (λ e. cc) in
-      put_read c levels label p k fits ts us w.1.0 w.1.1 (none w.0) w.1.2 y h
+  keyed_read us keyword kind placed y h =
+      let w = keyword_begins ts us keyword kind in
+      ⊎_elim (λ (one : OneWord keyword ts us). word_read us one.0 one.1 (none w.0) keyword one.2 placed y h)
+      (λ (go : (keyword ≡ words.GoTo) × TwoWords ts us).
+      go_read c levels label p k fits ts us go.1 (none w.0) y
+      (subst (λ m. keyed_at levels inside c label p k us m ≡ Ok y) go.0 h)) w.1
 
   -- a keyword that may not stand there is a fault
   faulty : (us : Tokens) (keyword : Keyword) (l : Option Identifier) (m : Misplacement) (y : Front Body) → unless_misplaced levels inside c l p k us keyword (Some m) ≡ Ok y → ⊥

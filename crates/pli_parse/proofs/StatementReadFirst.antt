@@ -32,7 +32,7 @@ other false k w o not more h = more h
 none_looked_up : (w : Keyword) → ◌≡◌ {A = Option Keyword} None (Some w) → ⊥
 none_looked_up w h = cc
 
-never_go : (n : Name) → keyword_of n ≡ Some words.GoTo → ⊥
+pub never_go : (n : Name) → keyword_of n ≡ Some words.GoTo → ⊥
 unfolding keyword_of
 never_go n =
     other _ words.Procedure words.GoTo _ (λ e. cc) (other _ words.Declare words.GoTo _ (λ e. cc) (other _ words.End words.GoTo _ (λ e. cc) (
@@ -124,11 +124,19 @@ empty_begins ts us h = let k = kind_first ts (Empty us) h (λ e. cc) in (k.0, fi
     first (Word n ∷ vs) g = absurd (word (keyword_of n) n vs g)
     first (t ∷ vs) g = cc
 
+pub keyword_begins : (ts us : Tokens) (keyword : Keyword) → kind_of ts ≡ Keyed keyword us
+    → (begins_assignment ts ≡ false) × (OneWord keyword ts us ⊎ ((keyword ≡ words.GoTo) × TwoWords ts us))
+keyword_begins ts us keyword h =
+    let k = kind_first ts (Keyed keyword us) h (λ e. cc) in (k.0, keyed_first ts us keyword k.1)
+
 pub word_begins : (ts us : Tokens) (keyword : Keyword) → kind_of ts ≡ Keyed keyword us → (keyword ≡ words.GoTo → ⊥) → (begins_assignment ts ≡ false) × OneWord keyword ts us
-word_begins ts us keyword h not = let k = kind_first ts (Keyed keyword us) h (λ e. cc) in (k.0, ⊎_elim (λ one. one) (λ two. absurd (not two.0)) (keyed_first ts us keyword k.1))
+word_begins ts us keyword h not =
+    let k = keyword_begins ts us keyword h in (k.0, ⊎_elim (λ one. one) (λ two. absurd (not two.0)) k.1)
 
 pub two_words_begin : (ts us : Tokens) → kind_of ts ≡ Keyed words.GoTo us → (begins_assignment ts ≡ false) × TwoWords ts us
-two_words_begin ts us h = let k = kind_first ts (Keyed words.GoTo us) h (λ e. cc) in (k.0, ⊎_elim (λ one. absurd (never_go one.0 one.2)) (λ two. two.1) (keyed_first ts us words.GoTo k.1))
+two_words_begin ts us h =
+    let k = keyword_begins ts us words.GoTo h in
+    (k.0, ⊎_elim (λ one. absurd (never_go one.0 one.2)) (λ two. two.1) k.1)
 
 -- the end of a list
 pub end_begins : (ts us : Tokens) → next_of ts ≡ EndsHere us → ts ≡ Word (codes "END") ∷ us

@@ -1,7 +1,7 @@
 -- What is read is spelled so: what stands behind CALL and PROCEDURE, labels and the ends of blocks.
 use Rattle.std.proofs.Common.{◌≡◌, ◌+◌, ℕ, suc, zero, true, List, [], ◌∷◌, ◌++◌, Option, Some, None, Result, Ok, option_map, length, codes, refl, ap, ◌∙◌, sym, subst, arith}
 use Rattle.pli_base.specs.Words.{Tokens, is_open, is_word, behind}
-use Rattle.pli_base.specs.Reading.{◌>>=◌, Front, read_as, taken, if_open, or_none}
+use Rattle.pli_base.specs.Reading.{◌>>=◌, Front, read_as, mapped, taken, if_open, or_none}
 use Rattle.pli_base.specs.Syntax.{Arguments}
 use Rattle.pli_base.specs.declared.code.Code.TheVariants.{BadOption}
 use Rattle.pli_base.specs.declared.token.Fault.{Fault}
@@ -14,7 +14,7 @@ use Rattle.pli_parse_expression.specs.Reading as expressions
 use Rattle.pli_parse_expression.proofs.ReadIsSpelled.{list_reads, outermost_read, expression_at_read}
 use Rattle.pli_parse_declaration.specs.DeclarationReading.{returned_at, identifier_at}
 use Rattle.pli_parse_declaration.specs.DeclarationReading as items
-use Rattle.pli_parse_declaration.specs.DeclarationGrammar.{SpellsFront, SpellsListed}
+use Rattle.pli_parse_declaration.specs.DeclarationGrammar.{SpellsFront, SpellsListed, Anywhere, SpellsReturned}
 use Rattle.pli_parse_declaration.proofs.DeclarationSteps.{mapped_ok, taken_ok, two}
 use Rattle.pli_parse_fault.proofs.Steps.{same_ok, bind_ok}
 use Rattle.pli_parse_declaration.proofs.DeclarationRead.{Reads}
@@ -25,7 +25,7 @@ use Rattle.pli_parse_statement.specs.StatementGrammar.{SpellsIdentifier, SpellsC
 use Rattle.pli_parse.proofs.StatementReadTools as tools
 use Rattle.pli_parse.proofs.StatementReadTools.{uncounted_ok, stopped_ok, identifier_reads, parenthesized_reads, word_first}
 use Rattle.pli_parse.proofs.StatementReadParts.{MaybeEnclosed, open_reads}
-use Rattle.pli_parse.proofs.WordsFirst.{option_begins}
+use Rattle.pli_parse.proofs.WordsFirst.{option_spelling, option_begins}
 use Rattle.pli_parse_declaration.specs.declared.list.Separator.TheVariants.{Commas}
 
 -- the arguments of CALL are outermost expressions
@@ -106,26 +106,41 @@ option_then p q ts us front o shape place spelled m f =
     let t = two p q m.next ts us m.rest front f.0 shape place f.1 f.2 in
     (front ++ f.0, t.0, t.1, (front, f.0, refl, spelled, f.3))
 
+-- an option behind its word, and those behind it
+option_step : {A : Type 0} (w : OptionWord) (one : ℕ → Tokens → Result (Front A) Fault)
+    (Spells : ℕ → Tokens → A → Type 0)
+    (make : A → ProcedureOption) → Reads one Spells
+    → ((q : ℕ) (us : Tokens) (x : A) → Spells q us x → SpellsOption (Word (option_spelling w) ∷ us) (make x))
+    → (more : ℕ → Tokens → Result (Front (List ProcedureOption)) Fault)
+    → Reads more (λ p ts os. SpellsOptions ts os)
+    → (p : ℕ) (ts us : Tokens) (y : Front (List ProcedureOption)) → option_first ts ≡ Some (w, us)
+    → (one (p + 1) us >>= λ x. mapped (λ xs. make x.value ∷ xs) (more x.next x.rest)) ≡ Ok y
+    → OptionsRead p ts y
+option_step w one Spells make one_reads spells more reads p ts us y e g =
+    let x = bind_ok (one (p + 1) us) _ y g in
+    let f = one_reads (p + 1) us x.0 x.1 in
+    let m = mapped_ok _ (more x.0.next x.0.rest) y x.2 in
+    let front : Tokens = Word (option_spelling w) ∷ f.0 in
+    let shape : ts ≡ front ++ x.0.rest =
+    option_begins ts us w e ∙ ap (λ vs. Word (option_spelling w) ∷ vs) f.1
+    in
+    let place : x.0.next ≡ p + length front = omega (arith, f.2) in
+    subst (OptionsRead p ts) m.2
+    (option_then p x.0.next ts x.0.rest front (make x.0.value) shape place (spells (p + 1) f.0 x.0.value f.3)
+    m.0 (reads x.0.next x.0.rest m.0 m.1))
+
 options_step : (more : ℕ → Tokens → Result (Front (List ProcedureOption)) Fault) → Reads more (λ p ts os. SpellsOptions ts os)
     → (p : ℕ) (ts : Tokens) (y : Front (List ProcedureOption)) (o : Option (OptionWord × Tokens)) → option_first ts ≡ o → options_by more p ts o ≡ Ok y → OptionsRead p ts y
 options_step more reads p ts y None e g = subst (OptionsRead p ts) (same_ok g) ([], refl, omega arith, refl)
 options_step more reads p ts y (Some (OptionsWord, us)) e g =
-    let x = bind_ok (main_at (p + 1) us) _ y g in
-    let f = main_reads (p + 1) us x.0 x.1 in
-    let m = mapped_ok _ (more x.0.next x.0.rest) y x.2 in
-    let shape : ts ≡ (Word (codes "OPTIONS") ∷ f.0) ++ x.0.rest = option_begins ts us OptionsWord e ∙ ap (λ vs. Word (codes "OPTIONS") ∷ vs) f.1 in
-    let place : x.0.next ≡ p + length (Word (codes "OPTIONS") ∷ f.0) = omega (arith, f.2) in
-    let spelled : SpellsOption (Word (codes "OPTIONS") ∷ f.0) x.0.value =
-    subst (SpellsOption (Word (codes "OPTIONS") ∷ f.0)) (sym f.3.1) (ap (λ vs. Word (codes "OPTIONS") ∷ vs) f.3.0)
-    in
-    subst (OptionsRead p ts) m.2 (option_then p x.0.next ts x.0.rest (Word (codes "OPTIONS") ∷ f.0) x.0.value shape place spelled m.0 (reads x.0.next x.0.rest m.0 m.1))
+    option_step OptionsWord main_at (λ q vs o. SpellsMain vs o) (λ o. o) main_reads
+    (λ q vs o s.
+    subst (SpellsOption (Word (codes "OPTIONS") ∷ vs)) (sym s.1) (ap (λ ws. Word (codes "OPTIONS") ∷ ws) s.0))
+    more reads p ts us y e g
 options_step more reads p ts y (Some (ReturnsWord, us)) e g =
-    let x = bind_ok (returned_at (p + 1) us) _ y g in
-    let f = returned_reads (p + 1) us x.0 x.1 in
-    let m = mapped_ok _ (more x.0.next x.0.rest) y x.2 in
-    let shape : ts ≡ (Word (codes "RETURNS") ∷ f.0) ++ x.0.rest = option_begins ts us ReturnsWord e ∙ ap (λ vs. Word (codes "RETURNS") ∷ vs) f.1 in
-    let place : x.0.next ≡ p + length (Word (codes "RETURNS") ∷ f.0) = omega (arith, f.2) in
-    subst (OptionsRead p ts) m.2 (option_then p x.0.next ts x.0.rest (Word (codes "RETURNS") ∷ f.0) (Returns x.0.value) shape place (f.0, refl, f.3) m.0 (reads x.0.next x.0.rest m.0 m.1))
+    option_step ReturnsWord returned_at (Anywhere SpellsReturned) Returns returned_reads
+    (λ q vs x s. (vs, refl, s))
+    more reads p ts us y e g
 options_step more reads p ts y (Some (RecursiveWord, us)) e g =
     let m = mapped_ok _ (more (p + 1) us) y g in
     subst (OptionsRead p ts) m.2 (option_then p (p + 1) ts us (Word (codes "RECURSIVE") ∷ []) Recursive (option_begins ts us RecursiveWord e) refl refl m.0 (reads (p + 1) us m.0 m.1))

@@ -20,7 +20,7 @@ use Rattle.pli_parse.proofs.StatementReadTools.{expression_reads, word_first}
 use Rattle.pli_parse.proofs.StatementReadParts.{control_reads, condition_reads}
 use Rattle.pli_parse.proofs.StatementReadHeading.{heading_reads}
 use Rattle.pli_parse.proofs.StatementReadStands.{LabelFits, plain_stands, may_return, do_stands, if_stands, on_stands, procedure_stands}
-use Rattle.pli_parse.proofs.StatementReadSimple.{BodyRead, NoneBegins}
+use Rattle.pli_parse.proofs.StatementReadSimple.{BodyRead, NoneBegins, body_found}
 use Rattle.pli_parse.proofs.StatementReadLists.{StatementReads, InsideReads, opened, list_reads, alternative_reads}
 
 -- behind their keywords, where what is inside is read so
@@ -37,20 +37,15 @@ module _ (i : Inside) (reads : StatementReads i.levels i.statement) (c : Context
       let whole : ts ≡ front ++ l.0.rest = first ∙ ap (λ vs. Word n ∷ vs) (sign ∙ ap (λ vs. Sign Semicolon ∷ vs) f.1) in
       let place : p + 1 + 1 ≡ p + 2 = omega arith in
       let b : Body = body.Begin l.0.value.statements l.0.value.end in
-      subst (BodyRead c (suc i.levels) label p k ts) (same_ok l.2) (
-        (
-          front,
-          whole,
-          omega (arith, f.2),
-          (
-            plain_stands label b tt tt (λ e. e) (λ e. (e, tt)) c.standing fits,
-            may_return b tt tt c.in_unit,
-            none front l.0.rest whole,
-            (n, _, refl, word, (g.0, g.1, ap (λ vs. Sign Semicolon ∷ vs) g.2, subst (λ q. SpellsStatements (standing InBlock c) i.levels q (k + 1) g.0 l.0.value.statements) place g.3, g.4, g.5)),
-          ),
-        ),
-        λ a. absurd a,
-      )
+      let inner =
+      subst (λ q. SpellsStatements (standing InBlock c) i.levels q (k + 1) g.0 l.0.value.statements) place g.3
+      in
+      subst (BodyRead c (suc i.levels) label p k ts) (same_ok l.2)
+      (body_found c (suc i.levels) label p k ts b l.0.next front l.0.rest whole (omega (arith, f.2))
+      (plain_stands label b tt tt (λ e. e) (λ e. (e, tt)) c.standing fits) (may_return b tt tt c.in_unit)
+      (none front l.0.rest whole)
+      (n, _, refl, word, (g.0, g.1, ap (λ vs. Sign Semicolon ∷ vs) g.2, inner, g.4, g.5))
+      (λ a. absurd a))
 
   do_inside : keyword_of n ≡ Some words.Do → standing_misplaced c.standing words.Do (is_labelled label) ≡ None → (y : Front Body) → do_at i c label (p + 1) (k + 1) us ≡ Ok y → BodyRead c (suc i.levels) label p k ts y
   unfolding do_at
@@ -67,34 +62,16 @@ module _ (i : Inside) (reads : StatementReads i.levels i.statement) (c : Context
       let whole : ts ≡ front ++ l.0.rest = first ∙ ap (λ vs. Word n ∷ vs) t.0 in
       let place : x.0.next + 1 ≡ p + 1 + length cs.0 + 1 = ap (λ q. q + 1) cs.2 in
       let b : Body = body.Do x.0.value l.0.value.statements l.0.value.end in
-      subst (BodyRead c (suc i.levels) label p k ts) (same_ok l.2) (
-        (
-          front,
-          whole,
-          omega (arith, t.1),
-          (
-            do_stands c.standing label x.0.value l.0.value.statements l.0.value.end fits placed,
-            may_return b tt tt c.in_unit,
-            none front l.0.rest whole,
-            (
-              n,
-              _,
-              refl,
-              word,
-              (
-                cs.0,
-                g.0,
-                g.1,
-                ap (λ vs. cs.0 ++ (Sign Semicolon ∷ vs)) g.2,
-                (cs.3, subst (λ q. SpellsStatements (standing InGroup c) i.levels q (k + 1) g.0 l.0.value.statements) place g.3),
-                g.4,
-                g.5,
-              ),
-            ),
-          ),
-        ),
-        λ a. absurd a,
-      )
+      let inner =
+      subst (λ q. SpellsStatements (standing InGroup c) i.levels q (k + 1) g.0 l.0.value.statements) place g.3
+      in
+      let ends = ap (λ vs. cs.0 ++ (Sign Semicolon ∷ vs)) g.2 in
+      subst (BodyRead c (suc i.levels) label p k ts) (same_ok l.2)
+      (body_found c (suc i.levels) label p k ts b l.0.next front l.0.rest whole (omega (arith, t.1))
+      (do_stands c.standing label x.0.value l.0.value.statements l.0.value.end fits placed)
+      (may_return b tt tt c.in_unit)
+      (none front l.0.rest whole) (n, _, refl, word, (cs.0, g.0, g.1, ends, (cs.3, inner), g.4, g.5))
+      (λ a. absurd a))
 
   if_inside : keyword_of n ≡ Some words.If → standing_misplaced c.standing words.If (is_labelled label) ≡ None → (y : Front Body) → if_at i c (p + 1) (k + 1) us ≡ Ok y → BodyRead c (suc i.levels) label p k ts y
   unfolding if_at
@@ -116,36 +93,18 @@ module _ (i : Inside) (reads : StatementReads i.levels i.statement) (c : Context
       let place : x.0.next + 1 ≡ p + 1 + length cs.0 + 1 = ap (λ q. q + 1) cs.2 in
       let further : s.0.next ≡ p + 1 + length cs.0 + 1 + length ss.0 = ss.2 ∙ ap (λ q. q + length ss.0) place in
       let b : Body = body.If x.0.value s.0.value l.0.value in
-      subst (BodyRead c (suc i.levels) label p k ts) (same_ok l.2) (
-        (
-          front,
-          whole,
-          omega (arith, t.1),
-          (
-            if_stands c.standing label x.0.value s.0.value l.0.value fits placed,
-            may_return b tt tt c.in_unit,
-            none front l.0.rest whole,
-            (
-              n,
-              _,
-              refl,
-              word,
-              (
-                cs.0,
-                ss.0,
-                es.0,
-                refl,
-                (
-                  cs.3,
-                  subst (λ q. SpellsStatement (standing AsClause c) i.levels q (k + 1) ss.0 s.0.value) place ss.3,
-                  subst (λ q. SpellsAlternative c i.levels q (k + 1 + count s.0.value) es.0 s.0.value l.0.value) further es.3,
-                ),
-              ),
-            ),
-          ),
-        ),
-        g.1,
-      )
+      let first_spelled =
+      subst (λ q. SpellsStatement (standing AsClause c) i.levels q (k + 1) ss.0 s.0.value) place ss.3
+      in
+      let second_spelled =
+      subst (λ q. SpellsAlternative c i.levels q (k + 1 + count s.0.value) es.0 s.0.value l.0.value) further
+      es.3
+      in
+      subst (BodyRead c (suc i.levels) label p k ts) (same_ok l.2)
+      (body_found c (suc i.levels) label p k ts b l.0.next front l.0.rest whole (omega (arith, t.1))
+      (if_stands c.standing label x.0.value s.0.value l.0.value fits placed) (may_return b tt tt c.in_unit)
+      (none front l.0.rest whole)
+      (n, _, refl, word, (cs.0, ss.0, es.0, refl, (cs.3, first_spelled, second_spelled))) g.1)
 
   on_inside : keyword_of n ≡ Some words.On → standing_misplaced c.standing words.On (is_labelled label) ≡ None → (y : Front Body) → on_at i (p + 1) (k + 1) us ≡ Ok y → BodyRead c (suc i.levels) label p k ts y
   unfolding on_at
@@ -158,20 +117,11 @@ module _ (i : Inside) (reads : StatementReads i.levels i.statement) (c : Context
       let front : Tokens = Word n ∷ (cs.0 ++ ss.0) in
       let whole : ts ≡ front ++ s.0.rest = first ∙ ap (λ vs. Word n ∷ vs) t.0 in
       let b : Body = body.On x.0.value s.0.value in
-      subst (BodyRead c (suc i.levels) label p k ts) (same_ok s.2) (
-        (
-          front,
-          whole,
-          omega (arith, t.1),
-          (
-            on_stands c.standing label x.0.value s.0.value fits placed,
-            may_return b tt tt c.in_unit,
-            none front s.0.rest whole,
-            (n, _, refl, word, (cs.0, ss.0, refl, cs.3, subst (λ q. SpellsStatement the_unit i.levels q (k + 1) ss.0 s.0.value) cs.2 ss.3)),
-          ),
-        ),
-        λ a. absurd a,
-      )
+      let inner = subst (λ q. SpellsStatement the_unit i.levels q (k + 1) ss.0 s.0.value) cs.2 ss.3 in
+      subst (BodyRead c (suc i.levels) label p k ts) (same_ok s.2)
+      (body_found c (suc i.levels) label p k ts b s.0.next front s.0.rest whole (omega (arith, t.1))
+      (on_stands c.standing label x.0.value s.0.value fits placed) (may_return b tt tt c.in_unit)
+      (none front s.0.rest whole) (n, _, refl, word, (cs.0, ss.0, refl, cs.3, inner)) (λ a. absurd a))
 
 procedure_inside : (i : Inside) → StatementReads i.levels i.statement → (c : Context) (label : Option Identifier) (p k : ℕ) (ts us : Tokens) (n : Name) → ts ≡ Word n ∷ us → NoneBegins p ts
     → keyword_of n ≡ Some words.Procedure → standing_misplaced c.standing words.Procedure (is_labelled label) ≡ None → (y : Front Body) → procedure_at i label k (p + 1) us ≡ Ok y → BodyRead c (suc i.levels) label p k ts y
@@ -187,36 +137,16 @@ procedure_inside i reads c (Some name) p k ts us n first none word placed y h =
     let front : Tokens = Word n ∷ (hs.0 ++ (Sign Semicolon ∷ f.0)) in
     let whole : ts ≡ front ++ l.0.rest = first ∙ ap (λ vs. Word n ∷ vs) inner in
     let b : Body = body.Procedure x.0.value l.0.value.statements l.0.value.end in
-    subst (BodyRead c (suc i.levels) (Some name) p k ts) (same_ok l.2) (
-      (
-        front,
-        whole,
-        omega (arith, f.2, hs.2, length-append hs.0 (Sign Semicolon ∷ f.0)),
-        (
-          procedure_stands c.standing name x.0.value l.0.value.statements l.0.value.end hs.4 placed,
-          may_return b tt tt c.in_unit,
-          none front l.0.rest whole,
-          (
-            n,
-            _,
-            refl,
-            word,
-            (
-              hs.0,
-              g.0,
-              g.1,
-              ap (λ vs. hs.0 ++ (Sign Semicolon ∷ vs)) g.2,
-              hs.3,
-              hs.5,
-              subst (λ q. SpellsStatements a_procedure i.levels q (k + 1) g.0 l.0.value.statements) hs.2 g.3,
-              g.4,
-              g.5,
-            ),
-          ),
-        ),
-      ),
-      λ a. absurd a,
-    )
+    let statements =
+    subst (λ q. SpellsStatements a_procedure i.levels q (k + 1) g.0 l.0.value.statements) hs.2 g.3
+    in
+    let ends = ap (λ vs. hs.0 ++ (Sign Semicolon ∷ vs)) g.2 in
+    subst (BodyRead c (suc i.levels) (Some name) p k ts) (same_ok l.2)
+    (body_found c (suc i.levels) (Some name) p k ts b l.0.next front l.0.rest whole
+    (omega (arith, f.2, hs.2, length-append hs.0 (Sign Semicolon ∷ f.0)))
+    (procedure_stands c.standing name x.0.value l.0.value.statements l.0.value.end hs.4 placed)
+    (may_return b tt tt c.in_unit) (none front l.0.rest whole)
+    (n, _, refl, word, (hs.0, g.0, g.1, ends, hs.3, hs.5, statements, g.4, g.5)) (λ a. absurd a))
 
 -- and where a level is opened
 module _ (inside : Option Inside) (levels : ℕ) (inner : InsideReads levels inside) (c : Context) (label : Option Identifier) (p k : ℕ) (ts us : Tokens) (n : Name) (first : ts ≡ Word n ∷ us) (none : NoneBegins p ts) where

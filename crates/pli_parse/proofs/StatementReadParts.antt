@@ -3,7 +3,7 @@ use Rattle.std.proofs.Common.{◌≡◌, ◌+◌, ℕ, Bool, true, false, cond, 
 use Rattle.pli_base.specs.Name.{Name}
 use Rattle.pli_base.specs.laws.NameLaws.{equal_from_pointwise}
 use Rattle.pli_base.specs.Words.{Tokens, same_name, is_open, behind}
-use Rattle.pli_base.specs.Reading.{◌>>=◌, Front, read_as, taken, enclosed, if_open}
+use Rattle.pli_base.specs.Reading.{◌>>=◌, Front, read_as, enclosed, if_open}
 use Rattle.pli_base.specs.Syntax.{Expression}
 use Rattle.pli_base.specs.declared.code.Code.TheVariants.{BadDo}
 use Rattle.pli_base.specs.declared.token.Fault.{Fault}
@@ -11,15 +11,15 @@ use Rattle.pli_base.specs.declared.token.Sign.TheVariants.{OpenParenthesis, Equa
 use Rattle.pli_base.specs.declared.token.TokenText.TheVariants.{Word, Sign}
 use Rattle.pli_parse_expression.specs.Expressions.{SpellsOutermost}
 use Rattle.pli_parse_declaration.specs.DeclarationGrammar.{SpellsFront}
-use Rattle.pli_parse_declaration.proofs.DeclarationSteps.{mapped_ok, open_first, taken_ok, two}
+use Rattle.pli_parse_declaration.proofs.DeclarationSteps.{mapped_ok, open_first, two}
 use Rattle.pli_parse_fault.proofs.Steps.{same_ok, bind_ok}
 use Rattle.pli_parse_declaration.proofs.DeclarationRead.{Reads, enclosed_spelled}
 use Rattle.pli_base.specs.Statements.{Range, To, By, Control}
 use Rattle.pli_parse_statement.specs.StatementWords.{condition_of}
-use Rattle.pli_parse_statement.specs.StatementReading.{expression_in, reference_in, parenthesized, is_equals, condition_from, condition_at, optional_at, RangeWord, ToWord, ByWord, RepeatWord, range_first, range_from, range_at, Specified, Unspecified, Conditioned, Iterated, specified, control_from, control_at}
+use Rattle.pli_parse_statement.specs.StatementReading.{expression_in, reference_in, parenthesized, condition_from, condition_at, optional_at, RangeWord, ToWord, ByWord, RepeatWord, range_first, range_from, range_at, Specified, Unspecified, Conditioned, Iterated, specified, control_from, control_at}
 use Rattle.pli_parse_statement.specs.StatementGrammar.{SpellsCondition, SpellsEnclosed, SpellsOptional, SpellsRange, BeginsWithWhile, SpellsControl}
 use Rattle.pli_base.specs.declared.statement.Condition.{Condition}
-use Rattle.pli_parse.proofs.StatementReadTools.{expression_reads, reference_reads, parenthesized_reads, optional_reads, equals_first}
+use Rattle.pli_parse.proofs.StatementReadTools.{expression_reads, reference_reads, parenthesized_reads, optional_reads, equals_ok}
 use Rattle.pli_parse.proofs.WordsFirst.{range_spelling, range_begins}
 
 -- in parentheses, or not there
@@ -111,8 +111,7 @@ iteration_reads : (levels p : ℕ) (ts : Tokens) (y : Front (Option Control)) �
 iteration_reads levels p ts y iterated h =
     let v = bind_ok (reference_in levels p ts) _ y h in
     let vs = reference_reads levels p ts v.0 v.1 in
-    let u = bind_ok (taken is_equals BadDo v.0.next v.0.rest) _ y v.2 in
-    let sign = equals_first v.0.rest u.0 (taken_ok is_equals BadDo v.0.next v.0.rest u.0 u.1) in
+    let u = equals_ok BadDo v.0.next v.0.rest _ y v.2 in
     let f = bind_ok (expression_in levels (v.0.next + 1) u.0) _ y u.2 in
     let fs = expression_reads levels (v.0.next + 1) u.0 f.0 f.1 in
     let r = bind_ok (range_at levels f.0.next f.0.rest) _ y f.2 in
@@ -121,7 +120,7 @@ iteration_reads levels p ts y iterated h =
     let cs = optional_reads (codes "WHILE") (parenthesized (expression_in levels)) (SpellsEnclosed (SpellsOutermost levels)) (parenthesized_reads (expression_in levels) (SpellsOutermost levels) (expression_reads levels)) r.0.next r.0.rest c.0 c.1 in
     let rc = two f.0.next r.0.next c.0.next f.0.rest r.0.rest c.0.rest rs.0 cs.0 rs.1 rs.2 cs.1 cs.2 in
     let fc = two (v.0.next + 1) f.0.next c.0.next u.0 f.0.rest c.0.rest fs.0 (rs.0 ++ cs.0) fs.1 fs.2 rc.0 rc.1 in
-    let all = two p v.0.next c.0.next ts v.0.rest c.0.rest vs.0 (Sign Equals ∷ (fs.0 ++ (rs.0 ++ cs.0))) vs.1 vs.2 (sign ∙ ap (λ ws. Sign Equals ∷ ws) fc.0) (omega (arith, fc.1)) in
+    let all = two p v.0.next c.0.next ts v.0.rest c.0.rest vs.0 (Sign Equals ∷ (fs.0 ++ (rs.0 ++ cs.0))) vs.1 vs.2 (u.1 ∙ ap (λ ws. Sign Equals ∷ ws) fc.0) (omega (arith, fc.1)) in
     let first_place : v.0.next + 1 ≡ p + length vs.0 + 1 = ap (λ q. q + 1) vs.2 in
     let range_place : f.0.next ≡ p + length vs.0 + 1 + length fs.0 = fs.2 ∙ ap (λ q. q + length fs.0) first_place in
     let condition_place : r.0.next ≡ p + length vs.0 + 1 + length fs.0 + length rs.0 = rs.2 ∙ ap (λ q. q + length rs.0) range_place in

@@ -1,8 +1,9 @@
 -- What is read is spelled so: allocations, and what stands behind PUT and CALL.
-use Rattle.std.proofs.Common.{◌≡◌, ◌+◌, inl, inr, ℕ, suc, [], ◌∷◌, ◌++◌, Option, Some, None, Ok, length, codes, refl, ap, ◌∙◌, sym, subst, arith}
+use Rattle.std.proofs.Common.{◌≡◌, ◌+◌, inl, inr, ℕ, suc, [], ◌∷◌, ◌++◌, Option, Some, None, Result, Ok, length, codes, refl, ap, ◌∙◌, sym, subst, arith}
 use Rattle.pli_base.specs.Words.{Tokens}
-use Rattle.pli_base.specs.Reading.{Front}
+use Rattle.pli_base.specs.Reading.{◌>>=◌, Front}
 use Rattle.pli_base.specs.Syntax.{Reference}
+use Rattle.pli_base.specs.declared.token.Fault.{Fault}
 use Rattle.pli_base.specs.declared.token.TokenText.TheVariants.{Word}
 use Rattle.pli_base.specs.declared.syntax.Identifier.{Identifier}
 use Rattle.pli_parse_expression.specs.Expressions.{SpellsReferenceAlone}
@@ -14,7 +15,7 @@ use Rattle.pli_base.specs.Statements.{Allocation}
 use Rattle.pli_parse_statement.specs.StatementReading.{reference_in, parenthesized, PlaceWord, InWord, SetWord, place_first, placed_by, places_from, allocation_at}
 use Rattle.pli_parse_statement.specs.StatementGrammar.{SpellsEnclosed, SpellsOptional, SpellsPlaced, SpellsAllocation}
 use Rattle.pli_parse.proofs.StatementReadTools.{reference_reads, identifier_reads, parenthesized_reads}
-use Rattle.pli_parse.proofs.WordsFirst.{place_begins}
+use Rattle.pli_parse.proofs.WordsFirst.{place_spelling, place_begins}
 use Rattle.pli_parse_declaration.specs.DeclarationReading.{identifier_at}
 
 abbrev SpellsPlace : (levels p : ℕ) → Tokens → Reference → Type 0
@@ -22,6 +23,16 @@ SpellsPlace levels = SpellsEnclosed (SpellsReferenceAlone levels)
 
 place_reads : (levels : ℕ) → Reads (parenthesized (reference_in levels)) (SpellsPlace levels)
 place_reads levels = parenthesized_reads (reference_in levels) (SpellsReferenceAlone levels) (reference_reads levels)
+
+-- a part behind its word
+part_read : (levels p : ℕ) (w : PlaceWord) (ts us : Tokens) → place_first ts ≡ Some (w, us)
+    → (r : Front Reference)
+    → parenthesized (reference_in levels) (p + 1) us ≡ Ok r
+    → SpellsFront (λ q vs x. SpellsOptional (place_spelling w) (SpellsPlace levels) q vs (Some x)) p ts r
+part_read levels p w ts us e r h =
+    let f = place_reads levels (p + 1) us r h in
+    let shape = place_begins ts us w e ∙ ap (λ vs. Word (place_spelling w) ∷ vs) f.1 in
+    (Word (place_spelling w) ∷ f.0, shape, omega (arith, f.2), (f.0, refl, f.3))
 
 abbrev allocated : Identifier → (area target : Option Reference) → Allocation
 allocated n area target = record { name = n; area = area; target = target }
@@ -50,13 +61,9 @@ area_read levels bound n area p ts y h = by (place_first ts) refl h
     by (Some (InWord, us)) e g = cc
     by (Some (SetWord, us)) e g =
         let r = bind_ok (parenthesized (reference_in levels) (p + 1) us) _ y g in
-        let f = place_reads levels (p + 1) us r.0 r.1 in
-        subst (SpellsFront (AreaThen levels n area) p ts) (both_read levels bound n area r.0.value r.0.next r.0.rest y r.2) (
-          Word (codes "SET") ∷ f.0,
-          place_begins ts us SetWord e ∙ ap (λ vs. Word (codes "SET") ∷ vs) f.1,
-          omega (arith, f.2),
-          (refl, refl, (f.0, refl, f.3)),
-        )
+        let f = part_read levels p SetWord ts us e r.0 r.1 in
+        let both = both_read levels bound n area r.0.value r.0.next r.0.rest y r.2 in
+        subst (SpellsFront (AreaThen levels n area) p ts) both (f.0, f.1, f.2, (refl, refl, f.3))
 
 -- behind SET
 abbrev TargetThen : (levels : ℕ) → Identifier → Reference → ℕ → Tokens → Allocation → Type 0
@@ -71,17 +78,32 @@ target_read levels bound n target p ts y h = by (place_first ts) refl h
     by (Some (SetWord, us)) e g = cc
     by (Some (InWord, us)) e g =
         let r = bind_ok (parenthesized (reference_in levels) (p + 1) us) _ y g in
-        let f = place_reads levels (p + 1) us r.0 r.1 in
-        subst (SpellsFront (TargetThen levels n target) p ts) (both_read levels bound n r.0.value target r.0.next r.0.rest y r.2) (
-          Word (codes "IN") ∷ f.0,
-          place_begins ts us InWord e ∙ ap (λ vs. Word (codes "IN") ∷ vs) f.1,
-          omega (arith, f.2),
-          (refl, refl, (f.0, refl, f.3)),
-        )
+        let f = part_read levels p InWord ts us e r.0 r.1 in
+        let both = both_read levels bound n r.0.value target r.0.next r.0.rest y r.2 in
+        subst (SpellsFront (TargetThen levels n target) p ts) both (f.0, f.1, f.2, (refl, refl, f.3))
 
 -- behind the name
 abbrev Placed : (levels : ℕ) → Identifier → ℕ → Tokens → Allocation → Type 0
 Placed levels n p ts a = (a.name ≡ n) × SpellsPlaced levels p ts a.area a.target
+
+-- a part behind its word, and then the other
+parts_read : (levels p : ℕ) (w : PlaceWord) (n : Identifier) (ts us : Tokens) → place_first ts ≡ Some (w, us)
+    → (next : Front Reference → Result (Front Allocation) Fault)
+    (Then : Reference → ℕ → Tokens → Allocation → Type 0)
+    → ((r : Front Reference) (y : Front Allocation) → next r ≡ Ok y
+    → SpellsFront (Then r.value) r.next r.rest y)
+    → ((r : Reference) (a : Allocation) (front rest : Tokens)
+    → SpellsOptional (place_spelling w) (SpellsPlace levels) p front (Some r)
+    → Then r (p + length front) rest a → Placed levels n p (front ++ rest) a)
+    → (y : Front Allocation) → (parenthesized (reference_in levels) (p + 1) us >>= next) ≡ Ok y
+    → SpellsFront (Placed levels n) p ts y
+parts_read levels p w n ts us e next Then reads both y h =
+    let r = bind_ok (parenthesized (reference_in levels) (p + 1) us) next y h in
+    let f = part_read levels p w ts us e r.0 r.1 in
+    let m = reads r.0 y r.2 in
+    let t = two p r.0.next y.next ts r.0.rest y.rest f.0 m.0 f.1 f.2 m.1 m.2 in
+    let more = subst (λ q. Then r.0.value q m.0 y.value) f.2 m.3 in
+    (f.0 ++ m.0, t.0, t.1, both r.0.value y.value f.0 m.0 f.3 more)
 
 places_read : (levels bound : ℕ) (n : Identifier) → Reads (places_from levels (suc (suc (suc bound))) (allocated n None None)) (Placed levels n)
 unfolding places_from
@@ -90,27 +112,19 @@ places_read levels bound n p ts y h = by (place_first ts) refl h
     by : (o : Option (PlaceWord × Tokens)) → place_first ts ≡ o → placed_by levels (places_from levels (suc (suc bound))) (allocated n None None) p ts o None None ≡ Ok y → SpellsFront (Placed levels n) p ts y
     by None e g = subst (SpellsFront (Placed levels n) p ts) (same_ok g) ([], refl, omega arith, (refl, ([], [], refl, inl (refl, refl))))
     by (Some (InWord, us)) e g =
-        let r = bind_ok (parenthesized (reference_in levels) (p + 1) us) _ y g in
-        let f = place_reads levels (p + 1) us r.0 r.1 in
-        let m = area_read levels bound n r.0.value r.0.next r.0.rest y r.2 in
-        let place : r.0.next ≡ p + length (Word (codes "IN") ∷ f.0) = omega (arith, f.2) in
-        let t = two p r.0.next y.next ts r.0.rest y.rest (Word (codes "IN") ∷ f.0) m.0 (place_begins ts us InWord e ∙ ap (λ vs. Word (codes "IN") ∷ vs) f.1) place m.1 m.2 in
-        let area : SpellsOptional (codes "IN") (SpellsPlace levels) p (Word (codes "IN") ∷ f.0) y.value.area =
-        subst (λ a. SpellsOptional (codes "IN") (SpellsPlace levels) p (Word (codes "IN") ∷ f.0) a) (sym m.3.1) (f.0, refl, f.3)
-        in
-        let target = subst (λ q. SpellsOptional (codes "SET") (SpellsPlace levels) q m.0 y.value.target) place m.3.2 in
-        ((Word (codes "IN") ∷ f.0) ++ m.0, t.0, t.1, (m.3.0, (Word (codes "IN") ∷ f.0, m.0, refl, inl (area, target))))
+        parts_read levels p InWord n ts us e
+        (λ r. places_from levels (suc (suc bound)) (allocated n (Some r.value) None) r.next r.rest)
+        (AreaThen levels n)
+        (λ r. area_read levels bound n r.value r.next r.rest) (λ r a front rest part more.
+        let area = subst (SpellsOptional (codes "IN") (SpellsPlace levels) p front) (sym more.1) part in
+        (more.0, (front, rest, refl, inl (area, more.2)))) y g
     by (Some (SetWord, us)) e g =
-        let r = bind_ok (parenthesized (reference_in levels) (p + 1) us) _ y g in
-        let f = place_reads levels (p + 1) us r.0 r.1 in
-        let m = target_read levels bound n r.0.value r.0.next r.0.rest y r.2 in
-        let place : r.0.next ≡ p + length (Word (codes "SET") ∷ f.0) = omega (arith, f.2) in
-        let t = two p r.0.next y.next ts r.0.rest y.rest (Word (codes "SET") ∷ f.0) m.0 (place_begins ts us SetWord e ∙ ap (λ vs. Word (codes "SET") ∷ vs) f.1) place m.1 m.2 in
-        let target : SpellsOptional (codes "SET") (SpellsPlace levels) p (Word (codes "SET") ∷ f.0) y.value.target =
-        subst (λ a. SpellsOptional (codes "SET") (SpellsPlace levels) p (Word (codes "SET") ∷ f.0) a) (sym m.3.1) (f.0, refl, f.3)
-        in
-        let area = subst (λ q. SpellsOptional (codes "IN") (SpellsPlace levels) q m.0 y.value.area) place m.3.2 in
-        ((Word (codes "SET") ∷ f.0) ++ m.0, t.0, t.1, (m.3.0, (Word (codes "SET") ∷ f.0, m.0, refl, inr (target, area))))
+        parts_read levels p SetWord n ts us e
+        (λ r. places_from levels (suc (suc bound)) (allocated n None (Some r.value)) r.next r.rest)
+        (TargetThen levels n)
+        (λ r. target_read levels bound n r.value r.next r.rest) (λ r a front rest part more.
+        let target = subst (SpellsOptional (codes "SET") (SpellsPlace levels) p front) (sym more.1) part in
+        (more.0, (front, rest, refl, inr (target, more.2)))) y g
 
 pub allocation_reads : (levels : ℕ) → Reads (allocation_at levels) (SpellsAllocation levels)
 unfolding allocation_at

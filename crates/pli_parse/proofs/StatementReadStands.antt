@@ -39,6 +39,17 @@ pub may_return : (b : Body) → MayReturn true b → MayReturn false b → (u : 
 may_return b inside outside true = inside
 may_return b inside outside false = outside
 
+-- a body that may stand anywhere, in an ON-unit too
+abbrev pub IsPlain : Option Identifier → Body → Type 0
+IsPlain label b =
+    StandsIn InBlock label b × StandsIn InGroup label b × (label ≡ None → StandsIn AsClause label b)
+    × (label ≡ None → StandsIn AsUnit label b) × MayReturn true b × MayReturn false b
+
+pub plain_fits : (label : Option Identifier) (b : Body) → IsPlain label b → (s : Standing) (u : Bool)
+    → LabelFits s label → StandsIn s label b × MayReturn u b
+plain_fits label b (block, group, clause, unit, inside, outside) s u fits =
+    (plain_stands label b block group clause unit s fits, may_return b inside outside u)
+
 pub return_stands : (s : Standing) (u : Bool) (label : Option Identifier) (value : Option Expression) → LabelFits s label
     → misplacement (record { standing = s; in_unit = u }) words.Return (is_labelled label) u ≡ None → StandsIn s label (body.Return value) × MayReturn u (body.Return value)
 return_stands s true label value fits h = cc

@@ -3,7 +3,8 @@ use Rattle.std.proofs.Common.{◌≡◌, ◌+◌, ℕ, Bool, true, false, cond, 
 use Rattle.pli_base.specs.Name.{Name}
 use Rattle.pli_base.specs.laws.NameLaws.{equal_from_pointwise}
 use Rattle.pli_base.specs.Words.{Tokens, same_name, is_semicolon, is_open, is_word, behind, name_first}
-use Rattle.pli_base.specs.Reading.{Front, taken}
+use Rattle.pli_base.specs.Reading.{◌>>=◌, Front, taken}
+use Rattle.pli_base.specs.declared.code.Code.{Code}
 use Rattle.pli_base.specs.declared.code.Code.TheVariants.{SemicolonExpected, ParenthesisExpected}
 use Rattle.pli_base.specs.declared.token.Fault.{Fault}
 use Rattle.pli_base.specs.declared.token.Sign.TheVariants.{Semicolon, Equals}
@@ -90,12 +91,19 @@ pub list_reads : {A : Type 0} (one : ℕ → Tokens → Result (Front A) Fault) 
 list_reads one Spells reads p ts y h = listed_reads Commas one Spells reads (length ts + 1) p ts y h
 
 -- a token that must stand
-pub equals_first : (ts us : Tokens) → behind is_equals ts ≡ Some us → ts ≡ Sign Equals ∷ us
+equals_first : (ts us : Tokens) → behind is_equals ts ≡ Some us → ts ≡ Sign Equals ∷ us
 equals_first ts us h = let f = first_is is_equals ts us h in f.2 ∙ ap (λ t. t ∷ us) (by f.0 f.1)
   where
     by : (t : TokenText) → is_equals t ≡ true → t ≡ Sign Equals
     by (Sign Equals) h = refl
     by t h = cc
+
+-- `=` stood there, and what comes behind it was read
+pub equals_ok : {A : Type 0} (code : Code) (p : ℕ) (ts : Tokens) (next : Tokens → Result A Fault) (y : A)
+    → (taken is_equals code p ts >>= next) ≡ Ok y → (us : Tokens) × (ts ≡ Sign Equals ∷ us) × (next us ≡ Ok y)
+equals_ok code p ts next y h =
+    let u = bind_ok (taken is_equals code p ts) next y h in
+    (u.0, equals_first ts u.0 (taken_ok is_equals code p ts u.0 u.1), u.2)
 
 pub word_first : (w : Name) (ts us : Tokens) → behind (is_word w) ts ≡ Some us → ts ≡ Word w ∷ us
 word_first w ts us h = let f = first_is (is_word w) ts us h in f.2 ∙ ap (λ t. t ∷ us) (by f.0 f.1)

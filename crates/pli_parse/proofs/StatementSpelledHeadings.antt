@@ -13,9 +13,8 @@ use Rattle.pli_parse_declaration.proofs.DeclarationReadAgain.{Anyhow, NoOpen, Li
 use Rattle.pli_parse_declaration.proofs.DeclarationItemsAgain.{returned_again}
 use Rattle.pli_base.specs.Statements.{ProcedureOption, Main, Returns, Recursive, Heading}
 use Rattle.pli_parse_statement.specs.StatementGrammar.{SpellsIdentifier, SpellsParameters, SpellsOption, SpellsOptions, SpellsHeading}
-use Rattle.pli_parse_statement.specs.StatementReading.{stopped, parenthesized, OptionsWord, ReturnsWord, RecursiveWord, option_first, main_at, options_by, options_from, heading_at, named_end, ending_at}
+use Rattle.pli_parse_statement.specs.StatementReading.{stopped, parenthesized, option_word, option_first, main_at, options_by, options_from, heading_at, named_end, ending_at}
 use Rattle.pli_parse.proofs.StatementSpelledTools.{same_again}
-use Rattle.pli_parse.proofs.WordsFirst.{option_there}
 use Rattle.pli_parse.proofs.StatementSpelledParts.{identifier_again, commas_again, stopped_again}
 use Rattle.pli_parse_declaration.specs.declared.list.Separator.TheVariants.{Commas}
 
@@ -51,22 +50,20 @@ main_read p more = refl
 -- one option, and what more reads
 one_option : (more : ℕ → Tokens → Result (Front (List ProcedureOption)) Fault) (p : ℕ) (o : ProcedureOption) (ts rest : Tokens) → SpellsOption ts o
     → options_by more p (ts ++ rest) (option_first (ts ++ rest)) ≡ mapped (λ xs. o ∷ xs) (more (p + length ts) rest)
+unfolding option_first option_word
 one_option more p Main ts rest shape =
     let place : p + 1 + 1 + 1 + 1 ≡ p + length ts = omega (arith, ap length shape) in
     ap (λ us. options_by more p (us ++ rest) (option_first (us ++ rest))) shape
-    ∙ ap (options_by more p ((Word (codes "OPTIONS") ∷ Sign OpenParenthesis ∷ Word (codes "MAIN") ∷ Sign CloseParenthesis ∷ []) ++ rest)) (option_there OptionsWord (Sign OpenParenthesis ∷ Word (codes "MAIN") ∷ Sign CloseParenthesis ∷ rest))
     ∙ ap (λ r. r >>= λ x. mapped (λ xs. x.value ∷ xs) (more x.next x.rest)) (main_read (p + 1) rest)
     ∙ ap (λ q. mapped (λ xs. Main ∷ xs) (more q rest)) place
 one_option more p (Returns attributes) ts rest (us, shape, spelled) =
     let place : p + 1 + length us ≡ p + length ts = omega (arith, ap length shape) in
     ap (λ vs. options_by more p (vs ++ rest) (option_first (vs ++ rest))) shape
-    ∙ ap (options_by more p (Word (codes "RETURNS") ∷ (us ++ rest))) (option_there ReturnsWord (us ++ rest))
     ∙ ap (λ r. r >>= λ x. mapped (λ xs. Returns x.value ∷ xs) (more x.next x.rest)) (returned_again (p + 1) us rest attributes spelled tt)
     ∙ ap (λ q. mapped (λ xs. Returns attributes ∷ xs) (more q rest)) place
 one_option more p Recursive ts rest shape =
     let place : p + 1 ≡ p + length ts = omega (arith, ap length shape) in
     ap (λ us. options_by more p (us ++ rest) (option_first (us ++ rest))) shape
-    ∙ ap (options_by more p (Word (codes "RECURSIVE") ∷ rest)) (option_there RecursiveWord rest)
     ∙ ap (λ q. mapped (λ xs. Recursive ∷ xs) (more q rest)) place
 
 -- an option begins with a word

@@ -23,9 +23,9 @@ use Rattle.pli_parse_declaration.proofs.DeclarationReadAgain.{placed}
 use Rattle.pli_base.specs.Statements.{Allocation, Body}
 use Rattle.pli_base.specs.Statements as body
 use Rattle.pli_parse_statement.specs.StatementGrammar.{SpellsOptional, SpellsEnclosed, SpellsPlaced, SpellsAllocation, SpellsSkip, SpellsItems, SpellsPut, SpellsCall}
-use Rattle.pli_parse_statement.specs.StatementReading.{expression_in, parenthesized, uncounted, InWord, SetWord, place_first, placed_by, places_from, allocation_at, PutWord, SkipWord, ListWord, put_first, put_by, put_from, put_begun, put_at, call_at}
+use Rattle.pli_parse_statement.specs.StatementReading.{expression_in, reference_in, parenthesized, uncounted, PlaceWord, InWord, SetWord, place_first, placed_by, places_from, allocation_at, PutWord, SkipWord, ListWord, put_first, put_by, put_from, put_begun, put_at, call_at}
 use Rattle.pli_parse.proofs.StatementSpelledParts.{enclosed_reference, expressions_again}
-use Rattle.pli_parse.proofs.WordsFirst.{place_there, put_there}
+use Rattle.pli_parse.proofs.WordsFirst.{place_spelling, place_there, put_there}
 use Rattle.pli_parse_declaration.specs.declared.list.Separator.TheVariants.{Commas}
 
 abbrev InSpelled : (levels p : ℕ) → Tokens → Option Reference → Type 0
@@ -47,39 +47,57 @@ module _ (levels : ℕ) (n : Identifier) where
   unfolding places_from
   none_placed bound p area target more none = ap (λ o. placed_by levels (places_from levels bound) (allocated n area target) p more o area target) none
 
+  -- where no part stands
+  nothing_placed : (bound p : ℕ) (x : Allocation) (ts more : Tokens) → ts ≡ []
+      → (b : ℕ) × (bound ≤ b)
+      × (places_from levels (suc bound) x p (ts ++ more) ≡ places_from levels b x (p + length ts) more)
+  nothing_placed bound p x ts more shape =
+      let place : p ≡ p + length ts = omega (arith, ap length shape) in
+      let gone = ap (λ us. places_from levels (suc bound) x p (us ++ more)) shape in
+      (suc bound, omega arith, gone ∙ ap (λ q. places_from levels (suc bound) x q more) place)
+
+  -- where a part stands behind its word
+  part_placed : (bound p : ℕ) (w : PlaceWord) (x : Allocation) (made : Reference → Allocation) (r : Reference)
+      (ts us more : Tokens) → ts ≡ Word (place_spelling w) ∷ us
+      → SpellsEnclosed (SpellsReferenceAlone levels) (p + 1) us r
+      → ((vs : Tokens) → places_from levels (suc bound) x p (Word (place_spelling w) ∷ vs)
+      ≡ (parenthesized (reference_in levels) (p + 1) vs
+      >>= λ y. places_from levels bound (made y.value) y.next y.rest))
+      → (b : ℕ) × (bound ≤ b)
+      × (places_from levels (suc bound) x p (ts ++ more) ≡ places_from levels b (made r) (p + length ts) more)
+  part_placed bound p w x made r ts us more shape spelled step =
+      let place : p + 1 + length us ≡ p + length ts = omega (arith, ap length shape) in (
+        bound,
+        omega arith,
+        ap (λ vs. places_from levels (suc bound) x p (vs ++ more)) shape ∙ step (us ++ more)
+            ∙ ap (λ o. o >>= λ y. places_from levels bound (made y.value) y.next y.rest)
+            (enclosed_reference levels (p + 1) us more r spelled tt)
+            ∙ ap (λ q. places_from levels bound (made r) q more) place,
+      )
+
   -- where an IN part may stand
   in_placed : (bound p : ℕ) (area target : Option Reference) (ts more : Tokens) → InSpelled levels p ts area
       → (b : ℕ) × (bound ≤ b) × (places_from levels (suc bound) (allocated n None target) p (ts ++ more) ≡ places_from levels b (allocated n area target) (p + length ts) more)
   unfolding places_from
-  in_placed bound p None target ts more shape =
-      let place : p ≡ p + length ts = omega (arith, ap length shape) in
-      (suc bound, omega arith, ap (λ us. places_from levels (suc bound) (allocated n None target) p (us ++ more)) shape ∙ ap (λ q. places_from levels (suc bound) (allocated n None target) q more) place)
+  in_placed bound p None target ts more shape = nothing_placed bound p (allocated n None target) ts more shape
   in_placed bound p (Some r) target ts more (us, shape, spelled) =
-      let place : p + 1 + length us ≡ p + length ts = omega (arith, ap length shape) in (
-        bound,
-        omega arith,
-        ap (λ vs. places_from levels (suc bound) (allocated n None target) p (vs ++ more)) shape
-            ∙ ap (λ o. placed_by levels (places_from levels bound) (allocated n None target) p (Word (codes "IN") ∷ (us ++ more)) o None target) (place_there InWord (us ++ more))
-            ∙ ap (λ r. r >>= λ x. places_from levels bound (allocated n (Some x.value) target) x.next x.rest) (enclosed_reference levels (p + 1) us more r spelled tt)
-            ∙ ap (λ q. places_from levels bound (allocated n (Some r) target) q more) place,
-      )
+      part_placed bound p InWord (allocated n None target)
+      (λ x. allocated n (Some x) target) r ts us more shape spelled
+      (λ vs.
+      ap (λ o. placed_by levels (places_from levels bound) (allocated n None target) p (Word (codes "IN") ∷ vs) o None target)
+      (place_there InWord vs))
 
   -- where a SET part may stand
   set_placed : (bound p : ℕ) (area target : Option Reference) (ts more : Tokens) → SetSpelled levels p ts target
       → (b : ℕ) × (bound ≤ b) × (places_from levels (suc bound) (allocated n area None) p (ts ++ more) ≡ places_from levels b (allocated n area target) (p + length ts) more)
   unfolding places_from
-  set_placed bound p area None ts more shape =
-      let place : p ≡ p + length ts = omega (arith, ap length shape) in
-      (suc bound, omega arith, ap (λ us. places_from levels (suc bound) (allocated n area None) p (us ++ more)) shape ∙ ap (λ q. places_from levels (suc bound) (allocated n area None) q more) place)
+  set_placed bound p area None ts more shape = nothing_placed bound p (allocated n area None) ts more shape
   set_placed bound p area (Some r) ts more (us, shape, spelled) =
-      let place : p + 1 + length us ≡ p + length ts = omega (arith, ap length shape) in (
-        bound,
-        omega arith,
-        ap (λ vs. places_from levels (suc bound) (allocated n area None) p (vs ++ more)) shape
-            ∙ ap (λ o. placed_by levels (places_from levels bound) (allocated n area None) p (Word (codes "SET") ∷ (us ++ more)) o area None) (place_there SetWord (us ++ more))
-            ∙ ap (λ r. r >>= λ x. places_from levels bound (allocated n area (Some x.value)) x.next x.rest) (enclosed_reference levels (p + 1) us more r spelled tt)
-            ∙ ap (λ q. places_from levels bound (allocated n area (Some r)) q more) place,
-      )
+      part_placed bound p SetWord (allocated n area None)
+      (λ x. allocated n area (Some x)) r ts us more shape spelled
+      (λ vs.
+      ap (λ o. placed_by levels (places_from levels bound) (allocated n area None) p (Word (codes "SET") ∷ vs) o area None)
+      (place_there SetWord vs))
 
   ends_placed : (bound p : ℕ) (area target : Option Reference) (more : Tokens) → 1 ≤ bound → NoPlace more → places_from levels bound (allocated n area target) p more ≡ read_as (allocated n area target) p more
   ends_placed zero p area target more some none = absurd (omega arith)

@@ -1,5 +1,5 @@
 -- The words of the parts of statements: each is spelled in one way, and stands first where that name does.
-use Rattle.std.proofs.Common.{◌≡◌, suc, Bool, true, false, cond, [], ◌∷◌, Option, Some, None, length, codes, refl, ap, ◌∙◌}
+use Rattle.std.proofs.Common.{◌≡◌, Bool, true, false, cond, [], ◌∷◌, Option, Some, None, codes, refl, ap, ◌∙◌}
 use Rattle.pli_base.specs.Name.{Name}
 use Rattle.pli_base.specs.laws.NameLaws.{equal_from_pointwise}
 use Rattle.pli_base.specs.Words.{Tokens, same_name}
@@ -41,92 +41,58 @@ known_begins known spelling is (Word n ∷ ts) us w h =
     ap (λ m. Word m ∷ ts) (is n w e.0) ∙ ap (λ vs. Word (spelling w) ∷ vs) e.1
 known_begins known spelling is (t ∷ ts) us w h = cc
 
--- it was passed over
-paired_less : {A : Type 0} (n : Name) (us : Tokens) (o : Option A) (x : A × Tokens) → paired us o ≡ Some x → length (Word n ∷ us) ≡ suc (length x.1)
-paired_less {A = A} n us (Some w) x h =
-    let e : us ≡ x.1 = ap (λ (y : A × Tokens). y.1) (some_same h) in
-    ap (λ (vs : Tokens). suc (length vs)) e
-paired_less n us None x h = cc
-
-known_less : {A : Type 0} (known : Name → Option A) (ts : Tokens) (x : A × Tokens) → known_first known ts ≡ Some x → length ts ≡ suc (length x.1)
-known_less known [] x h = cc
-known_less known (Word n ∷ us) x h = paired_less n us (known n) x h
-known_less known (t ∷ us) x h = cc
-
--- ---- the range of an iteration
+-- ---- how the words are spelled: of the range of an iteration, the places of an allocation, what PUT does,
+-- and options of PROCEDURE
 
 abbrev pub range_spelling : RangeWord → Name
 range_spelling ToWord = codes "TO"
 range_spelling ByWord = codes "BY"
 range_spelling RepeatWord = codes "REPEAT"
 
-pub range_begins : (ts us : Tokens) (w : RangeWord) → range_first ts ≡ Some (w, us) → ts ≡ Word (range_spelling w) ∷ us
-unfolding range_first range_word
-range_begins = known_begins range_word range_spelling (λ n. one_of_three range_spelling n ToWord ByWord RepeatWord)
-
-pub range_there : (w : RangeWord) (us : Tokens) → range_first (Word (range_spelling w) ∷ us) ≡ Some (w, us)
-unfolding range_first range_word
-range_there ToWord us = refl
-range_there w us = refl
-
-pub range_less : (ts : Tokens) (x : RangeWord × Tokens) → range_first ts ≡ Some x → length ts ≡ suc (length x.1)
-unfolding range_first
-range_less = known_less range_word
-
--- ---- the places of an allocation
-
 abbrev pub place_spelling : PlaceWord → Name
 place_spelling InWord = codes "IN"
 place_spelling SetWord = codes "SET"
 
-pub place_begins : (ts us : Tokens) (w : PlaceWord) → place_first ts ≡ Some (w, us) → ts ≡ Word (place_spelling w) ∷ us
-unfolding place_first place_word
-place_begins = known_begins place_word place_spelling (λ n. one_of_two place_spelling n InWord SetWord)
-
-pub place_there : (w : PlaceWord) (us : Tokens) → place_first (Word (place_spelling w) ∷ us) ≡ Some (w, us)
-unfolding place_first place_word
-place_there InWord us = refl
-place_there w us = refl
-
-pub place_less : (ts : Tokens) (x : PlaceWord × Tokens) → place_first ts ≡ Some x → length ts ≡ suc (length x.1)
-unfolding place_first
-place_less = known_less place_word
-
--- ---- what PUT does
-
 abbrev pub put_spelling : PutWord → Name
 put_spelling SkipWord = codes "SKIP"
 put_spelling ListWord = codes "LIST"
-
-pub put_begins : (ts us : Tokens) (w : PutWord) → put_first ts ≡ Some (w, us) → ts ≡ Word (put_spelling w) ∷ us
-unfolding put_first put_word
-put_begins = known_begins put_word put_spelling (λ n. one_of_two put_spelling n SkipWord ListWord)
-
-pub put_there : (w : PutWord) (us : Tokens) → put_first (Word (put_spelling w) ∷ us) ≡ Some (w, us)
-unfolding put_first put_word
-put_there SkipWord us = refl
-put_there w us = refl
-
-pub put_less : (ts : Tokens) (x : PutWord × Tokens) → put_first ts ≡ Some x → length ts ≡ suc (length x.1)
-unfolding put_first
-put_less = known_less put_word
-
--- ---- options of PROCEDURE
 
 abbrev pub option_spelling : OptionWord → Name
 option_spelling OptionsWord = codes "OPTIONS"
 option_spelling ReturnsWord = codes "RETURNS"
 option_spelling RecursiveWord = codes "RECURSIVE"
 
+-- ---- the word that is found stands first
+
+pub range_begins : (ts us : Tokens) (w : RangeWord) → range_first ts ≡ Some (w, us) → ts ≡ Word (range_spelling w) ∷ us
+unfolding range_first range_word
+range_begins = known_begins range_word range_spelling (λ n. one_of_three range_spelling n ToWord ByWord RepeatWord)
+
+pub place_begins : (ts us : Tokens) (w : PlaceWord) → place_first ts ≡ Some (w, us) → ts ≡ Word (place_spelling w) ∷ us
+unfolding place_first place_word
+place_begins = known_begins place_word place_spelling (λ n. one_of_two place_spelling n InWord SetWord)
+
+pub put_begins : (ts us : Tokens) (w : PutWord) → put_first ts ≡ Some (w, us) → ts ≡ Word (put_spelling w) ∷ us
+unfolding put_first put_word
+put_begins = known_begins put_word put_spelling (λ n. one_of_two put_spelling n SkipWord ListWord)
+
 pub option_begins : (ts us : Tokens) (w : OptionWord) → option_first ts ≡ Some (w, us) → ts ≡ Word (option_spelling w) ∷ us
 unfolding option_first option_word
 option_begins = known_begins option_word option_spelling (λ n. one_of_three option_spelling n OptionsWord ReturnsWord RecursiveWord)
 
-pub option_there : (w : OptionWord) (us : Tokens) → option_first (Word (option_spelling w) ∷ us) ≡ Some (w, us)
-unfolding option_first option_word
-option_there OptionsWord us = refl
-option_there w us = refl
+-- ---- a word that stands first is found
 
-pub option_less : (ts : Tokens) (x : OptionWord × Tokens) → option_first ts ≡ Some x → length ts ≡ suc (length x.1)
-unfolding option_first
-option_less = known_less option_word
+pub range_there : (w : RangeWord) (us : Tokens) → range_first (Word (range_spelling w) ∷ us) ≡ Some (w, us)
+unfolding range_first range_word
+range_there ToWord us = refl
+range_there w us = refl
+
+pub place_there : (w : PlaceWord) (us : Tokens) → place_first (Word (place_spelling w) ∷ us) ≡ Some (w, us)
+unfolding place_first place_word
+place_there InWord us = refl
+place_there w us = refl
+
+pub put_there : (w : PutWord) (us : Tokens) → put_first (Word (put_spelling w) ∷ us) ≡ Some (w, us)
+unfolding put_first put_word
+put_there SkipWord us = refl
+put_there w us = refl

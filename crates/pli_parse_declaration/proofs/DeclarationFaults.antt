@@ -155,17 +155,26 @@ integer_sound p (Sign Plus ∷ ts) = behind_sign false p (Sign Plus) ts
 integer_sound p (Sign Minus ∷ ts) = behind_sign true p (Sign Minus) ts
 integer_sound p (t ∷ ts) = signed_sound false p (t ∷ ts)
 
+-- a value, and more behind a token, if that comes
+more_sound : {A B : Type 0} (one : ℕ → Tokens → Result (Front A) Fault) (fits : TokenText → Bool)
+    (after : Front A → Option Tokens → Result (Front B) Fault) → IsSound one
+    → ((x : Front A) → Stands 0 x.next x.rest (after x None))
+    → ((x : Front A) (us : Tokens) → Stands 1 (x.next + 1) us (after x (Some us)))
+    → IsSound (λ p ts. one p ts >>= λ x. after x (behind fits x.rest))
+more_sound one fits after sound alone more p ts =
+    stands_then 1 0 p ts (one p ts) (λ x. after x (behind fits x.rest)) (sound p ts) (λ x s. by x (behind fits x.rest) refl)
+  where
+    by : (x : Front _) (o : Option Tokens) → behind fits x.rest ≡ o → Stands 0 x.next x.rest (after x o)
+    by x None e = alone x
+    by x (Some us) e =
+        at_least 2 0 x.next x.rest (after x (Some us)) (omega arith)
+        (stands_behind 1 1 x.next (x.next + 1) x.rest us (after x (Some us)) (passes_one x.next x.rest us (one_less fits x.rest us e)) (more x us))
+
 bounds_sound : IsSound bounds_at
 unfolding bounds_at
-bounds_sound p ts = stands_then 1 0 p ts (integer_at p ts) (λ x. bounds_from x (behind is_colon x.rest)) (integer_sound p ts) (λ x s. by x (behind is_colon x.rest) refl)
-  where
-    by : (x : Front Integer) (o : Option Tokens) → behind is_colon x.rest ≡ o → Stands 0 x.next x.rest (bounds_from x o)
-    by x None e = passes_none x.next x.rest
-    by x (Some us) e =
-        let read : Result (Front Bounds) Fault = mapped (λ high. record { low = Some x.value; high = high }) (integer_at (x.next + 1) us) in
-        at_least 2 0 x.next x.rest read (omega arith)
-        (stands_behind 1 1 x.next (x.next + 1) x.rest us read (passes_one x.next x.rest us (one_less is_colon x.rest us e))
-        (mapped_stands 1 (x.next + 1) us (λ high. record { low = Some x.value; high = high }) (integer_at (x.next + 1) us) (integer_sound (x.next + 1) us)))
+bounds_sound =
+    more_sound integer_at is_colon bounds_from integer_sound (λ x. passes_none x.next x.rest)
+    (λ x us. mapped_stands 1 (x.next + 1) us (λ high. record { low = Some x.value; high = high }) (integer_at (x.next + 1) us) (integer_sound (x.next + 1) us))
 
 pub dimensions_stand : (p : ℕ) (ts : Tokens) → Stands 0 p ts (dimensions_at p ts)
 unfolding dimensions_at
@@ -178,15 +187,9 @@ length_stands p ts = optional_stands number_at number_sound p ts
 
 scaled_sound : IsSound scaled_at
 unfolding scaled_at
-scaled_sound p ts = stands_then 1 0 p ts (number_at p ts) (λ x. with_scale x (behind is_comma x.rest)) (number_sound p ts) (λ x s. by x (behind is_comma x.rest) refl)
-  where
-    by : (x : Front ℕ) (o : Option Tokens) → behind is_comma x.rest ≡ o → Stands 0 x.next x.rest (with_scale x o)
-    by x None e = passes_none x.next x.rest
-    by x (Some us) e =
-        let read : Result (Front ℕ) Fault = taken is_zero ConstantExpected (x.next + 1) us >>= λ rest. read_as x.value (x.next + 2) rest in
-        at_least 2 0 x.next x.rest read (omega arith)
-        (stands_behind 1 1 x.next (x.next + 1) x.rest us read (passes_one x.next x.rest us (one_less is_comma x.rest us e))
-        (taken_then is_zero ConstantExpected refl 0 (x.next + 1) us (λ rest. read_as x.value (x.next + 2) rest) (λ rest. (omega arith, omega arith))))
+scaled_sound =
+    more_sound number_at is_comma with_scale number_sound (λ x. passes_none x.next x.rest)
+    (λ x us. taken_then is_zero ConstantExpected refl 0 (x.next + 1) us (λ rest. read_as x.value (x.next + 2) rest) (λ rest. (omega arith, omega arith)))
 
 precision_stands : (p : ℕ) (ts : Tokens) → Stands 0 p ts (precision_at p ts)
 unfolding precision_at
@@ -362,17 +365,23 @@ nest_sound : IsSound nest_at
 unfolding nest_at
 nest_sound p ts = walk_stands (length ts + 1) [] expects.Attribute p ts (omega arith)
 
+-- behind the keyword of an attribute
+keyword_stands : {A B : Type 0} (b p : ℕ) (ts us : Tokens) (w : AttributeWord) → attribute_first ts ≡ Some (w, us) → (make : A → B)
+    (r : Result (Front A) Fault) → Stands b (p + 1) us r → Stands (1 + b) p ts (mapped make r)
+keyword_stands b p ts us w e make r h =
+    stands_behind 1 b p (p + 1) ts us (mapped make r) (passes_one p ts us (keyword_less ts us w e)) (mapped_stands b (p + 1) us make r h)
+
+described_stands : (p : ℕ) (ts : Tokens) (o : Option (AttributeWord × Tokens)) → attribute_first ts ≡ o
+    → Stands 1 p ts (described_from p ts o)
+described_stands p ts None e = misfit_stands BadAttribute refl p ts
+described_stands p ts (Some (attribute.Simple w, us)) e =
+    keyword_stands 0 p ts us (attribute.Simple w) e tree.Plain (simple_of w (p + 1) us) (simple_stands w (p + 1) us)
+described_stands p ts (Some (attribute.Entry, us)) e = mapped_stands 1 p ts (λ nothing. tree.AnyEntry) (nest_at p ts) (nest_sound p ts)
+described_stands p ts (Some (attribute.Returns, us)) e = mapped_stands 1 p ts (λ nothing. tree.AnyReturns) (nest_at p ts) (nest_sound p ts)
+
 described_sound : IsSound described_at
 unfolding described_at
-described_sound p ts = by (attribute_first ts) refl
-  where
-    by : (o : Option (AttributeWord × Tokens)) → attribute_first ts ≡ o → Stands 1 p ts (described_from p ts o)
-    by None e = misfit_stands BadAttribute refl p ts
-    by (Some (attribute.Simple w, us)) e =
-        stands_behind 1 0 p (p + 1) ts us (mapped tree.Plain (simple_of w (p + 1) us)) (passes_one p ts us (keyword_less ts us (attribute.Simple w) e))
-        (mapped_stands 0 (p + 1) us tree.Plain (simple_of w (p + 1) us) (simple_stands w (p + 1) us))
-    by (Some (attribute.Entry, us)) e = mapped_stands 1 p ts (λ nothing. tree.AnyEntry) (nest_at p ts) (nest_sound p ts)
-    by (Some (attribute.Returns, us)) e = mapped_stands 1 p ts (λ nothing. tree.AnyReturns) (nest_at p ts) (nest_sound p ts)
+described_sound p ts = described_stands p ts (attribute_first ts) refl
 
 parameter_sound : IsSound parameter_at
 unfolding parameter_at
@@ -410,22 +419,20 @@ returned_stands p ts =
     taken_then is_open ParenthesisExpected refl 2 p ts (λ us. enclosed (list_at Nothing described_at (p + 1) us))
     (λ us. enclosed_stands 1 (p + 1) us (list_at Nothing described_at (p + 1) us) (list_sound Nothing described_at described_sound (p + 1) us))
 
+attribute_stands : (p : ℕ) (ts : Tokens) (o : Option (AttributeWord × Tokens)) → attribute_first ts ≡ o
+    → Stands 1 p ts (attribute_from p ts o)
+attribute_stands p ts None e = misfit_stands BadAttribute refl p ts
+attribute_stands p ts (Some (attribute.Simple w, us)) e =
+    keyword_stands 0 p ts us (attribute.Simple w) e tree.Simple (simple_of w (p + 1) us) (simple_stands w (p + 1) us)
+attribute_stands p ts (Some (attribute.Entry, us)) e =
+    keyword_stands 0 p ts us attribute.Entry e tree.Entry (entry_at (p + 1) us) (entry_stands (p + 1) us)
+attribute_stands p ts (Some (attribute.Returns, us)) e =
+    at_least 4 1 p ts (mapped tree.Returns (returned_at (p + 1) us)) (omega arith)
+    (keyword_stands 3 p ts us attribute.Returns e tree.Returns (returned_at (p + 1) us) (returned_stands (p + 1) us))
+
 attribute_sound : IsSound attribute_at
 unfolding attribute_at
-attribute_sound p ts = by (attribute_first ts) refl
-  where
-    by : (o : Option (AttributeWord × Tokens)) → attribute_first ts ≡ o → Stands 1 p ts (attribute_from p ts o)
-    by None e = misfit_stands BadAttribute refl p ts
-    by (Some (attribute.Simple w, us)) e =
-        stands_behind 1 0 p (p + 1) ts us (mapped tree.Simple (simple_of w (p + 1) us)) (passes_one p ts us (keyword_less ts us (attribute.Simple w) e))
-        (mapped_stands 0 (p + 1) us tree.Simple (simple_of w (p + 1) us) (simple_stands w (p + 1) us))
-    by (Some (attribute.Entry, us)) e =
-        stands_behind 1 0 p (p + 1) ts us (mapped tree.Entry (entry_at (p + 1) us)) (passes_one p ts us (keyword_less ts us attribute.Entry e))
-        (mapped_stands 0 (p + 1) us tree.Entry (entry_at (p + 1) us) (entry_stands (p + 1) us))
-    by (Some (attribute.Returns, us)) e =
-        at_least 4 1 p ts (mapped tree.Returns (returned_at (p + 1) us)) (omega arith)
-        (stands_behind 1 3 p (p + 1) ts us (mapped tree.Returns (returned_at (p + 1) us)) (passes_one p ts us (keyword_less ts us attribute.Returns e))
-        (mapped_stands 3 (p + 1) us tree.Returns (returned_at (p + 1) us) (returned_stands (p + 1) us)))
+attribute_sound p ts = attribute_stands p ts (attribute_first ts) refl
 
 attributes_stand : (p : ℕ) (ts : Tokens) → Stands 0 p ts (attributes_at p ts)
 unfolding attributes_at

@@ -1,16 +1,18 @@
 -- What is spelled so is read: attributes, descriptions and items.
-use Rattle.std.proofs.Common.{⊎_elim, ◌⊎◌, inl, inr, ◌≡◌, ◌+◌, ◌<◌, ℕ, true, cond, List, [], ◌∷◌, ◌++◌, Option, Some, None, Ok, length, codes, refl, ap, ◌∙◌, sym, subst, arith, append_assoc, length-append}
+use Rattle.std.proofs.Common.{⊎_elim, ◌⊎◌, inl, inr, ◌≡◌, ◌+◌, ◌<◌, ℕ, true, cond, List, [], ◌∷◌, ◌++◌, Option, Some, None, Result, Ok, length, codes, refl, ap, ◌∙◌, sym, subst, arith, append_assoc, length-append}
 use Rattle.pli_base.specs.Name.{Name}
 use Rattle.pli_base.specs.Words.{Tokens, is_open, is_close, is_semicolon, behind}
 use Rattle.pli_base.specs.Reading.{◌>>=◌, Front, read_as, mapped, expected, taken, enclosed}
 use Rattle.pli_base.specs.declared.code.Code.TheVariants.{ParenthesisExpected, SemicolonExpected}
+use Rattle.pli_base.specs.declared.token.Fault.{Fault}
 use Rattle.pli_base.specs.declared.token.Sign.TheVariants.{Semicolon, Comma, OpenParenthesis, CloseParenthesis}
 use Rattle.pli_base.specs.declared.token.TokenText.TheVariants.{Word, Sign}
-use Rattle.pli_parse_declaration.specs.DeclarationWords.{attribute_first, if_first, with_attribute, begins_description}
+use Rattle.pli_parse_declaration.specs.DeclarationWords.{attribute_word, attribute_first, if_first, with_attribute, begins_description}
 use Rattle.pli_base.specs.Declarations as tree
-use Rattle.pli_parse_declaration.specs.DeclarationReading.{list_at, dimensions_at, identifier_at, described_from, described_at, parameter_at, parameters_from, parameters_at, entry_from, entry_at, returned_at, attribute_from, attribute_at, attributes_from, attributes_at, level_at, names_from, names_at, item_at, items_at, declaration_at}
+use Rattle.pli_parse_declaration.specs.DeclarationReading.{list_at, dimensions_at, identifier_at, simple_of, described_from, described_at, parameter_at, parameters_from, parameters_at, entry_from, entry_at, returned_at, attribute_from, attribute_at, attributes_from, attributes_at, level_at, names_from, names_at, item_at, items_at, declaration_at}
 use Rattle.pli_parse_declaration.specs.DeclarationGrammar.{between, SpellsListed, Anywhere, SpellsList, SpellsOptional, SpellsSimple, word_of, SpellsDescribed, SpellsParameter, SpellsParameters, SpellsReturned, SpellsAttribute, SpellsAttributes, SpellsIdentifier, SpellsNames, SpellsLevel, SpellsItem, SpellsItems, SpellsDeclaration, EndsItems}
 use Rattle.pli_base.specs.declared.syntax.Identifier.{Identifier}
+use Rattle.pli_parse_declaration.specs.declared.word.AttributeWord.{AttributeWord}
 use Rattle.pli_parse_declaration.specs.declared.word.AttributeWord.TheVariants as attribute
 use Rattle.pli_parse_declaration.specs.ItemEnds.{OptionEnds, AttributeEnds, DimensionsEnd, LastEnds, AttributesEnd, ItemEnds, ItemsEnd}
 use Rattle.pli_parse_fault.proofs.Steps.{same_ok}
@@ -62,13 +64,25 @@ list_first Spells first ts (x ∷ y ∷ more) (front, rest, shape, spelled, late
     let f = first front x spelled in
     (f.0, f.1 ++ rest, f.2, shape ∙ ap (λ us. us ++ rest) f.3, f.4)
 
+-- what begins with its keyword, where what stands behind that is read
+keyword_again : {A B : Type 0} (from : ℕ → Tokens → Option (AttributeWord × Tokens) → Result (Front B) Fault) (make : A → B)
+    (one : ℕ → Tokens → Result (Front A) Fault) (a : A) (k : Name) (w : AttributeWord) (p : ℕ) (ts us more : Tokens)
+    → ts ≡ Word k ∷ us → attribute_word k ≡ Some w
+    → from p (Word k ∷ (us ++ more)) (Some (w, us ++ more)) ≡ mapped make (one (p + 1) (us ++ more))
+    → one (p + 1) (us ++ more) ≡ read_as a (p + 1 + length us) more
+    → from p (ts ++ more) (attribute_first (ts ++ more)) ≡ read_as (make a) (p + length ts) more
+keyword_again from make one a k w p ts us more e word step read =
+    ap (λ vs. from p (vs ++ more) (attribute_first (vs ++ more))) e
+    ∙ ap (from p (Word k ∷ (us ++ more))) (word_again k (us ++ more) w word)
+    ∙ step
+    ∙ ap (mapped make) read
+    ∙ placed (make a) (p + 1 + length us) (p + length ts) more (omega (arith, ap length e))
+
 described_again : ReadAgain described_at (Anywhere SpellsDescribed) NoOpen
 unfolding described_at
 described_again p ts more (tree.Plain a) (k, us, e, word, spelled) stops =
-    ap (λ vs. described_at p (vs ++ more)) e
-    ∙ ap (described_from p (Word k ∷ (us ++ more))) (word_again k (us ++ more) (attribute.Simple (word_of a)) word)
-    ∙ ap (mapped tree.Plain) (simple_again a (p + 1) us more spelled stops)
-    ∙ placed (tree.Plain a) (p + 1 + length us) (p + length ts) more (omega (arith, ap length e))
+    keyword_again described_from tree.Plain (simple_of (word_of a)) a k (attribute.Simple (word_of a)) p ts us more e word refl
+    (simple_again a (p + 1) us more spelled stops)
 described_again p ts more tree.AnyEntry (us, e, formed) stops =
     ap (described_from p (ts ++ more)) (ap (λ vs. attribute_first (vs ++ more)) e ∙ word_again (codes "ENTRY") (us ++ more) attribute.Entry entry_word)
     ∙ ap (mapped (λ nothing. tree.AnyEntry)) (nest_again p ts more formed stops)
@@ -147,20 +161,14 @@ returned_again p ts more attributes (inner, shape, spelled) stops =
 attribute_before : ReadBefore attribute_at (Anywhere SpellsAttribute) AttributeEnds
 unfolding attribute_at
 attribute_before p ts more (tree.Simple a) (k, us, e, word, spelled) stops =
-    ap (λ vs. attribute_at p (vs ++ more)) e
-    ∙ ap (attribute_from p (Word k ∷ (us ++ more))) (word_again k (us ++ more) (attribute.Simple (word_of a)) word)
-    ∙ ap (mapped tree.Simple) (simple_before a (p + 1) us more spelled stops)
-    ∙ placed (tree.Simple a) (p + 1 + length us) (p + length ts) more (omega (arith, ap length e))
+    keyword_again attribute_from tree.Simple (simple_of (word_of a)) a k (attribute.Simple (word_of a)) p ts us more e word refl
+    (simple_before a (p + 1) us more spelled stops)
 attribute_before p ts more (tree.Entry parameters) (us, e, spelled) stops =
-    ap (λ vs. attribute_at p (vs ++ more)) e
-    ∙ ap (attribute_from p (Word (codes "ENTRY") ∷ (us ++ more))) (word_again (codes "ENTRY") (us ++ more) attribute.Entry entry_word)
-    ∙ ap (mapped tree.Entry) (entry_again (p + 1) us more parameters spelled stops)
-    ∙ placed (tree.Entry parameters) (p + 1 + length us) (p + length ts) more (omega (arith, ap length e))
+    keyword_again attribute_from tree.Entry entry_at parameters (codes "ENTRY") attribute.Entry p ts us more e entry_word refl
+    (entry_again (p + 1) us more parameters spelled stops)
 attribute_before p ts more (tree.Returns attributes) (us, e, spelled) stops =
-    ap (λ vs. attribute_at p (vs ++ more)) e
-    ∙ ap (attribute_from p (Word (codes "RETURNS") ∷ (us ++ more))) (word_again (codes "RETURNS") (us ++ more) attribute.Returns returns_word)
-    ∙ ap (mapped tree.Returns) (returned_again (p + 1) us more attributes spelled tt)
-    ∙ placed (tree.Returns attributes) (p + 1 + length us) (p + length ts) more (omega (arith, ap length e))
+    keyword_again attribute_from tree.Returns returned_at attributes (codes "RETURNS") attribute.Returns p ts us more e returns_word refl
+    (returned_again (p + 1) us more attributes spelled tt)
 
 -- what opens no parenthesis ends any attribute
 any_attribute : (a : tree.Attribute) (more : Tokens) → NoOpen more → AttributeEnds a more

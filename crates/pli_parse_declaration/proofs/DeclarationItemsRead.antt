@@ -1,14 +1,16 @@
 -- What is read is spelled so: attributes, descriptions and items.
-use Rattle.std.proofs.Common.{◌≡◌, ◌+◌, ℕ, Bool, true, false, cond, List, [], ◌∷◌, ◌++◌, Option, Some, None, Ok, length, codes, refl, ap, ◌∙◌, sym, subst, arith, inl, inr}
+use Rattle.std.proofs.Common.{◌≡◌, ◌+◌, ℕ, Bool, true, false, cond, List, [], ◌∷◌, ◌++◌, Option, Some, None, Result, Ok, length, codes, refl, ap, ◌∙◌, sym, subst, arith, inl, inr}
 use Rattle.pli_base.specs.Words.{Tokens, is_open, is_close, is_semicolon, behind}
-use Rattle.pli_base.specs.Reading.{Front, expected, taken, enclosed}
+use Rattle.pli_base.specs.Reading.{Front, mapped, expected, taken, enclosed}
 use Rattle.pli_base.specs.declared.code.Code.TheVariants.{ParenthesisExpected, SemicolonExpected}
+use Rattle.pli_base.specs.declared.token.Fault.{Fault}
 use Rattle.pli_base.specs.declared.token.Sign.TheVariants.{Semicolon, OpenParenthesis, CloseParenthesis}
 use Rattle.pli_base.specs.declared.token.TokenText.TheVariants.{Word, Decimal, Binary, Sign}
 use Rattle.pli_parse_declaration.specs.DeclarationWords.{attribute_first, if_first, begins_description}
 use Rattle.pli_base.specs.Declarations as tree
 use Rattle.pli_parse_declaration.specs.DeclarationReading.{list_at, dimensions_at, identifier_at, nest_at, simple_of, described_from, described_at, parameter_at, parameters_from, parameters_at, entry_from, entry_at, returned_at, attribute_from, attribute_at, attributes_from, attributes_at, level_at, names_from, names_at, item_at, items_at, declaration_at}
-use Rattle.pli_parse_declaration.specs.DeclarationGrammar.{SpellsFront, SpellsListed, Anywhere, SpellsList, SpellsEnclosed, SpellsOptional, Part, OneAttribute, IsWellFormed, simple, entry, entry_of_none, entry_of, returns_of, last_attribute, more_attributes, description, last_description, more_descriptions, SpellsDescribed, SpellsParameter, SpellsParameters, SpellsReturned, SpellsAttribute, SpellsAttributes, SpellsIdentifier, SpellsNames, SpellsLevel, SpellsItem, SpellsItems, SpellsDeclaration}
+use Rattle.pli_parse_declaration.specs.DeclarationGrammar.{SpellsFront, SpellsListed, Anywhere, SpellsList, SpellsEnclosed, SpellsOptional, Part, OneAttribute, IsWellFormed, simple, entry, entry_of_none, entry_of, returns_of, last_attribute, more_attributes, description, last_description, more_descriptions, SpellsSimple, SpellsDescribed, SpellsParameter, SpellsParameters, SpellsReturned, SpellsAttribute, SpellsAttributes, SpellsIdentifier, SpellsNames, SpellsLevel, SpellsItem, SpellsItems, SpellsDeclaration}
+use Rattle.pli_parse_declaration.specs.declared.word.SimpleWord.{SimpleWord}
 use Rattle.pli_parse_declaration.specs.declared.word.AttributeWord.{AttributeWord}
 use Rattle.pli_parse_declaration.specs.declared.word.AttributeWord.TheVariants as attribute
 use Rattle.pli_parse_declaration.proofs.DeclarationSteps.{mapped_ok, open_first, close_first, semicolon_first, taken_ok, two}
@@ -45,28 +47,47 @@ first_word ts us front rest k e one shape =
     let same : b.0 ≡ k = cc in
     (b.1, b.2 ∙ ap (λ n. Word n ∷ b.1) same)
 
+entry_first : (ts us : Tokens) → attribute_first ts ≡ Some (attribute.Entry, us) → ts ≡ Word (codes "ENTRY") ∷ us
+entry_first ts us e = let k = word_first ts us attribute.Entry e in k.1 ∙ ap (λ n. Word n ∷ us) (entry_is k.0 k.2)
+
+returns_first : (ts us : Tokens) → attribute_first ts ≡ Some (attribute.Returns, us) → ts ≡ Word (codes "RETURNS") ∷ us
+returns_first ts us e = let k = word_first ts us attribute.Returns e in k.1 ∙ ap (λ n. Word n ∷ us) (returns_is k.0 k.2)
+
+-- a nest whose first word is known
+nest_spelled : (p : ℕ) (ts us : Tokens) (k : List ℕ) (d : tree.DescribedAttribute) → ts ≡ Word k ∷ us
+    → ((vs : Tokens) → IsWellFormed OneAttribute (Word k ∷ vs) → SpellsDescribed (Word k ∷ vs) d)
+    → (y : Front tree.DescribedAttribute) → mapped (λ nothing. d) (nest_at p ts) ≡ Ok y
+    → SpellsFront (Anywhere SpellsDescribed) p ts y
+nest_spelled p ts us k d e spells y g =
+    let m = mapped_ok (λ nothing. d) (nest_at p ts) y g in
+    let f = nest_reads p ts m.0 m.1 in
+    let b = first_word ts us f.0 m.0.rest k e f.3 f.1 in
+    let spelled = subst (λ vs. SpellsDescribed vs d) (sym b.1) (spells b.0 (subst (IsWellFormed OneAttribute) b.1 f.3)) in
+    subst (SpellsFront (Anywhere SpellsDescribed) p ts) m.2 (f.0, f.1, f.2, spelled)
+
+-- an attribute that is a simple one
+simple_read : {A : Type 0} (make : tree.SimpleAttribute → A) (Spells : Tokens → A → Type 0)
+    → ((vs : Tokens) (a : tree.SimpleAttribute) → SpellsSimple vs a → Spells vs (make a))
+    → (p : ℕ) (ts us : Tokens) (w : SimpleWord) → attribute_first ts ≡ Some (attribute.Simple w, us)
+    → (y : Front A) → mapped make (simple_of w (p + 1) us) ≡ Ok y → SpellsFront (Anywhere Spells) p ts y
+simple_read make Spells so p ts us w e y g =
+    let m = mapped_ok make (simple_of w (p + 1) us) y g in
+    let f = simple_spelled p ts us w e m.0 m.1 in
+    subst (SpellsFront (Anywhere Spells) p ts) m.2 (f.0, f.1, f.2, so f.0 m.0.value f.3)
+
+described_read : (p : ℕ) (ts : Tokens) (y : Front tree.DescribedAttribute) (o : Option (AttributeWord × Tokens))
+    → attribute_first ts ≡ o → described_from p ts o ≡ Ok y → SpellsFront (Anywhere SpellsDescribed) p ts y
+described_read p ts y None e g = cc
+described_read p ts y (Some (attribute.Simple w, us)) e g =
+    simple_read tree.Plain SpellsDescribed (λ vs a s. s) p ts us w e y g
+described_read p ts y (Some (attribute.Entry, us)) e g =
+    nest_spelled p ts us (codes "ENTRY") tree.AnyEntry (entry_first ts us e) (λ vs formed. (vs, refl, formed)) y g
+described_read p ts y (Some (attribute.Returns, us)) e g =
+    nest_spelled p ts us (codes "RETURNS") tree.AnyReturns (returns_first ts us e) (λ vs formed. (vs, refl, formed)) y g
+
 pub described_reads : Reads described_at (Anywhere SpellsDescribed)
 unfolding described_at
-described_reads p ts y h = by (attribute_first ts) refl h
-  where
-    by : (o : Option (AttributeWord × Tokens)) → attribute_first ts ≡ o → described_from p ts o ≡ Ok y → SpellsFront (Anywhere SpellsDescribed) p ts y
-    by None e g = cc
-    by (Some (attribute.Simple w, us)) e g =
-        let m = mapped_ok tree.Plain (simple_of w (p + 1) us) y g in
-        let f = simple_spelled p ts us w e m.0 m.1 in
-        subst (SpellsFront (Anywhere SpellsDescribed) p ts) m.2 (f.0, f.1, f.2, f.3)
-    by (Some (attribute.Entry, us)) e g =
-        let m = mapped_ok (λ nothing. tree.AnyEntry) (nest_at p ts) y g in
-        let f = nest_reads p ts m.0 m.1 in
-        let k = word_first ts us attribute.Entry e in
-        let b = first_word ts us f.0 m.0.rest (codes "ENTRY") (k.1 ∙ ap (λ n. Word n ∷ us) (entry_is k.0 k.2)) f.3 f.1 in
-        subst (SpellsFront (Anywhere SpellsDescribed) p ts) m.2 (f.0, f.1, f.2, (b.0, b.1, f.3))
-    by (Some (attribute.Returns, us)) e g =
-        let m = mapped_ok (λ nothing. tree.AnyReturns) (nest_at p ts) y g in
-        let f = nest_reads p ts m.0 m.1 in
-        let k = word_first ts us attribute.Returns e in
-        let b = first_word ts us f.0 m.0.rest (codes "RETURNS") (k.1 ∙ ap (λ n. Word n ∷ us) (returns_is k.0 k.2)) f.3 f.1 in
-        subst (SpellsFront (Anywhere SpellsDescribed) p ts) m.2 (f.0, f.1, f.2, (b.0, b.1, f.3))
+described_reads p ts y h = described_read p ts y (attribute_first ts) refl h
 
 described_list : Reads (list_at Nothing described_at) (Anywhere (SpellsList Nothing SpellsDescribed))
 described_list = list_reads Nothing described_at SpellsDescribed described_reads
@@ -120,36 +141,33 @@ returned_reads p ts y h =
     let f = enclosed_spelled (list_at Nothing described_at) (Anywhere (SpellsList Nothing SpellsDescribed)) described_list p ts g.0 (open_first ts g.0 (taken_ok is_open ParenthesisExpected p ts g.0 g.1)) y g.2 in
     (f.0, f.1, f.2, f.3)
 
+-- an attribute behind its word
+worded_read : {A : Type 0} (make : A → tree.Attribute) (one : ℕ → Tokens → Result (Front A) Fault) (Spells : Tokens → A → Type 0)
+    → Reads one (Anywhere Spells) → (k : List ℕ)
+    → ((vs : Tokens) (x : A) → Spells vs x → SpellsAttribute (Word k ∷ vs) (make x))
+    → (p : ℕ) (ts us : Tokens) (y : Front tree.Attribute) → ts ≡ Word k ∷ us → mapped make (one (p + 1) us) ≡ Ok y
+    → SpellsFront (Anywhere SpellsAttribute) p ts y
+worded_read make one Spells reads k spells p ts us y e g =
+    let m = mapped_ok make (one (p + 1) us) y g in
+    let f = reads (p + 1) us m.0 m.1 in
+    let shape = e ∙ ap (λ vs. Word k ∷ vs) f.1 in
+    subst (SpellsFront (Anywhere SpellsAttribute) p ts) m.2 (Word k ∷ f.0, shape, omega (arith, f.2), spells f.0 m.0.value f.3)
+
+attribute_read : (p : ℕ) (ts : Tokens) (y : Front tree.Attribute) (o : Option (AttributeWord × Tokens)) → attribute_first ts ≡ o
+    → attribute_from p ts o ≡ Ok y → SpellsFront (Anywhere SpellsAttribute) p ts y
+attribute_read p ts y None e g = cc
+attribute_read p ts y (Some (attribute.Simple w, us)) e g =
+    simple_read tree.Simple SpellsAttribute (λ vs a s. s) p ts us w e y g
+attribute_read p ts y (Some (attribute.Entry, us)) e g =
+    worded_read tree.Entry entry_at (SpellsOptional SpellsParameters) entry_reads (codes "ENTRY") (λ vs x s. (vs, refl, s))
+    p ts us y (entry_first ts us e) g
+attribute_read p ts y (Some (attribute.Returns, us)) e g =
+    worded_read tree.Returns returned_at SpellsReturned returned_reads (codes "RETURNS") (λ vs x s. (vs, refl, s))
+    p ts us y (returns_first ts us e) g
+
 attribute_reads : Reads attribute_at (Anywhere SpellsAttribute)
 unfolding attribute_at
-attribute_reads p ts y h = by (attribute_first ts) refl h
-  where
-    by : (o : Option (AttributeWord × Tokens)) → attribute_first ts ≡ o → attribute_from p ts o ≡ Ok y → SpellsFront (Anywhere SpellsAttribute) p ts y
-    by None e g = cc
-    by (Some (attribute.Simple w, us)) e g =
-        let m = mapped_ok tree.Simple (simple_of w (p + 1) us) y g in
-        let f = simple_spelled p ts us w e m.0 m.1 in
-        subst (SpellsFront (Anywhere SpellsAttribute) p ts) m.2 (f.0, f.1, f.2, f.3)
-    by (Some (attribute.Entry, us)) e g =
-        let m = mapped_ok tree.Entry (entry_at (p + 1) us) y g in
-        let f = entry_reads (p + 1) us m.0 m.1 in
-        let k = word_first ts us attribute.Entry e in
-        subst (SpellsFront (Anywhere SpellsAttribute) p ts) m.2 (
-          Word (codes "ENTRY") ∷ f.0,
-          k.1 ∙ ap (λ n. Word n ∷ us) (entry_is k.0 k.2) ∙ ap (λ vs. Word (codes "ENTRY") ∷ vs) f.1,
-          omega (arith, f.2),
-          (f.0, refl, f.3),
-        )
-    by (Some (attribute.Returns, us)) e g =
-        let m = mapped_ok tree.Returns (returned_at (p + 1) us) y g in
-        let f = returned_reads (p + 1) us m.0 m.1 in
-        let k = word_first ts us attribute.Returns e in
-        subst (SpellsFront (Anywhere SpellsAttribute) p ts) m.2 (
-          Word (codes "RETURNS") ∷ f.0,
-          k.1 ∙ ap (λ n. Word n ∷ us) (returns_is k.0 k.2) ∙ ap (λ vs. Word (codes "RETURNS") ∷ vs) f.1,
-          omega (arith, f.2),
-          (f.0, refl, f.3),
-        )
+attribute_reads p ts y h = attribute_read p ts y (attribute_first ts) refl h
 
 attributes_reads : Reads attributes_at (Anywhere SpellsAttributes)
 unfolding attributes_at

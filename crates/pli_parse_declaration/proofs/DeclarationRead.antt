@@ -3,10 +3,11 @@ use Rattle.std.proofs.Common.{⊎_elim, ◌≡◌, ◌+◌, ℕ, suc, zero, Bool
 use Rattle.pli_base.specs.Name.{Name}
 use Rattle.pli_base.specs.laws.NameLaws.{equal_from_pointwise}
 use Rattle.pli_base.specs.Words.{Tokens, same_name, is_open, is_close, is_comma, behind, name_first, is_colon}
-use Rattle.pli_base.specs.Reading.{Front, read_as, mapped, expected, taken, enclosed, if_open, or_none}
+use Rattle.pli_base.specs.Reading.{◌>>=◌, Front, read_as, mapped, expected, taken, enclosed, if_open, or_none}
 use Rattle.pli_base.specs.declared.code.Code.TheVariants.{ParenthesisExpected, ConstantExpected}
 use Rattle.pli_base.specs.declared.token.Fault.{Fault}
 use Rattle.pli_base.specs.declared.token.Sign.TheVariants.{Colon, Comma, OpenParenthesis, CloseParenthesis, Plus, Minus}
+use Rattle.pli_base.specs.declared.token.TokenText.{TokenText}
 use Rattle.pli_base.specs.declared.token.TokenText.TheVariants.{Word, Decimal, Binary, Characters, Bits, Sign}
 use Rattle.pli_parse_declaration.specs.DeclarationWords.{data_word, storage_word, nesting_word, word_or, attribute_word, with_rest, attribute_first, is_zero}
 use Rattle.pli_base.specs.Declarations as tree
@@ -140,19 +141,29 @@ integer_reads p (Sign Plus ∷ ts) x h = plus_spelled p ts x h
 integer_reads p (Sign Minus ∷ ts) x h = minus_spelled p ts x h
 integer_reads p (t ∷ ts) x h = unsigned_reads p (t ∷ ts) x h
 
+-- a value, and more behind a token, if that comes
+more_reads : {A B : Type 0} (one : ℕ → Tokens → Result (Front A) Fault) (fits : TokenText → Bool)
+    (after : Front A → Option Tokens → Result (Front B) Fault) (Spells : ℕ → Tokens → A → Type 0)
+    (SpellsMore : ℕ → Tokens → B → Type 0) → Reads one Spells
+    → ((p : ℕ) (ts : Tokens) (x : Front A) → SpellsFront Spells p ts x → (o : Option Tokens) → behind fits x.rest ≡ o
+    → (y : Front B) → after x o ≡ Ok y → SpellsFront SpellsMore p ts y)
+    → Reads (λ p ts. one p ts >>= λ x. after x (behind fits x.rest)) SpellsMore
+more_reads one fits after Spells SpellsMore reads so p ts y h =
+    let g = bind_ok (one p ts) _ y h in
+    so p ts g.0 (reads p ts g.0 g.1) (behind fits g.0.rest) refl y g.2
+
+bounds_spelled : (p : ℕ) (ts : Tokens) (x : Front Integer) → SpellsFront (Anywhere SpellsInteger) p ts x → (o : Option Tokens)
+    → behind is_colon x.rest ≡ o → (y : Front Bounds) → bounds_from x o ≡ Ok y → SpellsFront (Anywhere SpellsBounds) p ts y
+bounds_spelled p ts x f None e y g = subst (SpellsFront (Anywhere SpellsBounds) p ts) (same_ok g) (f.0, f.1, f.2, f.3)
+bounds_spelled p ts x f (Some us) e y g =
+    let m = mapped_ok (λ high. record { low = Some x.value; high = high }) (integer_at (x.next + 1) us) y g in
+    let r = integer_reads (x.next + 1) us m.0 m.1 in
+    let b = two p x.next m.0.next ts x.rest m.0.rest f.0 (Sign Colon ∷ r.0) f.1 f.2 (colon_first x.rest us e ∙ ap (λ vs. Sign Colon ∷ vs) r.1) (omega (arith, r.2)) in
+    subst (SpellsFront (Anywhere SpellsBounds) p ts) m.2 (f.0 ++ Sign Colon ∷ r.0, b.0, b.1, (f.0, r.0, refl, f.3, r.3))
+
 pub bounds_reads : Reads bounds_at (Anywhere SpellsBounds)
 unfolding bounds_at
-bounds_reads p ts y h =
-    let g = bind_ok (integer_at p ts) _ y h in
-    by g.0 (integer_reads p ts g.0 g.1) (behind is_colon g.0.rest) refl g.2
-  where
-    by : (x : Front Integer) → SpellsFront (Anywhere SpellsInteger) p ts x → (o : Option Tokens) → behind is_colon x.rest ≡ o → bounds_from x o ≡ Ok y → SpellsFront (Anywhere SpellsBounds) p ts y
-    by x f None e g = subst (SpellsFront (Anywhere SpellsBounds) p ts) (same_ok g) (f.0, f.1, f.2, f.3)
-    by x f (Some us) e g =
-        let m = mapped_ok (λ high. record { low = Some x.value; high = high }) (integer_at (x.next + 1) us) y g in
-        let r = integer_reads (x.next + 1) us m.0 m.1 in
-        let b = two p x.next m.0.next ts x.rest m.0.rest f.0 (Sign Colon ∷ r.0) f.1 f.2 (colon_first x.rest us e ∙ ap (λ vs. Sign Colon ∷ vs) r.1) (omega (arith, r.2)) in
-        subst (SpellsFront (Anywhere SpellsBounds) p ts) m.2 (f.0 ++ Sign Colon ∷ r.0, b.0, b.1, (f.0, r.0, refl, f.3, r.3))
+bounds_reads = more_reads integer_at is_colon bounds_from (Anywhere SpellsInteger) (Anywhere SpellsBounds) integer_reads bounds_spelled
 
 dimensions_so : (p : ℕ) (ts : Tokens) (o : Option (List Bounds)) → SpellsOptional (SpellsList Commas SpellsBounds) ts o → SpellsDimensions ts (or_none o)
 dimensions_so p ts None s = s
@@ -169,19 +180,18 @@ pub length_reads : Reads length_at (Anywhere (SpellsOptional SpellsNumber))
 unfolding length_at
 length_reads = optional_reads number_at SpellsNumber number_reads
 
+scaled_spelled : (p : ℕ) (ts : Tokens) (x : Front ℕ) → SpellsFront (Anywhere SpellsNumber) p ts x → (o : Option Tokens)
+    → behind is_comma x.rest ≡ o → (y : Front ℕ) → with_scale x o ≡ Ok y → SpellsFront (Anywhere SpellsScaled) p ts y
+scaled_spelled p ts x f None e y g = subst (SpellsFront (Anywhere SpellsScaled) p ts) (same_ok g) (f.0, f.1, f.2, inl f.3)
+scaled_spelled p ts x f (Some us) e y g =
+    let m = bind_ok (taken is_zero ConstantExpected (x.next + 1) us) _ y g in
+    let z = zero_first us m.0 (taken_ok is_zero ConstantExpected (x.next + 1) us m.0 m.1) in
+    let b = two p x.next (x.next + 2) ts x.rest m.0 f.0 (Sign Comma ∷ Decimal 0 1 ∷ []) f.1 f.2 (comma_first x.rest us e ∙ ap (λ vs. Sign Comma ∷ vs) z) refl in
+    subst (SpellsFront (Anywhere SpellsScaled) p ts) (same_ok m.2) (f.0 ++ Sign Comma ∷ Decimal 0 1 ∷ [], b.0, b.1, inr (f.0, refl, f.3))
+
 scaled_reads : Reads scaled_at (Anywhere SpellsScaled)
 unfolding scaled_at
-scaled_reads p ts y h =
-    let g = bind_ok (number_at p ts) _ y h in
-    by g.0 (number_reads p ts g.0 g.1) (behind is_comma g.0.rest) refl g.2
-  where
-    by : (x : Front ℕ) → SpellsFront (Anywhere SpellsNumber) p ts x → (o : Option Tokens) → behind is_comma x.rest ≡ o → with_scale x o ≡ Ok y → SpellsFront (Anywhere SpellsScaled) p ts y
-    by x f None e g = subst (SpellsFront (Anywhere SpellsScaled) p ts) (same_ok g) (f.0, f.1, f.2, inl f.3)
-    by x f (Some us) e g =
-        let m = bind_ok (taken is_zero ConstantExpected (x.next + 1) us) _ y g in
-        let z = zero_first us m.0 (taken_ok is_zero ConstantExpected (x.next + 1) us m.0 m.1) in
-        let b = two p x.next (x.next + 2) ts x.rest m.0 f.0 (Sign Comma ∷ Decimal 0 1 ∷ []) f.1 f.2 (comma_first x.rest us e ∙ ap (λ vs. Sign Comma ∷ vs) z) refl in
-        subst (SpellsFront (Anywhere SpellsScaled) p ts) (same_ok m.2) (f.0 ++ Sign Comma ∷ Decimal 0 1 ∷ [], b.0, b.1, inr (f.0, refl, f.3))
+scaled_reads = more_reads number_at is_comma with_scale (Anywhere SpellsNumber) (Anywhere SpellsScaled) number_reads scaled_spelled
 
 pub precision_reads : Reads precision_at (Anywhere (SpellsOptional SpellsScaled))
 unfolding precision_at

@@ -1,6 +1,9 @@
 //! Dimensions, lengths and precisions.
 ghost use Rattle.std.specs.Prelude.{◌≡◌, ◌≤◌, ◌+◌, length, IfOk};
-ghost use Rattle.pli_parse_declaration.specs.DeclarationReading.{list_at, number_at, signed, integer_at, bounds_at, dimensions_at, length_at, scaled_at, precision_at};
+ghost use Rattle.pli_parse_declaration.specs.DeclarationReading.{list_at, number_at, signed, integer_at, bounds_at, dimensions_at, scaled_at};
+ghost use Rattle.pli_parse_declaration.specs.answers.DeclarationAnswers.{measured_at};
+ghost use Rattle.pli_base.specs.Words.{is_open, behind};
+ghost use Rattle.pli_base.specs.Reading.{if_open};
 ghost use Rattle.pli_base.specs.answers.ReadingAnswers.{Gives, Advances, Continues, front_view};
 ghost use Rattle.pli_parse_declaration.specs.declared.list.Separator.TheVariants.{Commas};
 ghost use Rattle.pli_base.specs.declared.declaration.Bounds as bounds;
@@ -109,23 +112,6 @@ pub fn dimensions_at<'a>(
     }
 }
 
-/// A length or a size in parentheses, or none.
-#[tactic(auto, unfolding(crate::specs::DeclarationReading::length_at))]
-pub fn length_at(at: u32, texts: &[TokenText]) -> Result<Front<'_, Option<u32>>, ParseError>
-    requires { at + length texts.now ≤ 200000 }
-    ensures value { Gives (front_view (λ n. n)) result (length_at at texts.now) }
-    ensures place { IfOk result (Continues at texts.now) }
-{
-    match behind_open(texts) {
-        Some(inside) => {
-            let number = number_at(at + 1, inside)?;
-            let rest = close_taken(number.next, number.rest)?;
-            Ok(Front::new(Some(number.value), number.next + 1, rest))
-        }
-        None => Ok(Front::new(None, at, texts)),
-    }
-}
-
 /// A number of digits, and a scale of 0 or none.
 #[tactic(auto, unfolding(crate::specs::DeclarationReading::scaled_at))]
 fn scaled_at(at: u32, texts: &[TokenText]) -> Result<Front<'_, u32>, ParseError>
@@ -143,16 +129,40 @@ fn scaled_at(at: u32, texts: &[TokenText]) -> Result<Front<'_, u32>, ParseError>
     }
 }
 
-/// A precision in parentheses, or none.
-#[tactic(auto, unfolding(crate::specs::DeclarationReading::precision_at))]
-pub fn precision_at(at: u32, texts: &[TokenText]) -> Result<Front<'_, Option<u32>>, ParseError>
+/// What a number in parentheses says.
+#[derive(Clone, Copy)]
+pub enum Measure {
+    /// A length or a size.
+    Length,
+    /// A number of digits, perhaps with a scale.
+    Precision,
+}
+
+/// A number that says this.
+fn measured_at(measure: Measure, at: u32, texts: &[TokenText]) -> Result<Front<'_, u32>, ParseError>
     requires { at + length texts.now ≤ 200000 }
-    ensures value { Gives (front_view (λ n. n)) result (precision_at at texts.now) }
+    ensures value { Gives (front_view (λ n. n)) result (measured_at measure at texts.now) }
+    ensures place { IfOk result (Advances at texts.now) }
+{
+    match measure {
+        Measure::Length => number_at(at, texts),
+        Measure::Precision => scaled_at(at, texts),
+    }
+}
+
+/// A number in parentheses, or none.
+pub fn measure_at(
+    measure: Measure,
+    at: u32,
+    texts: &[TokenText],
+) -> Result<Front<'_, Option<u32>>, ParseError>
+    requires { at + length texts.now ≤ 200000 }
+    ensures value { Gives (front_view (λ n. n)) result (if_open (measured_at measure) at texts.now (behind is_open texts.now)) }
     ensures place { IfOk result (Continues at texts.now) }
 {
     match behind_open(texts) {
         Some(inside) => {
-            let number = scaled_at(at + 1, inside)?;
+            let number = measured_at(measure, at + 1, inside)?;
             let rest = close_taken(number.next, number.rest)?;
             Ok(Front::new(Some(number.value), number.next + 1, rest))
         }

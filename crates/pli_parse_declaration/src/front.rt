@@ -1,36 +1,27 @@
 //! The first tokens of a list: what they are, and what is behind them.
 ghost use Rattle.std.specs.Option.{option_copied};
-ghost use Rattle.std.specs.Prelude.{◌≡◌, option_map, ◌≤◌, ◌+◌, length, IfOk, IfSome};
-ghost use Rattle.pli_base.specs.Words.{behind};
+ghost use Rattle.std.specs.Prelude.{◌≡◌, ℕ, option_map, ◌≤◌, ◌+◌, length, IfOk, IfSome};
 ghost use Rattle.pli_base.specs.Reading.{taken};
 ghost use Rattle.pli_base.specs.answers.ReadingAnswers.{Gives, Advances, Continues, front_view};
 ghost use Rattle.pli_parse_declaration.specs.DeclarationWords.{attribute_first, with_attribute, begins_description, is_zero};
 ghost use Rattle.pli_parse_declaration.specs.DeclarationReading.{number_at, level_at};
+ghost use Rattle.pli_parse_declaration.specs.answers.DeclarationAnswers.{number_from, level_from};
 
 use crate::word::{AttributeWord, attribute_word};
 use pli_base::{Code, Front, ParseError, TokenText, behind_open, misfit};
 
-/// The tokens behind the constant 0, if they begin with it.
-#[tactic(auto, unfolding(pli_base::specs::Words::behind))]
-pub fn behind_zero(texts: &[TokenText]) -> Option<&[TokenText]>
-    ensures value { behind is_zero texts.now ≡ option_copied result }
-    ensures place { IfSome result (λ rest. length rest.now + 1 ≡ length texts.now) }
-{
-    match texts {
-        [TokenText::Decimal { value, digits }, rest @ ..] if *value == 0 && *digits == 1 => {
-            Some(rest)
-        }
-        _ => None,
-    }
-}
-
 /// The tokens behind the constant 0, which must stand.
-#[tactic(auto, unfolding(pli_base::specs::Reading::taken))]
+#[tactic(auto, unfolding(pli_base::specs::Reading::taken, pli_base::specs::Words::behind))]
 pub fn zero_taken(at: u32, texts: &[TokenText]) -> Result<&[TokenText], ParseError>
     ensures value { Gives (λ rest. rest.now) result (taken is_zero Code.ConstantExpected at texts.now) }
     ensures place { IfOk result (λ rest. length rest.now + 1 ≡ length texts.now) }
 {
-    behind_zero(texts).ok_or(misfit(Code::ConstantExpected, at, texts))
+    match texts {
+        [TokenText::Decimal { value, digits }, rest @ ..] if *value == 0 && *digits == 1 => {
+            Ok(rest)
+        }
+        _ => Err(misfit(Code::ConstantExpected, at, texts)),
+    }
 }
 
 /// The attribute whose keyword the tokens begin with, and the tokens behind it.
@@ -67,42 +58,40 @@ pub fn begins_description(texts: &[TokenText]) -> bool
     behind_open(texts).is_some() || attribute_first(texts).is_some()
 }
 
+/// The value of the decimal or binary constant that the tokens begin with, and the tokens behind it.
+#[tactic(auto, unfolding(crate::specs::DeclarationReading::number_at, crate::specs::DeclarationReading::level_at))]
+fn number_first(texts: &[TokenText]) -> Option<(u32, &[TokenText])>
+    ensures number { (at : ℕ) → number_at at texts.now ≡ number_from at texts.now (option_map (λ x. (x.0, x.1.now)) result) }
+    ensures level { (at : ℕ) → level_at at texts.now ≡ level_from at texts.now (option_map (λ x. (x.0, x.1.now)) result) }
+    ensures place { IfSome result (λ x. length x.1.now + 1 ≡ length texts.now) }
+{
+    match texts {
+        [TokenText::Decimal { value, .. }, rest @ ..] => Some((*value, rest)),
+        [TokenText::Binary { value, .. }, rest @ ..] => Some((*value, rest)),
+        _ => None,
+    }
+}
+
 /// A decimal or binary constant.
-#[tactic(auto, unfolding(crate::specs::DeclarationReading::number_at))]
 pub fn number_at(at: u32, texts: &[TokenText]) -> Result<Front<'_, u32>, ParseError>
     requires { at + length texts.now ≤ 200000 }
     ensures value { Gives (front_view (λ n. n)) result (number_at at texts.now) }
     ensures place { IfOk result (Advances at texts.now) }
 {
-    match texts {
-        [TokenText::Decimal { value, .. }, rest @ ..] => Ok(Front::new(*value, at + 1, rest)),
-        [TokenText::Binary { value, .. }, rest @ ..] => Ok(Front::new(*value, at + 1, rest)),
-        _ => Err(misfit(Code::ConstantExpected, at, texts)),
+    match number_first(texts) {
+        Some((value, rest)) => Ok(Front::new(value, at + 1, rest)),
+        None => Err(misfit(Code::ConstantExpected, at, texts)),
     }
 }
 
 /// A level number, if there is one.
-#[tactic(auto, unfolding(crate::specs::DeclarationReading::level_at))]
 pub fn level_at(at: u32, texts: &[TokenText]) -> Front<'_, Option<u32>>
     requires { at + length texts.now ≤ 200000 }
     ensures value { front_view (λ n. n) result ≡ level_at at texts.now }
     ensures place { Continues at texts.now result }
 {
-    match texts {
-        [TokenText::Decimal { value, .. }, rest @ ..] => Front {
-            value: Some(*value),
-            next: at + 1,
-            rest,
-        },
-        [TokenText::Binary { value, .. }, rest @ ..] => Front {
-            value: Some(*value),
-            next: at + 1,
-            rest,
-        },
-        _ => Front {
-            value: None,
-            next: at,
-            rest: texts,
-        },
+    match number_first(texts) {
+        Some((value, rest)) => Front::new(Some(value), at + 1, rest),
+        None => Front::new(None, at, texts),
     }
 }

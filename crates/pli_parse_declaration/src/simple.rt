@@ -12,7 +12,7 @@ ghost use Rattle.pli_base.specs.declared.declaration.InitialValue as initial;
 ghost use Rattle.std.proofs.Common.{sym};
 ghost use Rattle.std.proofs.lemmas.List.{map-id};
 
-use crate::extent::{integer_at, length_at, precision_at};
+use crate::extent::{Measure, integer_at, measure_at};
 use crate::front::number_at;
 use crate::list::{ReadsOne, Separator, list_at};
 use crate::word::SimpleWord;
@@ -233,7 +233,7 @@ fn numbered<'a>(
 }
 
 /// What stands behind the keyword of a simple attribute.
-#[tactic(auto, unfolding(crate::specs::DeclarationReading::simple_of))]
+#[tactic(auto, unfolding(crate::specs::DeclarationReading::simple_of, crate::specs::DeclarationReading::length_at, crate::specs::DeclarationReading::precision_at))]
 pub fn simple_of<'a>(
     alloc: Global,
     word: SimpleWord,
@@ -246,23 +246,23 @@ pub fn simple_of<'a>(
 {
     match word {
         SimpleWord::Fixed => {
-            let precision = precision_at(at, texts)?;
+            let precision = measure_at(Measure::Precision, at, texts)?;
             Ok(numbered(SimpleAttribute::Fixed(precision.value), &precision))
         }
         SimpleWord::Binary => {
-            let precision = precision_at(at, texts)?;
+            let precision = measure_at(Measure::Precision, at, texts)?;
             Ok(numbered(SimpleAttribute::Binary(precision.value), &precision))
         }
         SimpleWord::Character => {
-            let length = length_at(at, texts)?;
+            let length = measure_at(Measure::Length, at, texts)?;
             Ok(numbered(SimpleAttribute::Character(length.value), &length))
         }
         SimpleWord::Bit => {
-            let length = length_at(at, texts)?;
+            let length = measure_at(Measure::Length, at, texts)?;
             Ok(numbered(SimpleAttribute::Bit(length.value), &length))
         }
         SimpleWord::Area => {
-            let size = length_at(at, texts)?;
+            let size = measure_at(Measure::Length, at, texts)?;
             Ok(numbered(SimpleAttribute::Area(size.value), &size))
         }
         SimpleWord::Offset => offset_at(at, texts),

@@ -61,32 +61,24 @@ abbrev NoInfix : Tokens → Type 0
 NoInfix [] = Unit {0}
 NoInfix (t ∷ ts) = infix_of t ≡ None
 
--- what the test has passed, and what it goes on with
-record OperandFound (p : ℕ) (f : Frame) (fs : List Frame) (ts : Tokens) : Type 0 where
+-- what the test has passed, with what is known of it and of the tokens that are left, and what it goes on with
+record FrontFound (A : Type 0) (Spells : Tokens → A → Type 0) (Leaves : A → Tokens → Type 0) (f : Frame) (fs : List Frame) (ts : Tokens) : Type 0 where
   front : Tokens
   more : Tokens
-  value : Expression
+  value : A
   whole : ts ≡ front ++ more
-  spelled : SpellsExpression p front value
-  alone : level value ≡ operand_level
+  spelled : Spells front value
+  leaves : Leaves value more
   goes : accepts BehindOperand f fs more ≡ true
 
-record ExpressionFound (q : ℕ) (before : Tokens) (f : Frame) (fs : List Frame) (ts : Tokens) : Type 0 where
-  front : Tokens
-  more : Tokens
-  value : Expression
-  whole : ts ≡ front ++ more
-  spelled : SpellsExpression q (before ++ front) value
-  stops : NoInfix more
-  goes : accepts BehindOperand f fs more ≡ true
+abbrev OperandFound : ℕ → Frame → List Frame → Tokens → Type 0
+OperandFound p = FrontFound Expression (SpellsExpression p) (λ e us. level e ≡ operand_level)
 
-record JoinedFound (p : ℕ) (f : Frame) (fs : List Frame) (ts : Tokens) : Type 0 where
-  front : Tokens
-  more : Tokens
-  value : JoinedParts
-  whole : ts ≡ front ++ more
-  spelled : SpellsJoined p front value
-  goes : accepts BehindOperand f fs more ≡ true
+abbrev ExpressionFound : (q : ℕ) (before : Tokens) → Frame → List Frame → Tokens → Type 0
+ExpressionFound q before = FrontFound Expression (λ us e. SpellsExpression q (before ++ us) e) (λ e us. NoInfix us)
+
+abbrev JoinedFound : ℕ → Frame → List Frame → Tokens → Type 0
+JoinedFound p = FrontFound JoinedParts (SpellsJoined p) (λ m us. Unit {0})
 
 record PartFound (p : ℕ) (f : Frame) (fs : List Frame) (ts : Tokens) : Type 0 where
   front : Tokens
@@ -142,6 +134,7 @@ module _ (n : ℕ) (found : Found n) where
         value = Joined j (record { name = w; at = p + 1 }) i.arguments i.joined;
         whole = ap (λ us. tokens.Sign (joining_sign j) ∷ tokens.Word w ∷ us) i.whole;
         spelled = (i.front, i.rest, refl, refl, i.given, i.spelled);
+        leaves = tt;
         goes = i.goes;
       }
   named_part j p f fs (tokens.Sign signs.Comma ∷ ts) small h = cc
@@ -149,10 +142,10 @@ module _ (n : ℕ) (found : Found n) where
 
   joined_next : (p : ℕ) (f : Frame) (fs : List Frame) (ts : Tokens) → length ts < suc n → accepts BehindList f fs ts ≡ true → JoinedFound p f fs ts
   unfolding accepts
-  joined_next p f fs [] small h = record { front = []; more = []; value = Alone; whole = refl; spelled = refl; goes = sym (ends_alike f) ∙ h }
+  joined_next p f fs [] small h = record { front = []; more = []; value = Alone; whole = refl; spelled = refl; leaves = tt; goes = sym (ends_alike f) ∙ h }
   joined_next p f fs (tokens.Sign signs.Period ∷ ts) small h = named_part Member p f fs ts (omega arith) h
   joined_next p f fs (tokens.Sign signs.Arrow ∷ ts) small h = named_part Located p f fs ts (omega arith) h
-  joined_next p f fs (t ∷ ts) small h = record { front = []; more = t ∷ ts; value = Alone; whole = refl; spelled = refl; goes = h }
+  joined_next p f fs (t ∷ ts) small h = record { front = []; more = t ∷ ts; value = Alone; whole = refl; spelled = refl; leaves = tt; goes = h }
 
   without_list : (p : ℕ) (f : Frame) (fs : List Frame) (ts : Tokens) → length ts < suc n → accepts BehindList f fs ts ≡ true → PartFound p f fs ts
   without_list p f fs ts small h =
@@ -185,7 +178,7 @@ module _ (n : ℕ) (found : Found n) where
   part_next p f fs (t ∷ ts) small h = without_list p f fs (t ∷ ts) small h
 
   constant_found : (v : ConstantValue) (p : ℕ) (f : Frame) (fs : List Frame) (ts : Tokens) → accepts BehindOperand f fs ts ≡ true → OperandFound p f fs (constant_token v ∷ ts)
-  constant_found v p f fs ts h = record { front = constant_token v ∷ []; more = ts; value = Constant p v; whole = refl; spelled = (refl, refl); alone = refl; goes = h }
+  constant_found v p f fs ts h = record { front = constant_token v ∷ []; more = ts; value = Constant p v; whole = refl; spelled = (refl, refl); leaves = refl; goes = h }
 
   prefix_found : (o : PrefixOperator) (p : ℕ) (f : Frame) (fs : List Frame) (ts : Tokens) → InExpression f → length ts < n → accepts OperandWanted f fs ts ≡ true → OperandFound p f fs (tokens.Sign (prefix_sign o) ∷ ts)
   prefix_found o p f fs ts within small h =
@@ -195,8 +188,8 @@ module _ (n : ℕ) (found : Found n) where
         more = i.more;
         value = Prefix o p i.value;
         whole = ap (λ us. tokens.Sign (prefix_sign o) ∷ us) i.whole;
-        spelled = (i.front, refl, refl, i.alone, i.spelled);
-        alone = refl;
+        spelled = (i.front, refl, refl, i.leaves, i.spelled);
+        leaves = refl;
         goes = i.goes;
       }
 
@@ -217,7 +210,7 @@ module _ (n : ℕ) (found : Found n) where
         value = Referred (Named (record { name = w; at = p }) i.arguments i.joined);
         whole = ap (λ us. tokens.Word w ∷ us) i.whole;
         spelled = (i.front, i.rest, refl, refl, i.given, i.spelled);
-        alone = refl;
+        leaves = refl;
         goes = i.goes;
       }
   operand_next p f fs (tokens.Decimal v d ∷ ts) within small h = constant_found (constants.Decimal v d) p f fs ts h
@@ -226,14 +219,14 @@ module _ (n : ℕ) (found : Found n) where
   operand_next p f fs (tokens.Bits v ∷ ts) within small h = constant_found (constants.Bits v) p f fs ts h
   operand_next p f fs (tokens.Sign signs.OpenParenthesis ∷ ts) within small h =
       let i = found.expression (p + 1) Group (f ∷ fs) ts tt (omega arith) h in
-      let g = group_ends f fs i.more i.stops i.goes in
+      let g = group_ends f fs i.more i.leaves i.goes in
       record {
         front = tokens.Sign signs.OpenParenthesis ∷ i.front ++ tokens.Sign signs.CloseParenthesis ∷ [];
         more = g.0;
         value = Parenthesized p i.value;
         whole = ap (λ us. tokens.Sign signs.OpenParenthesis ∷ us) (i.whole ∙ ap (λ us. i.front ++ us) g.1 ∙ sym (append_assoc i.front (tokens.Sign signs.CloseParenthesis ∷ []) g.0));
         spelled = (i.front, refl, refl, i.spelled);
-        alone = refl;
+        leaves = refl;
         goes = g.2;
       }
   operand_next p f fs (tokens.Sign signs.Plus ∷ ts) within small h = prefix_found prefixes.Plus p f fs ts within (omega arith) h
@@ -245,7 +238,7 @@ module _ (n : ℕ) (found : Found n) where
       → accepts OperandWanted f fs ts ≡ true → ExpressionFound q before f fs (tokens.Sign (infix_sign o) ∷ ts)
   infix_found o q p e before f fs ts within small spelled place h =
       let i = found.operand (q + length before + 1) f fs ts within small h in
-      let j = insert e q before i.front o i.value spelled i.spelled i.alone in
+      let j = insert e q before i.front o i.value spelled i.spelled i.leaves in
       let now : Tokens = before ++ tokens.Sign (infix_sign o) ∷ i.front in
       let less : length i.more < n = omega (arith, small, ap length i.whole, length-append i.front i.more) in
       let k = found.further q (q + length now) j.0 now f fs i.more within less j.1 refl i.goes in
@@ -255,14 +248,14 @@ module _ (n : ℕ) (found : Found n) where
         value = k.value;
         whole = ap (λ us. tokens.Sign (infix_sign o) ∷ us) (i.whole ∙ ap (λ us. i.front ++ us) k.whole ∙ sym (append_assoc i.front k.front k.more));
         spelled = subst (λ us. SpellsExpression q us k.value) (append_assoc before (tokens.Sign (infix_sign o) ∷ i.front) k.front) k.spelled;
-        stops = k.stops;
+        leaves = k.leaves;
         goes = k.goes;
       }
 
   further_at : (q p : ℕ) (e : Expression) (before : Tokens) (f : Frame) (fs : List Frame) (t : TokenText) (ts : Tokens) (o : Option InfixOperator) → infix_of t ≡ o → InExpression f → length ts < n → SpellsExpression q before e
       → p ≡ q + length before → accepts BehindOperand f fs (t ∷ ts) ≡ true → ExpressionFound q before f fs (t ∷ ts)
   further_at q p e before f fs t ts None is within small spelled place h =
-      record { front = []; more = t ∷ ts; value = e; whole = refl; spelled = subst (λ us. SpellsExpression q us e) (sym (append-nil before)) spelled; stops = is; goes = h }
+      record { front = []; more = t ∷ ts; value = e; whole = refl; spelled = subst (λ us. SpellsExpression q us e) (sym (append-nil before)) spelled; leaves = is; goes = h }
   further_at q p e before f fs t ts (Some o) is within small spelled place h =
       let sign : t ≡ tokens.Sign (infix_sign o) = infix_is t o is in
       subst (λ u. ExpressionFound q before f fs (u ∷ ts)) (sym sign)
@@ -271,7 +264,7 @@ module _ (n : ℕ) (found : Found n) where
   further_next : (q p : ℕ) (e : Expression) (before : Tokens) (f : Frame) (fs : List Frame) (ts : Tokens) → InExpression f → length ts < suc n → SpellsExpression q before e → p ≡ q + length before → accepts BehindOperand f fs ts ≡ true
       → ExpressionFound q before f fs ts
   further_next q p e before f fs [] within small spelled place h =
-      record { front = []; more = []; value = e; whole = refl; spelled = subst (λ us. SpellsExpression q us e) (sym (append-nil before)) spelled; stops = tt; goes = h }
+      record { front = []; more = []; value = e; whole = refl; spelled = subst (λ us. SpellsExpression q us e) (sym (append-nil before)) spelled; leaves = tt; goes = h }
   further_next q p e before f fs (t ∷ ts) within small spelled place h = further_at q p e before f fs t ts (infix_of t) refl within (omega arith) spelled place h
 
   expression_next : (p : ℕ) (f : Frame) (fs : List Frame) (ts : Tokens) → InExpression f → length ts < suc n → accepts OperandWanted f fs ts ≡ true → ExpressionFound p [] f fs ts
@@ -285,7 +278,7 @@ module _ (n : ℕ) (found : Found n) where
         value = k.value;
         whole = i.whole ∙ ap (λ us. i.front ++ us) k.whole ∙ sym (append_assoc i.front k.front k.more);
         spelled = k.spelled;
-        stops = k.stops;
+        leaves = k.leaves;
         goes = k.goes;
       }
 
@@ -296,7 +289,7 @@ module _ (n : ℕ) (found : Found n) where
   rest_next p f fs (tokens.Sign signs.Comma ∷ ts) small stops h =
       let i = found.expression (p + 1) Arguments (f ∷ fs) ts tt (omega arith) h in
       let less : length i.more < n = omega (arith, small, ap length i.whole, length-append i.front i.more) in
-      let k = found.rest (p + 1 + length i.front) f fs i.more less i.stops i.goes in
+      let k = found.rest (p + 1 + length i.front) f fs i.more less i.leaves i.goes in
       record {
         front = tokens.Sign signs.Comma ∷ (i.front ++ k.front);
         more = k.more;
@@ -311,7 +304,7 @@ module _ (n : ℕ) (found : Found n) where
   list_of p f fs ts small h =
       let i = expression_next p Arguments (f ∷ fs) ts tt small h in
       let less : length i.more < suc n = omega (arith, small, ap length i.whole, length-append i.front i.more) in
-      let k = rest_next (p + length i.front) f fs i.more less i.stops i.goes in
+      let k = rest_next (p + length i.front) f fs i.more less i.leaves i.goes in
       record {
         front = i.front ++ k.front;
         more = k.more;
@@ -370,7 +363,7 @@ from_name p (tokens.Word w ∷ ts) h =
     let g = target_ends i.more i.goes in
     let ls : Tokens = tokens.Word w ∷ (i.front ++ i.rest) in
     let k = (found_all (length g.0 + 1)).expression (p + length ls + 1) Whole [] g.0 tt (omega arith) g.2 in
-    let none : k.more ≡ [] = whole_ends k.more k.stops k.goes in
+    let none : k.more ≡ [] = whole_ends k.more k.leaves k.goes in
     let all : g.0 ≡ k.front = k.whole ∙ ap (λ us. k.front ++ us) none ∙ append-nil k.front in (
       ls,
       k.front,

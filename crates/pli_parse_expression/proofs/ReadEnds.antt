@@ -24,6 +24,7 @@ use Rattle.pli_parse_expression.specs.Reading.{Front, Reader, opened, closed, op
 use Rattle.pli_base.specs.Reading.{◌>>=◌}
 use Rattle.pli_parse_expression.proofs.ReadingTools.{limited_ok, wanted_none, closed_ok}
 use Rattle.pli_parse_fault.proofs.Steps.{same_ok, bind_ok}
+use Rattle.pli_parse_expression.specs.laws.Laws.{FrontSpells}
 use Rattle.pli_parse_expression.proofs.ReadIsSpelled.{expression_spelled, reference_spelled}
 use Rattle.pli_parse_expression.proofs.SpelledIsRead.{expression_ends_read, reference_ends_read}
 use Rattle.pli_parse_expression.proofs.EndTools.{OperandEnds, ArgumentsEnd, none_goes_on}
@@ -214,28 +215,35 @@ rest_same : {A : Type 0} (v w : A) (m n p q : ℕ) (us vs : Tokens)
     → ◌≡◌ {A = Result (Front A) Fault} (Ok (record { value = v; count = m; next = p; rest = us })) (Ok (record { value = w; count = n; next = q; rest = vs })) → us ≡ vs
 rest_same v w m n p q us vs h = ap (λ (x : Front _). x.rest) (same_ok h)
 
-pub expression_longest : (levels p : ℕ) (ts : Tokens) (x : Front Expression) → expression_at levels 0 p ts ≡ Ok x
-    → (longer more : Tokens) (e : Expression) → ts ≡ longer ++ more → SpellsOutermost levels p longer e → p + length longer ≤ x.next
-expression_longest levels p ts x h longer more e whole spelled =
-    let f = expression_spelled levels p ts x h in
-    let ends = expression_at_ends levels p ts x h in
+-- what is read is spelled by the longest front that spells any: where it is left off it ends, and what ends is read
+longest : {A : Type 0} (one : ℕ → Tokens → Result (Front A) Fault) (count : A → ℕ) (Spells : ℕ → Tokens → A → Type 0)
+    (Ends : A → Tokens → Type 0)
+    → ((p : ℕ) (ts : Tokens) (x : Front A) → one p ts ≡ Ok x → FrontSpells Spells p ts x × Ends x.value x.rest)
+    → ((v : A) (us more : Tokens) → Ends v (us ++ more) → Ends v us) → ((v : A) → Ends v [])
+    → ((p : ℕ) (ts more : Tokens) (v : A) → Spells p ts v → Ends v more
+    → one p (ts ++ more) ≡ Ok (record { value = v; count = count v; next = p + length ts; rest = more }))
+    → (p : ℕ) (ts : Tokens) (x : Front A) → one p ts ≡ Ok x
+    → (longer more : Tokens) (v : A) → ts ≡ longer ++ more → Spells p longer v → p + length longer ≤ x.next
+longest one count Spells Ends read fronts nothing again p ts x h longer more v whole spelled =
+    let r = read p ts x h in
+    let f = r.0 in
     no_longer x.next p ts f.0 x.rest longer more f.1 f.2 whole
     (λ us shape rest.
-    let stop : ExpressionEnds x.value (us ++ more) = subst (ExpressionEnds x.value) rest ends in
-    let first = expression_ends_read levels p f.0 us x.value f.3 (ends_of_front _ us more stop.0, infix_of_front us more stop.1) in
-    let second = expression_ends_read levels p longer [] e spelled (tt, tt) in
-    rest_same x.value e (operators x.value) (operators e) (p + length f.0) (p + length longer) us []
-    (sym first ∙ ap (expression_at levels 0 p) (sym shape ∙ sym (append-nil longer)) ∙ second))
+    let first = again p f.0 us x.value f.3 (fronts x.value us more (subst (Ends x.value) rest r.1)) in
+    let second = again p longer [] v spelled (nothing v) in
+    rest_same x.value v (count x.value) (count v) (p + length f.0) (p + length longer) us []
+    (sym first ∙ ap (one p) (sym shape ∙ sym (append-nil longer)) ∙ second))
+
+pub expression_longest : (levels p : ℕ) (ts : Tokens) (x : Front Expression) → expression_at levels 0 p ts ≡ Ok x
+    → (longer more : Tokens) (e : Expression) → ts ≡ longer ++ more → SpellsOutermost levels p longer e → p + length longer ≤ x.next
+expression_longest levels =
+    longest (expression_at levels 0) operators (SpellsOutermost levels) ExpressionEnds
+    (λ p ts x h. (expression_spelled levels p ts x h, expression_at_ends levels p ts x h))
+    (λ e us more h. (ends_of_front _ us more h.0, infix_of_front us more h.1)) (λ e. (tt, tt)) (expression_ends_read levels)
 
 pub reference_longest : (levels p : ℕ) (ts : Tokens) (x : Front Reference) → reference_at levels p ts ≡ Ok x
     → (longer more : Tokens) (r : Reference) → ts ≡ longer ++ more → SpellsReferenceAlone levels p longer r → p + length longer ≤ x.next
-reference_longest levels p ts x h longer more r whole spelled =
-    let f = reference_spelled levels p ts x h in
-    let ends = reference_at_ends levels p ts x h in
-    no_longer x.next p ts f.0 x.rest longer more f.1 f.2 whole
-    (λ us shape rest.
-    let stop : ReferenceEnds x.value (us ++ more) = subst (ReferenceEnds x.value) rest ends in
-    let first = reference_ends_read levels p f.0 us x.value f.3 (ends_of_front _ us more stop) in
-    let second = reference_ends_read levels p longer [] r spelled tt in
-    rest_same x.value r 0 0 (p + length f.0) (p + length longer) us []
-    (sym first ∙ ap (reference_at levels p) (sym shape ∙ sym (append-nil longer)) ∙ second))
+reference_longest levels =
+    longest (reference_at levels) (λ r. 0) (SpellsReferenceAlone levels) ReferenceEnds
+    (λ p ts x h. (reference_spelled levels p ts x h, reference_at_ends levels p ts x h))
+    (λ r us more h. ends_of_front _ us more h) (λ r. tt) (reference_ends_read levels)

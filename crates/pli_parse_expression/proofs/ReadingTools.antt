@@ -38,20 +38,18 @@ pub closed_ok : {A : Type 0} (value : A) (count p : ℕ) (ts : Tokens) (x : Fron
     → (us : Tokens) × (ts ≡ Sign signs.CloseParenthesis ∷ us) × (◌≡◌ {A = Front A} (record { value = value; count = count; next = p + 1; rest = us }) x)
 closed_ok value count p ts x h = let b = bind_ok (taken is_close ParenthesisExpected p ts) _ x h in (b.0, close_ok p ts b.0 b.1, same_ok b.2)
 
+-- the sign of the infix operator that a token is, or the token
+abbrev sign_or : TokenText → Option InfixOperator → TokenText
+sign_or t (Some o) = Sign (infix_sign o)
+sign_or t None = t
+
+infix_found : (t : TokenText) → t ≡ sign_or t (infix_of t)
+infix_found (Sign signs.Or) = refl
+infix_found (Sign s) = refl
+infix_found t = refl
+
 pub infix_is : (t : TokenText) (o : InfixOperator) → infix_of t ≡ Some o → t ≡ Sign (infix_sign o)
-infix_is (Sign signs.Or) o h = ap (λ p. Sign (infix_sign p)) (some_same h)
-infix_is (Sign signs.And) o h = ap (λ p. Sign (infix_sign p)) (some_same h)
-infix_is (Sign signs.Equals) o h = ap (λ p. Sign (infix_sign p)) (some_same h)
-infix_is (Sign signs.NotEqual) o h = ap (λ p. Sign (infix_sign p)) (some_same h)
-infix_is (Sign signs.Less) o h = ap (λ p. Sign (infix_sign p)) (some_same h)
-infix_is (Sign signs.LessOrEqual) o h = ap (λ p. Sign (infix_sign p)) (some_same h)
-infix_is (Sign signs.Greater) o h = ap (λ p. Sign (infix_sign p)) (some_same h)
-infix_is (Sign signs.GreaterOrEqual) o h = ap (λ p. Sign (infix_sign p)) (some_same h)
-infix_is (Sign signs.Concatenate) o h = ap (λ p. Sign (infix_sign p)) (some_same h)
-infix_is (Sign signs.Plus) o h = ap (λ p. Sign (infix_sign p)) (some_same h)
-infix_is (Sign signs.Minus) o h = ap (λ p. Sign (infix_sign p)) (some_same h)
-infix_is (Sign signs.Times) o h = ap (λ p. Sign (infix_sign p)) (some_same h)
-infix_is t o h = cc
+infix_is t o h = infix_found t ∙ ap (sign_or t) h
 
 chosen_some : {A : Type 0} (b : Bool) (x y : A) → ◌≡◌ {A = Option A} (cond b None (Some x)) (Some y) → (b ≡ false) × (x ≡ y)
 chosen_some true x y h = cc

@@ -1,5 +1,5 @@
 -- The tokens of a tree that is spelled rise in the order of the text.
-use Rattle.std.proofs.Common.{◌≡◌, ◌+◌, ℕ, [], ◌∷◌, Ok, length, ap, arith, length-append}
+use Rattle.std.proofs.Common.{◌≡◌, ◌≤◌, ◌+◌, ℕ, [], ◌∷◌, ◌++◌, Ok, length, ap, arith, length-append}
 use Rattle.pli_base.specs.Syntax.{Expression, Referred, Constant, Parenthesized, Prefix, Infix, Reference, Named, JoinedParts, Alone, Joined, Arguments, Absent, Given, Expressions, Empty, Listed}
 use Rattle.pli_base.specs.TreeTokens.{Rises, expression_tokens, reference_tokens, joined_tokens, argument_tokens, listed_tokens}
 use Rattle.pli_base.specs.laws.TreeTokenLaws.{rises_within, rises_on}
@@ -10,6 +10,16 @@ use Rattle.pli_base.specs.Words.{Tokens}
 use Rattle.pli_parse_expression.specs.Expressions.{SpellsExpression, SpellsReference, SpellsJoined, SpellsArguments, SpellsListed, SpellsFurther}
 use Rattle.pli_parse_expression.specs.Reading.{Front, expression_at, reference_at}
 use Rattle.pli_parse_expression.proofs.ReadIsSpelled.{expression_spelled, reference_spelled}
+
+-- the arguments of a part, and the parts behind it
+part_rises : (low p high : ℕ) (front rest : Tokens) (arguments : Arguments) (more : JoinedParts) → low ≤ p
+    → p + length front + length rest ≤ high → Rises p (argument_tokens arguments) (p + length front)
+    → Rises (p + length front) (joined_tokens more) (p + length front + length rest)
+    → Rises low (argument_tokens arguments ++ joined_tokens more) high
+part_rises low p high front rest arguments more below above given later =
+    rises_on (argument_tokens arguments) (joined_tokens more) low (p + length front) (p + length front) high (omega arith)
+    (rises_within (argument_tokens arguments) p low (p + length front) (p + length front) below (omega arith) given)
+    (rises_within (joined_tokens more) (p + length front) (p + length front) (p + length front + length rest) high (omega arith) above later)
 
 mutual
   pub expression_rises : (p : ℕ) (ts : Tokens) (e : Expression) → SpellsExpression p ts e → Rises p (expression_tokens e) (p + length ts)
@@ -33,20 +43,16 @@ mutual
   pub reference_rises : (p : ℕ) (ts : Tokens) (r : Reference) → SpellsReference p ts r → Rises p (reference_tokens r) (p + length ts)
   reference_rises p ts (Named name arguments more) (front, rest, shape, place, spelled, later) = (
     omega arith,
-    rises_on (argument_tokens arguments) (joined_tokens more) (name.at + 1) (p + 1 + length front) (p + 1 + length front) (p + length ts) (omega arith)
-        (rises_within (argument_tokens arguments) (p + 1) (name.at + 1) (p + 1 + length front) (p + 1 + length front) (omega arith) (omega arith) (arguments_rise (p + 1) front arguments spelled))
-        (rises_within (joined_tokens more) (p + 1 + length front) (p + 1 + length front) (p + 1 + length front + length rest) (p + length ts) (omega arith) (omega (arith, ap length shape, length-append front rest))
-        (joined_rise (p + 1 + length front) rest more later)),
+    part_rises (name.at + 1) (p + 1) (p + length ts) front rest arguments more (omega arith) (omega (arith, ap length shape, length-append front rest))
+        (arguments_rise (p + 1) front arguments spelled) (joined_rise (p + 1 + length front) rest more later),
   )
 
   pub joined_rise : (p : ℕ) (ts : Tokens) (m : JoinedParts) → SpellsJoined p ts m → Rises p (joined_tokens m) (p + length ts)
   joined_rise p ts Alone shape = omega arith
   joined_rise p ts (Joined joining name arguments more) (front, rest, shape, place, spelled, later) = (
     omega arith,
-    rises_on (argument_tokens arguments) (joined_tokens more) (name.at + 1) (p + 2 + length front) (p + 2 + length front) (p + length ts) (omega arith)
-        (rises_within (argument_tokens arguments) (p + 2) (name.at + 1) (p + 2 + length front) (p + 2 + length front) (omega arith) (omega arith) (arguments_rise (p + 2) front arguments spelled))
-        (rises_within (joined_tokens more) (p + 2 + length front) (p + 2 + length front) (p + 2 + length front + length rest) (p + length ts) (omega arith) (omega (arith, ap length shape, length-append front rest))
-        (joined_rise (p + 2 + length front) rest more later)),
+    part_rises (name.at + 1) (p + 2) (p + length ts) front rest arguments more (omega arith) (omega (arith, ap length shape, length-append front rest))
+        (arguments_rise (p + 2) front arguments spelled) (joined_rise (p + 2 + length front) rest more later),
   )
 
   pub arguments_rise : (p : ℕ) (ts : Tokens) (a : Arguments) → SpellsArguments p ts a → Rises p (argument_tokens a) (p + length ts)
