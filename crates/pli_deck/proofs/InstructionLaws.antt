@@ -2,11 +2,11 @@
 use Rattle.std.proofs.Common.{◌≡◌, ℕ, true, List, ◌++◌, get_or, Ok, refl}
 use Rattle.pli_deck.specs.declared.instruction.Instruction.{Instruction}
 use Rattle.pli_deck.specs.declared.instruction.Instruction.TheVariants as op
-use Rattle.pli_deck.specs.Fields.{BothWays, nothing, ◌⊗◌, unknown, u1, u2, u4}
+use Rattle.pli_deck.specs.Fields.{BothWays, nothing, ◌⊗◌, form, made, unknown, u1, u2, u4}
 use Rattle.pli_deck.specs.Descriptions.{precision, bound}
 use Rattle.pli_deck.specs.Instructions.{error, relation, condition, instruction_form, instruction_readers, instruction}
 use Rattle.pli_deck.proofs.FieldLaws.{IsField, byte_law, u2_law, u4_law, nothing_law, from_to_law, pair_law, both_ways}
-use Rattle.pli_deck.proofs.FormLaws.{AllRead, unknown_reads, made_reads, made_again, tagged_law}
+use Rattle.pli_deck.proofs.FormLaws.{AllRead, Reads, unknown_reads, made_reads, made_again, tagged_law}
 use Rattle.pli_deck.proofs.DescriptionLaws.{precision_law, bound_law}
 
 error_law : IsField error
@@ -17,6 +17,14 @@ relation_law = from_to_law 0 5 u1 byte_law
 
 condition_law : IsField condition
 condition_law = from_to_law 0 2 u1 byte_law
+
+-- what has no operand
+bare : (i : Instruction) (tag : ℕ) → instruction_form i ≡ form tag nothing tt → Reads instruction_form tag (made (λ (u : Unit {0}). i) nothing)
+bare i tag same = made_reads nothing nothing_law (λ (u : Unit {0}). i) instruction_form tag (λ x. same)
+
+-- what has one operand of two bytes
+short : (to : ℕ → Instruction) (tag : ℕ) → ((n : ℕ) → instruction_form (to n) ≡ form tag u2 n) → Reads instruction_form tag (made to u2)
+short to tag same = made_reads u2 u2_law to instruction_form tag same
 
 -- each reader reads its form
 infixr 30 ◌&◌
@@ -29,67 +37,67 @@ forms_read =
     unknown_reads f 0
     & made_reads u4 u4_law op.Step f 1 (λ x. refl)
     & made_reads u4 u4_law op.Line f 2 (λ x. refl)
-    & made_reads u2 u2_law op.Jump f 3 (λ x. refl)
-    & made_reads u2 u2_law op.JumpUnless f 4 (λ x. refl)
+    & short op.Jump 3 (λ n. refl)
+    & short op.JumpUnless 4 (λ n. refl)
     & made_reads (u1 ⊗ u2) (pair_law u1 u2 byte_law u2_law) (λ p. op.Goto p.0 p.1) f 5 (λ x. refl)
     & made_reads (u2 ⊗ u1) (pair_law u2 u1 u2_law byte_law) (λ p. op.Call p.0 p.1) f 6 (λ x. refl)
     & made_reads (u2 ⊗ u1) (pair_law u2 u1 u2_law byte_law) (λ p. op.CallExternal p.0 p.1) f 7 (λ x. refl)
-    & made_reads u2 u2_law op.Begin f 8 (λ x. refl)
+    & short op.Begin 8 (λ n. refl)
     & made_reads u1 byte_law op.Return f 9 (λ x. refl)
     & made_reads u1 byte_law op.ReturnValue f 10 (λ x. refl)
     & made_reads error error_law op.Raise f 11 (λ x. refl)
-    & made_reads nothing nothing_law (λ _. op.Stop) f 12 (λ x. refl)
+    & bare op.Stop 12 refl
     & made_reads (u1 ⊗ u2) (pair_law u1 u2 byte_law u2_law) (λ p. op.Local p.0 p.1) f 13 (λ x. refl)
-    & made_reads u2 u2_law op.Global f 14 (λ x. refl)
-    & made_reads u2 u2_law op.Based f 15 (λ x. refl)
+    & short op.Global 14 (λ n. refl)
+    & short op.Based 15 (λ n. refl)
     & made_reads (u4 ⊗ u2) (pair_law u4 u2 u4_law u2_law) (λ p. op.Field p.0 p.1) f 16 (λ x. refl)
     & made_reads (bound ⊗ bound ⊗ u4) (pair_law bound (bound ⊗ u4) bound_law (pair_law bound u4 bound_law u4_law)) (λ p. op.Subscript p.0 p.1.0 p.1.1) f 17 (λ x. refl)
-    & made_reads u2 u2_law op.Constant f 18 (λ x. refl)
-    & made_reads nothing nothing_law (λ _. op.Load) f 19 (λ x. refl)
-    & made_reads nothing nothing_law (λ _. op.Store) f 20 (λ x. refl)
-    & made_reads nothing nothing_law (λ _. op.Copy) f 21 (λ x. refl)
-    & made_reads u2 u2_law op.MakeDummy f 22 (λ x. refl)
-    & made_reads u2 u2_law op.Fit f 23 (λ x. refl)
+    & short op.Constant 18 (λ n. refl)
+    & bare op.Load 19 refl
+    & bare op.Store 20 refl
+    & bare op.Copy 21 refl
+    & short op.MakeDummy 22 (λ n. refl)
+    & short op.Fit 23 (λ n. refl)
     & made_reads u1 byte_law op.ToCharacters f 24 (λ x. refl)
-    & made_reads nothing nothing_law (λ _. op.FromBits) f 25 (λ x. refl)
-    & made_reads nothing nothing_law (λ _. op.Add) f 26 (λ x. refl)
-    & made_reads nothing nothing_law (λ _. op.Subtract) f 27 (λ x. refl)
-    & made_reads nothing nothing_law (λ _. op.Multiply) f 28 (λ x. refl)
-    & made_reads nothing nothing_law (λ _. op.Negate) f 29 (λ x. refl)
+    & bare op.FromBits 25 refl
+    & bare op.Add 26 refl
+    & bare op.Subtract 27 refl
+    & bare op.Multiply 28 refl
+    & bare op.Negate 29 refl
     & made_reads precision precision_law op.Divide f 30 (λ x. refl)
-    & made_reads nothing nothing_law (λ _. op.Modulo) f 31 (λ x. refl)
-    & made_reads nothing nothing_law (λ _. op.Absolute) f 32 (λ x. refl)
-    & made_reads nothing nothing_law (λ _. op.Sign) f 33 (λ x. refl)
-    & made_reads nothing nothing_law (λ _. op.Greatest) f 34 (λ x. refl)
-    & made_reads nothing nothing_law (λ _. op.Least) f 35 (λ x. refl)
+    & bare op.Modulo 31 refl
+    & bare op.Absolute 32 refl
+    & bare op.Sign 33 refl
+    & bare op.Greatest 34 refl
+    & bare op.Least 35 refl
     & made_reads relation relation_law op.Compare f 36 (λ x. refl)
-    & made_reads nothing nothing_law (λ _. op.Concatenate) f 37 (λ x. refl)
-    & made_reads nothing nothing_law (λ _. op.And) f 38 (λ x. refl)
-    & made_reads nothing nothing_law (λ _. op.Or) f 39 (λ x. refl)
-    & made_reads nothing nothing_law (λ _. op.Not) f 40 (λ x. refl)
-    & made_reads nothing nothing_law (λ _. op.LengthOf) f 41 (λ x. refl)
-    & made_reads nothing nothing_law (λ _. op.Index) f 42 (λ x. refl)
-    & made_reads nothing nothing_law (λ _. op.Substring) f 43 (λ x. refl)
-    & made_reads nothing nothing_law (λ _. op.Rest) f 44 (λ x. refl)
-    & made_reads nothing nothing_law (λ _. op.AddressOf) f 45 (λ x. refl)
-    & made_reads nothing nothing_law (λ _. op.ToPointer) f 46 (λ x. refl)
-    & made_reads nothing nothing_law (λ _. op.ToOffset) f 47 (λ x. refl)
-    & made_reads u2 u2_law op.AllocateControlled f 48 (λ x. refl)
-    & made_reads u2 u2_law op.FreeControlled f 49 (λ x. refl)
-    & made_reads u2 u2_law op.CountGenerations f 50 (λ x. refl)
-    & made_reads u2 u2_law op.AllocateBased f 51 (λ x. refl)
+    & bare op.Concatenate 37 refl
+    & bare op.And 38 refl
+    & bare op.Or 39 refl
+    & bare op.Not 40 refl
+    & bare op.LengthOf 41 refl
+    & bare op.Index 42 refl
+    & bare op.Substring 43 refl
+    & bare op.Rest 44 refl
+    & bare op.AddressOf 45 refl
+    & bare op.ToPointer 46 refl
+    & bare op.ToOffset 47 refl
+    & short op.AllocateControlled 48 (λ n. refl)
+    & short op.FreeControlled 49 (λ n. refl)
+    & short op.CountGenerations 50 (λ n. refl)
+    & short op.AllocateBased 51 (λ n. refl)
     & made_reads (u2 ⊗ u2) (pair_law u2 u2 u2_law u2_law) (λ p. op.AllocateInArea p.0 p.1) f 52 (λ x. refl)
-    & made_reads u2 u2_law op.FreeBased f 53 (λ x. refl)
-    & made_reads nothing nothing_law (λ _. op.AssignArea) f 54 (λ x. refl)
-    & made_reads nothing nothing_law (λ _. op.EmptyArea) f 55 (λ x. refl)
+    & short op.FreeBased 53 (λ n. refl)
+    & bare op.AssignArea 54 refl
+    & bare op.EmptyArea 55 refl
     & made_reads (condition ⊗ u2) (pair_law condition u2 condition_law u2_law) (λ p. op.On p.0 p.1) f 56 (λ x. refl)
     & made_reads condition condition_law op.Revert f 57 (λ x. refl)
     & made_reads condition condition_law op.Signal f 58 (λ x. refl)
-    & made_reads nothing nothing_law (λ _. op.Put) f 59 (λ x. refl)
-    & made_reads nothing nothing_law (λ _. op.Skip) f 60 (λ x. refl)
-    & made_reads u2 u2_law op.SetTemporary f 61 (λ x. refl)
-    & made_reads u2 u2_law op.TakeTemporary f 62 (λ x. refl)
-    & made_reads nothing nothing_law (λ _. op.IsWithin) f 63 (λ x. refl)
+    & bare op.Put 59 refl
+    & bare op.Skip 60 refl
+    & short op.SetTemporary 61 (λ n. refl)
+    & short op.TakeTemporary 62 (λ n. refl)
+    & bare op.IsWithin 63 refl
     & tt
 
 again : (i : Instruction) (rest : List ℕ) → (instruction_form i).fits ≡ true → get_or instruction_readers (instruction_form i).tag unknown ((instruction_form i).bytes ++ rest) ≡ Ok (i, rest)

@@ -5,24 +5,8 @@ ghost use Rattle.byteorder.specs.Endian.{big_bytes};
 ghost use Rattle.pli_deck.specs.Instructions as instruction_fields;
 
 use crate::instruction::Instruction;
-use crate::writing::{PutsOne, put_byte, put_short, put_word};
+use crate::writing::{PutsOne, put_byte, put_short, put_with_byte, put_with_short, put_word};
 use std::alloc::AllocError;
-
-/// Puts a code with an operand of one byte.
-fn put_with_byte(out: &mut Vec<u8>, code: u8, number: u8) -> Result<(), AllocError>
-    ensures { OnOk result (out.new.items ≡ out.old.items ++ (code ∷ number ∷ [])) }
-{
-    put_byte(out, code)?;
-    put_byte(out, number)
-}
-
-/// Puts a code with an operand of two bytes.
-fn put_with_short(out: &mut Vec<u8>, code: u8, number: u16) -> Result<(), AllocError>
-    ensures { OnOk result (out.new.items ≡ out.old.items ++ (code ∷ big_bytes 2 number)) }
-{
-    put_byte(out, code)?;
-    put_short(out, number)
-}
 
 /// Puts a code with an operand of four bytes.
 fn put_with_word(out: &mut Vec<u8>, code: u8, number: u32) -> Result<(), AllocError>

@@ -8,7 +8,8 @@ ghost use Rattle.pli_deck.specs.Descriptions as description_fields;
 ghost use Rattle.pli_deck.specs.Descriptions.{description, description_within};
 
 use crate::writing::{
-    PutsOne, put_all, put_byte, put_count, put_large_count, put_short, put_signed, put_small_count,
+    PutsOne, put_all, put_byte, put_count, put_large_count, put_signed, put_small_count,
+    put_with_byte, put_with_short,
 };
 use pli_map::{Bounds, Description};
 use std::alloc::AllocError;
@@ -63,22 +64,10 @@ fn put_within(out: &mut Vec<u8>, levels: u16, value: &Description) -> Result<(),
         return put_byte(out, 0);
     }
     match value {
-        Description::FixedBinary(precision) => {
-            put_byte(out, 1)?;
-            put_byte(out, *precision)
-        }
-        Description::Character(length) => {
-            put_byte(out, 2)?;
-            put_short(out, *length)
-        }
-        Description::Varying(length) => {
-            put_byte(out, 3)?;
-            put_short(out, *length)
-        }
-        Description::Bit(length) => {
-            put_byte(out, 4)?;
-            put_short(out, *length)
-        }
+        Description::FixedBinary(precision) => put_with_byte(out, 1, *precision),
+        Description::Character(length) => put_with_short(out, 2, *length),
+        Description::Varying(length) => put_with_short(out, 3, *length),
+        Description::Bit(length) => put_with_short(out, 4, *length),
         Description::Pointer => put_byte(out, 5),
         Description::Offset => put_byte(out, 6),
         Description::Area(bytes) => {

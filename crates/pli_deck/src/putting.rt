@@ -10,7 +10,7 @@ ghost use Rattle.pli_deck.specs.DeckView.{constant_view, initial_view, template_
 use crate::deck::{Block, Constant, Global, Initial, Signature, Template};
 use crate::writing::{
     PutsOne, put_all, put_bits, put_byte, put_characters, put_large_count, put_list, put_name,
-    put_optional, put_short, put_signed, put_small_count, put_word,
+    put_optional, put_short, put_signed, put_small_count, put_with_short, put_word,
 };
 use std::alloc::AllocError;
 
@@ -151,14 +151,8 @@ impl PutsOne for Globals {
     #[tactic(auto, unfolding(crate::specs::DeckFields::global))]
     fn put(&self, out: &mut Vec<u8>, value: &Global) -> Result<(), AllocError> {
         match value {
-            Global::Static(template) => {
-                put_byte(out, 0)?;
-                put_short(out, *template)
-            }
-            Global::Controlled(template) => {
-                put_byte(out, 1)?;
-                put_short(out, *template)
-            }
+            Global::Static(template) => put_with_short(out, 0, *template),
+            Global::Controlled(template) => put_with_short(out, 1, *template),
             Global::ExternalStatic { name, template } => {
                 put_byte(out, 2)?;
                 put_name(out, name)?;

@@ -51,6 +51,22 @@ pub fn put_signed(out: &mut Vec<u8>, number: i32) -> Result<(), AllocError>
     put_word(out, number.cast_unsigned())
 }
 
+/// Puts the byte that says which form stands there, and one more.
+pub fn put_with_byte(out: &mut Vec<u8>, tag: u8, number: u8) -> Result<(), AllocError>
+    ensures { OnOk result (out.new.items ≡ out.old.items ++ (tag ∷ number ∷ [])) }
+{
+    put_byte(out, tag)?;
+    put_byte(out, number)
+}
+
+/// Puts the byte that says which form stands there, and a number of two bytes.
+pub fn put_with_short(out: &mut Vec<u8>, tag: u8, number: u16) -> Result<(), AllocError>
+    ensures { OnOk result (out.new.items ≡ out.old.items ++ (tag ∷ big_bytes 2 number)) }
+{
+    put_byte(out, tag)?;
+    put_short(out, number)
+}
+
 /// Puts a count of one byte: no such list of a deck is longer.
 #[tactic(auto, using(crate::proofs::LowBytes::lowest))]
 pub fn put_small_count(out: &mut Vec<u8>, count: usize) -> Result<(), AllocError>

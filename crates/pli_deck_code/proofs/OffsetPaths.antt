@@ -15,12 +15,12 @@ use Rattle.pli_deck_code.proofs.ScalarPlaces.{one_for_each}
 
 -- ---- lists, one behind another
 
-there_before : (xs ys : List ℕ) (j v : ℕ) → slice_get xs j ≡ Some v → slice_get (xs ++ ys) j ≡ Some v
+pub there_before : (xs ys : List ℕ) (j v : ℕ) → slice_get xs j ≡ Some v → slice_get (xs ++ ys) j ≡ Some v
 there_before [] ys j v h = absurd (none-some v h)
 there_before (x ∷ xs) ys zero v h = h
 there_before (x ∷ xs) ys (suc j) v h = there_before xs ys j v h
 
-there_behind : (xs ys : List ℕ) (n j : ℕ) → length xs ≡ n → slice_get (xs ++ ys) (n + j) ≡ slice_get ys j
+pub there_behind : (xs ys : List ℕ) (n j : ℕ) → length xs ≡ n → slice_get (xs ++ ys) (n + j) ≡ slice_get ys j
 there_behind [] ys zero j h = let e : 0 + j ≡ j = omega arith in ap (slice_get ys) e
 there_behind [] ys (suc n) j h = absurd (omega (arith, h))
 there_behind (x ∷ xs) ys zero j h = absurd (omega (arith, h))
@@ -30,7 +30,7 @@ there_behind (x ∷ xs) ys (suc n) j h =
 
 -- ---- elements and members
 
-in_repeated : (f : ℕ → List ℕ) (s : ℕ) → ((a : ℕ) → length (f a) ≡ s) → (count stride at n j v : ℕ) → n < count → slice_get (f (at + n * stride)) j ≡ Some v
+pub in_repeated : (f : ℕ → List ℕ) (s : ℕ) → ((a : ℕ) → length (f a) ≡ s) → (count stride at n j v : ℕ) → n < count → slice_get (f (at + n * stride)) j ≡ Some v
     → slice_get (repeated f count stride at) (n * s + j) ≡ Some v
 in_repeated f s each zero stride at n j v within h = absurd (omega (arith, within))
 in_repeated f s each (suc count) stride at zero j v within h =
@@ -48,7 +48,7 @@ in_repeated f s each (suc count) stride at (suc n) j v within h =
 abbrev standing : ℕ → Description → PlacedPart
 standing offset d = record { offset = offset; description = d }
 
-some_map : (f : ℕ → ℕ) (o : Option ℕ) (k : ℕ) → option_map f o ≡ Some k → (j : ℕ) × (o ≡ Some j) × (f j ≡ k)
+pub some_map : (f : ℕ → ℕ) (o : Option ℕ) (k : ℕ) → option_map f o ≡ Some k → (j : ℕ) × (o ≡ Some j) × (f j ≡ k)
 some_map f None k e = absurd (none-some k e)
 some_map f (Some j) k e = (j, refl, same_Some _ _ e)
 

@@ -1,34 +1,19 @@
 //! Signatures, globals, blocks, and the deck of a unit.
 ghost use Rattle.std.specs.Prelude.{◌≡◌, map, IfOk};
 ghost use Rattle.pli_deck.specs.DeckView as view;
-ghost use Rattle.pli_map.specs.views.DescriptionView.{description_view};
 ghost use Rattle.pli_unit_code.specs.views.CodeView.{kind_view, signature_view, global_view, block_view, unit_view};
 ghost use Rattle.pli_deck_code.specs.CodeDecks.{kind_number, signature_of, global_of, block_of, deck_of};
 
 use crate::constants::constants_of;
+use crate::descriptions::copied_descriptions;
 use crate::instructions::instructions_of;
 use crate::numbers::{byte, short};
 use crate::templates::templates_of;
 use pli_deck::{Block, Deck, Global, Signature};
-use pli_map::Description;
 use pli_unit_code as code;
 use pli_unit_code::{BlockKind, CodedGlobal, CodedSignature, LinkedUnit};
 use std::alloc;
 use std::alloc::AllocError;
-
-/// Copies of descriptions.
-fn descriptions_of(
-    alloc: alloc::Global,
-    descriptions: &[Description],
-) -> Result<Vec<Description>, AllocError>
-    ensures { IfOk result (λ made. map description_view made.items ≡ map description_view descriptions.now) }
-{
-    let mut made = Vec::with_capacity(alloc, descriptions.len())?;
-    for description in descriptions {
-        made.push(description.copy(alloc)?)?;
-    }
-    Ok(made)
-}
 
 /// A signature.
 fn signature_of(alloc: alloc::Global, signature: &CodedSignature) -> Result<Signature, AllocError>
@@ -117,7 +102,7 @@ pub fn deck_of(alloc: alloc::Global, is_main: bool, unit: &LinkedUnit) -> Result
         name: unit.procedure,
         is_main,
         signature: signature_of(alloc, &code.signature)?,
-        descriptions: descriptions_of(alloc, &code.descriptions)?,
+        descriptions: copied_descriptions(alloc, &code.descriptions)?,
         templates: templates_of(alloc, &code.descriptions, &code.templates)?,
         values: constants_of(alloc, &code.values)?,
         globals: globals_of(alloc, &code.globals)?,

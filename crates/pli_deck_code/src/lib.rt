@@ -3,6 +3,7 @@
 
 mod blocks;
 mod constants;
+mod descriptions;
 mod examples;
 mod externals;
 mod instructions;
@@ -13,6 +14,7 @@ mod numbers;
 mod offsets;
 mod templates;
 
+pub use descriptions::{copied_descriptions, description_at};
 pub use examples::worked_modules;
 pub use laws::offsets_are_places;
 pub use modules::{linked_bytes, module_of};

@@ -1,5 +1,5 @@
 //! Templates as a deck has them: an initial value stands on a byte.
-ghost use Rattle.std.specs.Prelude.{◌≡◌, get_or, map, option_map, slice_get, IfOk};
+ghost use Rattle.std.specs.Prelude.{◌≡◌, get_or, map, slice_get, IfOk};
 ghost use Rattle.pli_deck.specs.DeckView.{initial_view, template_view};
 ghost use Rattle.pli_map.specs.views.DescriptionView.{description_view};
 ghost use Rattle.pli_type_tree.specs.views.TemplateView as tree;
@@ -7,19 +7,13 @@ ghost use Rattle.pli_unit_code.specs.views.CodeView.{coded_template_view};
 ghost use Rattle.pli_deck_code.specs.CodeDecks.{initial_of, offsets_in, template_of};
 
 use crate::constants::constant_of;
+use crate::descriptions::description_at;
 use crate::offsets::offsets_of;
 use pli_deck::{Initial, Template};
 use pli_map::Description;
 use pli_type_tree::InitialScalar;
 use pli_unit_code::CodedTemplate;
 use std::alloc::{AllocError, Global};
-
-/// The description of this number, if there is one.
-fn description_at(descriptions: &[Description], number: u16) -> Option<&Description>
-    ensures { option_map (λ d. description_view d.now) result ≡ slice_get (map description_view descriptions.now) number }
-{
-    descriptions.get(usize::from(number))
-}
 
 /// On which bytes the scalars of the description of this number stand.
 fn offsets_in(

@@ -14,3 +14,9 @@ pub among_said : (starts ends : Vec ℕ Global) (members : Vec program.Places Gl
     → places_view (made.Among starts ends members) ≡ Among starts.items ends.items (list_of_places (map places_view members.items))
 among_said starts ends members =
     ap places_view (sym (made.rolls-Among starts ends members)) ∙ folds.fold-roll-Places Places places_level (program.Places-F.Among starts ends members)
+
+-- the form of places that were found to be those of members
+pub among_form : (starts ends : Vec ℕ Global) (members : Vec program.Places Global) (places : program.Places) (said : Places)
+    → places ≡ made.Among starts ends members → places_view places ≡ said
+    → Among starts.items ends.items (list_of_places (map places_view members.items)) ≡ said
+among_form starts ends members places said is e = sym (among_said starts ends members) ∙ ap places_view (sym is) ∙ e

@@ -4,7 +4,6 @@ use Rattle.std.specs.List.{list_all}
 use Rattle.std.proofs.lemmas.Bool.{and_parts, eqb-true}
 use Rattle.std.proofs.lemmas.Option.{same_Some}
 use Rattle.pli_base.specs.Name.{Name}
-use Rattle.pli_map.specs.Description.{Description}
 use Rattle.pli_deck.specs.Decks as deck
 use Rattle.pli_deck.specs.Decks.{Deck}
 use Rattle.pli_deck.specs.DeckFaults.{fault_of, jumps_within, named_by, is_there, within_limits, is_good_template}
@@ -12,6 +11,7 @@ use Rattle.pli_deck.specs.DeckFields.{name, flag, signature, tables, contents, t
 use Rattle.pli_deck.specs.DeckFields as fields
 use Rattle.pli_deck.specs.Descriptions.{description}
 use Rattle.pli_deck.specs.Fields.{list, u2, u4}
+use Rattle.pli_deck.specs.Instructions.{instruction}
 use Rattle.pli_deck.specs.ModuleFields as modules
 use Rattle.pli_deck.specs.ModuleFields.{Member, is_none, sized_deck, module_field, module_contents}
 use Rattle.pli_deck.specs.Spelling.{deck_bytes}
@@ -49,14 +49,32 @@ keeps_limits d h = third (jumps_within d) (list_all (is_there d) (named_by d)) (
 good_templates : (d : Deck) → fault_of d ≡ None → list_all (λ (t : deck.Template). is_good_template (slice_get d.descriptions t.description) t.initial) d.templates ≡ true
 good_templates d h = (and_parts _ _ (keeps_limits d h)).0
 
-descriptions_fit : (d : Deck) → fields.deck.fits d ≡ true → list_all description.fits d.descriptions ≡ true
+-- its tables fit, where it does
+pub record Fits (d : Deck) : Type 0 where
+  pub descriptions : list_all description.fits d.descriptions ≡ true
+  pub templates : list_all template.fits d.templates ≡ true
+  pub values : list_all constant.fits d.values ≡ true
+  pub blocks : list_all block.fits d.blocks ≡ true
+  pub instructions : list_all instruction.fits d.instructions ≡ true
+
+pub tables_fit : (d : Deck) → fields.deck.fits d ≡ true → Fits d
 unfolding fields.deck contents tables
-descriptions_fit d h =
+tables_fit d h =
     let named = and_parts (name.fits d.name) (flag.fits d.is_main && (signature.fits d.signature && tables.fits (fields.tables_of d))) h in
     let flagged = and_parts (flag.fits d.is_main) (signature.fits d.signature && tables.fits (fields.tables_of d)) named.1 in
     let signed = and_parts (signature.fits d.signature) (tables.fits (fields.tables_of d)) flagged.1 in
-    let listed = and_parts ((list description).fits d.descriptions) _ signed.1 in
-    (and_parts (u2.fits (length d.descriptions)) (list_all description.fits d.descriptions) listed.0).1
+    let descriptions = and_parts ((list description).fits d.descriptions) _ signed.1 in
+    let templates = and_parts ((list template).fits d.templates) _ descriptions.1 in
+    let values = and_parts ((list constant).fits d.values) _ templates.1 in
+    let globals = and_parts ((list global).fits d.globals) _ values.1 in
+    let blocks = and_parts ((list block).fits d.blocks) ((list instruction).fits d.instructions) globals.1 in
+    record {
+      descriptions = (and_parts (u2.fits (length d.descriptions)) (list_all description.fits d.descriptions) descriptions.0).1;
+      templates = (and_parts (u2.fits (length d.templates)) (list_all template.fits d.templates) templates.0).1;
+      values = (and_parts (u2.fits (length d.values)) (list_all constant.fits d.values) values.0).1;
+      blocks = (and_parts (u2.fits (length d.blocks)) (list_all block.fits d.blocks) blocks.0).1;
+      instructions = (and_parts (u2.fits (length d.instructions)) (list_all instruction.fits d.instructions) blocks.1).1;
+    }
 
 -- ---- code
 
@@ -64,17 +82,7 @@ descriptions_fit d h =
 parts : (d : Deck) (c : code.Code) → c.signature ≡ record { parameters = d.signature.parameters; result = d.signature.result }
     → d.descriptions ≡ c.descriptions → all_of (template_from d.descriptions) d.templates ≡ Some c.templates → all_of value_from d.values ≡ Some c.values
     → all_of global_from d.globals ≡ Some c.globals → all_of block_from d.blocks ≡ Some c.blocks → all_of instruction_from d.instructions ≡ Some c.instructions → code_from d ≡ Some c
-parts d c s p q r t u v =
-    let made : code.CodedSignature → List Description → code.Code = λ x ds. record {
-      signature = x;
-      descriptions = ds;
-      templates = c.templates;
-      values = c.values;
-      globals = c.globals;
-      blocks = c.blocks;
-      instructions = c.instructions;
-    } in
-    rw (q, r, t, u, v) (ap (λ ds. Some (made (record { parameters = d.signature.parameters; result = d.signature.result }) ds)) p ∙ ap (λ x. Some (made x c.descriptions)) (sym s))
+parts d c s p q r t u v = rw (q, r, t, u, v, p, ← s) refl
 
 globals_same : (gs : List code.CodedGlobal) → all_of global_from (map global_of gs) ≡ Some gs
 globals_same [] = refl
@@ -88,7 +96,7 @@ code_back is_main u fits spelled faultless =
     let constants = and_parts (list_all value_fits c.values) _ templates.1 in
     let blocks = and_parts (list_all block_fits c.blocks) (list_all instruction_fits c.instructions) constants.1 in
     parts (deck_of is_main u) c refl refl
-    (templates_back c.descriptions (descriptions_fit (deck_of is_main u) spelled) c.templates templates.0 (good_templates (deck_of is_main u) faultless))
+    (templates_back c.descriptions (tables_fit (deck_of is_main u) spelled).descriptions c.templates templates.0 (good_templates (deck_of is_main u) faultless))
     (all_back value_from constant_of value_fits value_back c.values constants.0) (globals_same c.globals)
     (all_back block_from block_of block_fits block_back c.blocks blocks.0)
     (all_back instruction_from instruction_of instruction_fits instruction_back c.instructions blocks.1)

@@ -4,15 +4,12 @@ use Rattle.std.specs.List.{list_all, filter}
 use Rattle.std.specs.Int.{is_in_range}
 use Rattle.std.proofs.lemmas.Bool.{and_parts, and_from, leb-true, eq-eqb}
 use Rattle.pli_base.specs.Name.{Name}
-use Rattle.pli_map.specs.Description.{Description}
 use Rattle.pli_deck.specs.Decks as deck
 use Rattle.pli_deck.specs.Decks.{Deck}
-use Rattle.pli_deck.specs.DeckFields.{name, flag, signature, tables, contents, template, constant, global, block}
+use Rattle.pli_deck.specs.DeckFields.{name, template, constant, block}
 use Rattle.pli_deck.specs.DeckFields as fields
-use Rattle.pli_deck.specs.Descriptions.{description}
-use Rattle.pli_deck.specs.Fields.{list, u2, from_to}
+use Rattle.pli_deck.specs.Fields.{u2, from_to}
 use Rattle.pli_deck.specs.Instructions.{instruction}
-use Rattle.pli_deck.specs.declared.instruction.Instruction as deck_instruction
 use Rattle.pli_deck.specs.ModuleFields as modules
 use Rattle.pli_deck.specs.ModuleFields.{External, Member, is_external, sized_deck, module_field}
 use Rattle.pli_deck_code.specs.CodeDecks.{constant_of, template_of, signature_of, global_of, block_of, instruction_of, deck_of}
@@ -26,34 +23,9 @@ use Rattle.pli_deck_load.specs.DeckCodes.{all_of, template_from, value_from, glo
 use Rattle.pli_deck_load.specs.ModuleUnits.{code_from, entries_from, unit_from, module_from}
 use Rattle.pli_deck_load.specs.answers.Linkings.{mark_of, linking_of}
 use Rattle.pli_deck_load.proofs.DecksForth.{OfMade, of_some, mapped, chained, bound, made_of, AreKept, all_forth, instruction_forth, value_forth, global_forth, block_forth, template_forth}
-use Rattle.pli_deck_load.proofs.ModulesBack.{has_deck, members_fit}
+use Rattle.pli_deck_load.proofs.ModulesBack.{tables_fit, has_deck, members_fit}
 
 -- ---- a deck
-
--- its tables fit
-record Fits (d : Deck) : Type 0 where
-  templates : list_all template.fits d.templates ≡ true
-  values : list_all constant.fits d.values ≡ true
-  blocks : list_all block.fits d.blocks ≡ true
-  instructions : list_all instruction.fits d.instructions ≡ true
-
-tables_fit : (d : Deck) → fields.deck.fits d ≡ true → Fits d
-unfolding fields.deck contents tables
-tables_fit d h =
-    let named = and_parts (name.fits d.name) (flag.fits d.is_main && (signature.fits d.signature && tables.fits (fields.tables_of d))) h in
-    let flagged = and_parts (flag.fits d.is_main) (signature.fits d.signature && tables.fits (fields.tables_of d)) named.1 in
-    let signed = and_parts (signature.fits d.signature) (tables.fits (fields.tables_of d)) flagged.1 in
-    let descriptions = and_parts ((list description).fits d.descriptions) _ signed.1 in
-    let templates = and_parts ((list template).fits d.templates) _ descriptions.1 in
-    let values = and_parts ((list constant).fits d.values) _ templates.1 in
-    let globals = and_parts ((list global).fits d.globals) _ values.1 in
-    let blocks = and_parts ((list block).fits d.blocks) ((list instruction).fits d.instructions) globals.1 in
-    record {
-      templates = (and_parts (u2.fits (length d.templates)) (list_all template.fits d.templates) templates.0).1;
-      values = (and_parts (u2.fits (length d.values)) (list_all constant.fits d.values) values.0).1;
-      blocks = (and_parts (u2.fits (length d.blocks)) (list_all block.fits d.blocks) blocks.0).1;
-      instructions = (and_parts (u2.fits (length d.instructions)) (list_all instruction.fits d.instructions) blocks.1).1;
-    }
 
 -- code of a deck, part by part
 record Parts (d : Deck) (c : code.Code) : Type 0 where
@@ -93,35 +65,7 @@ record IsCode (d : Deck) (c : code.Code) : Type 0 where
 same_deck : (d : Deck) (c : code.Code) → signature_of c.signature ≡ d.signature → c.descriptions ≡ d.descriptions → map (template_of c.descriptions) c.templates ≡ d.templates
     → map constant_of c.values ≡ d.values → map global_of c.globals ≡ d.globals → map block_of c.blocks ≡ d.blocks → map instruction_of c.instructions ≡ d.instructions
     → (unit : Name) (entries : List ℕ) → deck_of d.is_main (record { unit = unit; procedure = d.name; code = c; entries = entries }) ≡ d
-same_deck d c s ds ts vs gs bs is unit entries =
-    let made : deck.Signature → List Description → List deck.Template → List deck.Constant → List deck.Global → List deck.Block → Deck = λ s ds ts vs gs bs. record {
-      name = d.name;
-      is_main = d.is_main;
-      signature = s;
-      descriptions = ds;
-      templates = ts;
-      values = vs;
-      globals = gs;
-      blocks = bs;
-      instructions = map instruction_of c.instructions;
-    } in
-    ap (λ x. made x c.descriptions (map (template_of c.descriptions) c.templates) (map constant_of c.values) (map global_of c.globals) (map block_of c.blocks)) s
-    ∙ ap (λ x. made d.signature x (map (template_of c.descriptions) c.templates) (map constant_of c.values) (map global_of c.globals) (map block_of c.blocks)) ds
-    ∙ ap (λ x. made d.signature d.descriptions x (map constant_of c.values) (map global_of c.globals) (map block_of c.blocks)) ts
-    ∙ ap (λ x. made d.signature d.descriptions d.templates x (map global_of c.globals) (map block_of c.blocks)) vs
-    ∙ ap (λ x. made d.signature d.descriptions d.templates d.values x (map block_of c.blocks)) gs
-    ∙ ap (λ x. made d.signature d.descriptions d.templates d.values d.globals x) bs
-    ∙ ap (λ (x : List deck_instruction.Instruction). record {
-      name = d.name;
-      is_main = d.is_main;
-      signature = d.signature;
-      descriptions = d.descriptions;
-      templates = d.templates;
-      values = d.values;
-      globals = d.globals;
-      blocks = d.blocks;
-      instructions = x;
-    }) is
+same_deck d c s ds ts vs gs bs is unit entries = rw (s, ts, vs, gs, bs, is, ds) refl
 
 code_forth : (d : Deck) (c : code.Code) → fields.deck.fits d ≡ true → code_from d ≡ Some c → IsCode d c
 code_forth d c h e =

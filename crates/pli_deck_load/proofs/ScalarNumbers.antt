@@ -1,5 +1,5 @@
 -- A scalar that is found in a description has the number of the one that stands on its byte.
-use Rattle.std.proofs.Common.{◌≡◌, ℕ, zero, suc, ◌+◌, ◌-◌, ◌*◌, ◌/◌, ◌%◌, ◌<◌, ◌≤◌, min, nat_eq, nat_lt, Bool, true, false, ◌&&◌, cond, List, [], ◌∷◌, ◌++◌, length, map, get_or, slice_get, Option, Some, None, option_map, refl, ap, sym, ◌∙◌, arith, true≢false}
+use Rattle.std.proofs.Common.{◌≡◌, ℕ, zero, suc, ◌+◌, ◌-◌, ◌*◌, ◌/◌, ◌%◌, ◌<◌, ◌≤◌, min, nat_eq, nat_lt, Bool, true, false, ◌&&◌, cond, List, [], ◌∷◌, length, map, get_or, slice_get, Option, Some, None, option_map, refl, ap, sym, ◌∙◌, arith, true≢false}
 use Rattle.std.specs.Int.{next_multiple_of}
 use Rattle.std.proofs.Math.Nat.{div-add-mod}
 use Rattle.std.proofs.lemmas.Bool.{and_parts, eqb-true, lt-ltb, ltb-true, ltb-false}
@@ -11,43 +11,10 @@ use Rattle.pli_map.specs.Sizes.{count_of, alignment_of, size_of, stride_of}
 use Rattle.pli_map.specs.declared.description.Bounds.{Bounds}
 use Rattle.pli_map.proofs.FoundScalars.{found_in_array, found_in_structure}
 use Rattle.pli_deck_code.specs.ScalarOffsets.{word, repeated, offsets_from, offsets_among, offsets_of}
+use Rattle.pli_deck_code.proofs.OffsetPaths.{there_before, there_behind, in_repeated, some_map}
 use Rattle.pli_deck_code.proofs.ScalarPlaces.{one_for_each}
 use Rattle.pli_deck_load.specs.Scalars.{rises, scalar_from}
 use Rattle.pli_deck_load.proofs.FoundScalars.{found_at}
-
--- ---- lists, one behind another
-
-there_before : (xs ys : List ℕ) (j v : ℕ) → slice_get xs j ≡ Some v → slice_get (xs ++ ys) j ≡ Some v
-there_before [] ys j v h = absurd (none-some v h)
-there_before (x ∷ xs) ys zero v h = h
-there_before (x ∷ xs) ys (suc j) v h = there_before xs ys j v h
-
-there_behind : (xs ys : List ℕ) (n j : ℕ) → length xs ≡ n → slice_get (xs ++ ys) (n + j) ≡ slice_get ys j
-there_behind [] ys zero j h = let e : 0 + j ≡ j = omega arith in ap (slice_get ys) e
-there_behind [] ys (suc n) j h = absurd (omega (arith, h))
-there_behind (x ∷ xs) ys zero j h = absurd (omega (arith, h))
-there_behind (x ∷ xs) ys (suc n) j h =
-    let e : suc n + j ≡ suc (n + j) = omega arith in
-    ap (slice_get (x ∷ (xs ++ ys))) e ∙ there_behind xs ys n j (omega (arith, h))
-
-in_repeated : (f : ℕ → List ℕ) (s : ℕ) → ((a : ℕ) → length (f a) ≡ s) → (count stride at n j v : ℕ) → n < count → slice_get (f (at + n * stride)) j ≡ Some v
-    → slice_get (repeated f count stride at) (n * s + j) ≡ Some v
-in_repeated f s each zero stride at n j v within h = absurd (omega (arith, within))
-in_repeated f s each (suc count) stride at zero j v within h =
-    let e : at + 0 * stride ≡ at = omega arith in
-    let k : 0 * s + j ≡ j = omega arith in
-    ap (slice_get (f at ++ repeated f count stride (at + stride))) k
-    ∙ there_before (f at) (repeated f count stride (at + stride)) j v (ap (λ a. slice_get (f a) j) (sym e) ∙ h)
-in_repeated f s each (suc count) stride at (suc n) j v within h =
-    let e : at + suc n * stride ≡ at + stride + n * stride = omega arith in
-    let k : suc n * s + j ≡ s + (n * s + j) = omega arith in
-    ap (slice_get (f at ++ repeated f count stride (at + stride))) k
-    ∙ there_behind (f at) _ s (n * s + j) (each at)
-    ∙ in_repeated f s each count stride (at + stride) n j v (omega (arith, within)) (ap (λ a. slice_get (f a) j) (sym e) ∙ h)
-
-some_map : (f : ℕ → ℕ) (o : Option ℕ) (k : ℕ) → option_map f o ≡ Some k → (j : ℕ) × (o ≡ Some j) × (f j ≡ k)
-some_map f None k e = absurd (none-some k e)
-some_map f (Some j) k e = (j, refl, same_Some _ _ e)
 
 -- ---- what stands at the beginning
 

@@ -4,7 +4,6 @@
 mod bare;
 mod blocks;
 mod constants;
-mod descriptions;
 mod error;
 mod globals;
 mod initials;

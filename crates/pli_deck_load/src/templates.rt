@@ -1,5 +1,5 @@
 //! Templates.
-ghost use Rattle.std.specs.Prelude.{◌≡◌, ◌<◌, length, map, option_map, slice_get};
+ghost use Rattle.std.specs.Prelude.{◌≡◌, ◌<◌, length, map, slice_get};
 ghost use Rattle.pli_deck.specs.Decks as deck;
 ghost use Rattle.pli_deck.specs.DeckView.{initial_view, template_view};
 ghost use Rattle.pli_deck_code.specs.CodeDecks.{offsets_in};
@@ -16,18 +16,11 @@ use crate::initials::{found_initials, listed_initials};
 use crate::lists::{MakesOne, all_of};
 use crate::numbers::are_few;
 use pli_deck::{Initial, Template};
-use pli_deck_code::offsets_of;
+use pli_deck_code::{description_at, offsets_of};
 use pli_map::Description;
 use pli_type_tree::InitialScalar;
 use pli_unit_code::CodedTemplate;
 use std::alloc::Global;
-
-/// The description of this number, if there is one.
-fn description_at(descriptions: &[Description], number: u16) -> Option<&Description>
-    ensures { option_map (λ d. description_view d.now) result ≡ slice_get (map description_view descriptions.now) number }
-{
-    descriptions.get(usize::from(number))
-}
 
 /// The initial values of a template. Where its scalars stand is asked only if there are some.
 fn initials_from(

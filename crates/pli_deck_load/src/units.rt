@@ -11,13 +11,13 @@ ghost use Rattle.pli_deck_load.specs.answers.Answers.{Makes};
 
 use crate::blocks::blocks_from;
 use crate::constants::values_from;
-use crate::descriptions::copied_descriptions;
 use crate::error::LoadError;
 use crate::globals::{globals_from, signature_from};
 use crate::instructions::instructions_from;
 use crate::lists::{MakesOne, all_of};
 use crate::templates::templates_from;
 use pli_deck::{Deck, Global, Member};
+use pli_deck_code::copied_descriptions;
 use pli_unit_code::{Code, LinkedUnit};
 use std::alloc;
 use std::alloc::AllocError;

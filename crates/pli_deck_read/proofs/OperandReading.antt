@@ -28,11 +28,6 @@ second_err : {X Y : Type 0} (f : Field X) (g : Field Y) (bytes : List ℕ) (x : 
 second_err f g bytes x behind errors.Memory h k = tt
 second_err f g bytes x behind (errors.Fault d) h k = ap (λ r. r >>= then_second (λ _. g)) h ∙ ap (λ r. r >>= with_first x) k
 
--- an operand was read
-pub goes_on : {X : Type 0} (read : Reader X) (error : Option ReadError) (bytes rest : List ℕ) (x : X) → read bytes ≡ Ok (x, rest) → Reads read (left_of error bytes) x (left_of error rest)
-goes_on read None bytes rest x h = record { is_read = h }
-goes_on read (Some e) bytes rest x h = record { is_read = refl }
-
 -- an operand was at fault
 pub goes_wrong : {X : Type 0} (read : Reader X) (error : Option ReadError) (bytes : List ℕ) (x : X) (e : ReadError) → Fails e (read bytes) → Reads read (left_of error bytes) x (left_of (kept error e) bytes)
 goes_wrong read None bytes x e h = record { is_read = h }

@@ -1,7 +1,8 @@
 //! The operands of an instruction, one behind another.
 ghost use Rattle.std.specs.Prelude.{◌≡◌};
-ghost use Rattle.pli_deck.specs.Fields.{u1, u2, u4, from_to, signed, unknown};
+ghost use Rattle.pli_deck.specs.Fields.{Reader, u1, u2, u4, from_to, signed, unknown};
 ghost use Rattle.pli_deck_read.specs.Operands.{operands_view, kept, Reads};
+ghost use Rattle.pli_deck_read.specs.Reading.{Gives};
 
 use crate::error::ReadError;
 use crate::reading::{byte_of, byte_within, short_of, signed_within, word_of};
@@ -27,84 +28,62 @@ impl<'a> Operands<'a> {
         }
     }
 
-    /// One byte.
-    pub fn byte(&mut self) -> u8
-        ensures { Reads u1.read (operands_view self.old) result (operands_view self.new) }
+    /// The value that was read from the front of the bytes. Where none was, the error is kept, and `otherwise` stands
+    /// for a value.
+    fn taken<T: Copy>(&mut self, given: Result<(T, &'a [u8]), ReadError>, otherwise: T) -> T
+        ensures { (read : Reader T) → Gives (λ x. (x.0, x.1.now)) given.entry (read self.old.rest.now) →
+            Reads read (operands_view self.old) result (operands_view self.new) }
     {
-        match byte_of(self.rest) {
-            Ok((number, rest)) => {
+        match given {
+            Ok((value, rest)) => {
                 self.rest = rest;
-                number
+                value
             }
             Err(error) => {
                 self.failed(error);
-                0
+                otherwise
             }
         }
     }
 
-    /// One byte from `low` to `high`.
-    pub fn byte_within(&mut self, low: u8, high: u8) -> u8
-        ensures { Reads (from_to low high u1).read (operands_view self.old) result (operands_view self.new) }
+    /// One byte.
+    pub fn byte(&mut self) -> u8
+        ensures { Reads u1.read (operands_view self.old) result (operands_view self.new) }
     {
-        match byte_within(self.rest, low, high) {
-            Ok((number, rest)) => {
-                self.rest = rest;
-                number
-            }
-            Err(error) => {
-                self.failed(error);
-                0
-            }
-        }
+        let given = byte_of(self.rest);
+        self.taken(given, 0)
     }
 
     /// A number of two bytes.
     pub fn short(&mut self) -> u16
         ensures { Reads u2.read (operands_view self.old) result (operands_view self.new) }
     {
-        match short_of(self.rest) {
-            Ok((number, rest)) => {
-                self.rest = rest;
-                number
-            }
-            Err(error) => {
-                self.failed(error);
-                0
-            }
-        }
+        let given = short_of(self.rest);
+        self.taken(given, 0)
     }
 
     /// A number of four bytes.
     pub fn word(&mut self) -> u32
         ensures { Reads u4.read (operands_view self.old) result (operands_view self.new) }
     {
-        match word_of(self.rest) {
-            Ok((number, rest)) => {
-                self.rest = rest;
-                number
-            }
-            Err(error) => {
-                self.failed(error);
-                0
-            }
-        }
+        let given = word_of(self.rest);
+        self.taken(given, 0)
+    }
+
+    /// One byte from `low` to `high`.
+    pub fn byte_within(&mut self, low: u8, high: u8) -> u8
+        ensures { Reads (from_to low high u1).read (operands_view self.old) result (operands_view self.new) }
+    {
+        let given = byte_within(self.rest, low, high);
+        self.taken(given, 0)
     }
 
     /// A signed number of four bytes that is at most `bound` from 0.
     pub fn signed_within(&mut self, bound: u32) -> i32
         ensures { Reads (signed bound).read (operands_view self.old) result (operands_view self.new) }
     {
-        match signed_within(self.rest, bound) {
-            Ok((number, rest)) => {
-                self.rest = rest;
-                number
-            }
-            Err(error) => {
-                self.failed(error);
-                0
-            }
-        }
+        let given = signed_within(self.rest, bound);
+        self.taken(given, 0)
     }
 
     /// No instruction has the code: that is an error, and any instruction stands for it.

@@ -1,4 +1,6 @@
 //! Instructions at the front of bytes.
+#![tactic(auto, unfolding(pli_deck::specs::Instructions::reader_of), using(crate::proofs::OperandReading::bare, crate::proofs::OperandReading::of_one, crate::proofs::OperandReading::of_both))]
+
 ghost use Rattle.std.specs.Prelude.{◌≡◌, ◌≤◌};
 ghost use Rattle.pli_deck.specs.Instructions.{reader_of};
 ghost use Rattle.pli_deck_read.specs.Operands.{operands_view, Reads};

@@ -12,21 +12,21 @@ pub put_within-returns-then-levels-eq0 : goal.put_within-returns-then-levels-eq0
 put_within-returns-then-levels-eq0 t c =
     on_ok_weaker c.put_byte.result (λ e. e ∙ ap (λ bs. c.args.out.now.items ++ bs) (sym (too_deep_bytes c.args.levels (description_view c.args.value.now) (omega (arith, c.if-levels-eq0.true))))) c.put_byte.ensures
 
-pub put_within-returns-in_ok-put_byte-in-FixedBinary : goal.put_within-returns-in_ok-put_byte-in-FixedBinary
-put_within-returns-in_ok-put_byte-in-FixedBinary t c =
-    on_ok_weaker c.put_byte-in-FixedBinary-2.result (then_put _ _ _ _ _ _ c.in_ok-put_byte-in-FixedBinary.ensures (fixed_bytes c.args.levels c.args.value.now c.in-FixedBinary.precision (omega (arith, c.if-levels-eq0.false)) c.in-FixedBinary.is)) c.put_byte-in-FixedBinary-2.ensures
+pub put_within-returns-in-FixedBinary : goal.put_within-returns-in-FixedBinary
+put_within-returns-in-FixedBinary t c =
+    on_ok_weaker c.put_with_byte.result (λ e. e ∙ ap (λ bs. c.args.out.now.items ++ bs) (sym (fixed_bytes c.args.levels c.args.value.now c.in-FixedBinary.precision (omega (arith, c.if-levels-eq0.false)) c.in-FixedBinary.is))) c.put_with_byte.ensures
 
-pub put_within-returns-in_ok-put_byte-in-Character : goal.put_within-returns-in_ok-put_byte-in-Character
-put_within-returns-in_ok-put_byte-in-Character t c =
-    on_ok_weaker c.put_short.result (then_put _ _ _ _ _ _ c.in_ok-put_byte-in-Character.ensures (character_bytes c.args.levels c.args.value.now c.in-Character.length (omega (arith, c.if-levels-eq0.false)) c.in-Character.is)) c.put_short.ensures
+pub put_within-returns-in-Character : goal.put_within-returns-in-Character
+put_within-returns-in-Character t c =
+    on_ok_weaker c.put_with_short.result (λ e. e ∙ ap (λ bs. c.args.out.now.items ++ bs) (sym (character_bytes c.args.levels c.args.value.now c.in-Character.length (omega (arith, c.if-levels-eq0.false)) c.in-Character.is))) c.put_with_short.ensures
 
-pub put_within-returns-in_ok-put_byte-in-Varying : goal.put_within-returns-in_ok-put_byte-in-Varying
-put_within-returns-in_ok-put_byte-in-Varying t c =
-    on_ok_weaker c.put_short-in-Varying.result (then_put _ _ _ _ _ _ c.in_ok-put_byte-in-Varying.ensures (varying_bytes c.args.levels c.args.value.now c.in-Varying.length (omega (arith, c.if-levels-eq0.false)) c.in-Varying.is)) c.put_short-in-Varying.ensures
+pub put_within-returns-in-Varying : goal.put_within-returns-in-Varying
+put_within-returns-in-Varying t c =
+    on_ok_weaker c.put_with_short-in-Varying.result (λ e. e ∙ ap (λ bs. c.args.out.now.items ++ bs) (sym (varying_bytes c.args.levels c.args.value.now c.in-Varying.length (omega (arith, c.if-levels-eq0.false)) c.in-Varying.is))) c.put_with_short-in-Varying.ensures
 
-pub put_within-returns-in_ok-put_byte-in-Bit : goal.put_within-returns-in_ok-put_byte-in-Bit
-put_within-returns-in_ok-put_byte-in-Bit t c =
-    on_ok_weaker c.put_short-in-Bit.result (then_put _ _ _ _ _ _ c.in_ok-put_byte-in-Bit.ensures (bit_bytes c.args.levels c.args.value.now c.in-Bit.length (omega (arith, c.if-levels-eq0.false)) c.in-Bit.is)) c.put_short-in-Bit.ensures
+pub put_within-returns-in-Bit : goal.put_within-returns-in-Bit
+put_within-returns-in-Bit t c =
+    on_ok_weaker c.put_with_short-in-Bit.result (λ e. e ∙ ap (λ bs. c.args.out.now.items ++ bs) (sym (bit_bytes c.args.levels c.args.value.now c.in-Bit.length (omega (arith, c.if-levels-eq0.false)) c.in-Bit.is))) c.put_with_short-in-Bit.ensures
 
 pub put_within-returns-in_ok-put_byte-in-Area : goal.put_within-returns-in_ok-put_byte-in-Area
 put_within-returns-in_ok-put_byte-in-Area t c =

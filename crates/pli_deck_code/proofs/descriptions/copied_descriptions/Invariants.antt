@@ -1,6 +1,6 @@
 use Rattle.std.proofs.Common.{◌≡◌, map, drop, ◌++◌}
 use Rattle.pli_map.specs.views.DescriptionView.{description_view}
-use Rattle.pli_deck_load.proofs.descriptions.copied_descriptions.Given as goal
+use Rattle.pli_deck_code.proofs.descriptions.copied_descriptions.Given as goal
 
 -- the copies so far, in front of what is left, say what all say
 abbrev pub invariant-loop-description : goal.invariant-loop-description
