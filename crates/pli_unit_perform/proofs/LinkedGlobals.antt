@@ -10,7 +10,7 @@ use Rattle.pli_base.specs.laws.NameLaws.{equal_from_pointwise, pointwise-from_eq
 use Rattle.pli_machine_step.specs.Program as op
 use Rattle.pli_machine_step.specs.Program.{GlobalCode, global_variable}
 use Rattle.pli_store.specs.Storage as plain
-use Rattle.pli_store.specs.World.{World, Answer, Yields, Raises, Wrong, Static, Variable, further, made_once, made_before, external_in, is_named, statics_made, with_static}
+use Rattle.pli_store.specs.World.{World, Answer, Raises, Wrong, Static, Variable, further, made_once, made_before, external_in, is_named, statics_made, with_static}
 use Rattle.pli_store.specs.answers.Answered.{Answered}
 use Rattle.pli_store.specs.declared.fault.StoreFault.{StoreFault}
 use Rattle.pli_store.specs.declared.fault.StoreFault.TheVariants as fault
@@ -21,12 +21,13 @@ use Rattle.pli_unit_code.specs.CodeTables as coded
 use Rattle.pli_unit_code.specs.CodeTables.{Code, CodedGlobal, CodedSignature, globals_linked, global_before, variable_at, there}
 use Rattle.pli_machine_step.specs.Runs.{all_statics_made}
 use Rattle.pli_unit_code.specs.Modules.{LinkedUnit, unit_of}
+use Rattle.pli_unit_code.specs.declared.code.CodedGlobal as rust_global
 use Rattle.pli_unit_code.specs.declared.code.LinkedUnit as rust
-use Rattle.pli_unit_code.specs.views.CodeView.{unit_view}
+use Rattle.pli_unit_code.specs.views.CodeView.{code_view, global_view, unit_view}
 use Rattle.pli_unit_perform.specs.declared.linked.LinkedGlobal.{LinkedGlobal}
 use Rattle.pli_unit_perform.specs.declared.linked.LinkedGlobal.TheVariants as linked
 use Rattle.pli_unit_perform.specs.declared.shared.Shared.{Shared}
-use Rattle.pli_unit_perform.specs.answers.Making.{EndsAs, first_world, Placed, AreKnown, KnownAt, PlacedKnown, IsNoted, EntryTaken, number_behind, NextLinked, Links, UnitLinked, LinksUnit, AllLinked, EndsEarlier}
+use Rattle.pli_unit_perform.specs.answers.Making.{EndsAs, first_world, Placed, AreKnown, PlacedKnown, IsNoted, EntryTaken, number_behind, NextLinked, Links, UnitLinked, LinksUnit, AllLinked, EndsEarlier}
 use Rattle.pli_unit_perform.specs.views.TableView.{statics_from, all_statics, entry_in, entry_of}
 
 -- one table behind another
@@ -331,6 +332,25 @@ module _ (c : Code) (unit : Name) (globals left more : List CodedGlobal) (entrie
     known = subst (AreKnown new) joined_statics next.known;
   }
 
+-- elements of a list, seen so, from one on
+pub left_at : {A B : Type 0} (f : A → B) (items xs : List A) (i : ℕ) (x : A) → xs ≡ items → i < length xs → x ≡ get_or xs i x
+    → drop i (map f items) ≡ f x ∷ drop (i + 1) (map f items)
+left_at f items xs i x same within is =
+    let sized : i < length (map f items) = omega (arith, within, ap length same, length-map items f) in
+    drop_more (map f items) i (f x) sized
+    ∙ ap (λ y. y ∷ drop (i + 1) (map f items))
+    (get_or-map f items i x (f x) (omega (arith, within, ap length same)) ∙ ap f (ap (λ ys. get_or ys i x) (sym same) ∙ sym is))
+
+pub none_left : {A B : Type 0} (f : A → B) (items xs : List A) (i : ℕ) → xs ≡ items → length xs ≤ i → drop i (map f items) ≡ []
+none_left f items xs i same past = drop_all i (map f items) (omega (arith, past, ap length same, length-map items f))
+
+-- the globals of a unit so far, behind which this one is the next
+abbrev pub GlobalsSoFar : rust.LinkedUnit → (left : List CodedGlobal) → (taken : ℕ) → List Static
+    → (old now : Shared) → List LinkedGlobal → Type 0
+GlobalsSoFar u left taken statics old now table =
+    SoFar (code_view u.code) u.unit (map global_view u.code.globals.items) left u.entries.items
+    (drop taken u.entries.items) statics old now table
+
 -- none is left
 pub so_far_all : (c : Code) (unit : Name) (globals : List CodedGlobal) (entries unused : List ℕ) (statics : List Static) (old now : Shared) (table : List LinkedGlobal)
     → SoFar c unit globals [] entries unused statics old now table → UnitLinked unit (globals_linked c globals entries) statics old now table
@@ -348,18 +368,38 @@ pub so_far_ends : (c : Code) (unit : Name) (globals left more : List CodedGlobal
 so_far_ends c unit globals left more entries _ less statics old now new table f so ends =
     ends_for f _ _ (first_world new.storage (statics ++ statics_from unit 0 table)) so.made ends
 
--- elements of a list, seen so, from one on
-pub left_at : {A B : Type 0} (f : A → B) (items xs : List A) (i : ℕ) (x : A) → xs ≡ items → i < length xs → x ≡ get_or xs i x
-    → drop i (map f items) ≡ f x ∷ drop (i + 1) (map f items)
-left_at f items xs i x same within is =
-    let sized : i < length (map f items) = omega (arith, within, ap length same, length-map items f) in
-    drop_more (map f items) i (f x) sized
-    ∙ ap (λ y. y ∷ drop (i + 1) (map f items))
-    (get_or-map f items i x (f x) (omega (arith, within, ap length same)) ∙ ap f (ap (λ ys. get_or ys i x) (sym same) ∙ sym is))
+-- this one is the next
+module _ (u : rust.LinkedUnit) (xs : List rust_global.CodedGlobal) (i : ℕ) (x : rust_global.CodedGlobal)
+    (taken : ℕ) (statics : List Static) (old now new : Shared) (table : List LinkedGlobal)
+    (same : xs ≡ u.code.globals.items) (within : i < length xs) (is : x ≡ get_or xs i x)
+    (so : GlobalsSoFar u (drop i (map global_view u.code.globals.items)) taken statics old now table) where
+  abbrev behind : List CodedGlobal
+  behind = drop (i + 1) (map global_view u.code.globals.items)
 
-pub none_left : {A B : Type 0} (f : A → B) (items xs : List A) (i : ℕ) → xs ≡ items → length xs ≤ i → drop i (map f items) ≡ []
-none_left f items xs i same past = drop_all i (map f items) (omega (arith, past, ap length same, length-map items f))
+  next_so_far : GlobalsSoFar u (global_view x ∷ behind) taken statics old now table
+  next_so_far =
+      subst (λ gs. GlobalsSoFar u gs taken statics old now table)
+      (left_at global_view u.code.globals.items xs i x same within is) so
 
+  pub global_more : (less : ℕ) (last : List LinkedGlobal) (g : Option LinkedGlobal) → last ≡ table ++ there g
+      → NextLinked (code_view u.code) u.unit (length table) (statics ++ statics_from u.unit 0 table)
+      (global_view x ∷ behind) behind (drop taken u.entries.items) (drop less u.entries.items) now new g
+      → GlobalsSoFar u behind less statics old new last
+  global_more less last g more next =
+      so_far_more (code_view u.code) u.unit (map global_view u.code.globals.items) (global_view x ∷ behind)
+      behind u.entries.items (drop taken u.entries.items) (drop less u.entries.items)
+      statics old now new table last g more next_so_far next
+
+  pub global_ends : (less : ℕ) (f : StoreFault)
+      → Links (code_view u.code) u.unit (length table) (statics ++ statics_from u.unit 0 table)
+      (global_view x ∷ behind) behind (drop taken u.entries.items) (drop less u.entries.items) now new (Err f)
+      → LinksUnit u.unit (unit_of (unit_view u)).globals statics old new table (Err f)
+  global_ends less f ends =
+      so_far_ends (code_view u.code) u.unit (map global_view u.code.globals.items) (global_view x ∷ behind)
+      behind u.entries.items (drop taken u.entries.items) (drop less u.entries.items)
+      statics old now new table f next_so_far ends
+
+-- the unit of a number
 pub unit_here : (items xs : List rust.LinkedUnit) (i : ℕ) (x : rust.LinkedUnit) → xs ≡ items → i < length xs → x ≡ get_or xs i x
     → slice_get (map unit_view items) i ≡ Some (unit_view x)
 unit_here items xs i x same within is =

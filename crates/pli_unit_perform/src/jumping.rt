@@ -1,10 +1,6 @@
 //! Jumps within a block.
-ghost use Rattle.std.specs.Prelude.{◌≡◌, ℕ, List};
-ghost use Rattle.pli_unit_perform.specs.views.Image.{Image};
-ghost use Rattle.pli_store.specs.World.{World};
-ghost use Rattle.pli_machine_step.specs.Machine.{Frame, counted_jump, jumped, jumped_unless};
-ghost use Rattle.pli_unit_perform.specs.views.MachineView.{activation_view, frame_view, leads, after};
-ghost use Rattle.pli_unit_operate.specs.views.OperandView.{stack};
+ghost use Rattle.pli_machine_step.specs.Machine.{counted_jump, jumped, jumped_unless};
+ghost use Rattle.pli_unit_perform.specs.answers.Activated.{Jumps};
 
 use crate::machine::{Activation, Stop};
 use pli_unit_operate::pop_truth;
@@ -15,10 +11,7 @@ const JUMP_LIMIT: u32 = 64;
 /// A jump that counts, after so many steps of the run.
 #[inline]
 pub fn count_jump(here: &mut Activation, steps: u64, target: usize) -> Option<Stop>
-    ensures jumps { (frames : List Frame) (w : World) (left : ℕ) → w.steps ≡ steps →
-        leads (counted_jump target (stack here.old.operands.items) (frame_view here.old) frames w) left
-        ≡ after left result (frame_view here.new) frames w }
-    ensures same { (image : Image) → activation_view image here.new ≡ activation_view image here.old }
+    ensures { Jumps (counted_jump target) steps here.old here.new result }
 {
     let jumps = if here.stamp == steps { here.jumps } else { 0 };
     if jumps >= JUMP_LIMIT {
@@ -33,10 +26,7 @@ pub fn count_jump(here: &mut Activation, steps: u64, target: usize) -> Option<St
 /// A jump, which counts where it leads to its own instruction or to one before; the next one is known.
 #[inline]
 pub fn jump(here: &mut Activation, steps: u64, target: usize) -> Option<Stop>
-    ensures jumps { (frames : List Frame) (w : World) (left : ℕ) → w.steps ≡ steps →
-        leads (jumped target (stack here.old.operands.items) (frame_view here.old) frames w) left
-        ≡ after left result (frame_view here.new) frames w }
-    ensures same { (image : Image) → activation_view image here.new ≡ activation_view image here.old }
+    ensures { Jumps (jumped target) steps here.old here.new result }
 {
     if target < here.next {
         return count_jump(here, steps, target);
@@ -48,10 +38,7 @@ pub fn jump(here: &mut Activation, steps: u64, target: usize) -> Option<Stop>
 /// A jump unless a bit of the newest operand is one.
 #[inline]
 pub fn jump_unless(here: &mut Activation, steps: u64, target: usize) -> Option<Stop>
-    ensures jumps { (frames : List Frame) (w : World) (left : ℕ) → w.steps ≡ steps →
-        leads (jumped_unless target (stack here.old.operands.items) (frame_view here.old) frames w) left
-        ≡ after left result (frame_view here.new) frames w }
-    ensures same { (image : Image) → activation_view image here.new ≡ activation_view image here.old }
+    ensures { Jumps (jumped_unless target) steps here.old here.new result }
 {
     let Some(condition) = pop_truth(&mut here.operands) else {
         return Some(Stop::Fault);

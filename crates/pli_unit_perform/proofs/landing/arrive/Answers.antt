@@ -16,7 +16,7 @@ returns c = λ image put.
     let frames = frames_of m.waiting.items in
     let left = left_of m in
     ap (λ ops. leads (counted_jump c.args.target (stack ops) (frame_view m.here) frames w) left) (sym c.clear-2.ensures.items)
-    ∙ c.count_jump.ensures.jumps frames w left refl
+    ∙ c.count_jump.ensures.moves frames w left refl
     ∙ ap (λ v. after left c.count_jump.result (frame_view c.count_jump.new.here) frames v)
     (same_world (world_of image m put) _ _ _ _ _ _
     (sym (c.end.ensures.storage ∙ ap (λ ns. without ns (storage_view m.storage)) c.deref.ensures.value))

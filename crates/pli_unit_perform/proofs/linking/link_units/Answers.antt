@@ -1,8 +1,8 @@
-use Rattle.std.proofs.Common.{◌∷◌, [], ◌++◌, map, sym, ap, subst, ◌∙◌, arith}
+use Rattle.std.proofs.Common.{◌∷◌, [], map, ap, ◌∙◌, arith}
 use Rattle.std.proofs.lemmas.List.{map-append, length-map}
 use Rattle.pli_unit_code.specs.views.CodeView.{unit_view}
 use Rattle.pli_unit_perform.specs.views.TableView.{all_statics}
-use Rattle.pli_unit_perform.proofs.LinkedGlobals.{UnitsSoFar, units_none, units_more, units_all, units_end, unit_here}
+use Rattle.pli_unit_perform.proofs.LinkedGlobals.{units_none, units_more, units_all, units_end, unit_here}
 use Rattle.pli_unit_perform.proofs.linking.link_units.Goals as goal
 
 pub loop-unit-init : goal.loop-unit-init
@@ -14,23 +14,25 @@ pub loop-unit-preserved : goal.loop-unit-preserved
 loop-unit-preserved c =
     let us = map unit_view c.args.«module».now.units.items in
     let l = c.loop-unit in
-    let x = c.unit-item.result in
-    let so = l.invariant in
-    units_more us (unit_view x) l.unit-index c.args.shared.now l.shared c.link_unit.new.shared (map (λ t. t.items) l.tables.items) c.link_unit.new.table.items
+    units_more us (unit_view c.unit-item.result) l.unit-index c.args.shared.now l.shared
+    c.link_unit.new.shared (map (λ t. t.items) l.tables.items) c.link_unit.new.table.items
     (map (λ t. t.items) c.add_table.new.tables.items)
     (ap (map (λ t. t.items)) c.in_ok-add_table-in-Ok.ensures ∙ map-append (λ t. t.items) l.tables.items (c.link_unit.new.table ∷ []))
-    (unit_here c.args.«module».now.units.items c.deref-unit-items.result.now l.unit-index x c.deref-unit-items.ensures.value (omega arith) c.unit-item.is) so
-    (c.in-Ok.ensures (all_statics (map (λ u. u.unit) us) (map (λ t. t.items) l.tables.items)) so.known)
+    (unit_here c.args.«module».now.units.items c.deref-unit-items.result.now l.unit-index c.unit-item.result
+    c.deref-unit-items.ensures.value (omega arith) c.unit-item.is) l.invariant
+    (c.in-Ok.ensures (all_statics (map (λ u. u.unit) us) (map (λ t. t.items) l.tables.items))
+    l.invariant.known)
 
 pub returns-in-Err : goal.returns-in-Err
 returns-in-Err c =
     let us = map unit_view c.args.«module».now.units.items in
     let l = c.loop-unit in
-    let x = c.unit-item.result in
-    let so = l.invariant in
-    units_end us (unit_view x) l.unit-index c.args.shared.now l.shared c.link_unit.new.shared (map (λ t. t.items) l.tables.items) c.link_unit.new.table.items c.in-Err.fault
-    (unit_here c.args.«module».now.units.items c.deref-unit-items.result.now l.unit-index x c.deref-unit-items.ensures.value (omega arith) c.unit-item.is) so
-    (c.in-Err.ensures (all_statics (map (λ u. u.unit) us) (map (λ t. t.items) l.tables.items)) so.known)
+    units_end us (unit_view c.unit-item.result) l.unit-index c.args.shared.now l.shared c.link_unit.new.shared
+    (map (λ t. t.items) l.tables.items) c.link_unit.new.table.items c.in-Err.fault
+    (unit_here c.args.«module».now.units.items c.deref-unit-items.result.now l.unit-index c.unit-item.result
+    c.deref-unit-items.ensures.value (omega arith) c.unit-item.is) l.invariant
+    (c.in-Err.ensures (all_statics (map (λ u. u.unit) us) (map (λ t. t.items) l.tables.items))
+    l.invariant.known)
 
 pub returns : goal.returns
 returns c =
