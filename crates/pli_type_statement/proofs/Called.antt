@@ -7,9 +7,11 @@ use Rattle.pli_base.specs.Reading.{◌>>=◌, at_fault}
 use Rattle.pli_map.specs.views.DescriptionView.{description_view}
 use Rattle.pli_base.specs.Statements.{Range}
 use Rattle.pli_base.specs.Syntax.{Arguments, Expression, Referred}
+use Rattle.pli_base.specs.declared.syntax.Expression as program_tree
 use Rattle.pli_base.specs.declared.syntax.Reference as syntax
 use Rattle.pli_base.specs.declared.syntax.Reference.{out-Reference}
 use Rattle.pli_base.specs.laws.SyntaxLaws.{reference_out}
+use Rattle.pli_base.specs.views.SyntaxView as syntax_view
 use Rattle.pli_base.specs.views.SyntaxView.{reference_view as reference_in}
 use Rattle.pli_type.specs.ExpressionTypes.{TypedValue}
 use Rattle.pli_type.specs.References.{AsLocator, Referent}
@@ -23,8 +25,9 @@ use Rattle.pli_map.specs.declared.description.Description as described
 use Rattle.pli_type.specs.FunctionCalls.{Argument, Denoted}
 use Rattle.pli_type.specs.Names.{Naming, NamedAs, NamedProcedure, AVariable, AFunction, AProcedure, ALabel, Untyped}
 use Rattle.pli_type.specs.ProcedureCalls.{arguments_passed}
-use Rattle.pli_type.specs.StatementTyping.{Surroundings, jump, arguments_typed, call_of, call_typed, controls, iteration, limits, no_function, without_subscripts}
-use Rattle.pli_type_expression.specs.answers.TypingAnswers.{Fails}
+use Rattle.pli_type.specs.StatementTyping.{Surroundings, jump, arguments_typed, call_of, call_typed, controls, iteration, limits, no_function, return_typed, returned_value, without_subscripts}
+use Rattle.pli_type_expression.proofs.Binds.{bind_ok, fails_as, fails_on}
+use Rattle.pli_type_expression.specs.answers.TypingAnswers.{Fails, Gives}
 use Rattle.pli_type_expression.specs.declared.answer.TypeError.{TypeError}
 use Rattle.pli_type_expression.specs.declared.answer.TypeError.TheVariants as errors
 use Rattle.pli_type_names.specs.Meant.{IsMeantAs, IsProcedure}
@@ -146,3 +149,30 @@ no_jump s a (AProcedure q) h never = refl
 no_jump s a (AVariable v) h never = refl
 no_jump s a (AFunction f) h never = refl
 no_jump s a Untyped h never = refl
+
+-- RETURN with a value
+
+return_of : (names : Names) (s : Surroundings) (at : ℕ) (e : program_tree.Expression) (value : Option program_tree.Expression)
+    → value ≡ Some e → return_typed (naming_in names) s at (option_map syntax_view.expression_view value)
+    ≡ (value_of (naming_in names) (syntax_view.expression_view e)
+    >>= λ v. returned_value (naming_in names).greatest at (first_token (syntax_view.expression_view e)) s.begins s.value v)
+return_of names s at e value is = ap (λ o. return_typed (naming_in names) s at (option_map syntax_view.expression_view o)) is
+
+pub return_fails : (names : Names) (s : Surroundings) (at : ℕ) (e : program_tree.Expression)
+    (value : Option program_tree.Expression) (error : TypeError) → value ≡ Some e
+    → Fails error (value_of (naming_in names) (syntax_view.expression_view e))
+    → Fails error (return_typed (naming_in names) s at (option_map syntax_view.expression_view value))
+return_fails names s at e value error is h =
+    fails_as error _ _ (return_of names s at e value is) (fails_on error _ _ h)
+
+pub return_goes_on : {X : Type 0} (view : X → Form) (result : Result X TypeError) (names : Names) (s : Surroundings) (at : ℕ)
+    (e : program_tree.Expression) (value : Option program_tree.Expression) (v : TypedValue) (greatest first : ℕ)
+    → value ≡ Some e → value_of (naming_in names) (syntax_view.expression_view e) ≡ Ok v → greatest ≡ 31
+    → first ≡ first_token (syntax_view.expression_view e)
+    → Gives view result (returned_value greatest at first s.begins s.value v)
+    → Gives view result (return_typed (naming_in names) s at (option_map syntax_view.expression_view value))
+return_goes_on view result names s at e value v greatest first is typed small token h =
+    subst (Gives view result)
+    (ap (λ g. returned_value g at first s.begins s.value v) (small ∙ sym (greatest_is names))
+    ∙ ap (λ f. returned_value (naming_in names).greatest at f s.begins s.value v) token
+    ∙ sym (return_of names s at e value is ∙ bind_ok _ v _ typed)) h

@@ -1,5 +1,5 @@
 -- Lists of items, one after another.
-use Rattle.std.proofs.Common.{◌≡◌, ◌++◌, ◌+◌, ◌<◌, ℕ, [], ◌∷◌, List, Result, Ok, Err, map, drop, get_or, length, false, refl, ap, sym, ◌∙◌, append_assoc}
+use Rattle.std.proofs.Common.{◌≡◌, ◌++◌, ◌+◌, ◌<◌, ◌≤◌, ℕ, [], ◌∷◌, List, Result, Ok, Err, map, drop, get_or, length, false, refl, ap, sym, ◌∙◌, append-nil, append_assoc}
 use Rattle.std.proofs.lemmas.List.{at_drop_more}
 use Rattle.std.specs.List.{list_any}
 use Rattle.pli_base.specs.Reading.{◌>>=◌}
@@ -10,8 +10,12 @@ use Rattle.pli_base.specs.views.SyntaxView as syntax
 use Rattle.pli_type.specs.Names.{Compiled, Naming}
 use Rattle.pli_type.specs.StatementTyping.{item, items}
 use Rattle.pli_type.specs.Unbuilt.{later_expression}
+use Rattle.pli_type_expression.specs.answers.TypingAnswers.{Fails}
+use Rattle.pli_type_expression.specs.declared.answer.TypeError.{TypeError}
+use Rattle.pli_type_expression.specs.declared.answer.TypeError.TheVariants as errors
 use Rattle.pli_type_tree.specs.TypedTree.{TypedExpression}
 use Rattle.pli_type_statement.proofs.Built.{both_false}
+use Rattle.pli_type_statement.proofs.Searches.{past_lists}
 
 -- items in front of those that are left, unless one of these has a fault
 abbrev pub behind : List TypedExpression → Result (List TypedExpression) Fault → Result (List TypedExpression) Fault
@@ -48,21 +52,30 @@ pub item_built : (n : Compiled) (es : List Expression) (i : ℕ) (e : Expression
 item_built n es i e is lt h =
     both_false _ _ (sym (front (λ ys. list_any (later_expression n) (map syntax.expression_view ys)) es i e is lt) ∙ h)
 
-pub item_typed : (n : Naming) (es : List Expression) (i : ℕ) (e : Expression) (xs : List TypedExpression) (x : TypedExpression)
-    (whole : Result (List TypedExpression) Fault) → e ≡ get_or es i e → i < length es
-    → item n (syntax.expression_view e) ≡ Ok x
+pub item_typed : (n : Naming) (es : List Expression) (i : ℕ) (e : Expression) (xs ys : List TypedExpression)
+    (x : TypedExpression) (whole : Result (List TypedExpression) Fault) → e ≡ get_or es i e → i < length es
+    → item n (syntax.expression_view e) ≡ Ok x → ys ≡ xs ++ x ∷ []
     → behind xs (items n (map syntax.expression_view (drop i es))) ≡ whole
-    → behind (xs ++ x ∷ []) (items n (map syntax.expression_view (drop (i + 1) es))) ≡ whole
-item_typed n es i e xs x whole is lt h was =
-    sym (item_then n xs x (syntax.expression_view e) (map syntax.expression_view (drop (i + 1) es)) h)
+    → behind ys (items n (map syntax.expression_view (drop (i + 1) es))) ≡ whole
+item_typed n es i e xs ys x whole is lt h put was =
+    ap (λ zs. behind zs (items n (map syntax.expression_view (drop (i + 1) es)))) put
+    ∙ sym (item_then n xs x (syntax.expression_view e) (map syntax.expression_view (drop (i + 1) es)) h)
     ∙ sym (front (λ ys. behind xs (items n (map syntax.expression_view ys))) es i e is lt)
     ∙ was
 
-pub item_stops : (n : Naming) (es : List Expression) (i : ℕ) (e : Expression) (xs : List TypedExpression) (f : Fault)
-    (whole : Result (List TypedExpression) Fault) → e ≡ get_or es i e → i < length es
-    → item n (syntax.expression_view e) ≡ Err f
+pub item_stops : (n : Naming) (es : List Expression) (i : ℕ) (e : Expression) (xs : List TypedExpression)
+    (error : TypeError) (whole : Result (List TypedExpression) Fault) → e ≡ get_or es i e → i < length es
+    → Fails error (item n (syntax.expression_view e))
     → behind xs (items n (map syntax.expression_view (drop i es))) ≡ whole
-    → whole ≡ Err f
-item_stops n es i e xs f whole is lt h was =
+    → Fails error whole
+item_stops n es i e xs errors.OutOfMemory whole is lt h was = tt
+item_stops n es i e xs (errors.Fault f) whole is lt h was =
     sym was ∙ front (λ ys. behind xs (items n (map syntax.expression_view ys))) es i e is lt
     ∙ item_faulty n xs f (syntax.expression_view e) (map syntax.expression_view (drop (i + 1) es)) h
+
+pub items_end : (n : Naming) (es : List Expression) (i : ℕ) (xs : List TypedExpression)
+    (whole : Result (List TypedExpression) Fault) → length es ≤ i
+    → behind xs (items n (map syntax.expression_view (drop i es))) ≡ whole → whole ≡ Ok xs
+items_end n es i xs whole past was =
+    sym was ∙ ap (λ ys. behind xs (items n (map syntax.expression_view ys))) (past_lists es i past)
+    ∙ ap Ok (append-nil xs)

@@ -92,7 +92,7 @@ numbered_from bs (l ∷ ls) =
 
 -- behind the last list
 
-past_lists : {A : Type 0} (xs : List A) (i : ℕ) → length xs ≤ i → drop i xs ≡ []
+pub past_lists : {A : Type 0} (xs : List A) (i : ℕ) → length xs ≤ i → drop i xs ≡ []
 past_lists [] zero h = refl
 past_lists [] (suc i) h = refl
 past_lists (x ∷ xs) zero h = absurd (omega arith)
