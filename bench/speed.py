@@ -1,5 +1,5 @@
 #!/usr/bin/env python3
-"""speed.py [PROGRAM]: runs four programs by the workbench and beside them the same in CPython, and prints the times and their ratios.
+"""speed.py [PROGRAM]: runs five programs by the workbench and beside them the same in CPython, and prints the times and their ratios.
 
 PROGRAM with its words; left out, it is bin/pliwb. Each is run three times in turn, and the least time counts; what both print is compared.
 """
@@ -22,6 +22,32 @@ def main():
             n = n + 1
             j = j + 1
         i = i + 1
+    print(n)
+main()
+"""
+
+OUTER = """DCL (I, J, N) FIXED BIN(31);
+CALL P;
+PUT LIST(N);
+P: PROC; Q: PROC;
+DO I = 1 TO 1000; DO J = 1 TO 2000; N = N + 1; END; END;
+END Q;
+CALL Q;
+END P;"""
+OUTER_HERE = """
+def main():
+    i, j, n = 1, 1, 0
+    def p():
+        def q():
+            nonlocal i, j, n
+            while i <= 1000:
+                j = 1
+                while j <= 2000:
+                    n = n + 1
+                    j = j + 1
+                i = i + 1
+        q()
+    p()
     print(n)
 main()
 """
@@ -93,6 +119,7 @@ main()
 
 PROGRAMS = [
     ("a counting loop, two million turns", LOOP, LOOP_HERE),
+    ("the same on variables two blocks outward", OUTER, OUTER_HERE),
     ("a sieve up to 32,000, ten times", SIEVE, SIEVE_HERE),
     ("a recursive function, Fibonacci of 24", FUNCTION, FUNCTION_HERE),
     ("strings built, 100,000 times", STRINGS, STRINGS_HERE),
