@@ -1,19 +1,5 @@
-//! Tests of the workbench, and of the linker and the machine, over their public calls.
+//! Tests of decks and modules as bytes, of the compiler, the linker and the machine, and of the workbench.
 #![tactic(auto)]
 
 #[cfg(test)]
-mod calls;
-#[cfg(test)]
-mod devices;
-#[cfg(test)]
-mod laws;
-#[cfg(test)]
-mod linking;
-#[cfg(test)]
-mod long_sessions;
-#[cfg(test)]
-mod machine;
-#[cfg(test)]
-mod serving;
-#[cfg(test)]
-mod statuses;
+mod tests;

@@ -1,29 +1,26 @@
-use crate::members::name;
-use crate::{Shown, agree};
+use crate::Shown;
+use crate::members::{name, same};
 use pli_base::{Name, Origin, TokenText};
 use pli_include::{
     Expander, Expansion, TraceEntry, level_is_never_met, texts_have_origins, trace_decides,
     worked_examples,
 };
-use pli_members::{EditError, MemberKind, Members};
-use std::alloc::{AllocError, Global};
+use pli_members::{MemberKind, Members};
+use std::alloc::Global;
 use std::process::Abort;
 use std::test::*;
 
 /// Adds a member with these lines.
-fn put(
-    rt: &impl Abort,
-    members: &mut Members,
-    member: Name,
-    kind: MemberKind,
-    lines: &[&str],
-) -> Result<(), EditError> {
-    members.add(member, kind)?;
-    for (place, line) in lines.iter().enumerate() {
-        members.insert_line(member, place, line.as_bytes())?;
+fn put(rt: &impl Abort, members: &mut Members, member: Name, kind: MemberKind, lines: &[&str]) {
+    assert!(rt; members.add(member, kind).is_ok());
+    for place in 0..lines.len() {
+        assert!(rt;
+            members
+                .insert_line(member, place, lines[place].as_bytes())
+                .is_ok()
+        );
     }
     assert!(rt; members.kind(member) == Some(kind));
-    Ok(())
 }
 
 /// Writes a place.
@@ -63,29 +60,34 @@ fn show_fault(shown: &mut Shown, expansion: &Expansion) {
     }
 }
 
-/// What an expansion gives: its names, words and signs with their places, or its fault, and behind a bar each name
+/// Puts what an expansion gives: its names, words and signs with their places, or its fault, and behind a bar each name
 /// that was looked up, with its version.
-fn told(alloc: Global, expansion: &Expansion) -> Result<String, AllocError> {
-    let mut shown = Shown::new(alloc);
+fn show_expansion(shown: &mut Shown, expansion: &Expansion) {
     for (text, origin) in expansion.texts().iter().zip(expansion.origins()) {
-        show_text(&mut shown, text, *origin);
+        show_text(shown, text, *origin);
     }
-    show_fault(&mut shown, expansion);
+    show_fault(shown, expansion);
     shown.put(if expansion.fault().is_some() {
         " |"
     } else {
         "|"
     });
     for looked in expansion.trace() {
-        show_looked(&mut shown, *looked);
+        show_looked(shown, *looked);
     }
-    shown.into_text()
 }
 
-/// What the expansion of a member gives.
-fn expanded(alloc: Global, members: &Members, unit: Name) -> Result<String, AllocError> {
-    let expansion = Expander::new(alloc).expand(members, unit)?;
-    told(alloc, &expansion)
+/// The expansion of member A.
+fn expanded(rt: &impl Abort, alloc: Global, members: &Members) -> Expansion {
+    let mut expander = Expander::new(alloc);
+    expander.expand(members, name(rt, "A")).expect(rt, "memory")
+}
+
+/// Fails unless the expansion of member A gives this.
+fn is_expanded(rt: &impl Abort, alloc: Global, members: &Members, wanted: &str) {
+    let mut shown = Shown::new(alloc);
+    show_expansion(&mut shown, &expanded(rt, alloc, members));
+    same(rt, wanted, &shown.into_text().expect(rt, "memory"));
 }
 
 // The line of member A, and what its expansion gives beside the members of `with_others`.
@@ -113,44 +115,90 @@ static DIRECTIVES: [(&str, &str); 20] = [
 ];
 
 /// Member A of this line, and others: includes K and B, and the source W.
-fn with_others(rt: &impl Abort, alloc: Global, line: &str) -> Result<Members, EditError> {
+fn with_others(rt: &impl Abort, alloc: Global, line: &str) -> Members {
     let mut members = Members::new(alloc, 1);
-    put(rt, &mut members, name(rt, "A"), MemberKind::Source, &[line])?;
-    put(rt, &mut members, name(rt, "K"), MemberKind::Include, &[";"])?;
-    put(rt, &mut members, name(rt, "W"), MemberKind::Source, &["1"])?;
-    let b = name(rt, "B");
-    put(rt, &mut members, b, MemberKind::Include, &["%X", "?"])?;
-    Ok(members)
+    put(rt, &mut members, name(rt, "A"), MemberKind::Source, &[line]);
+    put(rt, &mut members, name(rt, "K"), MemberKind::Include, &[";"]);
+    put(rt, &mut members, name(rt, "W"), MemberKind::Source, &["1"]);
+    put(
+        rt,
+        &mut members,
+        name(rt, "B"),
+        MemberKind::Include,
+        &["%X", "?"],
+    );
+    members
+}
+
+/// The members A to D, where A includes B and C, and each of these D.
+fn diamond(rt: &impl Abort, alloc: Global) -> Members {
+    let mut members = Members::new(alloc, 1);
+    let around = ["%INCLUDE B;", "%INCLUDE C;"];
+    put(rt, &mut members, name(rt, "A"), MemberKind::Source, &around);
+    put(
+        rt,
+        &mut members,
+        name(rt, "B"),
+        MemberKind::Include,
+        &["B", "%INCLUDE D;"],
+    );
+    put(
+        rt,
+        &mut members,
+        name(rt, "C"),
+        MemberKind::Include,
+        &["%INCLUDE D;", "C"],
+    );
+    put(
+        rt,
+        &mut members,
+        name(rt, "D"),
+        MemberKind::Source,
+        &["", "D"],
+    );
+    members
 }
 
 #[test]
-fn directives(rt: HostRuntime) -> Result<(), Fail> {
-    let a = name(&rt, "A");
-    for (line, wanted) in &DIRECTIVES {
-        let members = with_others(&rt, rt.alloc(), line)?;
-        agree(line, &expanded(rt.alloc(), &members, a)?, wanted)?;
+fn directives_and_diamonds(rt: HostRuntime) {
+    let alloc = rt.alloc();
+    for &(line, wanted) in &DIRECTIVES {
+        let members = with_others(&rt, alloc, line);
+        is_expanded(&rt, alloc, &members, wanted);
     }
-    Ok(())
+    let members = diamond(&rt, alloc);
+    is_expanded(
+        &rt,
+        alloc,
+        &members,
+        "B@B:1 D@D:2 D@D:2 C@C:2 | A 3 B 6 D 12 C 9",
+    );
+}
+
+/// Adds the member M1, M2 .. of this number, which includes the next.
+fn put_link(rt: &impl Abort, alloc: Global, members: &mut Members, number: u32) {
+    let line = format!(in alloc; "{number} %INCLUDE M{};", number.saturating_add(1)).expect(
+        rt, "memory",
+    );
+    let member = format!(in alloc; "M{number}").expect(rt, "memory");
+    let member = name(rt, member.as_str());
+    put(rt, members, member, MemberKind::Include, &[line.as_str()]);
 }
 
 /// The members M1 to M999, each of which includes the next.
-fn chain(rt: &impl Abort, alloc: Global) -> Result<Members, EditError> {
+fn chain(rt: &impl Abort, alloc: Global) -> Members {
     let mut members = Members::new(alloc, 1);
     for number in 1..999 {
-        let line = format!(in alloc; "{number} %INCLUDE M{};", number + 1)?;
-        let member = format!(in alloc; "M{number}")?;
-        let member = name(rt, member.as_str());
-        put(
-            rt,
-            &mut members,
-            member,
-            MemberKind::Include,
-            &[line.as_str()],
-        )?;
+        put_link(rt, alloc, &mut members, number);
     }
-    let last = name(rt, "M999");
-    put(rt, &mut members, last, MemberKind::Source, &["END"])?;
-    Ok(members)
+    put(
+        rt,
+        &mut members,
+        name(rt, "M999"),
+        MemberKind::Source,
+        &["END"],
+    );
+    members
 }
 
 /// Whether an expansion of the chain reaches its last member.
@@ -183,54 +231,17 @@ fn is_closed(expansion: &Expansion, member: Name) -> bool {
 }
 
 #[test]
-fn many_members(rt: HostRuntime) -> Result<(), Fail> {
-    let mut members = chain(&rt, rt.alloc())?;
+fn many_members(rt: HostRuntime) {
+    let mut members = chain(&rt, rt.alloc());
     let (first, last) = (name(&rt, "M1"), name(&rt, "M999"));
     let mut expander = Expander::new(rt.alloc());
     assert!(rt; expander.count() == 0);
-    let reached = reaches_the_last(&expander.expand(&members, first)?, last);
-    assert!(rt; reached && expander.count() == 1);
-    members.insert_line(last, 1, b"%INCLUDE M1;")?;
-    let closed = is_closed(&expander.expand(&members, first)?, last);
-    assert!(rt; closed && expander.count() == 2);
-    Ok(())
-}
-
-/// The members A to D, where A includes B and C, and each of these D.
-fn diamond(rt: &impl Abort, alloc: Global) -> Result<Members, EditError> {
-    let mut members = Members::new(alloc, 1);
-    let around = ["%INCLUDE B;", "%INCLUDE C;"];
-    let (b, c) = (name(rt, "B"), name(rt, "C"));
-    put(rt, &mut members, name(rt, "A"), MemberKind::Source, &around)?;
-    put(
-        rt,
-        &mut members,
-        b,
-        MemberKind::Include,
-        &["B", "%INCLUDE D;"],
-    )?;
-    put(
-        rt,
-        &mut members,
-        c,
-        MemberKind::Include,
-        &["%INCLUDE D;", "C"],
-    )?;
-    put(
-        rt,
-        &mut members,
-        name(rt, "D"),
-        MemberKind::Source,
-        &["", "D"],
-    )?;
-    Ok(members)
-}
-
-#[test]
-fn diamonds(rt: HostRuntime) -> Result<(), Fail> {
-    let members = diamond(&rt, rt.alloc())?;
-    let found = expanded(rt.alloc(), &members, name(&rt, "A"))?;
-    agree("A", &found, "B@B:1 D@D:2 D@D:2 C@C:2 | A 3 B 6 D 12 C 9")
+    let reached = expander.expand(&members, first).expect(&rt, "memory");
+    assert!(rt; reaches_the_last(&reached, last) && expander.count() == 1);
+    drop(reached);
+    assert!(rt; members.insert_line(last, 1, b"%INCLUDE M1;").is_ok());
+    let closed = expander.expand(&members, first).expect(&rt, "memory");
+    assert!(rt; is_closed(&closed, last) && expander.count() == 2);
 }
 
 // A hundred tokens.
@@ -238,13 +249,7 @@ const FULL: &str =
     ";;;;;;;;;;;;;;;;;;;;;;;;;;;;;;;;;;;;;;;;;;;;;;;;;;;;;;;;;;;;;;;;;;;;;;;;;;;;;;;;;;;;;;;;;;;;;;;;;;;;";
 
 /// Member A with a line that includes K so many times, and member K of so many lines of 100 `;` and a last line.
-fn many_tokens(
-    rt: &impl Abort,
-    alloc: Global,
-    line: &str,
-    lines: usize,
-    last: &str,
-) -> Result<Members, EditError> {
+fn many_tokens(rt: &impl Abort, alloc: Global, line: &str, lines: usize, last: &str) -> Members {
     let mut members = Members::new(alloc, 1);
     put(
         rt,
@@ -252,24 +257,24 @@ fn many_tokens(
         name(rt, "A"),
         MemberKind::Source,
         &["X", line],
-    )?;
+    );
     let k = name(rt, "K");
-    put(rt, &mut members, k, MemberKind::Include, &[last])?;
+    put(rt, &mut members, k, MemberKind::Include, &[last]);
     for _ in 0..lines {
-        members.insert_line(k, 0, FULL.as_bytes())?;
+        assert!(rt; members.insert_line(k, 0, FULL.as_bytes()).is_ok());
     }
-    Ok(members)
+    members
 }
 
-/// How many tokens the expansion of A gives, or its fault and the place of that.
-fn counted(alloc: Global, members: &Members, unit: Name) -> Result<String, AllocError> {
-    let expansion = Expander::new(alloc).expand(members, unit)?;
+/// Fails unless the expansion of A gives so many tokens, or has this fault at this place.
+fn is_counted(rt: &impl Abort, alloc: Global, members: &Members, wanted: &str) {
+    let expansion = expanded(rt, alloc, members);
     let mut shown = Shown::new(alloc);
     if expansion.fault().is_none() {
         shown.put_number("", expansion.texts().len() as u64);
     }
     show_fault(&mut shown, &expansion);
-    shown.into_text()
+    same(rt, wanted, &shown.into_text().expect(rt, "memory"));
 }
 
 // What A has behind two inclusions of K, how many `;` the last line of K has, and what its expansion gives. 1 + 4 + 99,995 + 4 + 99,995 tokens that
@@ -283,22 +288,20 @@ static LIMITS: [(&str, usize, &str); 5] = [
 ];
 
 #[test]
-fn the_limit_of_tokens(rt: HostRuntime) -> Result<(), Fail> {
-    let a = name(&rt, "A");
-    for (more, semicolons, wanted) in &LIMITS {
-        let line = format!(in rt.alloc(); "%INCLUDE K; %INCLUDE K;{more}")?;
-        let last = FULL.get(..*semicolons).ok_or("too short")?;
-        let members = many_tokens(&rt, rt.alloc(), line.as_str(), 999, last)?;
-        agree(more, &counted(rt.alloc(), &members, a)?, wanted)?;
+fn the_limit_of_tokens(rt: HostRuntime) {
+    let alloc = rt.alloc();
+    for &(more, semicolons, wanted) in &LIMITS {
+        let line = format!(in alloc; "%INCLUDE K; %INCLUDE K;{more}").expect(&rt, "memory");
+        let last = FULL.get(..semicolons).expect(&rt, "a line");
+        let members = many_tokens(&rt, alloc, line.as_str(), 999, last);
+        is_counted(&rt, alloc, &members, wanted);
     }
-    Ok(())
 }
 
 #[test]
-fn laws(_rt: HostRuntime) -> Result<(), Fail> {
+fn laws() {
     level_is_never_met();
     texts_have_origins();
     trace_decides();
     worked_examples();
-    Ok(())
 }

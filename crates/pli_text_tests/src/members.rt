@@ -1,12 +1,12 @@
-use crate::{Shown, agree};
+use crate::Shown;
 use pli_base::Name;
 use pli_members::{
     EditError, MemberKind, Members, Refusal, deletion_keeps_others, deletion_takes,
     edit_gives_next, edit_keeps_others, next_is_new, runs_keep, worked_examples,
 };
-use std::alloc::{AllocError, Global};
+use std::alloc::Global;
 use std::process::Abort;
-use std::test::Fail;
+use std::test::*;
 
 /// An edit of a member.
 #[derive(Clone, Copy)]
@@ -45,11 +45,11 @@ fn edited(members: &mut Members, name: Name, edit: Edit) -> Result<(), EditError
 }
 
 /// Does an edit. Answers `ok`, or the label of the refusal.
-fn answer(members: &mut Members, name: Name, edit: Edit) -> Result<&'static str, AllocError> {
+fn answer(rt: &impl Abort, members: &mut Members, name: Name, edit: Edit) -> &'static str {
     match edited(members, name, edit) {
-        Ok(()) => Ok("ok"),
-        Err(EditError::Refused(refusal)) => Ok(refusal.label()),
-        Err(EditError::OutOfMemory) => Err(AllocError),
+        Ok(()) => "ok",
+        Err(EditError::Refused(refusal)) => refusal.label(),
+        Err(EditError::OutOfMemory) => panic!(rt; "memory"),
     }
 }
 
@@ -81,23 +81,26 @@ fn show_member(shown: &mut Shown, members: &Members, name: Name) {
     }
 }
 
-/// What an edit of a member answers, and the member then.
-fn told(alloc: Global, answer: &str, members: &Members, name: Name) -> Result<String, AllocError> {
+/// Does an edit. What it answers, and the member then.
+fn told(rt: &impl Abort, alloc: Global, members: &mut Members, name: Name, edit: Edit) -> String {
     let mut shown = Shown::new(alloc);
-    shown.put(answer);
+    shown.put(answer(rt, members, name, edit));
     shown.put(" ");
     show_member(&mut shown, members, name);
-    shown.into_text()
+    shown.into_text().expect(rt, "memory")
 }
 
 /// Does the edits of a table, in turn. Fails at the first that gives something else than is wanted.
-fn agrees(rt: &impl Abort, alloc: Global, members: &mut Members, rows: &[Row]) -> Result<(), Fail> {
+fn agrees(rt: &impl Abort, alloc: Global, members: &mut Members, rows: &[Row]) {
     for &(text, edit, wanted) in rows {
-        let name = name(rt, text);
-        let answer = answer(members, name, edit)?;
-        agree(text, &told(alloc, answer, members, name)?, wanted)?;
+        let told = told(rt, alloc, members, name(rt, text), edit);
+        same(rt, wanted, &told);
     }
-    Ok(())
+}
+
+/// Fails with what is shown, unless that is what is wanted.
+pub(crate) fn same(rt: &impl Abort, wanted: &str, shown: &str) {
+    assert!(rt; shown == wanted, "{shown}");
 }
 
 /// Member A of these lines, the first edit of which gave version 1.
@@ -105,8 +108,12 @@ fn member_of(rt: &impl Abort, alloc: Global, lines: &[&str]) -> Members {
     let mut members = Members::new(alloc, 1);
     let a = name(rt, "A");
     assert!(rt; members.add(a, MemberKind::Source).is_ok());
-    for (after, line) in lines.iter().enumerate() {
-        assert!(rt; members.insert_line(a, after, line.as_bytes()).is_ok());
+    for after in 0..lines.len() {
+        assert!(rt;
+            members
+                .insert_line(a, after, lines[after].as_bytes())
+                .is_ok()
+        );
     }
     members
 }
@@ -140,11 +147,11 @@ fn are_a_and_b(members: &Members, a: Name, b: Name) -> bool {
 }
 
 #[test]
-fn edits(rt: HostRuntime) -> Result<(), Fail> {
+fn edits(rt: HostRuntime) {
     let mut members = Members::new(rt.alloc(), 1);
-    agrees(&rt, rt.alloc(), &mut members, &EDITS)?;
+    agrees(&rt, rt.alloc(), &mut members, &EDITS);
     assert!(rt; are_a_and_b(&members, name(&rt, "A"), name(&rt, "B")));
-    agrees(&rt, rt.alloc(), &mut members, &DELETIONS)
+    agrees(&rt, rt.alloc(), &mut members, &DELETIONS);
 }
 
 static VERSIONS: [Row; 5] = [
@@ -172,16 +179,23 @@ static LAST_VERSIONS: [Row; 6] = [
     ("A", Edit::Remove(1, 2), "M3 I18446744073709551615|X"),
 ];
 
-#[test]
-fn versions(rt: HostRuntime) -> Result<(), Fail> {
-    let mut members = Members::new(rt.alloc(), 18_446_744_073_709_551_615);
-    agrees(&rt, rt.alloc(), &mut members, &VERSIONS)?;
-    let mut members = Members::new(rt.alloc(), 18_446_744_073_709_551_614);
-    agrees(&rt, rt.alloc(), &mut members, &LAST_VERSIONS)
+/// Does the edits of a table in turn, where the first gives this version.
+fn agree_from(rt: &impl Abort, alloc: Global, version: u64, rows: &[Row]) {
+    let mut members = Members::new(alloc, version);
+    agrees(rt, alloc, &mut members, rows);
 }
 
 #[test]
-fn laws(_rt: HostRuntime) {
+fn versions(rt: HostRuntime) {
+    agree_from(&rt, rt.alloc(), 18_446_744_073_709_551_615, &VERSIONS);
+    agree_from(&rt, rt.alloc(), 18_446_744_073_709_551_614, &LAST_VERSIONS);
+    agree_from(&rt, rt.alloc(), 1, &REFUSALS);
+    same(&rt, "M6", Refusal::TooManyLines.label());
+    same(&rt, "TOO MANY LINES", Refusal::TooManyLines.text());
+}
+
+#[test]
+fn laws() {
     next_is_new();
     runs_keep();
     edit_gives_next();
@@ -204,14 +218,6 @@ static REFUSALS: [Row; 10] = [
     ("A", Edit::Insert(1, " ~"), "ok S3|120*X| ~"),
 ];
 
-#[test]
-fn refusals(rt: HostRuntime) -> Result<(), Fail> {
-    let mut members = Members::new(rt.alloc(), 1);
-    agrees(&rt, rt.alloc(), &mut members, &REFUSALS)?;
-    agree("the label", Refusal::TooManyLines.label(), "M6")?;
-    agree("the text", Refusal::TooManyLines.text(), "TOO MANY LINES")
-}
-
 static REPLACEMENTS: [Row; 9] = [
     ("A", Edit::Replace(2, "two"), "ok S5|1|two|3"),
     ("A", Edit::Replace(1, ""), "ok S6||two|3"),
@@ -223,12 +229,6 @@ static REPLACEMENTS: [Row; 9] = [
     ("A", Edit::Replace(3, "\x7f"), "M5 S7||two|120*X"),
     ("A", Edit::Replace(3, "X\n"), "M5 S7||two|120*X"),
 ];
-
-#[test]
-fn replacements(rt: HostRuntime) -> Result<(), Fail> {
-    let mut members = member_of(&rt, rt.alloc(), &["1", "2", "3"]);
-    agrees(&rt, rt.alloc(), &mut members, &REPLACEMENTS)
-}
 
 static REMOVALS: [Row; 7] = [
     ("A", Edit::Remove(1, 1), "ok S7|2|3|4|5"),
@@ -253,41 +253,38 @@ static REFUSED_REMOVALS: [Row; 10] = [
     ("A", Edit::Insert(0, "6"), "ok S8|6"),
 ];
 
+/// Does the edits of a table in turn, of a member of these lines.
+fn agree_behind(rt: &impl Abort, alloc: Global, lines: &[&str], rows: &[Row]) {
+    let mut members = member_of(rt, alloc, lines);
+    agrees(rt, alloc, &mut members, rows);
+}
+
 #[test]
-fn removals(rt: HostRuntime) -> Result<(), Fail> {
+fn replacements_and_removals(rt: HostRuntime) {
     let lines = ["1", "2", "3", "4", "5"];
-    for row in &REMOVALS {
-        let mut members = member_of(&rt, rt.alloc(), &lines);
-        agrees(&rt, rt.alloc(), &mut members, &[*row])?;
+    agree_behind(&rt, rt.alloc(), &lines[..3], &REPLACEMENTS);
+    agree_behind(&rt, rt.alloc(), &lines, &REFUSED_REMOVALS);
+    for row in 0..REMOVALS.len() {
+        agree_behind(&rt, rt.alloc(), &lines, &REMOVALS[row..=row]);
     }
-    let mut members = member_of(&rt, rt.alloc(), &lines);
-    agrees(&rt, rt.alloc(), &mut members, &REFUSED_REMOVALS)
 }
 
 /// As many members as there may be.
-fn full(rt: &impl Abort, alloc: Global) -> Result<Members, AllocError> {
+fn full(rt: &impl Abort, alloc: Global) -> Members {
     let mut members = Members::new(alloc, 1);
     for number in 0..999 {
-        let text = format!(in alloc; "N{number}")?;
+        let text = format!(in alloc; "N{number}").expect(rt, "memory");
         assert!(rt; members.add(name(rt, &text), MemberKind::Source).is_ok());
     }
-    Ok(members)
+    members
 }
 
 #[test]
-fn the_limit_of_members(rt: HostRuntime) -> Result<(), Fail> {
-    let mut members = full(&rt, rt.alloc())?;
-    let (new, known) = (name(&rt, "A"), name(&rt, "N0"));
-    agree(
-        "A",
-        answer(&mut members, new, Edit::Add(MemberKind::Source))?,
-        "M7",
-    )?;
-    agree(
-        "N0",
-        answer(&mut members, known, Edit::Add(MemberKind::Source))?,
-        "M1",
-    )
+fn the_limit_of_members(rt: HostRuntime) {
+    let mut members = full(&rt, rt.alloc());
+    let add = Edit::Add(MemberKind::Source);
+    same(&rt, "M7", answer(&rt, &mut members, name(&rt, "A"), add));
+    same(&rt, "M1", answer(&rt, &mut members, name(&rt, "N0"), add));
 }
 
 static LIMITS: [(Edit, &str); 4] = [
@@ -319,15 +316,15 @@ fn longest(rt: &impl Abort, alloc: Global) -> Members {
 }
 
 #[test]
-fn the_limit_of_lines(rt: HostRuntime) -> Result<(), Fail> {
+fn the_limit_of_lines(rt: HostRuntime) {
     let a = name(&rt, "A");
     let mut members = longest(&rt, rt.alloc());
     for &(edit, wanted) in &LIMITS {
-        agree("an edit", answer(&mut members, a, edit)?, wanted)?;
+        same(&rt, wanted, answer(&rt, &mut members, a, edit));
     }
     assert!(rt; line_at(&members, a, 9998) == b"Y".as_slice());
     let rows = [("A", Edit::Remove(2, 9999), "ok S10002|X = 1;")];
-    agrees(&rt, rt.alloc(), &mut members, &rows)
+    agrees(&rt, rt.alloc(), &mut members, &rows);
 }
 
 /// Adds a member, a second time where memory is refused.

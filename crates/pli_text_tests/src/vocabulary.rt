@@ -1,64 +1,58 @@
 ghost use Rattle.std.specs.Prelude.{Some};
 
-use crate::agree;
+use crate::members::{name, same};
 use pli_base::{
     BitString, CharacterString, Code, Device, Failed, Line, NAME_LIMIT, Name, Sink, Source,
     TokenText, code_order, one_code, put_all, take_all,
 };
-use std::alloc::{AllocError, Global};
+use std::alloc::Global;
 use std::collections::HashMap;
 use std::io::Cursor;
-use std::test::Fail;
+use std::process::Abort;
+use std::test::*;
 
 static NO_NAMES: [&str; 5] = ["", "1a", "_a", "a-b", "a "];
 
 #[test]
-fn names(rt: HostRuntime) -> Result<(), Fail> {
-    let name = Name::read(b"Sum_1$").ok_or("a name")?;
-    assert!(rt; name.bytes() == b"SUM_1$".as_slice() && name.is(b"SUM_1$") && !name.is(b"Sum_1$"));
+fn names(rt: HostRuntime) {
+    let sum = name(&rt, "Sum_1$");
+    assert!(rt; sum.bytes() == b"SUM_1$".as_slice() && sum.is(b"SUM_1$") && !sum.is(b"Sum_1$"));
     let long = [b'a'; NAME_LIMIT + 1];
     assert!(rt; Name::read(&long[1..]).is_some() && Name::read(long.as_slice()).is_none());
     for text in &NO_NAMES {
-        if Name::read(text.as_bytes()).is_some() {
-            return Err(text.into());
-        }
+        assert!(rt; Name::read(text.as_bytes()).is_none());
     }
-    agree("a name", &format!(in rt.alloc(); "{name:?}")?, "SUM_1$")
+    let written = format!(in rt.alloc(); "{sum:?}").expect(&rt, "memory");
+    same(&rt, "SUM_1$", &written);
 }
 
-/// The values of three names, of which the last is the first in other letters.
-fn valued(alloc: Global, a: Name, b: Name, other: Name) -> Result<HashMap<Name, i32>, AllocError> {
+/// The values of three names.
+fn valued(rt: &impl Abort, alloc: Global, names: [Name; 3]) -> HashMap<Name, i32> {
     let mut values = HashMap::new(alloc);
-    values.insert(a, 1)?;
-    values.insert(b, 2)?;
-    values.insert(other, 3)?;
-    Ok(values)
+    for place in 0..3 {
+        let inserted: Result<_, _> = values.insert(names[place], place as i32);
+        inserted.expect(rt, "memory");
+    }
+    values
 }
 
 #[test]
-fn names_as_keys(rt: HostRuntime) -> Result<(), Fail> {
-    let (a, b) = (Name::read(b"A").ok_or("A")?, Name::read(b"ab").ok_or("AB")?);
-    let other = Name::read(b"a").ok_or("a")?;
+fn names_as_keys(rt: HostRuntime) {
+    let (a, b) = (name(&rt, "A"), name(&rt, "ab"));
     assert!(rt; a < b && a == a);
-    let values = valued(rt.alloc(), a, b, other)?;
-    assert!(rt; values.len() == 2 && values.get(&a).copied() == Some(3));
-    Ok(())
+    let values = valued(&rt, rt.alloc(), [a, b, name(&rt, "a")]);
+    assert!(rt; values.len() == 2 && values.get(&a).copied() == Some(2));
 }
 
 #[test]
-fn codes(rt: HostRuntime) {
+fn codes_and_lines(rt: HostRuntime) {
     one_code();
     code_order();
     assert!(rt; Code::EndMissing.label() == "P9" && Code::EndMissing.text() == "END MISSING");
     assert!(rt; Code::BadInclude < Code::NoProcedure && Code::BadOption < Code::NotDeclared);
     assert!(rt; Code::NotYetBuilt.label() == "Z1" && Code::NotYetBuilt < Code::NotAVariable);
-}
-
-#[test]
-fn lines(rt: HostRuntime) -> Result<(), Fail> {
-    let line = Line::new(rt.alloc(), b"a = 1;")?;
+    let line = Line::new(rt.alloc(), b"a = 1;").expect(&rt, "memory");
     assert!(rt; line.text() == b"a = 1;".as_slice());
-    Ok(())
 }
 
 #[test]
@@ -128,30 +122,29 @@ fn failures_of_narrow_devices(rt: HostRuntime) {
     assert!(rt; failed);
 }
 
-/// The bytes of a copy of a character constant.
-fn copied_characters(alloc: Global, bytes: &[u8]) -> Result<Vec<u8>, AllocError> {
-    let string = CharacterString::new(Vec::from_slice(alloc, bytes)?);
-    let text = TokenText::Characters(string.copy(alloc)?);
-    match text.copy(alloc)? {
-        TokenText::Characters(copied) => Vec::from_slice(alloc, copied.bytes()),
-        _ => Ok(Vec::new(alloc)),
+/// Whether a copy of a character constant has its bytes.
+fn characters_are_copied(rt: &impl Abort, alloc: Global, bytes: &[u8]) -> bool {
+    let string = CharacterString::new(Vec::from_slice(alloc, bytes).expect(rt, "memory"));
+    match TokenText::Characters(string)
+        .copy(alloc)
+        .expect(rt, "memory")
+    {
+        TokenText::Characters(copied) => copied.bytes() == bytes,
+        _ => false,
     }
 }
 
-/// The bits of a copy of a bit constant.
-fn copied_bits(alloc: Global, bits: &[bool]) -> Result<Vec<bool>, AllocError> {
-    let text = TokenText::Bits(BitString::new(Vec::from_slice(alloc, bits)?));
-    match text.copy(alloc)? {
-        TokenText::Bits(copied) => Vec::from_slice(alloc, copied.bits()),
-        _ => Ok(Vec::new(alloc)),
+/// Whether a copy of a bit constant has its bits.
+fn bits_are_copied(rt: &impl Abort, alloc: Global, bits: &[bool]) -> bool {
+    let string = BitString::new(Vec::from_slice(alloc, bits).expect(rt, "memory"));
+    match TokenText::Bits(string).copy(alloc).expect(rt, "memory") {
+        TokenText::Bits(copied) => copied.bits() == bits,
+        _ => false,
     }
 }
 
 #[test]
-fn strings(rt: HostRuntime) -> Result<(), Fail> {
-    let characters = copied_characters(rt.alloc(), b"it's")?;
-    assert!(rt; characters.as_slice() == b"it's".as_slice());
-    let bits = copied_bits(rt.alloc(), &[true, false])?;
-    assert!(rt; bits.as_slice() == [true, false].as_slice());
-    Ok(())
+fn strings(rt: HostRuntime) {
+    assert!(rt; characters_are_copied(&rt, rt.alloc(), b"it's"));
+    assert!(rt; bits_are_copied(&rt, rt.alloc(), &[true, false]));
 }

@@ -1,9 +1,5 @@
-//! Tests of values: numbers, and strings of characters and of bits.
+//! Tests of values and operations, of how values are laid out and stored, and of scopes and regions.
 #![tactic(auto)]
 
 #[cfg(test)]
-mod bits;
-#[cfg(test)]
-mod characters;
-#[cfg(test)]
-mod numbers;
+mod tests;

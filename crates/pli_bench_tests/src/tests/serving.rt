@@ -1,9 +1,10 @@
 //! Sessions over devices that fail, move pieces, or look at each other.
-use crate::devices::{Asking, Kept, Pieces, Told, Turn};
+use crate::tests::devices::{Asking, Kept, Pieces, Told, Turn};
 use pli_bench::{Bench, Next, ServeFault};
-use std::alloc::{AllocError, Global};
+use std::alloc::Global;
 use std::cell::Cell;
-use std::test::Fail;
+use std::process::Abort;
+use std::test::*;
 
 /// A session with its answers.
 type Row = (&'static [u8], &'static [u8]);
@@ -87,11 +88,10 @@ fn fails_after(alloc: Global, calls: u32) -> bool {
 }
 
 #[test]
-fn failing_devices(rt: HostRuntime) -> Result<(), Fail> {
+fn failing_devices(rt: HostRuntime) {
+    let alloc = rt.alloc();
     for calls in 0..10u32 {
-        if !fails_after(rt.alloc(), calls) {
-            return Err(calls.into());
-        }
+        assert!(rt; fails_after(alloc, calls));
     }
     let limits = Limits {
         piece: 4096,
@@ -99,20 +99,12 @@ fn failing_devices(rt: HostRuntime) -> Result<(), Fail> {
         takes: 2,
         puts: 10,
     };
-    assert!(rt; ends_so(rt.alloc(), FIRST_RUN, limits));
-    Ok(())
-}
-
-#[test]
-fn failing_listings(rt: HostRuntime) -> Result<(), Fail> {
+    assert!(rt; ends_so(alloc, FIRST_RUN, limits));
     for puts in 0..6u32 {
         let limits = Limits { puts, ..AMPLE };
-        if !fails_so(rt.alloc(), LISTINGS, limits, ServeFault::WriteFailed) {
-            return Err(puts.into());
-        }
+        assert!(rt; fails_so(alloc, LISTINGS, limits, ServeFault::WriteFailed));
     }
-    assert!(rt; ends_so(rt.alloc(), LISTINGS, Limits { puts: 6, ..AMPLE }));
-    Ok(())
+    assert!(rt; ends_so(alloc, LISTINGS, Limits { puts: 6, ..AMPLE }));
 }
 
 /// A conversation: parts of lines and two lines at once are among its turns, and the last line has no end.
@@ -140,23 +132,24 @@ static TURNS: [Turn; 11] = [
 ];
 
 /// The answers to all turns, and to the last line.
-fn of_turns(alloc: Global) -> Result<Vec<u8>, AllocError> {
+fn of_turns(rt: &impl Abort, alloc: Global) -> Vec<u8> {
     let mut wanted = Vec::new(alloc);
     for (_, answers) in &TURNS {
-        wanted.extend_from_slice(answers)?;
+        wanted.extend_from_slice(answers).expect(rt, "memory");
     }
-    wanted.extend_from_slice(b"B2 NOT BUILT\n")?;
-    Ok(wanted)
+    wanted
+        .extend_from_slice(b"B2 NOT BUILT\n")
+        .expect(rt, "memory");
+    wanted
 }
 
 #[test]
-fn answers_before_more_is_read(rt: HostRuntime) -> Result<(), Fail> {
-    let wanted = of_turns(rt.alloc())?;
+fn answers_before_more_is_read(rt: HostRuntime) {
+    let wanted = of_turns(&rt, rt.alloc());
     let written = Cell::new(0);
     let mut reader = Asking::new(&TURNS, &written);
     let mut writer = Told::new(rt.alloc(), &written);
     let mut bench = Bench::new(rt.alloc(), 1_000_000);
     let result = bench.serve(&mut reader, &mut writer, 99);
     assert!(rt; result == Ok(Next::End) && writer.bytes.as_slice() == wanted.as_slice());
-    Ok(())
 }

@@ -1,4 +1,5 @@
-use Go::{E, M};
+use crate::tests::at_row;
+use Go::{At, E, M};
 use Word::{Ar, Bi, Ch, Di, Fb, Of, Pt, St, Va};
 use pli_map::{
     Bounds, Description, Layout, PathStep, PlacedPart, alignment, areas_are_rounded,
@@ -7,7 +8,8 @@ use pli_map::{
     parts_have_their_scalars, parts_lie_within, parts_of_parts, parts_stand_aligned, place,
     same_is_equal, scalars_lie_within, size, stored_is_loaded, worked_examples,
 };
-use std::alloc::{AllocError, Global};
+use std::alloc::Global;
+use std::process::Abort;
 use std::test::*;
 
 /// A word of a declaration, which is written from the inside out: `Di` makes an array of what stands before it, and `St(n)` a
@@ -25,84 +27,93 @@ enum Word {
     St(usize),
 }
 
-/// A step of a path: to a member, or to an element at subscripts.
+/// A step of a path: to a member, or to an element at subscripts; and the offset of the part that it leads to, behind which
+/// another path begins.
 #[derive(Clone, Copy)]
 enum Go {
     M(usize),
     E(&'static [i32]),
+    At(u32),
 }
 
 type Declaration = &'static [Word];
 
-/// A part and its offset.
-type Placed = (&'static [Go], u32);
-
-/// A declaration, its size, its alignment, and the offset of each part.
-type Row = (Declaration, Option<u32>, u32, &'static [Placed]);
-
-fn dimensions_of(alloc: Global, bounds: &[(i16, i16)]) -> Result<Vec<Bounds>, AllocError> {
-    let mut dimensions = Vec::new(alloc);
-    for &(low, high) in bounds {
-        dimensions.push(Bounds { low, high })?;
-    }
-    Ok(dimensions)
-}
+/// A declaration, its size, its alignment, and paths with the offsets of their parts.
+type Row = (Declaration, Option<u32>, u32, &'static [Go]);
 
 fn array(
+    rt: &impl Abort,
     alloc: Global,
-    bounds: Vec<Bounds>,
+    bounds: &[(i16, i16)],
     element: Description,
-) -> Result<Description, AllocError> {
-    let element = Box::new(alloc, element)?;
-    Ok(Description::Array { bounds, element })
+) -> Description {
+    let mut dimensions = Vec::new(alloc);
+    for &(low, high) in bounds {
+        dimensions.push(Bounds { low, high }).expect(rt, "memory");
+    }
+    Description::Array {
+        bounds: dimensions,
+        element: Box::new(alloc, element).expect(rt, "memory"),
+    }
 }
 
 fn structure(
+    rt: &impl Abort,
     alloc: Global,
     before: &mut Vec<Description>,
     count: usize,
-) -> Result<Description, AllocError> {
+) -> Description {
     let mut members = Vec::new(alloc);
     for _ in 0..count {
-        if let Some(member) = before.pop() {
-            members.push(member)?;
-        }
+        let member = before.pop().expect(rt, "a member");
+        members.push(member).expect(rt, "memory");
     }
     members.reverse();
-    Ok(Description::Structure(members))
+    Description::Structure(members)
 }
 
-fn described(alloc: Global, declaration: &[Word]) -> Result<Description, AllocError> {
+/// What a word describes, and what is taken of the descriptions before it.
+fn meant_by(
+    rt: &impl Abort,
+    alloc: Global,
+    before: &mut Vec<Description>,
+    word: Word,
+) -> Description {
+    match word {
+        Fb(precision) => Description::FixedBinary(precision),
+        Ch(length) => Description::Character(length),
+        Va(length) => Description::Varying(length),
+        Bi(length) => Description::Bit(length),
+        Pt => Description::Pointer,
+        Of => Description::Offset,
+        Ar(bytes) => Description::Area(bytes),
+        Di(bounds) => {
+            let element = before.pop().expect(rt, "an element");
+            array(rt, alloc, bounds, element)
+        }
+        St(count) => structure(rt, alloc, before, count),
+    }
+}
+
+fn described(rt: &impl Abort, alloc: Global, declaration: &[Word]) -> Description {
     let mut last = Vec::new(alloc);
-    for word in declaration {
-        let description = match word {
-            Fb(precision) => Description::FixedBinary(*precision),
-            Ch(length) => Description::Character(*length),
-            Va(length) => Description::Varying(*length),
-            Bi(length) => Description::Bit(*length),
-            Pt => Description::Pointer,
-            Of => Description::Offset,
-            Ar(bytes) => Description::Area(*bytes),
-            Di(bounds) => {
-                let bounds = dimensions_of(alloc, bounds)?;
-                array(alloc, bounds, last.pop().unwrap_or(Description::Pointer))?
-            }
-            St(count) => structure(alloc, &mut last, *count)?,
-        };
-        last.push(description)?;
+    for next in declaration {
+        let description = meant_by(rt, alloc, &mut last, *next);
+        last.push(description).expect(rt, "memory");
     }
-    Ok(last.pop().unwrap_or(Description::Pointer))
+    last.pop().expect(rt, "a description")
 }
 
-fn path(alloc: Global, steps: &[Go]) -> Result<Vec<PathStep>, AllocError> {
-    let mut path = Vec::new(alloc);
-    for go in steps {
-        path.push(match *go {
-            M(number) => PathStep::Member(number),
-            E(subscripts) => PathStep::Element(Vec::from_slice(alloc, subscripts)?),
-        })?;
-    }
-    Ok(path)
+/// Puts a step behind a path; behind its end, the path begins anew.
+fn go_on(rt: &impl Abort, alloc: Global, path: &mut Vec<PathStep>, go: Go) {
+    let step = match go {
+        M(number) => PathStep::Member(number),
+        E(subscripts) => {
+            PathStep::Element(Vec::from_slice(alloc, subscripts).expect(rt, "memory"))
+        }
+        At(_) => return path.clear(),
+    };
+    path.push(step).expect(rt, "memory");
 }
 
 fn placed<'a>(description: &'a Description, path: &[PathStep]) -> Option<PlacedPart<'a>> {
@@ -110,46 +121,40 @@ fn placed<'a>(description: &'a Description, path: &[PathStep]) -> Option<PlacedP
     place(description, path)
 }
 
-fn offset_of(
-    alloc: Global,
-    description: &Description,
-    steps: &[Go],
-) -> Result<Option<u32>, AllocError> {
-    let path = path(alloc, steps)?;
-    match placed(description, &path) {
-        Some(part) => Ok(Some(part.offset)),
-        None => Ok(None),
-    }
+fn offset_of(description: &Description, path: &[PathStep]) -> Option<u32> {
+    Some(placed(description, path)?.offset)
 }
 
-/// Fails with the number of a row, unless a description has the size, the alignment and the parts of that row.
-fn lies_so(
-    alloc: Global,
-    number: usize,
-    description: &Description,
-    (_, bytes, aligned, parts): &Row,
-) -> Result<(), Fail> {
-    if size(description) != *bytes || alignment(description) != *aligned {
-        return Err(number.into());
-    }
-    for (steps, offset) in *parts {
-        if offset_of(alloc, description, steps)? != Some(*offset) {
-            return Err((number, *offset).into());
+/// Whether paths lead to parts at their offsets.
+fn lead_there(rt: &impl Abort, alloc: Global, description: &Description, steps: &[Go]) -> bool {
+    let mut path = Vec::new(alloc);
+    for go in steps {
+        if let At(offset) = *go {
+            if offset_of(description, &path) != Some(offset) {
+                return false;
+            }
         }
+        go_on(rt, alloc, &mut path, *go);
     }
-    Ok(())
+    true
 }
 
-/// Fails with the number of the first row that is wrong, and the offset of a part that does not stand there.
-fn lie_so(alloc: Global, rows: &[Row]) -> Result<(), Fail> {
-    for (number, row) in rows.iter().enumerate() {
-        lies_so(alloc, number, &described(alloc, row.0)?, row)?;
+/// Fails at the first row whose description has another size or alignment, or a part at another offset.
+fn lie_so(rt: &impl Abort, alloc: Global, rows: &[Row]) {
+    for row in 0..rows.len() {
+        let (declaration, bytes, aligned, steps) = rows[row];
+        let description = described(rt, alloc, declaration);
+        at_row(
+            rt,
+            row,
+            size(&description) == bytes && alignment(&description) == aligned,
+        );
+        at_row(rt, row, lead_there(rt, alloc, &description, steps));
     }
-    Ok(())
 }
 
 static SCALARS: [Row; 23] = [
-    (&[Fb(1)], Some(2), 2, &[(&[], 0)]),
+    (&[Fb(1)], Some(2), 2, &[At(0)]),
     (&[Fb(15)], Some(2), 2, &[]),
     (&[Fb(16)], Some(4), 4, &[]),
     (&[Fb(31)], Some(4), 4, &[]),
@@ -178,13 +183,11 @@ static SCALARS: [Row; 23] = [
 static DIGITS: [(u32, u32); 6] = [(1, 2), (15, 2), (16, 4), (31, 4), (32, 8), (63, 8)];
 
 #[test]
-fn numbers() -> Result<(), Fail> {
-    for &(digits, bytes) in &DIGITS {
-        if fixed_binary_size(digits) != bytes {
-            return Err(digits.into());
-        }
+fn numbers(rt: HostRuntime) {
+    for row in 0..DIGITS.len() {
+        let (digits, bytes) = DIGITS[row];
+        at_row(&rt, row, fixed_binary_size(digits) == bytes);
     }
-    Ok(())
 }
 
 static ARRAYS: [Row; 15] = [
@@ -192,38 +195,44 @@ static ARRAYS: [Row; 15] = [
         &[Fb(15), Di(&[(1, 3)])],
         Some(6),
         2,
-        &[(&[E(&[1])], 0), (&[E(&[2])], 2), (&[E(&[3])], 4)],
+        &[E(&[1]), At(0), E(&[2]), At(2), E(&[3]), At(4)],
     ),
     (
         &[Ch(3), Di(&[(0, 2)])],
         Some(9),
         1,
-        &[(&[E(&[0])], 0), (&[E(&[1])], 3), (&[E(&[2])], 6)],
+        &[E(&[0]), At(0), E(&[1]), At(3), E(&[2]), At(6)],
     ),
     (
         &[Va(2), Di(&[(-1, 1)])],
         Some(12),
         2,
-        &[(&[E(&[-1])], 0), (&[E(&[0])], 4), (&[E(&[1])], 8)],
+        &[E(&[-1]), At(0), E(&[0]), At(4), E(&[1]), At(8)],
     ),
     // an element of 5 bytes every 6
     (
         &[Va(3), Di(&[(1, 3)])],
         Some(18),
         2,
-        &[(&[E(&[1])], 0), (&[E(&[2])], 6), (&[E(&[3])], 12)],
+        &[E(&[1]), At(0), E(&[2]), At(6), E(&[3]), At(12)],
     ),
     (
         &[Fb(31), Di(&[(1, 2), (1, 3)])],
         Some(24),
         4,
         &[
-            (&[E(&[1, 1])], 0),
-            (&[E(&[1, 2])], 4),
-            (&[E(&[1, 3])], 8),
-            (&[E(&[2, 1])], 12),
-            (&[E(&[2, 2])], 16),
-            (&[E(&[2, 3])], 20),
+            E(&[1, 1]),
+            At(0),
+            E(&[1, 2]),
+            At(4),
+            E(&[1, 3]),
+            At(8),
+            E(&[2, 1]),
+            At(12),
+            E(&[2, 2]),
+            At(16),
+            E(&[2, 3]),
+            At(20),
         ],
     ),
     (
@@ -231,20 +240,25 @@ static ARRAYS: [Row; 15] = [
         Some(24),
         1,
         &[
-            (&[E(&[0, -2, 5])], 0),
-            (&[E(&[0, -2, 6])], 2),
-            (&[E(&[0, -1, 5])], 4),
-            (&[E(&[1, -2, 5])], 12),
-            (&[E(&[1, 0, 6])], 22),
+            E(&[0, -2, 5]),
+            At(0),
+            E(&[0, -2, 6]),
+            At(2),
+            E(&[0, -1, 5]),
+            At(4),
+            E(&[1, -2, 5]),
+            At(12),
+            E(&[1, 0, 6]),
+            At(22),
         ],
     ),
-    (&[Pt, Di(&[(1, 10)])], Some(80), 4, &[(&[E(&[10])], 72)]),
-    (&[Ar(10), Di(&[(1, 2)])], Some(32), 8, &[(&[E(&[2])], 16)]),
+    (&[Pt, Di(&[(1, 10)])], Some(80), 4, &[E(&[10]), At(72)]),
+    (&[Ar(10), Di(&[(1, 2)])], Some(32), 8, &[E(&[2]), At(16)]),
     (
         &[Ch(5), Di(&[(1, 3)]), Di(&[(1, 2)])],
         Some(30),
         1,
-        &[(&[E(&[2]), E(&[3])], 25)],
+        &[E(&[2]), E(&[3]), At(25)],
     ),
     // no subscript lies between 2 and 1
     (&[Ch(4), Di(&[(1, 3), (2, 1)])], Some(0), 1, &[]),
@@ -252,7 +266,7 @@ static ARRAYS: [Row; 15] = [
         &[Fb(15), Di(&[(1, 1000), (1, 500)])],
         Some(1000000),
         2,
-        &[(&[E(&[1000, 500])], 999998)],
+        &[E(&[1000, 500]), At(999998)],
     ),
     (&[Fb(15), Di(&[(1, 1000), (1, 501)])], None, 2, &[]),
     (&[Fb(15), Di(&[(1, 1000), (1, 1000)])], None, 2, &[]),
@@ -284,31 +298,36 @@ static STRUCTURES: [Row; 14] = [
         &[Fb(15), Fb(31), St(2)],
         Some(8),
         4,
-        &[(&[M(0)], 0), (&[M(1)], 4)],
+        &[M(0), At(0), M(1), At(4)],
     ),
     // the size is not rounded up
     (
         &[Fb(31), Fb(15), St(2)],
         Some(6),
         4,
-        &[(&[M(0)], 0), (&[M(1)], 4)],
+        &[M(0), At(0), M(1), At(4)],
     ),
     (
         &[Ch(1), Fb(31), Ch(1), St(3)],
         Some(9),
         4,
-        &[(&[M(0)], 0), (&[M(1)], 4), (&[M(2)], 8)],
+        &[M(0), At(0), M(1), At(4), M(2), At(8)],
     ),
     (
         &[Fb(15), Fb(31), Ch(3), Va(5), Bi(9), St(5)],
         Some(21),
         4,
         &[
-            (&[M(0)], 0),
-            (&[M(1)], 4),
-            (&[M(2)], 8),
-            (&[M(3)], 12),
-            (&[M(4)], 19),
+            M(0),
+            At(0),
+            M(1),
+            At(4),
+            M(2),
+            At(8),
+            M(3),
+            At(12),
+            M(4),
+            At(19),
         ],
     ),
     (
@@ -316,18 +335,23 @@ static STRUCTURES: [Row; 14] = [
         Some(28),
         4,
         &[
-            (&[M(0)], 0),
-            (&[M(1)], 4),
-            (&[M(2)], 12),
-            (&[M(3)], 16),
-            (&[M(4)], 24),
+            M(0),
+            At(0),
+            M(1),
+            At(4),
+            M(2),
+            At(12),
+            M(3),
+            At(16),
+            M(4),
+            At(24),
         ],
     ),
     (
         &[Ch(1), Ar(9), Ch(1), St(3)],
         Some(25),
         8,
-        &[(&[M(0)], 0), (&[M(1)], 8), (&[M(2)], 24)],
+        &[M(0), At(0), M(1), At(8), M(2), At(24)],
     ),
     // one structure in another
     (
@@ -335,11 +359,18 @@ static STRUCTURES: [Row; 14] = [
         Some(6),
         2,
         &[
-            (&[M(0)], 0),
-            (&[M(1)], 2),
-            (&[M(1), M(0)], 2),
-            (&[M(1), M(1)], 4),
-            (&[M(2)], 5),
+            M(0),
+            At(0),
+            M(1),
+            At(2),
+            M(1),
+            M(0),
+            At(2),
+            M(1),
+            M(1),
+            At(4),
+            M(2),
+            At(5),
         ],
     ),
     // five levels
@@ -360,12 +391,30 @@ static STRUCTURES: [Row; 14] = [
         Some(21),
         4,
         &[
-            (&[M(1)], 4),
-            (&[M(1), M(0), M(0)], 4),
-            (&[M(1), M(0), M(1)], 8),
-            (&[M(1), M(0), M(1), M(1)], 12),
-            (&[M(1), M(0), M(1), M(1), M(1)], 16),
-            (&[M(1), M(1)], 20),
+            M(1),
+            At(4),
+            M(1),
+            M(0),
+            M(0),
+            At(4),
+            M(1),
+            M(0),
+            M(1),
+            At(8),
+            M(1),
+            M(0),
+            M(1),
+            M(1),
+            At(12),
+            M(1),
+            M(0),
+            M(1),
+            M(1),
+            M(1),
+            At(16),
+            M(1),
+            M(1),
+            At(20),
         ],
     ),
     // structures of 6 bytes every 8
@@ -374,10 +423,17 @@ static STRUCTURES: [Row; 14] = [
         Some(24),
         4,
         &[
-            (&[E(&[2])], 8),
-            (&[E(&[2]), M(1)], 12),
-            (&[E(&[3]), M(0)], 16),
-            (&[E(&[3]), M(1)], 20),
+            E(&[2]),
+            At(8),
+            E(&[2]),
+            M(1),
+            At(12),
+            E(&[3]),
+            M(0),
+            At(16),
+            E(&[3]),
+            M(1),
+            At(20),
         ],
     ),
     (
@@ -385,10 +441,16 @@ static STRUCTURES: [Row; 14] = [
         Some(13),
         4,
         &[
-            (&[M(1)], 4),
-            (&[M(1), E(&[1])], 4),
-            (&[M(1), E(&[2])], 8),
-            (&[M(2)], 12),
+            M(1),
+            At(4),
+            M(1),
+            E(&[1]),
+            At(4),
+            M(1),
+            E(&[2]),
+            At(8),
+            M(2),
+            At(12),
         ],
     ),
     (
@@ -396,18 +458,30 @@ static STRUCTURES: [Row; 14] = [
         Some(52),
         2,
         &[
-            (&[E(&[0]), M(1), E(&[1, 1])], 2),
-            (&[E(&[0]), M(1), E(&[2, 2])], 20),
-            (&[E(&[1])], 26),
-            (&[E(&[1]), M(0)], 26),
-            (&[E(&[1]), M(1), E(&[2, 1])], 40),
+            E(&[0]),
+            M(1),
+            E(&[1, 1]),
+            At(2),
+            E(&[0]),
+            M(1),
+            E(&[2, 2]),
+            At(20),
+            E(&[1]),
+            At(26),
+            E(&[1]),
+            M(0),
+            At(26),
+            E(&[1]),
+            M(1),
+            E(&[2, 1]),
+            At(40),
         ],
     ),
     (
         &[Ch(1), Di(&[(1, 1000), (1, 999)]), Ch(1000), St(2)],
         Some(1000000),
         1,
-        &[(&[M(1)], 999000)],
+        &[M(1), At(999000)],
     ),
     (
         &[Ch(1), Di(&[(1, 1000), (1, 999)]), Ch(1001), St(2)],
@@ -419,10 +493,10 @@ static STRUCTURES: [Row; 14] = [
 ];
 
 #[test]
-fn scalars_arrays_and_structures(rt: HostRuntime) -> Result<(), Fail> {
-    lie_so(rt.alloc(), &SCALARS)?;
-    lie_so(rt.alloc(), &ARRAYS)?;
-    lie_so(rt.alloc(), &STRUCTURES)
+fn scalars_arrays_and_structures(rt: HostRuntime) {
+    lie_so(&rt, rt.alloc(), &SCALARS);
+    lie_so(&rt, rt.alloc(), &ARRAYS);
+    lie_so(&rt, rt.alloc(), &STRUCTURES);
 }
 
 /// Paths that lead to no part.
@@ -441,36 +515,30 @@ static WRONG: [&[Go]; 9] = [
 /// An array of structures that BIT(9) stands in.
 static NINE_BITS: [Word; 3] = [Bi(9), St(1), Di(&[(1, 3), (0, 1)])];
 
-/// Whether a path leads to a part of a description that is BIT(9).
-fn leads_to_nine_bits(
-    alloc: Global,
-    description: &Description,
-    steps: &[Go],
-) -> Result<bool, AllocError> {
-    let path = path(alloc, steps)?;
+/// The offset of the BIT(9) that a path leads to, the greatest number for another part, and nothing for none.
+fn led_to(rt: &impl Abort, alloc: Global, description: &Description, steps: &[Go]) -> Option<u32> {
+    let mut path = Vec::new(alloc);
+    for go in steps {
+        go_on(rt, alloc, &mut path, *go);
+    }
     match placed(description, &path) {
-        Some(part) => Ok(part.description.equals(&Description::Bit(9))),
-        None => Ok(false),
+        Some(part) if part.description.equals(&Description::Bit(9)) => Some(part.offset),
+        Some(_) => Some(u32::MAX),
+        None => None,
     }
-}
-
-/// Fails unless a path of a description leads to BIT(9), and those wrong paths lead nowhere.
-fn has_no_other_parts(alloc: Global, description: &Description) -> Result<(), Fail> {
-    if !leads_to_nine_bits(alloc, description, &[E(&[3, 1]), M(0)])? {
-        return Err("nine bits".into());
-    }
-    for (number, steps) in WRONG.iter().enumerate() {
-        if offset_of(alloc, description, steps)?.is_some() {
-            return Err(number.into());
-        }
-    }
-    Ok(())
 }
 
 #[test]
-fn no_parts(rt: HostRuntime) -> Result<(), Fail> {
-    let table = described(rt.alloc(), &NINE_BITS)?;
-    has_no_other_parts(rt.alloc(), &table)
+fn no_parts(rt: HostRuntime) {
+    let table = described(&rt, rt.alloc(), &NINE_BITS);
+    assert!(rt; led_to(&rt, rt.alloc(), &table, &[E(&[3, 1]), M(0)]) == Some(10));
+    for row in 0..WRONG.len() {
+        at_row(
+            &rt,
+            row,
+            led_to(&rt, rt.alloc(), &table, WRONG[row]).is_none(),
+        );
+    }
 }
 
 /// Descriptions of which none equals another.
@@ -489,28 +557,23 @@ static UNEQUAL: [&[Word]; 12] = [
     &[Bi(1), Pt, Di(&[(1, 3), (1, 1)]), St(2)],
 ];
 
-/// A copy of a declaration's description.
-fn copied(alloc: Global, declaration: &[Word]) -> Result<Description, AllocError> {
-    described(alloc, declaration)?.copy(alloc)
-}
-
 /// Whether two declarations are equal, the first by a copy, in both ways of asking.
-fn are_equal(alloc: Global, left: &[Word], right: &[Word]) -> Result<(bool, bool), AllocError> {
-    let copy = copied(alloc, left)?;
-    let other = described(alloc, right)?;
-    Ok((copy.equals(&other), copy == other))
+fn are_equal(rt: &impl Abort, alloc: Global, left: &[Word], right: &[Word]) -> (bool, bool) {
+    let left = described(rt, alloc, left);
+    let copy = left.copy(alloc).expect(rt, "memory");
+    drop(left);
+    let other = described(rt, alloc, right);
+    (copy.equals(&other), copy == other)
 }
 
 #[test]
-fn equality(rt: HostRuntime) -> Result<(), Fail> {
-    for (i, left) in UNEQUAL.iter().enumerate() {
-        for (j, right) in UNEQUAL.iter().enumerate() {
-            if are_equal(rt.alloc(), left, right)? != (i == j, i == j) {
-                return Err((i, j).into());
-            }
+fn equality(rt: HostRuntime) {
+    for i in 0..UNEQUAL.len() {
+        for j in 0..UNEQUAL.len() {
+            let equal = are_equal(&rt, rt.alloc(), UNEQUAL[i], UNEQUAL[j]);
+            at_row(&rt, i, equal == (i == j, i == j));
         }
     }
-    Ok(())
 }
 
 /// Whether areas of these bytes have equal descriptions.
@@ -546,10 +609,9 @@ fn is_laid_out(pair: &Description) -> Option<bool> {
 }
 
 #[test]
-fn layouts(rt: HostRuntime) -> Result<(), Fail> {
-    let pair = described(rt.alloc(), &PAIR)?;
+fn layouts(rt: HostRuntime) {
+    let pair = described(&rt, rt.alloc(), &PAIR);
     assert!(rt; is_laid_out(&pair) == Some(true));
-    Ok(())
 }
 
 #[test]

@@ -1,9 +1,9 @@
+use crate::tests::at_row;
 use Raised::{Overflow, ZeroDivide};
 use pli_value::number::{
     Raised, absolute, add, compare, divide, fit, greatest, least, modulo, multiply, negate, sign,
     subtract,
 };
-use pli_value::{number_examples, remainders_are_least};
 use std::cmp::Ordering::{self, Equal, Greater, Less};
 use std::test::*;
 
@@ -136,70 +136,52 @@ static ORDERS: [(i64, i64, Ordering, i64, i64); 5] = [
 ];
 
 #[test]
-fn sums_differences_products() -> Result<(), Fail> {
-    for &(left, right, greatest, wanted) in &SUMS {
-        if add(left, right, greatest.min(63)) != wanted {
-            return Err(("+", left, right, greatest).into());
-        }
+fn sums_differences_products(rt: HostRuntime) {
+    for row in 0..SUMS.len() {
+        let (left, right, greatest, wanted) = SUMS[row];
+        at_row(&rt, row, add(left, right, greatest.min(63)) == wanted);
     }
-    for &(left, right, greatest, wanted) in &DIFFERENCES {
-        if subtract(left, right, greatest.min(63)) != wanted {
-            return Err(("-", left, right, greatest).into());
-        }
+    for row in 0..DIFFERENCES.len() {
+        let (left, right, greatest, wanted) = DIFFERENCES[row];
+        at_row(&rt, row, subtract(left, right, greatest.min(63)) == wanted);
     }
-    for &(left, right, greatest, wanted) in &PRODUCTS {
-        if multiply(left, right, greatest.min(63)) != wanted {
-            return Err(("*", left, right, greatest).into());
-        }
+    for row in 0..PRODUCTS.len() {
+        let (left, right, greatest, wanted) = PRODUCTS[row];
+        at_row(&rt, row, multiply(left, right, greatest.min(63)) == wanted);
     }
-    Ok(())
 }
 
 #[test]
-fn quotients_and_remainders() -> Result<(), Fail> {
-    for &(left, right, precision, wanted) in &QUOTIENTS {
-        if divide(left, right, precision.min(63)) != wanted {
-            return Err(("/", left, right, precision).into());
-        }
+fn quotients_and_remainders(rt: HostRuntime) {
+    for row in 0..QUOTIENTS.len() {
+        let (left, right, precision, wanted) = QUOTIENTS[row];
+        at_row(&rt, row, divide(left, right, precision.min(63)) == wanted);
     }
-    for &(left, right, wanted) in &REMAINDERS {
-        if modulo(left, right) != wanted {
-            return Err(("MOD", left, right, 63).into());
-        }
+    for row in 0..REMAINDERS.len() {
+        let (left, right, wanted) = REMAINDERS[row];
+        at_row(&rt, row, modulo(left, right) == wanted);
     }
-    Ok(())
+    for row in 0..ASSIGNED.len() {
+        let (number, precision, wanted) = ASSIGNED[row];
+        at_row(&rt, row, fit(number, precision.min(63)) == wanted);
+    }
 }
 
 #[test]
-fn assignments() -> Result<(), Fail> {
-    for &(number, precision, wanted) in &ASSIGNED {
-        if fit(number, precision.min(63)) != wanted {
-            return Err(("=", number, 0, precision).into());
-        }
-    }
-    Ok(())
-}
-
-#[test]
-fn signs_and_orders() -> Result<(), Fail> {
-    for &(number, signed, turned, magnitude) in &TURNED {
+fn signs_and_orders(rt: HostRuntime) {
+    for row in 0..TURNED.len() {
+        let (number, signed, turned, magnitude) = TURNED[row];
         let number = number.max(-WIDE);
-        if (sign(number), negate(number), absolute(number)) != (signed, turned, magnitude) {
-            return Err(("SIGN, -, ABS", number, 0, 63).into());
-        }
+        at_row(&rt, row, sign(number) == signed && negate(number) == turned);
+        at_row(&rt, row, absolute(number) == magnitude);
     }
-    for &(left, right, order, most, fewest) in &ORDERS {
-        if compare(left, right) != order
-            || (greatest(left, right), least(left, right)) != (most, fewest)
-        {
-            return Err(("order, MAX, MIN", left, right, 63).into());
-        }
+    for row in 0..ORDERS.len() {
+        let (left, right, order, most, fewest) = ORDERS[row];
+        at_row(&rt, row, compare(left, right) == order);
+        at_row(
+            &rt,
+            row,
+            greatest(left, right) == most && least(left, right) == fewest,
+        );
     }
-    Ok(())
-}
-
-#[test]
-fn laws_of_numbers() {
-    number_examples();
-    remainders_are_least();
 }

@@ -1,9 +1,10 @@
+use crate::tests::at_row;
 use pli_value::character::{
     STRING_LIMIT, compare, concat, fit, fit_varying, index, is_held, rest, substr, to_char,
 };
-use pli_value::{index_is_the_first_place, string_examples};
-use std::alloc::{AllocError, Global};
+use std::alloc::Global;
 use std::cmp::Ordering::{self, Equal, Greater, Less};
+use std::process::Abort;
 use std::test::*;
 
 static ORDERS: [(&str, &str, Ordering); 14] = [
@@ -111,78 +112,104 @@ static LENGTHS: [(usize, usize, Option<usize>); 8] = [
     (1, STRING_LIMIT, None),
 ];
 
+/// The characters of CHARACTER of this length that holds a string.
+fn fitted(rt: &impl Abort, alloc: Global, string: &[u8], size: usize) -> Vec<u8> {
+    fit(alloc, string, size).expect(rt, "memory")
+}
+
 /// How long `||` of two strings of these lengths is.
-fn joined(alloc: Global, left: usize, right: usize) -> Result<Option<usize>, AllocError> {
-    let left = fit(alloc, b"A", left.min(STRING_LIMIT))?;
-    let right = fit(alloc, b"B", right.min(STRING_LIMIT))?;
-    match concat(alloc, &left, &right)? {
-        Some(string) => Ok(Some(string.len())),
-        None => Ok(None),
+fn joined(rt: &impl Abort, alloc: Global, left: usize, right: usize) -> Option<usize> {
+    let left = fitted(rt, alloc, b"A", left.min(STRING_LIMIT));
+    let right = fitted(rt, alloc, b"B", right.min(STRING_LIMIT));
+    match concat(alloc, &left, &right).expect(rt, "memory") {
+        Some(string) => Some(string.len()),
+        None => None,
     }
-}
-
-/// The length of what CHARACTER of this length holds of a string.
-fn fitted(alloc: Global, string: &[u8], size: usize) -> Result<usize, AllocError> {
-    Ok(fit(alloc, string, size)?.len())
 }
 
 #[test]
-fn orders_and_places() -> Result<(), Fail> {
-    for &(left, right, wanted) in &ORDERS {
-        if compare(left.as_bytes(), right.as_bytes()) != wanted {
-            return Err((left, right).into());
-        }
+fn orders_and_places(rt: HostRuntime) {
+    for row in 0..ORDERS.len() {
+        let (left, right, wanted) = ORDERS[row];
+        at_row(
+            &rt,
+            row,
+            compare(left.as_bytes(), right.as_bytes()) == wanted,
+        );
     }
-    for &(string, sought, wanted) in &PLACES {
-        if index(string.as_bytes(), sought.as_bytes()) != wanted {
-            return Err((string, sought).into());
-        }
+    for row in 0..PLACES.len() {
+        let (string, sought, wanted) = PLACES[row];
+        at_row(
+            &rt,
+            row,
+            index(string.as_bytes(), sought.as_bytes()) == wanted,
+        );
     }
-    Ok(())
+}
+
+/// Whether there are bytes, and they are those of a text, or there is neither.
+fn are(part: Option<&[u8]>, text: Option<&str>) -> bool {
+    match (part, text) {
+        (Some(bytes), Some(text)) => bytes == text.as_bytes(),
+        (None, None) => true,
+        _ => false,
+    }
 }
 
 #[test]
-fn parts() -> Result<(), Fail> {
-    for &(string, first, count, wanted) in &PARTS {
-        if substr(string.as_bytes(), first, count) != wanted.map(|part| part.as_bytes()) {
-            return Err((string, first, count).into());
-        }
+fn parts(rt: HostRuntime) {
+    for row in 0..PARTS.len() {
+        let (string, first, count, wanted) = PARTS[row];
+        at_row(
+            &rt,
+            row,
+            are(substr(string.as_bytes(), first, count), wanted),
+        );
     }
-    for &(string, first, wanted) in &RESTS {
-        if rest(string.as_bytes(), first) != wanted.map(|part| part.as_bytes()) {
-            return Err((string, first, -1).into());
-        }
+    for row in 0..RESTS.len() {
+        let (string, first, wanted) = RESTS[row];
+        at_row(&rt, row, are(rest(string.as_bytes(), first), wanted));
     }
-    Ok(())
+}
+
+/// Whether a number is written in so many characters, as a text is, and in no fewer than that needs.
+fn is_written(rt: &impl Abort, alloc: Global, number: i64, width: usize, wanted: &str) -> bool {
+    let fewer = wanted.trim_start().len().saturating_sub(1);
+    if !is_held(number, width) || is_held(number, fewer) {
+        return false;
+    }
+    let text = to_char(alloc, number, width).expect(rt, "memory");
+    text.as_slice() == wanted.as_bytes()
 }
 
 #[test]
-fn assignments(rt: HostRuntime) -> Result<(), Fail> {
-    for &(string, size, fixed, varying) in &ASSIGNED {
-        let new = fit(rt.alloc(), string.as_bytes(), size)?;
-        let held = fit_varying(string.as_bytes(), size);
-        if new.as_slice() != fixed.as_bytes() || held != varying.as_bytes() {
-            return Err((string, size).into());
-        }
+fn assignments_and_numbers(rt: HostRuntime) {
+    let alloc = rt.alloc();
+    for row in 0..ASSIGNED.len() {
+        let (string, size, fixed, varying) = ASSIGNED[row];
+        let new = fitted(&rt, alloc, string.as_bytes(), size);
+        at_row(&rt, row, new.as_slice() == fixed.as_bytes());
+        at_row(
+            &rt,
+            row,
+            fit_varying(string.as_bytes(), size) == varying.as_bytes(),
+        );
     }
-    Ok(())
+    for row in 0..NUMBERS.len() {
+        let (number, width, wanted) = NUMBERS[row];
+        at_row(&rt, row, is_written(&rt, alloc, number, width, wanted));
+    }
 }
 
 #[test]
-fn concatenations(rt: HostRuntime) -> Result<(), Fail> {
-    let both = concat(rt.alloc(), b"AB", b"C")?;
+fn concatenations(rt: HostRuntime) {
+    let alloc = rt.alloc();
+    let both = concat(alloc, b"AB", b"C").expect(&rt, "memory");
     assert!(rt; both.as_deref() == Some(b"ABC".as_slice()));
-    Ok(())
-}
-
-#[test]
-fn long_concatenations(rt: HostRuntime) -> Result<(), Fail> {
-    for &(left, right, wanted) in &LENGTHS {
-        if joined(rt.alloc(), left, right)? != wanted {
-            return Err((left, right).into());
-        }
+    for row in 0..LENGTHS.len() {
+        let (left, right, wanted) = LENGTHS[row];
+        at_row(&rt, row, joined(&rt, alloc, left, right) == wanted);
     }
-    Ok(())
 }
 
 /// Whether the places and parts of a string are right that has one `A`, its last character, the last that a string can
@@ -199,52 +226,27 @@ fn places_are_right(longest: &[u8]) -> bool {
 }
 
 #[test]
-fn longest_strings(rt: HostRuntime) -> Result<(), Fail> {
-    let mut longest = fit(rt.alloc(), b"", STRING_LIMIT)?;
-    let equal = compare(&longest, b"").is_eq() && compare(b" ", &longest).is_eq();
+fn longest_strings(rt: HostRuntime) {
+    let mut longest = fitted(&rt, rt.alloc(), b"", STRING_LIMIT);
+    assert!(rt; compare(&longest, b"").is_eq() && compare(b" ", &longest).is_eq());
     if let Some(last) = longest.last_mut() {
         *last = b'A';
     }
-    let greater = compare(&longest, b"").is_gt() && compare(b"", &longest).is_lt();
-    let places = places_are_right(&longest);
-    let one = fitted(rt.alloc(), &longest, 1)?;
-    assert_eq!(rt; (equal, greater, places, one), (true, true, true, 1));
-    Ok(())
+    assert!(rt; compare(&longest, b"").is_gt() && compare(b"", &longest).is_lt());
+    assert!(rt; places_are_right(&longest));
+    assert!(rt; fitted(&rt, rt.alloc(), &longest, 1).len() == 1);
 }
 
 #[test]
-fn searches_are_linear(rt: HostRuntime) -> Result<(), Fail> {
-    let mut string = fit(rt.alloc(), b"", STRING_LIMIT)?;
+fn searches_are_linear(rt: HostRuntime) {
+    let mut string = fitted(&rt, rt.alloc(), b"", STRING_LIMIT);
     string.fill(b'A');
-    let mut sought = fit(rt.alloc(), b"", STRING_LIMIT / 2)?;
+    let mut sought = fitted(&rt, rt.alloc(), b"", STRING_LIMIT / 2);
     sought.fill(b'A');
-    sought.push(b'B')?;
+    sought.push(b'B').expect(&rt, "memory");
     let mut found = 0;
     for _ in 0..10 {
         found |= index(&string, &sought);
     }
     assert!(rt; found == 0);
-    Ok(())
-}
-
-#[test]
-fn laws_of_strings() {
-    index_is_the_first_place();
-    string_examples();
-}
-
-#[test]
-fn numbers_as_characters(rt: HostRuntime) -> Result<(), Fail> {
-    for &(number, width, wanted) in &NUMBERS {
-        let held = is_held(number, width);
-        let less = is_held(number, wanted.trim_start().len().saturating_sub(1));
-        if !held || less {
-            return Err((number, width).into());
-        }
-        let text = to_char(rt.alloc(), number, width)?;
-        if text.as_slice() != wanted.as_bytes() {
-            return Err((number, width).into());
-        }
-    }
-    Ok(())
 }

@@ -1,11 +1,12 @@
 //! Units that are linked, with what a link gives of them.
-use pli_base::Name;
+use crate::tests::named;
 use pli_link::{CompiledUnit, LinkError, LinkFault, LinkedName, NamedUnit, link};
 use pli_map::{Bounds, Description};
-use pli_text_tests::{Shown, agree};
+use pli_text_tests::Shown;
 use pli_unit_code::{Code, CodedGlobal, CodedSignature, CodedTemplate, Instruction, Module};
-use std::alloc::{AllocError, Global};
-use std::test::Fail;
+use std::alloc::Global;
+use std::process::Abort;
+use std::test::*;
 
 /// A unit, its procedure, and whether that is a main procedure.
 type Row = (&'static str, &'static str, bool);
@@ -58,11 +59,6 @@ static CASES: [Case; 9] = [
     ),
 ];
 
-/// The name that is spelled so.
-pub fn named(name: &str) -> Result<Name, Fail> {
-    Ok(Name::read(name.as_bytes()).ok_or("a name")?)
-}
-
 /// What a procedure without parameters and result takes and gives.
 fn no_signature(alloc: Global) -> CodedSignature {
     CodedSignature {
@@ -72,29 +68,30 @@ fn no_signature(alloc: Global) -> CodedSignature {
 }
 
 /// Code of one step, without tables.
-fn code_of(alloc: Global, statement: u32) -> Result<Code, AllocError> {
-    Ok(Code {
+fn code_of(rt: &impl Abort, alloc: Global, statement: u32) -> Code {
+    let step = [Instruction::Step { statement }];
+    Code {
         signature: no_signature(alloc),
         descriptions: Vec::new(alloc),
         templates: Vec::new(alloc),
         values: Vec::new(alloc),
         globals: Vec::new(alloc),
         blocks: Vec::new(alloc),
-        instructions: Vec::from_slice(alloc, &[Instruction::Step { statement }])?,
-    })
+        instructions: Vec::from_array(alloc, step).expect(rt, "memory"),
+    }
 }
 
 /// A unit of one step, whose number is the place of the unit.
-fn compiled(alloc: Global, row: Row, place: usize) -> Result<NamedUnit, Fail> {
-    let statement = u32::try_from(place).ok().ok_or("a place")?;
-    Ok(NamedUnit {
-        unit: named(row.0)?,
+fn compiled(rt: &impl Abort, alloc: Global, row: Row, place: usize) -> NamedUnit {
+    let statement = u32::try_from(place).ok().expect(rt, "a place");
+    NamedUnit {
+        unit: named(rt, row.0),
         compiled: CompiledUnit {
-            procedure: named(row.1)?,
+            procedure: named(rt, row.1),
             is_main: row.2,
-            code: code_of(alloc, statement)?,
+            code: code_of(rt, alloc, statement),
         },
-    })
+    }
 }
 
 /// Puts a fault with its name and unit.
@@ -106,102 +103,117 @@ fn show_name(text: &mut Shown, label: &str, linked: LinkedName) {
     text.put(";");
 }
 
-/// Faults, each with its name and unit.
-fn told(alloc: Global, faults: &[LinkFault]) -> Result<String, AllocError> {
-    let mut text = Shown::new(alloc);
-    for fault in faults {
-        match *fault {
-            LinkFault::NoMainProcedure => text.put("N1;"),
-            LinkFault::TwoMainProcedures(name) => show_name(&mut text, "N2 ", name),
-            LinkFault::Unresolved(name) => show_name(&mut text, "N3 ", name),
-            LinkFault::DefinedTwice(name) => show_name(&mut text, "N4 ", name),
-            LinkFault::Mismatch(name) => show_name(&mut text, "N5 ", name),
-            LinkFault::ModuleTooLarge => text.put("N6;"),
-        }
+/// Puts a fault.
+fn show_fault(text: &mut Shown, fault: LinkFault) {
+    match fault {
+        LinkFault::NoMainProcedure => text.put("N1;"),
+        LinkFault::TwoMainProcedures(name) => show_name(text, "N2 ", name),
+        LinkFault::Unresolved(name) => show_name(text, "N3 ", name),
+        LinkFault::DefinedTwice(name) => show_name(text, "N4 ", name),
+        LinkFault::Mismatch(name) => show_name(text, "N5 ", name),
+        LinkFault::ModuleTooLarge => text.put("N6;"),
     }
-    text.into_text()
 }
 
-/// The main unit of a module, and the number of the one step that it has.
-fn one_step(alloc: Global, module: &Module) -> Result<String, AllocError> {
-    let mut text = Shown::new(alloc);
+/// Puts the main unit of a module, and the number of the one step that it has.
+fn show_step(text: &mut Shown, module: &Module) {
     let Some(main) = module.units.get(usize::from(module.main)) else {
-        text.put("no main unit");
-        return text.into_text();
+        return text.put("no main unit");
     };
     text.put_bytes(main.unit.bytes());
     match main.code.instructions.as_slice() {
         [Instruction::Step { statement }] => text.put_number(" ", u64::from(*statement)),
         _ => text.put(" with another number of steps"),
     }
-    text.into_text()
 }
 
-/// What a link of these compiled units gives.
-fn linked_units(alloc: Global, units: Vec<NamedUnit>) -> Result<String, AllocError> {
+/// Puts what a link of these compiled units gives: the module, or its faults.
+fn show_linked(text: &mut Shown, alloc: Global, units: Vec<NamedUnit>) {
     match link(alloc, units) {
-        Ok(module) => one_step(alloc, &module),
-        Err(LinkError::Faults(faults)) => told(alloc, &faults),
-        Err(LinkError::OutOfMemory) => Err(AllocError),
+        Ok(module) => show_step(text, &module),
+        Err(LinkError::Faults(faults)) => {
+            for fault in &faults {
+                show_fault(text, *fault);
+            }
+        }
+        Err(LinkError::OutOfMemory) => text.refuse(),
     }
+}
+
+/// Fails unless a link of these compiled units gives this.
+fn is_linked(rt: &impl Abort, alloc: Global, units: Vec<NamedUnit>, wanted: &str) {
+    let mut shown = Shown::new(alloc);
+    show_linked(&mut shown, alloc, units);
+    let text = shown.into_text().expect(rt, "memory");
+    assert!(rt; text.as_str() == wanted, "{text}");
 }
 
 /// How many variables of so many times so many bytes each a unit has.
 type Size = (u32, i16, i16);
 
 /// An array of so many times so many bytes.
-fn array_of(alloc: Global, rows: i16, columns: i16) -> Result<Description, AllocError> {
+fn array_of(rt: &impl Abort, alloc: Global, rows: i16, columns: i16) -> Description {
     let row = Bounds { low: 1, high: rows };
     let column = Bounds {
         low: 1,
         high: columns,
     };
-    Ok(Description::Array {
-        bounds: Vec::from_slice(alloc, &[row, column])?,
-        element: Box::new(alloc, Description::Character(1))?,
-    })
+    Description::Array {
+        bounds: Vec::from_slice(alloc, &[row, column]).expect(rt, "memory"),
+        element: Box::new(alloc, Description::Character(1)).expect(rt, "memory"),
+    }
+}
+
+/// Adds a template of a variable of this description, which has its number.
+fn add_template(rt: &impl Abort, alloc: Global, code: &mut Code, description: Description) -> u16 {
+    let number = u16::try_from(code.templates.len())
+        .ok()
+        .expect(rt, "a number");
+    let template = CodedTemplate {
+        description: number,
+        initial: Vec::new(alloc),
+    };
+    code.templates.push(template).expect(rt, "memory");
+    code.descriptions.push(description).expect(rt, "memory");
+    number
 }
 
 /// Adds a variable of so many times so many bytes to those that are made before the program begins.
-fn add_global(alloc: Global, code: &mut Code, rows: i16, columns: i16) -> Result<(), Fail> {
-    let number = u16::try_from(code.templates.len()).ok().ok_or("a number")?;
-    code.globals
-        .push(CodedGlobal::OwnVariable { template: number })?;
-    code.templates.push(CodedTemplate {
-        description: number,
-        initial: Vec::new(alloc),
-    })?;
-    code.descriptions.push(array_of(alloc, rows, columns)?)?;
-    Ok(())
+fn add_global(rt: &impl Abort, alloc: Global, code: &mut Code, rows: i16, columns: i16) {
+    let array = array_of(rt, alloc, rows, columns);
+    let global = CodedGlobal::OwnVariable {
+        template: add_template(rt, alloc, code, array),
+    };
+    code.globals.push(global).expect(rt, "memory");
 }
 
 /// A unit with variables of these sizes.
-fn compiled_with(alloc: Global, row: Row, place: usize, sizes: &[Size]) -> Result<NamedUnit, Fail> {
-    let mut unit = compiled(alloc, row, place)?;
+fn compiled_with(
+    rt: &impl Abort,
+    alloc: Global,
+    row: Row,
+    place: usize,
+    sizes: &[Size],
+) -> NamedUnit {
+    let mut unit = compiled(rt, alloc, row, place);
     for &(count, rows, columns) in sizes {
         for _ in 0..count {
-            add_global(alloc, &mut unit.compiled.code, rows, columns)?;
+            add_global(rt, alloc, &mut unit.compiled.code, rows, columns);
         }
     }
-    Ok(unit)
+    unit
 }
 
-/// What a link of the units gives, where the main procedure's has variables of these sizes.
-fn linked(alloc: Global, rows: &[Row], sizes: &[Size]) -> Result<String, Fail> {
+/// Units, where the main procedure's has variables of these sizes.
+fn units_of(rt: &impl Abort, alloc: Global, rows: &[Row], sizes: &[Size]) -> Vec<NamedUnit> {
     let mut units = Vec::new(alloc);
-    for (place, row) in rows.iter().enumerate() {
+    for place in 0..rows.len() {
+        let row = rows[place];
         let sizes = if row.2 { sizes } else { &[] };
-        units.push(compiled_with(alloc, *row, place, sizes)?)?;
+        let unit = compiled_with(rt, alloc, row, place, sizes);
+        units.push(unit).expect(rt, "memory");
     }
-    Ok(linked_units(alloc, units)?)
-}
-
-#[test]
-fn units(rt: HostRuntime) -> Result<(), Fail> {
-    for &(rows, wanted) in &CASES {
-        agree(wanted, &linked(rt.alloc(), rows, &[])?, wanted)?;
-    }
-    Ok(())
+    units
 }
 
 /// Sizes of the main unit's variables, and what a link of it behind another gives.
@@ -216,12 +228,15 @@ static SIZES: [(&[Size], &str); 6] = [
 ];
 
 #[test]
-fn variables_of_the_program(rt: HostRuntime) -> Result<(), Fail> {
+fn units_are_linked(rt: HostRuntime) {
+    let alloc = rt.alloc();
+    for &(rows, wanted) in &CASES {
+        is_linked(&rt, alloc, units_of(&rt, alloc, rows, &[]), wanted);
+    }
     let rows = [("A", "F", false), ("M", "M", true)];
     for &(sizes, wanted) in &SIZES {
-        agree(wanted, &linked(rt.alloc(), &rows, sizes)?, wanted)?;
+        is_linked(&rt, alloc, units_of(&rt, alloc, &rows, sizes), wanted);
     }
-    Ok(())
 }
 
 /// An external variable of so many characters, or the entry of a procedure without parameters.
@@ -231,29 +246,25 @@ enum Shared {
     Entry,
 }
 
-/// Adds what is shared under a name.
-fn add_shared(alloc: Global, code: &mut Code, name: &str, shared: Shared) -> Result<(), Fail> {
-    let name = named(name)?;
+/// What is shared under a name, of which a variable's template is added.
+fn shared_as(
+    rt: &impl Abort,
+    alloc: Global,
+    code: &mut Code,
+    name: &str,
+    shared: Shared,
+) -> CodedGlobal {
+    let name = named(rt, name);
     match shared {
-        Shared::Characters(length) => {
-            let number = u16::try_from(code.templates.len()).ok().ok_or("a number")?;
-            code.descriptions.push(Description::Character(length))?;
-            code.templates.push(CodedTemplate {
-                description: number,
-                initial: Vec::new(alloc),
-            })?;
-            code.globals.push(CodedGlobal::ExternalVariable {
-                name,
-                template: number,
-            })?;
-        }
-        Shared::Entry => {
-            let signature = no_signature(alloc);
-            code.globals
-                .push(CodedGlobal::EntryPoint { name, signature })?;
-        }
+        Shared::Characters(length) => CodedGlobal::ExternalVariable {
+            name,
+            template: add_template(rt, alloc, code, Description::Character(length)),
+        },
+        Shared::Entry => CodedGlobal::EntryPoint {
+            name,
+            signature: no_signature(alloc),
+        },
     }
-    Ok(())
 }
 
 /// What each unit shares, by name.
@@ -312,23 +323,30 @@ static SHARED: [(&[SharedRow], &str); 4] = [
     ),
 ];
 
-/// What a link of units that share these gives.
-fn linked_sharing(alloc: Global, rows: &[SharedRow]) -> Result<String, Fail> {
-    let mut units = Vec::new(alloc);
-    for (place, row) in rows.iter().enumerate() {
-        let mut unit = compiled(alloc, row.0, place)?;
-        for &(name, shared) in row.1 {
-            add_shared(alloc, &mut unit.compiled.code, name, shared)?;
-        }
-        units.push(unit)?;
+/// A unit that shares these.
+fn sharing(rt: &impl Abort, alloc: Global, row: SharedRow, place: usize) -> NamedUnit {
+    let mut unit = compiled(rt, alloc, row.0, place);
+    for &(name, shared) in row.1 {
+        let global = shared_as(rt, alloc, &mut unit.compiled.code, name, shared);
+        unit.compiled.code.globals.push(global).expect(rt, "memory");
     }
-    Ok(linked_units(alloc, units)?)
+    unit
+}
+
+/// Units that share these.
+fn units_sharing(rt: &impl Abort, alloc: Global, rows: &[SharedRow]) -> Vec<NamedUnit> {
+    let mut units = Vec::new(alloc);
+    for place in 0..rows.len() {
+        let unit = sharing(rt, alloc, rows[place], place);
+        units.push(unit).expect(rt, "memory");
+    }
+    units
 }
 
 #[test]
-fn shared_names(rt: HostRuntime) -> Result<(), Fail> {
+fn shared_names(rt: HostRuntime) {
     for &(rows, wanted) in &SHARED {
-        agree(wanted, &linked_sharing(rt.alloc(), rows)?, wanted)?;
+        let units = units_sharing(&rt, rt.alloc(), rows);
+        is_linked(&rt, rt.alloc(), units, wanted);
     }
-    Ok(())
 }

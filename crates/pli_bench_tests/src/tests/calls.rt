@@ -1,12 +1,13 @@
 //! Calls of the system that are interrupted, give nothing or fail.
 ghost use Rattle.std.specs.Prelude.{None};
 
-use crate::devices::fill;
+use crate::tests::at_row;
+use crate::tests::devices::fill;
 use pli_base::{Device, Failed, Sink, Source};
 use pli_bench::{Bench, Next, ServeFault};
 use std::alloc::Global;
 use std::io::{self, ErrorKind, Read, Write};
-use std::test::Fail;
+use std::test::*;
 
 /// What a call comes to.
 #[derive(Clone, Copy)]
@@ -120,13 +121,12 @@ fn writes_so(outcomes: &'static [Outcome], written: Option<usize>, calls: usize)
 }
 
 #[test]
-fn one_read_and_one_write() -> Result<(), Fail> {
-    for (row, &(outcomes, read, written, calls)) in CALLS.iter().enumerate() {
-        if !reads_so(outcomes, read, calls) || !writes_so(outcomes, written, calls) {
-            return Err(row.into());
-        }
+fn one_read_and_one_write(rt: HostRuntime) {
+    for row in 0..CALLS.len() {
+        let (outcomes, read, written, calls) = CALLS[row];
+        at_row(&rt, row, reads_so(outcomes, read, calls));
+        at_row(&rt, row, writes_so(outcomes, written, calls));
     }
-    Ok(())
 }
 
 /// Outcomes of reads, with what serving them answers, what is written, and how many calls are made.
@@ -191,11 +191,13 @@ fn serves_so(
 }
 
 #[test]
-fn no_read_too_many(rt: HostRuntime) -> Result<(), Fail> {
-    for (row, &(outcomes, wanted, answers, calls)) in SERVED.iter().enumerate() {
-        if !serves_so(rt.alloc(), outcomes, wanted, answers, calls) {
-            return Err(row.into());
-        }
+fn no_read_too_many(rt: HostRuntime) {
+    for row in 0..SERVED.len() {
+        let (outcomes, wanted, answers, calls) = SERVED[row];
+        at_row(
+            &rt,
+            row,
+            serves_so(rt.alloc(), outcomes, wanted, answers, calls),
+        );
     }
-    Ok(())
 }

@@ -1,27 +1,28 @@
 //! Sessions that are long: listings, and units that come to a limit.
+use crate::tests::at_row;
 use pli_base::Device;
 use pli_bench::Bench;
 use pli_text_tests::Shown;
-use std::alloc::{AllocError, Global};
+use std::alloc::Global;
 use std::io::Cursor;
-use std::test::Fail;
+use std::process::Abort;
+use std::test::*;
 
 /// The answers of a new workbench to a session.
-fn answers(alloc: Global, session: &str) -> Result<Vec<u8>, Fail> {
+fn answers(rt: &impl Abort, alloc: Global, session: Shown) -> Vec<u8> {
+    let session = session.into_text().expect(rt, "memory");
     let mut bench = Bench::new(alloc, 1_000_000);
     let mut reader = Device::over(Cursor::new(session.as_bytes()));
     let mut writer = Device::over(Vec::new(alloc));
-    if bench.serve(&mut reader, &mut writer, 1_000_000).is_err() {
-        return Err("no answers".into());
-    }
-    Ok(writer.into_inner())
+    assert!(rt; bench.serve(&mut reader, &mut writer, 1_000_000).is_ok());
+    writer.into_inner()
 }
 
-/// Whether a new workbench answers a session so.
-fn is_answered(alloc: Global, session: Shown, wanted: Shown) -> Result<bool, Fail> {
-    let wanted = wanted.into_text()?;
-    let found = answers(alloc, &session.into_text()?)?;
-    Ok(found.as_slice() == wanted.as_bytes())
+/// Fails unless a new workbench answers a session so.
+fn is_answered(rt: &impl Abort, alloc: Global, session: Shown, wanted: Shown) {
+    let found = answers(rt, alloc, session);
+    let wanted = wanted.into_text().expect(rt, "memory");
+    assert!(rt; found.as_slice() == wanted.as_bytes());
 }
 
 /// Puts a text so many times behind what is shown.
@@ -44,7 +45,7 @@ const LINE: &str =
 
 /// Lines of all lengths, each typed behind the one before it, and all of them listed.
 #[test]
-fn lines_listed(rt: HostRuntime) -> Result<(), Fail> {
+fn lines_listed(rt: HostRuntime) {
     let mut session = Shown::new(rt.alloc());
     let mut wanted = Shown::new(rt.alloc());
     session.put("ADD M SOURCE\n");
@@ -58,12 +59,11 @@ fn lines_listed(rt: HostRuntime) -> Result<(), Fail> {
     }
     session.put("LIST M\n");
     wanted.put("OK\n");
-    assert!(rt; is_answered(rt.alloc(), session, wanted)?);
-    Ok(())
+    is_answered(&rt, rt.alloc(), session, wanted);
 }
 
 #[test]
-fn members_listed(rt: HostRuntime) -> Result<(), Fail> {
+fn members_listed(rt: HostRuntime) {
     let mut session = Shown::new(rt.alloc());
     let mut wanted = Shown::new(rt.alloc());
     put_often(&mut wanted, "OK\n", 400);
@@ -75,8 +75,7 @@ fn members_listed(rt: HostRuntime) -> Result<(), Fail> {
     }
     session.put("MEMBERS\n");
     wanted.put("OK\n");
-    assert!(rt; is_answered(rt.alloc(), session, wanted)?);
-    Ok(())
+    is_answered(&rt, rt.alloc(), session, wanted);
 }
 
 /// A main procedure with a line to be typed many times.
@@ -138,21 +137,19 @@ static LIMITS: [Limit; 5] = [
 ];
 
 /// The commands that type a unit and build it.
-fn typed(alloc: Global, limit: &Limit) -> Result<String, AllocError> {
+fn typed(alloc: Global, limit: &Limit) -> Shown {
     let mut session = Shown::new(alloc);
     session.put(limit.front);
     put_often(&mut session, limit.line, limit.times);
     session.put("BUILD\n");
-    session.into_text()
+    session
 }
 
 #[test]
-fn limits_of_units(rt: HostRuntime) -> Result<(), Fail> {
-    for (place, limit) in LIMITS.iter().enumerate() {
-        let session = typed(rt.alloc(), limit)?;
-        if !answers(rt.alloc(), &session)?.ends_with(limit.end.as_bytes()) {
-            return Err(place.into());
-        }
+fn limits_of_units(rt: HostRuntime) {
+    for row in 0..LIMITS.len() {
+        let limit = &LIMITS[row];
+        let found = answers(&rt, rt.alloc(), typed(rt.alloc(), limit));
+        at_row(&rt, row, found.ends_with(limit.end.as_bytes()));
     }
-    Ok(())
 }

@@ -1,7 +1,9 @@
+use crate::tests::at_row;
 use pli_declare_constructs::Nesting;
 use pli_declare_outline::{Region, RegionKind};
 use std::alloc::Global;
-use std::test::Fail;
+use std::process::Abort;
+use std::test::*;
 
 /// A region: its kind, and the number of the one that it stands in.
 type Row = (RegionKind, Option<usize>);
@@ -20,15 +22,12 @@ static REGIONS: [Row; 10] = [
     (RegionKind::Group, Some(8)),
 ];
 
-fn nesting(alloc: Global, rows: &[Row]) -> Result<Nesting, Fail> {
+fn nesting(rt: &impl Abort, alloc: Global, rows: &[Row]) -> Nesting {
     let mut regions = Vec::new(alloc);
-    for (kind, outer) in rows {
-        regions.push(Region {
-            kind: *kind,
-            outer: *outer,
-        })?;
+    for &(kind, outer) in rows {
+        regions.push(Region { kind, outer }).expect(rt, "memory");
     }
-    Ok(Nesting::new(alloc, &regions)?)
+    Nesting::new(alloc, &regions).expect(rt, "memory")
 }
 
 /// Regions, with the block that each stands in.
@@ -46,16 +45,6 @@ static INNERMOST: [(usize, Option<usize>); 11] = [
     (10, None),
 ];
 
-/// Fails at the first region that stands in another block.
-fn stand_in_their_blocks(nesting: &Nesting) -> Result<(), Fail> {
-    for &(region, block) in &INNERMOST {
-        if nesting.innermost(region) != block {
-            return Err(region.into());
-        }
-    }
-    Ok(())
-}
-
 /// Regions, with the block outside the one that each stands in.
 static OUTWARDS: [(usize, Option<usize>); 6] = [
     (0, None),
@@ -66,17 +55,12 @@ static OUTWARDS: [(usize, Option<usize>); 6] = [
     (9, Some(0)),
 ];
 
-/// Fails at the first region whose block has another one outside it, or that has none.
-fn have_blocks_outwards(nesting: &Nesting) -> Result<(), Fail> {
-    for &(region, next) in &OUTWARDS {
-        let Some(block) = nesting.innermost(region) else {
-            return Err(region.into());
-        };
-        if nesting.outward(block) != next {
-            return Err(region.into());
-        }
+/// Whether the block that a region stands in has this one outside it.
+fn has_outside(nesting: &Nesting, region: usize, next: Option<usize>) -> bool {
+    match nesting.innermost(region) {
+        Some(block) => nesting.outward(block) == next,
+        None => false,
     }
-    Ok(())
 }
 
 /// Regions of which one stands in one that is not there, and one in itself.
@@ -93,13 +77,6 @@ fn stand_in_none(nesting: &Nesting) -> bool {
         && nesting.innermost(2).is_none()
         && nesting.reaches(2, 2)
         && !nesting.reaches(1, 2)
-}
-
-#[test]
-fn regions_in_none(rt: HostRuntime) -> Result<(), Fail> {
-    let nesting = nesting(rt.alloc(), &IN_NONE)?;
-    assert!(rt; stand_in_none(&nesting));
-    Ok(())
 }
 
 /// Regions of a GOTO and of a label, and whether it is reached.
@@ -125,20 +102,21 @@ static REACHED: [(usize, usize, bool); 19] = [
     (10, 10, false),
 ];
 
-/// Fails at the first region from which a label is reached that should not be, or not one that should.
-fn are_reached(nesting: &Nesting) -> Result<(), Fail> {
-    for &(from, label, reached) in &REACHED {
-        if nesting.reaches(from, label) != reached {
-            return Err((from, label).into());
-        }
-    }
-    Ok(())
-}
-
 #[test]
-fn regions_of_a_unit(rt: HostRuntime) -> Result<(), Fail> {
-    let nesting = nesting(rt.alloc(), &REGIONS)?;
-    stand_in_their_blocks(&nesting)?;
-    have_blocks_outwards(&nesting)?;
-    are_reached(&nesting)
+fn regions_of_a_unit(rt: HostRuntime) {
+    let unit = nesting(&rt, rt.alloc(), &REGIONS);
+    for row in 0..INNERMOST.len() {
+        let (region, block) = INNERMOST[row];
+        at_row(&rt, row, unit.innermost(region) == block);
+    }
+    for row in 0..OUTWARDS.len() {
+        let (region, next) = OUTWARDS[row];
+        at_row(&rt, row, has_outside(&unit, region, next));
+    }
+    for row in 0..REACHED.len() {
+        let (from, label, reached) = REACHED[row];
+        at_row(&rt, row, unit.reaches(from, label) == reached);
+    }
+    drop(unit);
+    assert!(rt; stand_in_none(&nesting(&rt, rt.alloc(), &IN_NONE)));
 }

@@ -1,10 +1,11 @@
 //! The program over memory: its statuses, and what it tells.
-use crate::devices::{Kept, Pieces};
+use crate::tests::devices::{Kept, Pieces};
 use pli_base::Device;
 use pli_command_line::{ArgumentsError, go, refuse, serve};
 use std::alloc::Global;
 use std::io::Cursor;
-use std::test::Fail;
+use std::process::Abort;
+use std::test::*;
 
 /// A member typed, built and run.
 const PROGRAM: &str = "ADD M SOURCE\nINSERT M 0 M: PROC OPTIONS(MAIN); ; END;\nBUILD\nRUN\n";
@@ -12,25 +13,29 @@ const PROGRAM: &str = "ADD M SOURCE\nINSERT M 0 M: PROC OPTIONS(MAIN); ; END;\nB
 /// What the program is answered.
 const ANSWERS: &[u8] = b"OK\nOK\nBUILT\nENDED\n";
 
-/// Words of the command line, behind the program's name.
-fn words_of(alloc: Global, words: &[&str]) -> Result<Vec<String>, Fail> {
+/// A word of the command line.
+fn word(rt: &impl Abort, alloc: Global, text: &str) -> String {
+    String::from_str(alloc, text).expect(rt, "memory")
+}
+
+/// Words of the command line, behind the program's name, which is an option here.
+fn words_of(rt: &impl Abort, alloc: Global, words: &[&str]) -> Vec<String> {
     let mut given = Vec::new(alloc);
-    given.push(String::from_str(alloc, "--steps")?)?;
-    for word in words {
-        given.push(String::from_str(alloc, word)?)?;
+    given.push(word(rt, alloc, "--steps")).expect(rt, "memory");
+    for text in words {
+        given.push(word(rt, alloc, text)).expect(rt, "memory");
     }
-    Ok(given)
+    given
 }
 
 /// What `go` answers for words behind the program's name and an input: its status, what it writes, and what it tells.
-fn ran(rt: &HostRuntime, words: &[&str], input: &str) -> Result<(u8, Vec<u8>, Vec<u8>), Fail> {
-    let alloc = rt.alloc();
-    let given = words_of(alloc, words)?;
+fn ran(rt: &impl Abort, alloc: Global, words: &[&str], input: &str) -> (u8, Vec<u8>, Vec<u8>) {
+    let given = words_of(rt, alloc, words);
     let mut reader = Device::over(Cursor::new(input.as_bytes()));
     let mut writer = Device::over(Vec::new(alloc));
     let mut errors = Device::over(Vec::new(alloc));
     let status = go(alloc, &given, &mut reader, &mut writer, &mut errors);
-    Ok((status, writer.into_inner(), errors.into_inner()))
+    (status, writer.into_inner(), errors.into_inner())
 }
 
 /// Wrong words with the text that tells what is wrong with them, and the word that asks for help with the help.
@@ -62,22 +67,22 @@ static WRONG: [(&[&str], &str); 6] = [
 ];
 
 #[test]
-fn statuses(rt: HostRuntime) -> Result<(), Fail> {
-    let (status, text, told) = ran(&rt, &[], PROGRAM)?;
+fn statuses(rt: HostRuntime) {
+    let alloc = rt.alloc();
+    let (status, text, told) = ran(&rt, alloc, &[], PROGRAM);
     assert_eq!(rt; status, 0);
     assert!(rt; text.as_slice() == ANSWERS);
     assert!(rt; told.is_empty());
-    let (status, text, told) = ran(&rt, &["--steps", "1"], PROGRAM)?;
+    let (status, text, told) = ran(&rt, alloc, &["--steps", "1"], PROGRAM);
     assert_eq!(rt; status, 0);
     assert!(rt; text.as_slice() == b"OK\nOK\nBUILT\nOUT OF STEPS\n".as_slice());
     assert!(rt; told.is_empty());
     for &(words, wanted) in &WRONG {
-        let (status, text, told) = ran(&rt, words, PROGRAM)?;
+        let (status, text, told) = ran(&rt, alloc, words, PROGRAM);
         assert_eq!(rt; status, 2, "{wanted}");
         assert!(rt; text.is_empty(), "{wanted}");
         assert!(rt; told.as_slice() == wanted.as_bytes(), "{wanted}");
     }
-    Ok(())
 }
 
 /// A reader of the program, which moves a few bytes so many times.

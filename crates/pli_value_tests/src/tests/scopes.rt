@@ -1,3 +1,4 @@
+use crate::tests::at_row;
 use pli_base::Name;
 use pli_declare_scopes::{
     Block, Declared, Found, Meant, Scope, Standing, Verdict, Written, bad_levels_are_found,
@@ -5,110 +6,117 @@ use pli_declare_scopes::{
     meant_is_means, owners_are_nearest, standings, verdicts,
 };
 use std::alloc::Global;
-use std::test::Fail;
+use std::process::Abort;
+use std::test::*;
 
 /// A declared item: its level, if one is written, and its name.
 type Row = (Option<u32>, &'static str);
 
-fn name(text: &str) -> Result<Name, Fail> {
-    Ok(Name::read(text.as_bytes()).ok_or("a name")?)
+fn name(rt: &impl Abort, text: &str) -> Name {
+    Name::read(text.as_bytes()).expect(rt, "a name")
 }
 
-fn written(alloc: Global, rows: &[Row]) -> Result<Vec<Written>, Fail> {
+/// The levels of items.
+fn levels(rt: &impl Abort, alloc: Global, rows: &[Row]) -> Vec<Option<u32>> {
     let mut levels = Vec::new(alloc);
-    for (level, _) in rows {
-        levels.push(*level)?;
+    for &(level, _) in rows {
+        levels.push(level).expect(rt, "memory");
     }
-    let stand = standings(alloc, &levels)?;
+    levels
+}
+
+/// How items stand.
+fn stand(rt: &impl Abort, alloc: Global, rows: &[Row]) -> Vec<Standing> {
+    let levels = levels(rt, alloc, rows);
+    standings(alloc, &levels).expect(rt, "memory")
+}
+
+fn written(rt: &impl Abort, alloc: Global, rows: &[Row]) -> Vec<Written> {
+    let stand = stand(rt, alloc, rows);
     let mut items = Vec::new(alloc);
-    for (number, (_, text)) in rows.iter().enumerate() {
-        items.push(Written {
-            name: name(text)?,
-            owner: stand.get(number).ok_or("a standing")?.owner,
-        })?;
+    for number in 0..rows.len() {
+        let item = Written {
+            name: name(rt, rows[number].1),
+            owner: stand.get(number).expect(rt, "a standing").owner,
+        };
+        items.push(item).expect(rt, "memory");
     }
-    Ok(items)
+    items
 }
 
 /// Declares an item in a block, whose owner stands there already.
-fn declare(block: &mut Block, item: &Written, counts: bool) -> Result<(), Fail> {
+fn declare(rt: &impl Abort, block: &mut Block, item: &Written, counts: bool) {
     if let Some(owner) = item.owner {
-        if owner >= block.len() {
-            return Err("an owner before its member".into());
-        }
+        assert!(rt; owner < block.len());
     }
-    block.declare(Declared {
+    let declared = Declared {
         name: item.name,
         owner: item.owner,
         counts,
-    })?;
-    Ok(())
+    };
+    block.declare(declared).expect(rt, "memory");
+}
+
+/// The verdicts on items.
+fn judged(rt: &impl Abort, alloc: Global, items: &[Written]) -> Vec<Verdict> {
+    verdicts(alloc, items).expect(rt, "memory")
 }
 
 /// The block that declares these items, those that count and those that do not.
-fn block(alloc: Global, rows: &[Row]) -> Result<Block, Fail> {
-    let items = written(alloc, rows)?;
-    let judged = verdicts(alloc, &items)?;
+fn block(rt: &impl Abort, alloc: Global, rows: &[Row]) -> Block {
+    let items = written(rt, alloc, rows);
+    let judged = judged(rt, alloc, &items);
     let mut block = Block::new(alloc);
-    for (number, item) in items.iter().enumerate() {
+    for number in 0..items.len() {
         let counts = judged.get(number) == Some(&Verdict::Counts);
-        declare(&mut block, item, counts)?;
+        declare(rt, &mut block, &items[number], counts);
     }
-    Ok(block)
+    block
 }
 
 /// The scope that has only the block of these items.
-fn scope(alloc: Global, rows: &[Row]) -> Result<Scope, Fail> {
+fn scope(rt: &impl Abort, alloc: Global, rows: &[Row]) -> Scope {
     let mut scope = Scope::new(alloc);
-    scope.open_block(block(alloc, rows)?)?;
-    Ok(scope)
+    let block = block(rt, alloc, rows);
+    scope.open_block(block).expect(rt, "memory");
+    scope
 }
 
 /// The names of a reference, which has dots between them.
-fn names(alloc: Global, reference: &str) -> Result<Vec<Name>, Fail> {
+fn names(rt: &impl Abort, alloc: Global, reference: &str) -> Vec<Name> {
     let mut names = Vec::new(alloc);
     for part in reference.split('.') {
-        names.push(name(part)?)?;
+        names.push(name(rt, part)).expect(rt, "memory");
     }
-    Ok(names)
-}
-
-/// What a reference means.
-fn mean(alloc: Global, scope: &Scope, reference: &str) -> Result<Meant, Fail> {
-    let names = names(alloc, reference)?;
-    Ok(scope.look_up(&names))
+    names
 }
 
 /// Fails with a reference, unless it means this.
-fn means(alloc: Global, scope: &Scope, reference: &str, want: Meant) -> Result<(), Fail> {
-    if mean(alloc, scope, reference)? == want {
-        return Ok(());
-    }
-    Err(reference.into())
+fn means(rt: &impl Abort, alloc: Global, scope: &Scope, reference: &str, want: Meant) {
+    let names = names(rt, alloc, reference);
+    let meant = scope.look_up(&names);
+    drop(names);
+    assert!(rt; meant == want, "{reference}");
 }
 
 /// Fails at the first reference that does not mean the item of its number in the innermost block.
-fn mean_here(alloc: Global, scope: &Scope, rows: &[(&str, usize)]) -> Result<(), Fail> {
+fn mean_here(rt: &impl Abort, alloc: Global, scope: &Scope, rows: &[(&str, usize)]) {
     for &(reference, number) in rows {
-        means(alloc, scope, reference, Meant::Item { number, block: 0 })?;
+        means(
+            rt,
+            alloc,
+            scope,
+            reference,
+            Meant::Item { number, block: 0 },
+        );
     }
-    Ok(())
 }
 
 /// Fails at the first reference that does not mean this.
-fn all_mean(alloc: Global, scope: &Scope, references: &[&str], want: Meant) -> Result<(), Fail> {
+fn all_mean(rt: &impl Abort, alloc: Global, scope: &Scope, references: &[&str], want: Meant) {
     for reference in references {
-        means(alloc, scope, reference, want)?;
+        means(rt, alloc, scope, reference, want);
     }
-    Ok(())
-}
-
-/// Fails unless no names at all mean nothing.
-fn mean_nothing(scope: &Scope) -> Result<(), Fail> {
-    if scope.look_up(&[]) == Meant::NotDeclared {
-        return Ok(());
-    }
-    Err("no names".into())
 }
 
 static ONE_TO_FIVE: [Row; 10] = [
@@ -158,18 +166,14 @@ static UNFIT: [&str; 10] = [
     "X.W",
 ];
 
-/// Fails at the first of these references that means something else.
-fn mean_in_one_block(alloc: Global, scope: &Scope) -> Result<(), Fail> {
-    mean_here(alloc, scope, &PARTLY_QUALIFIED)?;
-    all_mean(alloc, scope, &TIED, Meant::Ambiguous)?;
-    all_mean(alloc, scope, &UNFIT, Meant::NotDeclared)?;
-    mean_nothing(scope)
-}
-
 #[test]
-fn names_of_one_block(rt: HostRuntime) -> Result<(), Fail> {
-    let scope = scope(rt.alloc(), &ONE_TO_FIVE)?;
-    mean_in_one_block(rt.alloc(), &scope)
+fn names_of_one_block(rt: HostRuntime) {
+    let alloc = rt.alloc();
+    let scope = scope(&rt, alloc, &ONE_TO_FIVE);
+    mean_here(&rt, alloc, &scope, &PARTLY_QUALIFIED);
+    all_mean(&rt, alloc, &scope, &TIED, Meant::Ambiguous);
+    all_mean(&rt, alloc, &scope, &UNFIT, Meant::NotDeclared);
+    assert!(rt; scope.look_up(&[]) == Meant::NotDeclared);
 }
 
 /// Five nested blocks, from the outermost.
@@ -210,33 +214,25 @@ static WITHIN: [(usize, &str, Option<(usize, usize)>); 24] = [
 ];
 
 /// Fails at the first reference that does not mean in the nested block of this number what it should.
-fn mean_within(alloc: Global, scope: &Scope, depth: usize) -> Result<(), Fail> {
+fn mean_within(rt: &impl Abort, alloc: Global, scope: &Scope, depth: usize) {
     for &(within, reference, wanted) in &WITHIN {
+        let want = match wanted {
+            Some((number, block)) => Meant::Item { number, block },
+            None => Meant::NotDeclared,
+        };
         if within == depth {
-            let want = match wanted {
-                Some((number, block)) => Meant::Item { number, block },
-                None => Meant::NotDeclared,
-            };
-            means(alloc, scope, reference, want)?;
+            means(rt, alloc, scope, reference, want);
         }
     }
-    Ok(())
 }
 
-/// Opens the nested block of this number, and fails at the first reference there that means something else.
-fn mean_in_next(alloc: Global, scope: &mut Scope, depth: usize, rows: &[Row]) -> Result<(), Fail> {
-    scope.open_block(block(alloc, rows)?)?;
-    mean_within(alloc, scope, depth)
-}
-
-/// Opens the nested blocks in a scope without one, and fails at the first reference in it or in them that means something else.
-fn mean_in_each(alloc: Global, scope: &mut Scope) -> Result<(), Fail> {
-    mean_nothing(scope)?;
-    means(alloc, scope, "V", Meant::NotDeclared)?;
-    for (depth, rows) in NESTED.iter().enumerate() {
-        mean_in_next(alloc, scope, depth, rows)?;
+/// Opens the nested blocks in a scope, and fails at the first reference in them that means something else.
+fn mean_in_each(rt: &impl Abort, alloc: Global, scope: &mut Scope) {
+    for depth in 0..NESTED.len() {
+        let block = block(rt, alloc, &NESTED[depth]);
+        scope.open_block(block).expect(rt, "memory");
+        mean_within(rt, alloc, scope, depth);
     }
-    Ok(())
 }
 
 /// How many items the innermost block has, which is closed.
@@ -247,31 +243,24 @@ fn closed(scope: &mut Scope) -> Option<usize> {
     }
 }
 
-/// Closes the nested blocks, and fails unless A means what it should behind the first and behind the last.
-fn are_closed(alloc: Global, scope: &mut Scope) -> Result<(), Fail> {
+#[test]
+fn nested_blocks(rt: HostRuntime) {
+    let alloc = rt.alloc();
+    let mut scope = Scope::new(alloc);
+    assert!(rt; scope.look_up(&[]) == Meant::NotDeclared);
+    means(&rt, alloc, &scope, "V", Meant::NotDeclared);
+    mean_in_each(&rt, alloc, &mut scope);
+    assert!(rt; closed(&mut scope) == Some(4));
     let outer = Meant::Item {
         number: 0,
         block: 2,
     };
-    for depth in 0..NESTED.len() {
-        if closed(scope) != Some(4) {
-            return Err(depth.into());
-        }
-        if depth == 0 {
-            means(alloc, scope, "A", outer)?;
-        }
+    means(&rt, alloc, &scope, "A", outer);
+    for _ in 1..NESTED.len() {
+        assert!(rt; closed(&mut scope) == Some(4));
     }
-    if closed(scope).is_some() {
-        return Err("one more block".into());
-    }
-    means(alloc, scope, "A", Meant::NotDeclared)
-}
-
-#[test]
-fn nested_blocks(rt: HostRuntime) -> Result<(), Fail> {
-    let mut scope = Scope::new(rt.alloc());
-    mean_in_each(rt.alloc(), &mut scope)?;
-    are_closed(rt.alloc(), &mut scope)
+    assert!(rt; closed(&mut scope).is_none());
+    means(&rt, alloc, &scope, "A", Meant::NotDeclared);
 }
 
 /// References in the block of five levels, and what each fits.
@@ -282,32 +271,18 @@ static FITTED: [(&str, Found); 3] = [
 ];
 
 /// What a reference fits in a block.
-fn found(alloc: Global, block: &Block, reference: &str) -> Result<Found, Fail> {
-    let names = names(alloc, reference)?;
-    Ok(block.find(&names))
+fn found(rt: &impl Abort, alloc: Global, block: &Block, reference: &str) -> Found {
+    let names = names(rt, alloc, reference);
+    block.find(&names)
 }
 
-/// Fails unless a block declares Q and not A, and at the first reference that fits something else in it.
-fn fit(alloc: Global, block: &Block) -> Result<(), Fail> {
-    if !block.declares(name("Q")?) || block.declares(name("A")?) {
-        return Err("what it declares".into());
-    }
+#[test]
+fn blocks(rt: HostRuntime) {
+    let block = block(&rt, rt.alloc(), &ONE_TO_FIVE);
+    assert!(rt; block.declares(name(&rt, "Q")) && !block.declares(name(&rt, "A")));
     for &(reference, want) in &FITTED {
-        if found(alloc, block, reference)? != want {
-            return Err(reference.into());
-        }
+        assert!(rt; found(&rt, rt.alloc(), &block, reference) == want);
     }
-    Ok(())
-}
-
-#[test]
-fn blocks(rt: HostRuntime) -> Result<(), Fail> {
-    let block = block(rt.alloc(), &ONE_TO_FIVE)?;
-    fit(rt.alloc(), &block)
-}
-
-#[test]
-fn found_items(rt: HostRuntime) {
     let meant = Meant::Item {
         number: 2,
         block: 4,
@@ -379,13 +354,12 @@ fn stand_so(stand: &[Standing], wanted: &[(Option<usize>, bool)]) -> bool {
 }
 
 #[test]
-fn levels(rt: HostRuntime) -> Result<(), Fail> {
-    for (row, (levels, wanted)) in LEVELS.iter().enumerate() {
-        if !stand_so(&standings(rt.alloc(), levels)?, wanted) {
-            return Err(row.into());
-        }
+fn levels_are_told(rt: HostRuntime) {
+    for row in 0..LEVELS.len() {
+        let (levels, wanted) = LEVELS[row];
+        let stand = standings(rt.alloc(), levels).expect(&rt, "memory");
+        at_row(&rt, row, stand_so(&stand, wanted));
     }
-    Ok(())
 }
 
 /// Items of which some are declared twice.
@@ -424,77 +398,62 @@ static VERDICTS: [Verdict; 14] = [
     Verdict::Twice,
 ];
 
-/// The verdicts on those items.
-fn judged(alloc: Global) -> Result<Vec<Verdict>, Fail> {
-    let items = written(alloc, &REPEATED)?;
-    Ok(verdicts(alloc, &items)?)
-}
-
 #[test]
-fn declared_twice(rt: HostRuntime) -> Result<(), Fail> {
-    let judged = judged(rt.alloc())?;
+fn declared_twice(rt: HostRuntime) {
+    let items = written(&rt, rt.alloc(), &REPEATED);
+    let judged = judged(&rt, rt.alloc(), &items);
     assert!(rt; judged.as_slice() == VERDICTS.as_slice());
-    Ok(())
-}
-
-/// Fails at the first reference to those items that means something else.
-fn mean_so(alloc: Global, scope: &Scope) -> Result<(), Fail> {
-    mean_here(alloc, scope, &[("S.A.X", 2), ("A", 9), ("S", 0)])?;
-    all_mean(alloc, scope, &["X"], Meant::Ambiguous)?;
-    all_mean(alloc, scope, &["N", "A.Y"], Meant::NotDeclared)
 }
 
 #[test]
-fn names_declared_twice(rt: HostRuntime) -> Result<(), Fail> {
-    let scope = scope(rt.alloc(), &REPEATED)?;
-    mean_so(rt.alloc(), &scope)
+fn names_declared_twice(rt: HostRuntime) {
+    let alloc = rt.alloc();
+    let scope = scope(&rt, alloc, &REPEATED);
+    mean_here(&rt, alloc, &scope, &[("S.A.X", 2), ("A", 9), ("S", 0)]);
+    all_mean(&rt, alloc, &scope, &["X"], Meant::Ambiguous);
+    all_mean(&rt, alloc, &scope, &["N", "A.Y"], Meant::NotDeclared);
 }
 
 /// The name with this number in it.
-fn numbered(alloc: Global, number: usize) -> Result<Name, Fail> {
-    let text = format!(in alloc; "N{number}")?;
-    name(text.as_str())
+fn numbered(rt: &impl Abort, alloc: Global, number: usize) -> Name {
+    let text = format!(in alloc; "N{number}").expect(rt, "memory");
+    name(rt, text.as_str())
 }
 
 /// The block of 65,000 names with numbers.
-fn many(alloc: Global) -> Result<Block, Fail> {
+fn many(rt: &impl Abort, alloc: Global) -> Block {
     let mut block = Block::new(alloc);
     for number in 0..65_000 {
-        block.declare(Declared {
-            name: numbered(alloc, number)?,
+        let declared = Declared {
+            name: numbered(rt, alloc, number),
             owner: None,
             counts: true,
-        })?;
+        };
+        block.declare(declared).expect(rt, "memory");
     }
-    Ok(block)
+    block
 }
 
 /// The scope of that block and four inside it.
-fn many_nested(alloc: Global) -> Result<Scope, Fail> {
+fn many_nested(rt: &impl Abort, alloc: Global) -> Scope {
     let mut scope = Scope::new(alloc);
-    scope.open_block(many(alloc)?)?;
+    let outermost = many(rt, alloc);
+    scope.open_block(outermost).expect(rt, "memory");
     for _ in 0..4 {
-        scope.open_block(Block::new(alloc))?;
+        scope.open_block(Block::new(alloc)).expect(rt, "memory");
     }
-    Ok(scope)
+    scope
 }
 
-/// Looks up 100,000 of those names, and fails at the first that means something else.
-fn mean_their_numbers(alloc: Global, scope: &Scope) -> Result<(), Fail> {
+/// Looks up 100,000 of those names.
+#[test]
+fn many_names(rt: HostRuntime) {
+    let scope = many_nested(&rt, rt.alloc());
     for step in 0..100_000 {
         let number = step % 65_000;
-        let meant = scope.look_up(&[numbered(alloc, number)?]);
-        if meant != (Meant::Item { number, block: 4 }) {
-            return Err(number.into());
-        }
+        let meant = scope.look_up(&[numbered(&rt, rt.alloc(), number)]);
+        assert!(rt; meant == Meant::Item { number, block: 4 });
     }
-    Ok(())
-}
-
-#[test]
-fn many_names(rt: HostRuntime) -> Result<(), Fail> {
-    let scope = many_nested(rt.alloc())?;
-    mean_their_numbers(rt.alloc(), &scope)
 }
 
 #[test]

@@ -1,0 +1,117 @@
+//! Decks and modules: their bytes whole, cut and changed.
+use pli_deck::{write_deck, write_module};
+use pli_deck_read::{ReadError, read_deck, read_module};
+use std::alloc::Global;
+use std::process::Abort;
+use std::test::*;
+
+/// `M: PROC OPTIONS(MAIN); END;` as a deck.
+static SMALLEST: [u8; 39] = [
+    80, 76, 73, 68, 1, 1, 77, 1, 0, 255, 255, 0, 0, 0, 0, 0, 0, 0, 0, 0, 1, 0, 255, 255, 0, 0, 0,
+    0, 0, 0, 0, 0, 0, 0, 1, 0, 1, 9, 0,
+];
+
+/// `M: PROC OPTIONS(MAIN); DCL X BIT EXT, Q ENTRY(BIT); CALL Q(X); END;` as a deck.
+static CALLING: [u8; 73] = [
+    80, 76, 73, 68, 1, 1, 77, 1, 0, 255, 255, 0, 1, 4, 0, 1, 0, 1, 0, 0, 0, 0, 0, 0, 0, 0, 0, 2, 2,
+    1, 88, 0, 0, 4, 1, 81, 1, 0, 0, 255, 255, 0, 1, 0, 255, 255, 0, 0, 0, 0, 0, 0, 0, 0, 0, 0, 1,
+    0, 4, 1, 0, 0, 0, 3, 14, 0, 0, 7, 0, 1, 1, 9, 0,
+];
+
+/// The smallest deck as a module.
+static ONE_UNIT: [u8; 58] = [
+    80, 76, 73, 77, 1, 0, 1, 0, 0, 0, 0, 1, 77, 0, 0, 0, 39, 80, 76, 73, 68, 1, 1, 77, 1, 0, 255,
+    255, 0, 0, 0, 0, 0, 0, 0, 0, 0, 1, 0, 255, 255, 0, 0, 0, 0, 0, 0, 0, 0, 0, 0, 1, 0, 1, 9, 0, 0,
+    0,
+];
+
+/// The calling deck, and that of the procedure that it calls, as a module.
+static TWO_UNITS: [u8; 185] = [
+    80, 76, 73, 77, 1, 0, 2, 0, 0, 0, 1, 1, 88, 2, 0, 0, 0, 0, 1, 77, 0, 0, 0, 73, 80, 76, 73, 68,
+    1, 1, 77, 1, 0, 255, 255, 0, 1, 4, 0, 1, 0, 1, 0, 0, 0, 0, 0, 0, 0, 0, 0, 2, 2, 1, 88, 0, 0, 4,
+    1, 81, 1, 0, 0, 255, 255, 0, 1, 0, 255, 255, 0, 0, 0, 0, 0, 0, 0, 0, 0, 0, 1, 0, 4, 1, 0, 0, 0,
+    3, 14, 0, 0, 7, 0, 1, 1, 9, 0, 0, 2, 0, 0, 0, 1, 1, 81, 0, 0, 0, 72, 80, 76, 73, 68, 1, 1, 81,
+    0, 1, 0, 0, 255, 255, 0, 1, 4, 0, 1, 0, 1, 0, 0, 0, 0, 0, 0, 0, 0, 0, 1, 2, 1, 88, 0, 0, 0, 1,
+    0, 255, 255, 1, 0, 0, 0, 0, 0, 0, 0, 0, 0, 1, 0, 7, 1, 0, 0, 0, 3, 14, 0, 0, 13, 0, 0, 0, 19,
+    23, 0, 0, 20, 9, 0, 0, 1, 0, 0,
+];
+
+/// What bytes are to be.
+#[derive(Clone, Copy)]
+enum Kind {
+    Deck,
+    Module,
+}
+
+/// What bytes were read as: nothing, what is written as the same bytes, or something else.
+#[derive(Clone, Copy, Debug, PartialEq, Eq)]
+enum Spelled {
+    Faulty,
+    Same,
+    Other,
+}
+
+/// The bytes of what bytes are read as.
+fn again(alloc: Global, kind: Kind, bytes: &[u8]) -> Result<Vec<u8>, ReadError> {
+    match kind {
+        Kind::Deck => Ok(write_deck(alloc, &read_deck(alloc, bytes)?)?),
+        Kind::Module => Ok(write_module(alloc, &read_module(alloc, bytes)?)?),
+    }
+}
+
+/// What bytes are read as.
+fn read_as(rt: &impl Abort, alloc: Global, kind: Kind, bytes: &[u8]) -> Spelled {
+    match again(alloc, kind, bytes) {
+        Ok(written) if written.as_slice() == bytes => Spelled::Same,
+        Ok(_) => Spelled::Other,
+        Err(ReadError::Fault(_)) => Spelled::Faulty,
+        Err(ReadError::Memory) => panic!(rt; "memory"),
+    }
+}
+
+/// What bytes with another one in a place are read as.
+fn changed(
+    rt: &impl Abort,
+    alloc: Global,
+    kind: Kind,
+    bytes: &[u8],
+    place: usize,
+    byte: u8,
+) -> Spelled {
+    let mut other = bytes.to_vec(alloc).expect(rt, "memory");
+    if place < other.len() {
+        other[place] = byte;
+    }
+    read_as(rt, alloc, kind, &other)
+}
+
+/// Fails unless bytes are read as what is written so, and those that are cut at any length are faulty.
+fn are_whole(rt: &impl Abort, alloc: Global, kind: Kind, bytes: &[u8]) {
+    assert!(rt; read_as(rt, alloc, kind, bytes) == Spelled::Same);
+    for length in 0..bytes.len() {
+        assert!(rt; read_as(rt, alloc, kind, &bytes[..length]) == Spelled::Faulty);
+    }
+}
+
+/// Fails unless bytes with any other byte in any place are faulty, or are written again with that byte.
+fn stand_changed(rt: &impl Abort, alloc: Global, kind: Kind, bytes: &[u8]) {
+    for place in 0..bytes.len() {
+        for byte in 0..=255 {
+            assert!(rt; changed(rt, alloc, kind, bytes, place, byte) != Spelled::Other);
+        }
+    }
+}
+
+#[test]
+fn decks(rt: HostRuntime) {
+    are_whole(&rt, rt.alloc(), Kind::Deck, &SMALLEST);
+    are_whole(&rt, rt.alloc(), Kind::Deck, &CALLING);
+    stand_changed(&rt, rt.alloc(), Kind::Deck, &CALLING);
+}
+
+#[test]
+fn modules(rt: HostRuntime) {
+    are_whole(&rt, rt.alloc(), Kind::Module, &ONE_UNIT);
+    are_whole(&rt, rt.alloc(), Kind::Module, &TWO_UNITS);
+    stand_changed(&rt, rt.alloc(), Kind::Module, &TWO_UNITS);
+}

@@ -1,5 +1,0 @@
-//! Tests of decks and modules as bytes.
-#![tactic(auto)]
-
-#[cfg(test)]
-mod spelled;

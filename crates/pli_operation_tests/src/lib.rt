@@ -1,5 +1,0 @@
-//! Tests of operations.
-#![tactic(auto)]
-
-#[cfg(test)]
-mod copies;
