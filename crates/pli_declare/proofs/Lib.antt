@@ -1,4 +1,3 @@
-pub mod WorkedExamples
 pub mod ResolvedExamplesHold
 pub mod LookUpLemmas
 pub mod Goodness

@@ -24,6 +24,12 @@ marks_more marks n x lt read =
     ap marks_view (take_more marks n x lt) ∙ map-append placed_view (take n marks) (get_or marks n x ∷ [])
     ∙ ap (λ (y : written.Placed). marks_view (take n marks) ++ placed_view y ∷ []) (sym read)
 
+-- the same of a walk over them
+pub marks_reached : (marks xs : List written.Placed) (n : ℕ) (x : written.Placed) → xs ≡ marks → n < length xs
+    → x ≡ get_or xs n x → marks_view (take (n + 1) marks) ≡ marks_view (take n marks) ++ placed_view x ∷ []
+marks_reached marks xs n x same lt read =
+    marks_more marks n x (omega (arith, lt, ap length same)) (read ∙ ap (λ ms. get_or ms n x) same)
+
 pub gathered_more : (marks : List Placed) (p : Placed) (b : ℕ) → gathered (marks ++ p ∷ []) b ≡ gathered marks b ++ headed b p.mark
 gathered_more marks p b =
     flat_map-append (λ (q : Placed). headed b q.mark) marks (p ∷ []) ∙ ap (λ ns. gathered marks b ++ ns) (append-nil (headed b p.mark))

@@ -59,12 +59,17 @@ built_in_left false true ps r w h = (refl, refl)
 built_in_left false false ps r w h = cc
 
 -- neither ENTRY nor BUILTIN: not BUILTIN
-not_beside : (s : ℕ) → has s 32768 ≡ true → none_of s 98304 ≡ true → ⊥
-not_beside s h n =
+not_among : (s attribute : ℕ) → bit_and 98304 attribute ≡ attribute → (0 == attribute) ≡ false
+    → none_of s 98304 ≡ true → has s attribute ≡ true → ⊥
+not_among s attribute within some n h =
     let none : bit_and s 98304 ≡ 0 = eqb-true (bit_and s 98304) 0 n in
-    let it : bit_and s 32768 ≡ 0 = sym (and_assoc 32768 s 98304) ∙ ap (λ m. bit_and m 32768) none in
-    let other : false ≡ true = sym (ap (λ m. m == 32768) it) ∙ h in
+    let it : bit_and s attribute ≡ 0 =
+    ap (bit_and s) (sym within) ∙ sym (and_assoc attribute s 98304) ∙ ap (λ m. bit_and m attribute) none in
+    let other : false ≡ true = sym some ∙ ap (λ m. m == attribute) (sym it) ∙ h in
     cc
+
+not_beside : (s : ℕ) → has s 32768 ≡ true → none_of s 98304 ≡ true → ⊥
+not_beside s h n = not_among s 32768 refl refl n h
 
 leading : (a b c d e f g h : Bool) → (a && b && c && d && e && f && g && h) ≡ true → a ≡ true
 leading true b c d e f g h k = refl
@@ -111,11 +116,7 @@ third_of false true c h k l = cc
 third_of false false c h k l = h
 
 no_entry_beside : (s : ℕ) → none_of s 98304 ≡ true → has s 65536 ≡ true → ⊥
-no_entry_beside s n h =
-    let none : bit_and s 98304 ≡ 0 = eqb-true (bit_and s 98304) 0 n in
-    let it : bit_and s 65536 ≡ 0 = sym (and_assoc 65536 s 98304) ∙ ap (λ m. bit_and m 65536) none in
-    let other : false ≡ true = sym (ap (λ m. m == 65536) it) ∙ h in
-    cc
+no_entry_beside s n h = not_among s 65536 refl refl n h
 
 variable_left : (e b : Bool) (ps : List Description) (r : Option Description) (w : Variable) → e ≡ false → b ≡ false
     → (if e then OfEntry ps r else if b then OfBuiltIn else OfVariable w) ≡ OfVariable w

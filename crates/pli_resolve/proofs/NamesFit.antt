@@ -20,7 +20,7 @@ use Rattle.pli_declare_scopes.specs.declared.found.Meant.{Meant}
 use Rattle.pli_declare_scopes.specs.declared.found.Meant.TheVariants.{Item as Means, Ambiguous, NotDeclared}
 use Rattle.pli_declare_scopes.specs.declared.repeat.Verdict.TheVariants.{Counts}
 use Rattle.pli_declare_tables.specs.Tables as tables
-use Rattle.pli_declare_tables.specs.Tables.{Entity, AsItem, AsLabel, AsProcedure, no_entry, named, item_entries, entries_of, entries_in, block_in, inner_marks, unit_block, unit_entries, verdicts_in, scope_of, tables_of}
+use Rattle.pli_declare_tables.specs.Tables.{Entity, AsItem, AsProcedure, no_entry, named, entries_of, entries_in, block_in, inner_marks, unit_block, unit_entries, verdicts_in, scope_of, tables_of}
 use Rattle.pli_declare_variables.specs.Places.{own_code, is_locator, is_area}
 use Rattle.pli_declare_variables.specs.Descriptions.{is_too_large_variable}
 use Rattle.pli_declare_variables.specs.Declarations.{returned_by}
@@ -37,7 +37,7 @@ use Rattle.pli_resolve.proofs.BlocksThere.{round_its_block}
 use Rattle.pli_resolve.proofs.DeclaredBlocks.{IsRegion}
 use Rattle.pli_resolve.proofs.MarksStand.{Each, each_both, marks_stand}
 use Rattle.pli_resolve.proofs.MeantNames.{entries_at, region_of, meant_in}
-use Rattle.pli_resolve.proofs.NamesOfMarks.{item_at, item_of_entry, mark_of, names_of_mark}
+use Rattle.pli_resolve.proofs.NamesOfMarks.{IsOf, item_at, item_of_entry, mark_of, names_of_mark}
 
 -- lists of lists
 each_of : {A B : Type 0} (P : B → Type 0) (f : A → List B) (xs : List A) → ((k : ℕ) (x : A) → k < length xs → get_or xs k x ≡ x → Each P (f x)) → Each P (flat_map f xs)
@@ -399,18 +399,28 @@ module _ (u : ExternalProcedure) (h : resolution_faults u ≡ []) where
       let there = in_flat (λ (q : Placed). uses q.region q.mark) marks c.0 p used.0 c.1 c.2 used.2 in
       subst (λ k. IsSome (meaning_at (of_marks uses marks) k)) used.1 (found_some (of_marks uses marks) None there.0 used.0 there.1 there.2)
 
+  entry_used : (uses : ℕ → Mark → List Use) (b k : ℕ) → k < length (entries_in o b)
+      → ((m : IsOf o.regions b marks (get_or (entries_in o b) k no_entry))
+      → HasUseOf (uses m.placed.region m.placed.mark)
+      (get_or (entries_of m.base m.placed.region m.placed.mark) m.number no_entry).identifier.at)
+      → IsSome (meaning_at (of_marks uses marks) (get_or (entries_in o b) k no_entry).identifier.at)
+  entry_used uses b k lt told =
+      let m = mark_of o b k lt in
+      subst (λ (x : tables.Entry). IsSome (meaning_at (of_marks uses marks) x.identifier.at)) m.same
+      (used_there uses m.placed _ m.stands (told m))
+
   pub area_there : (b k : ℕ) → k < length (entries_in o b) → (n : Name) (ns : List Name) → area_names (get_or (entries_in o b) k no_entry).entity ≡ n ∷ ns
       → IsSome (meaning_at (resolved_of u).areas (get_or (entries_in o b) k no_entry).identifier.at)
   unfolding resolved_of
   area_there b k lt n ns some =
-      let m = mark_of o b k lt in
-      let used = area_use m.placed m.stands m.placed.mark refl m.base m.number m.within n ns (ap (λ (x : tables.Entry). area_names x.entity) m.same ∙ some) in
-      subst (λ (x : tables.Entry). IsSome (meaning_at (of_marks (areas_at o) marks) x.identifier.at)) m.same (used_there (areas_at o) m.placed _ m.stands used)
+      entry_used (areas_at o) b k lt
+      (λ m. area_use m.placed m.stands m.placed.mark refl m.base m.number m.within n ns
+      (ap (λ (x : tables.Entry). area_names x.entity) m.same ∙ some))
 
   pub locator_there : (b k : ℕ) → k < length (entries_in o b) → (n : Name) (ns : List Name) → locator_names (get_or (entries_in o b) k no_entry).entity ≡ n ∷ ns
       → IsSome (meaning_at (resolved_of u).locators (get_or (entries_in o b) k no_entry).identifier.at)
   unfolding resolved_of
   locator_there b k lt n ns some =
-      let m = mark_of o b k lt in
-      let used = locator_use m.placed m.stands m.placed.mark refl m.base m.number m.within n ns (ap (λ (x : tables.Entry). locator_names x.entity) m.same ∙ some) in
-      subst (λ (x : tables.Entry). IsSome (meaning_at (of_marks (locators_at o) marks) x.identifier.at)) m.same (used_there (locators_at o) m.placed _ m.stands used)
+      entry_used (locators_at o) b k lt
+      (λ m. locator_use m.placed m.stands m.placed.mark refl m.base m.number m.within n ns
+      (ap (λ (x : tables.Entry). locator_names x.entity) m.same ∙ some))

@@ -75,30 +75,36 @@ of_owner (suc size) entries owners codes is o place d e lt = by (is_of_shape (ge
         let stands = members_stand entries owners o place lt in
         (there.0, enough entries owners codes (suc size) size k stands.1 (omega (arith, is)) (omega (arith, is, stands.0)) ∙ there.1, there.2)
 
--- a path with one member more
-pub part_further : (d : Description) (path : List ℕ) (place : ℕ) (e x : Description) → part_on d path ≡ Some e → member_of e place ≡ Some x → part_on d (path ++ place ∷ []) ≡ Some x
-part_further d [] place e x p m =
-    let same : d ≡ e = cc in
-    ap (option_and_then (λ y. Some y)) (ap (λ y. member_of y place) same ∙ m)
-part_further d (k ∷ ks) place e x p m = by (member_of d k) refl (λ y q. part_further y ks place e x q m)
-  where
-    by : (found : Option Description) → member_of d k ≡ found → ((y : Description) → part_on y ks ≡ Some e → part_on y (ks ++ place ∷ []) ≡ Some x)
-        → option_and_then (λ y. part_on y (ks ++ place ∷ [])) (member_of d k) ≡ Some x
-    by None f rest = absurd (none_left e (sym (ap (option_and_then (λ y. part_on y ks)) f) ∙ p))
-    by (Some y) f rest =
-        ap (option_and_then (λ y. part_on y (ks ++ place ∷ []))) f ∙ rest y (sym (ap (option_and_then (λ y. part_on y ks)) f) ∙ p)
+-- a path with one member more, whichever members may be taken
+module _ (part : Description → List ℕ → Option Description) (member : Description → ℕ → Option Description)
+    (whole : (d : Description) → part d [] ≡ Some d)
+    (first : (d : Description) (k : ℕ) (ks : List ℕ)
+    → part d (k ∷ ks) ≡ option_and_then (λ y. part y ks) (member d k)) where
+  further : (d : Description) (path : List ℕ) (place : ℕ) (e x : Description) → part d path ≡ Some e
+      → member e place ≡ Some x → part d (path ++ place ∷ []) ≡ Some x
+  further d [] place e x p m =
+      let is : Some d ≡ Some e = sym (whole d) ∙ p in
+      let same : d ≡ e = cc in
+      first d place []
+      ∙ ap (option_and_then (λ y. part y [])) (ap (λ y. member y place) same ∙ m) ∙ whole x
+  further d (k ∷ ks) place e x p m = by (member d k) refl (λ y q. further y ks place e x q m)
+    where
+      by : (found : Option Description) → member d k ≡ found
+          → ((y : Description) → part y ks ≡ Some e → part y (ks ++ place ∷ []) ≡ Some x)
+          → part d (k ∷ (ks ++ place ∷ [])) ≡ Some x
+      by None f rest =
+          absurd (none_left e (sym (first d k ks ∙ ap (option_and_then (λ y. part y ks)) f) ∙ p))
+      by (Some y) f rest =
+          first d k (ks ++ place ∷ []) ∙ ap (option_and_then (λ y. part y (ks ++ place ∷ []))) f
+          ∙ rest y (sym (first d k ks ∙ ap (option_and_then (λ y. part y ks)) f) ∙ p)
 
-pub plain_further : (d : Description) (path : List ℕ) (place : ℕ) (e x : Description) → plain_part d path ≡ Some e → plain_member e place ≡ Some x → plain_part d (path ++ place ∷ []) ≡ Some x
-plain_further d [] place e x p m =
-    let same : d ≡ e = cc in
-    ap (option_and_then (λ y. Some y)) (ap (λ y. plain_member y place) same ∙ m)
-plain_further d (k ∷ ks) place e x p m = by (plain_member d k) refl (λ y q. plain_further y ks place e x q m)
-  where
-    by : (found : Option Description) → plain_member d k ≡ found → ((y : Description) → plain_part y ks ≡ Some e → plain_part y (ks ++ place ∷ []) ≡ Some x)
-        → option_and_then (λ y. plain_part y (ks ++ place ∷ [])) (plain_member d k) ≡ Some x
-    by None f rest = absurd (none_left e (sym (ap (option_and_then (λ y. plain_part y ks)) f) ∙ p))
-    by (Some y) f rest =
-        ap (option_and_then (λ y. plain_part y (ks ++ place ∷ []))) f ∙ rest y (sym (ap (option_and_then (λ y. plain_part y ks)) f) ∙ p)
+pub part_further : (d : Description) (path : List ℕ) (place : ℕ) (e x : Description) → part_on d path ≡ Some e
+    → member_of e place ≡ Some x → part_on d (path ++ place ∷ []) ≡ Some x
+part_further = further part_on member_of (λ d. refl) (λ d k ks. refl)
+
+pub plain_further : (d : Description) (path : List ℕ) (place : ℕ) (e x : Description)
+    → plain_part d path ≡ Some e → plain_member e place ≡ Some x → plain_part d (path ++ place ∷ []) ≡ Some x
+plain_further = further plain_part plain_member (λ d. refl) (λ d k ks. refl)
 
 -- an item without dimensions that has members is a structure
 bare : (find : ℕ → Option Description) (scalar : Description) (ks : List ℕ) (bounds : List Bounds) (d : Description) → bounds ≡ []

@@ -1,8 +1,8 @@
 -- What ends of generations leave.
-use Rattle.std.proofs.Common.{◌≡◌, ℕ, suc, ◌+◌, ◌≤◌, true, List, [], ◌∷◌, ◌++◌, map, take, drop, Some, None, slice_get, sym, ap, ◌∙◌}
+use Rattle.std.proofs.Common.{◌≡◌, ℕ, suc, ◌+◌, ◌≤◌, true, List, [], ◌∷◌, ◌++◌, length, map, take, drop, get_or, Some, None, slice_get, refl, sym, ap, ◌∙◌}
 use Rattle.std.specs.List.{remove}
 use Rattle.std.proofs.lemmas.List.{map-append, take-map, drop-map}
-use Rattle.std.proofs.lemmas.Option.{same_Some, none-some}
+use Rattle.std.proofs.lemmas.Option.{same_Some, none-some, slice_get_read}
 use Rattle.pli_map.specs.Sizes.{size_of}
 use Rattle.pli_store.specs.Storage as plain
 use Rattle.pli_store.specs.Storage.{generation_in, without, live_bytes}
@@ -10,6 +10,7 @@ use Rattle.pli_store.specs.answers.Found.{StandsAt}
 use Rattle.pli_store.specs.answers.Kept.{rise}
 use Rattle.pli_store.specs.declared.generation.Generation.{Generation}
 use Rattle.pli_store.specs.views.GenerationView.{generation_view}
+use Rattle.pli_store.proofs.Leading.{within_store}
 use Rattle.pli_store.proofs.PartAnswers.{number_found}
 use Rattle.pli_store.proofs.RisingNumbers.{all_kept, ended_at, live_ended, rise_ended, size_at, found_at}
 use Rattle.pli_store.proofs.Searches.{stands_in_view}
@@ -20,9 +21,12 @@ map_remove f xs i =
     ∙ ap (λ l. l ++ map f (drop (suc i) xs)) (sym (take-map f i xs))
     ∙ ap (λ l. take i (map f xs) ++ l) (sym (drop-map f (suc i) xs))
 
-module _ (items : List Generation) (to : ℕ) (r : rise 0 (map generation_view items) to ≡ true) (number at : ℕ) (s : StandsAt (map generation_view items) number at) (g : Generation) (here : slice_get items at ≡ Some g) where
+module _ (items : List Generation) (to : ℕ) (r : rise 0 (map generation_view items) to ≡ true) (number at : ℕ)
+    (s : StandsAt (map generation_view items) number at) (g : Generation) (read : g ≡ get_or items at g) where
   there : slice_get (map generation_view items) at ≡ Some (generation_view g)
-  there = stands_in_view items at g here
+  there =
+      stands_in_view items at g
+      (slice_get_read items (length items) at g refl (within_store items number at s) read)
 
   pub ended_size : size_of (generation_view g).description ≤ live_bytes (map generation_view items)
   ended_size = size_at (map generation_view items) at (generation_view g) there

@@ -7,5 +7,4 @@ pub mod PartAnswers
 pub mod PutsSaid
 pub mod RisingNumbers
 pub mod Searches
-pub mod StorageExamplesHold
 pub mod ValueLists

@@ -1,9 +1,9 @@
 -- What operations on a place answer where it leads to a scalar, where it leads nowhere, and where it is dead.
-use Rattle.std.proofs.Common.{◌≡◌, ℕ, ◌+◌, ◌≤◌, Bool, true, false, nat_eq, List, [], ◌∷◌, length, map, take, drop, set, min, leb, Some, None, Result, Ok, Err, OnOk, OnErr, slice_get, if◌then◌else◌, refl, sym, ap, ◌∙◌, subst, arith}
+use Rattle.std.proofs.Common.{◌≡◌, ℕ, ◌+◌, ◌≤◌, Bool, true, false, nat_eq, List, [], ◌∷◌, length, map, take, drop, set, get_or, min, leb, Some, None, Result, Ok, Err, OnOk, OnErr, slice_get, if◌then◌else◌, refl, sym, ap, ◌∙◌, subst, arith}
 use Rattle.std.specs.Option.{option_map}
 use Rattle.std.proofs.lemmas.Bool.{leb-true, leb-false, eqb-true}
 use Rattle.std.proofs.lemmas.List.{take_all, drop_all, length-map, drop_more}
-use Rattle.std.proofs.lemmas.Option.{same_Some, none-some, slice_get_within, slice_get-map, get_or_from_slice_get}
+use Rattle.std.proofs.lemmas.Option.{same_Some, none-some, slice_get_within, slice_get-map, slice_get_read, get_or_from_slice_get}
 use Rattle.pli_code.specs.declared.ending.RunError.TheVariants.{DeadLocator}
 use Rattle.pli_map.specs.Description.{Description, FixedBinary, Character, Varying, Bit, Pointer, Offset, Area, Array, Structure}
 use Rattle.pli_map.specs.Scalars.{is_scalar, scalars_in}
@@ -22,7 +22,7 @@ use Rattle.pli_store.specs.declared.generation.Generation as code_generation
 use Rattle.pli_store.specs.declared.part.Part.{Part}
 use Rattle.pli_store.specs.views.GenerationView.{generation_view}
 use Rattle.pli_store.proofs.RisingNumbers.{changed_at, rise_changed, live_changed}
-use Rattle.pli_store.proofs.Searches.{stands_in_view, stands_in_store}
+use Rattle.pli_store.proofs.Searches.{slice_get_within_view, stands_in_view, stands_in_store}
 
 -- ---- numbers of scalars that are too great to be counted
 
@@ -41,30 +41,37 @@ counts scalar first count small e = by (leb scalar 18446744073709551615) refl
     by true h = let le = leb-true scalar 18446744073709551615 h in Exact (omega (arith, e, le))
     by false h = let more = leb-false scalar 18446744073709551615 h in Beyond (omega (arith, e, more, small)) (omega (arith, more, small))
 
-pub counted_drop : {X : Type 0} (xs : List X) (scalar first : ℕ) → length xs ≤ 18446744073709551615 → first ≡ min scalar 18446744073709551615 → drop first xs ≡ drop scalar xs
-counted_drop xs scalar first small e = by (counts scalar first (length xs) small e)
+-- what is the same for all numbers behind the last value is the same for both
+same_counted : {X : Type 0} (f : ℕ → X) (scalar first size : ℕ) → size ≤ 18446744073709551615
+    → first ≡ min scalar 18446744073709551615 → (size ≤ first → size ≤ scalar → f first ≡ f scalar)
+    → f first ≡ f scalar
+same_counted f scalar first size small e behind = by (counts scalar first size small e)
   where
-    by : Counts scalar first (length xs) → drop first xs ≡ drop scalar xs
-    by (Exact h) = ap (λ n. drop n xs) h
-    by (Beyond h k) = drop_all first xs h ∙ sym (drop_all scalar xs k)
+    by : Counts scalar first size → f first ≡ f scalar
+    by (Exact h) = ap f h
+    by (Beyond h k) = behind h k
+
+pub counted_drop : {X : Type 0} (xs : List X) (scalar first : ℕ) → length xs ≤ 18446744073709551615 → first ≡ min scalar 18446744073709551615 → drop first xs ≡ drop scalar xs
+counted_drop xs scalar first small e =
+    same_counted (λ n. drop n xs) scalar first (length xs) small e (λ h k. drop_all first xs h
+    ∙ sym (drop_all scalar xs k))
 
 counted_put : (xs new : List Value) (scalar first : ℕ) → length xs ≤ 18446744073709551615 → first ≡ min scalar 18446744073709551615 → with_values_at first new xs ≡ with_values_at scalar new xs
-counted_put xs new scalar first small e = by (counts scalar first (length xs) small e)
+counted_put xs new scalar first small e =
+    same_counted (λ n. with_values_at n new xs) scalar first (length xs) small e behind
   where
-    by : Counts scalar first (length xs) → with_values_at first new xs ≡ with_values_at scalar new xs
-    by (Exact h) = ap (λ n. with_values_at n new xs) h
-    by (Beyond h k) =
+    behind : length xs ≤ first → length xs ≤ scalar
+        → with_values_at first new xs ≡ with_values_at scalar new xs
+    behind h k =
         let t : take first xs ≡ take scalar xs = take_all first xs h ∙ sym (take_all scalar xs k) in
         let d : drop (first + length new) xs ≡ drop (scalar + length new) xs = drop_all (first + length new) xs (omega (arith, h)) ∙ sym (drop_all (scalar + length new) xs (omega (arith, k))) in
         rw (t, d) refl
 
 -- as many as are counted
 pub counted_take : {X : Type 0} (xs : List X) (count n : ℕ) → length xs ≤ 18446744073709551615 → n ≡ min count 18446744073709551615 → take n xs ≡ take count xs
-counted_take xs count n small e = by (counts count n (length xs) small e)
-  where
-    by : Counts count n (length xs) → take n xs ≡ take count xs
-    by (Exact h) = ap (λ m. take m xs) h
-    by (Beyond h k) = take_all n xs h ∙ sym (take_all count xs k)
+counted_take xs count n small e =
+    same_counted (λ m. take m xs) count n (length xs) small e (λ h k. take_all n xs h
+    ∙ sym (take_all count xs k))
 
 -- ---- one scalar
 
@@ -168,6 +175,13 @@ few g =
     omega (arith, whole, small, same_length)
 
 module _ (items : List code_generation.Generation) (p : Place) (w : World) (e : w.storage ≡ map generation_view items) (part : Part) (l : LeadsTo w.storage p part) where
+  pub read_there : (g : code_generation.Generation) → g ≡ get_or items part.at g
+      → slice_get items part.at ≡ Some g
+  read_there g read =
+      slice_get_read items (length items) part.at g refl
+      (slice_get_within_view items part.at l.generation (ap (λ s. slice_get s part.at) (sym e) ∙ l.stands))
+      read
+
   module _ (g : code_generation.Generation) (here : slice_get items part.at ≡ Some g) where
     generation_is : l.generation ≡ generation_view g
     generation_is = same_Some l.generation (generation_view g) (sym l.stands ∙ ap (λ s. slice_get s part.at) e ∙ stands_in_view items part.at g here)

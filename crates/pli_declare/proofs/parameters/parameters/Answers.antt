@@ -1,4 +1,4 @@
-use Rattle.std.proofs.Common.{◌≡◌, ◌++◌, [], ◌∷◌, ℕ, ◌+◌, ◌<◌, get_or, set, map, replicate, length, take, refl, sym, ap, ◌∙◌, arith}
+use Rattle.std.proofs.Common.{◌≡◌, ◌++◌, [], ◌∷◌, ℕ, ◌+◌, get_or, set, map, replicate, length, take, refl, sym, ap, ◌∙◌, arith}
 use Rattle.std.proofs.lemmas.List.{length-map}
 use Rattle.pli_base.specs.views.StatementView.{unit_view}
 use Rattle.pli_base.specs.laws.StatementLaws.{unit_out}
@@ -9,7 +9,7 @@ use Rattle.pli_declare_outline.specs.declared.region.Mark.TheVariants as marks
 use Rattle.pli_declare.specs.Resolution.{headed}
 use Rattle.pli_declare_tables.specs.Tables.{numbers_from}
 use Rattle.pli_declare.proofs.NumberLists.{replicate_numbers}
-use Rattle.pli_declare.proofs.ParametersOfBlocks.{gathered, marks_more, none_gathered, entered_gathered}
+use Rattle.pli_declare.proofs.ParametersOfBlocks.{gathered, marks_reached, none_gathered, entered_gathered}
 use Rattle.pli_declare.proofs.parameters.parameters.Goals as goal
 
 pub loop-placed-init : goal.loop-placed-init
@@ -29,20 +29,18 @@ loop-placed-preserved-in_default c =
     let n = c.loop-placed.placed-index in
     let x = c.placed-item.result in
     let all = c.args.outline.now.marks.items in
-    let same = c.deref-placed-items.ensures.value in
     let count = length (regions_view c.args.outline.now.regions.items) + 1 in
-    let lt : n < length all = omega (arith, ap length same) in
     none_gathered count (marks_view (take n all)) (placed_view x) (map (λ list. list.items) c.loop-placed.all.items) (λ b low. not_entered x.mark c.in_default.not-Entered b) c.loop-placed.invariant
-    ∙ ap (λ ms. map (gathered ms) (numbers_from 0 count)) (sym (marks_more all n x lt (c.placed-item.is ∙ ap (λ ms. get_or ms n x) same)))
+    ∙ ap (λ ms. map (gathered ms) (numbers_from 0 count))
+    (sym (marks_reached all c.deref-placed-items.result.now n x c.deref-placed-items.ensures.value
+    (omega arith) c.placed-item.is))
 
 pub loop-placed-preserved : goal.loop-placed-preserved
 loop-placed-preserved c =
     let n = c.loop-placed.placed-index in
     let x = c.placed-item.result in
     let all = c.args.outline.now.marks.items in
-    let same = c.deref-placed-items.ensures.value in
     let count = length (regions_view c.args.outline.now.regions.items) + 1 in
-    let lt : n < length all = omega (arith, ap length same) in
     let p = c.in-Entered.procedure.now in
     let region = c.in-Entered.region in
     let lists = map (λ list. list.items) c.loop-placed.all.items in
@@ -53,4 +51,6 @@ loop-placed-preserved c =
     let view : placed_view x ≡ record { region = x.region; mark = Entered (unit_view p).heading region } = ap (λ m. record { region = x.region; mark = mark_view m }) c.in-Entered.is in
     entered_gathered count (marks_view (take n all)) x.region (unit_view p).heading region lists next changed c.loop-placed.invariant
     ∙ ap (λ ms. map (gathered ms) (numbers_from 0 count))
-    (ap (λ q. marks_view (take n all) ++ q ∷ []) (sym view) ∙ sym (marks_more all n x lt (c.placed-item.is ∙ ap (λ ms. get_or ms n x) same)))
+    (ap (λ q. marks_view (take n all) ++ q ∷ []) (sym view)
+    ∙ sym (marks_reached all c.deref-placed-items.result.now n x c.deref-placed-items.ensures.value
+    (omega arith) c.placed-item.is))

@@ -1,4 +1,4 @@
-use Rattle.std.proofs.Common.{◌≡◌, ◌≤◌, map, min, refl, sym, ap, ◌∙◌, arith}
+use Rattle.std.proofs.Common.{map, refl, sym, ◌∙◌, arith}
 use Rattle.pli_store.specs.views.GenerationView.{generation_view}
 use Rattle.pli_store.specs.views.StorageView.{place_view, storage_view}
 use Rattle.pli_store.proofs.Lengthening.{appended_there, kept_lengthened}
@@ -10,9 +10,9 @@ lengthen_at-requires c = slice_get_within_view c.args.self.now.generations.items
 
 pub invariant_of-self : goal.invariant_of-self
 invariant_of-self c =
-    let old = storage_view c.args.self.now in
-    let new = map generation_view c.lengthen_at.new.generations.items in
-    let kept = kept_lengthened c.lengthen_at.result old new c.in-Ok.part c.args.more.now _ c.args.self.now.made c.args.self.now.rising c.lengthen_at.ensures in
+    let kept = kept_lengthened c.lengthen_at.result (storage_view c.args.self.now)
+    (map generation_view c.lengthen_at.new.generations.items) c.in-Ok.part c.args.more.now _
+    c.args.self.now.made c.args.self.now.rising c.lengthen_at.ensures in
     record { counted = c.args.self.now.counted ∙ sym kept.counted; limited = c.args.self.now.limited; rising = kept.rising }
 
 pub returns-in-Ok : goal.returns-in-Ok

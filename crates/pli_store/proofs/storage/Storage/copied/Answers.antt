@@ -48,9 +48,10 @@ put_many-requires c = slice_get_within_view c.args.self.now.generations.items c.
 
 pub invariant_of-self : goal.invariant_of-self
 invariant_of-self c =
-    let old = storage_view c.args.self.now in
-    let new = map generation_view c.put_many.new.generations.items in
-    let kept = kept_after c.put_many.result old new c.in_ok-to.to (map value_view c.in_ok-values.values.items) c.args.self.now.made c.args.self.now.rising c.put_many.ensures.ok c.put_many.ensures.err in
+    let kept = kept_after c.put_many.result (storage_view c.args.self.now)
+    (map generation_view c.put_many.new.generations.items) c.in_ok-to.to
+    (map value_view c.in_ok-values.values.items) c.args.self.now.made c.args.self.now.rising
+    c.put_many.ensures.ok c.put_many.ensures.err in
     record { counted = c.args.self.now.counted ∙ sym kept.counted; limited = c.args.self.now.limited; rising = kept.rising }
 
 pub returns-clause-answer : goal.returns-clause-answer

@@ -21,9 +21,9 @@ put_one-requires c = slice_get_within_view c.args.self.now.generations.items c.i
 
 pub invariant_of-self : goal.invariant_of-self
 invariant_of-self c =
-    let old = storage_view c.args.self.now in
-    let new = map generation_view c.put_one.new.generations.items in
-    let kept = kept_after c.put_one.result old new c.in_ok-part.part (value_view c.args.value ∷ []) c.args.self.now.made c.args.self.now.rising c.put_one.ensures.ok c.put_one.ensures.err in
+    let kept = kept_after c.put_one.result (storage_view c.args.self.now)
+    (map generation_view c.put_one.new.generations.items) c.in_ok-part.part (value_view c.args.value ∷ [])
+    c.args.self.now.made c.args.self.now.rising c.put_one.ensures.ok c.put_one.ensures.err in
     record { counted = c.args.self.now.counted ∙ sym kept.counted; limited = c.args.self.now.limited; rising = kept.rising }
 
 pub returns-clause-answer : goal.returns-clause-answer

@@ -5,7 +5,7 @@ use Rattle.std.proofs.lemmas.Result.{err_from_is_err_and}
 use Rattle.pli_value.specs.Value.{value_view}
 use Rattle.pli_value.specs.declared.value.Value.{Value}
 use Rattle.pli_store.specs.views.StorageView.{place_view, with_storage}
-use Rattle.pli_store.proofs.PartAnswers.{held_failed, held_aggregate, held_one, held_none}
+use Rattle.pli_store.proofs.PartAnswers.{held_failed, held_aggregate, read_there, held_one, held_none}
 use Rattle.pli_store.proofs.Searches.{slice_get_within_view}
 use Rattle.pli_store.proofs.storage.Storage.value_at.Goals as goal
 
@@ -26,21 +26,22 @@ pub returns-in-Some : goal.returns-in-Some
 returns-in-Some c = λ w.
     let items = c.args.self.now.generations.items in
     let part = c.in_ok-part.part in
-    let inside = slice_get_within_view items part.at c.in_ok-part.ensures.generation c.in_ok-part.ensures.stands in
     let g = c.index.result.now in
-    let here : slice_get items part.at ≡ Some g = slice_get_read items (length items) part.at g refl inside c.index.ensures in
     let there : slice_get g.values.items part.first ≡ Some c.in-Some.value.now =
     ap (λ xs. slice_get xs part.first) (sym c.deref.ensures.value)
     ∙ slice_get_read c.deref.result.now (length c.deref.result.now) part.first c.in-Some.value.now refl (ltb-true part.first (length c.deref.result.now) (sym c.in-Some.ensures.lookup.0)) c.in-Some.ensures.lookup.1 in
-    held_one items (place_view c.args.place) (with_storage c.args.self.now w) refl part c.in_ok-part.ensures g here c.in-Some.value.now (sym c.if-not-is_scalar.ensures) there
+    held_one items (place_view c.args.place) (with_storage c.args.self.now w) refl part c.in_ok-part.ensures g
+    (read_there items (place_view c.args.place) (with_storage c.args.self.now w) refl part
+    c.in_ok-part.ensures g c.index.ensures) c.in-Some.value.now (sym c.if-not-is_scalar.ensures) there
 
 pub returns-in-None : goal.returns-in-None
 returns-in-None c = λ w.
     let items = c.args.self.now.generations.items in
     let part = c.in_ok-part.part in
-    let inside = slice_get_within_view items part.at c.in_ok-part.ensures.generation c.in_ok-part.ensures.stands in
     let g = c.index.result.now in
-    let here : slice_get items part.at ≡ Some g = slice_get_read items (length items) part.at g refl inside c.index.ensures in
     let past = ltb-false part.first (length c.deref.result.now) (sym c.in-None.ensures.lookup.0) in
     let count = ap length c.deref.ensures.value in
-    held_none items (place_view c.args.place) (with_storage c.args.self.now w) refl part c.in_ok-part.ensures g here (sym c.if-not-is_scalar.ensures) (omega (arith, past, count))
+    held_none items (place_view c.args.place) (with_storage c.args.self.now w) refl part c.in_ok-part.ensures
+    g
+    (read_there items (place_view c.args.place) (with_storage c.args.self.now w) refl part
+    c.in_ok-part.ensures g c.index.ensures) (sym c.if-not-is_scalar.ensures) (omega (arith, past, count))
