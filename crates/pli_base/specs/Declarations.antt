@@ -1,10 +1,15 @@
 -- The trees of what stands behind DECLARE, as definitions speak of them (X3.74): without where they lie in
 -- memory.
-use Rattle.std.specs.Prelude.{ℕ, List, Option}
+use Rattle.std.specs.Prelude.{ℕ, List, Option, ℤ, pos, ◌-ℤ◌, if◌then◌else◌}
 use Rattle.pli_base.specs.Name.{Name}
 use Rattle.pli_base.specs.declared.syntax.Identifier.{Identifier}
 use Rattle.pli_base.specs.declared.declaration.Bounds.{Bounds}
 use Rattle.pli_base.specs.declared.declaration.InitialValue.{InitialValue}
+use Rattle.pli_base.specs.declared.declaration.Integer.{Integer}
+
+-- the number that an integer spells
+abbrev pub integer_of : Integer → ℤ
+integer_of i = if i.negative then pos 0 -ℤ pos i.value else pos i.value
 
 -- an attribute other than ENTRY and RETURNS
 pub data SimpleAttribute : Type 0 where

@@ -2,6 +2,7 @@ pub mod Codes
 pub mod Devices
 pub mod Digits
 pub mod Name
+pub mod Results
 pub mod Reading
 pub mod Words
 pub mod Syntax

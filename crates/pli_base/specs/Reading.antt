@@ -1,6 +1,7 @@
 -- Reading tokens (own): what a reader gives, and how one goes on behind another. Tokens are counted from 0,
 -- and p is the place of the first.
 use Rattle.std.specs.Prelude.{ℕ, ◌+◌, ◌-◌, Bool, Option, Some, None, Result, Ok, Err, List, [], ◌∷◌}
+use Rattle.pli_base.specs.Results.{◌>>=◌}
 use Rattle.std.specs.Prelude.{if◌then◌else◌}
 use Rattle.pli_base.specs.Words.{Tokens, is_procedure, is_close, behind}
 use Rattle.pli_base.specs.declared.code.Code.{Code}
@@ -9,12 +10,6 @@ use Rattle.pli_base.specs.declared.token.Fault.{Fault}
 use Rattle.pli_base.specs.declared.token.Sign.TheVariants.{Colon}
 use Rattle.pli_base.specs.declared.token.TokenText.{TokenText}
 use Rattle.pli_base.specs.declared.token.TokenText.TheVariants.{Word, Sign}
-
-infixl 10 ◌>>=◌
--- goes on with what was read, or stays at the fault
-abbrev pub ◌>>=◌ : {A B : Type 0} → Result A Fault → (A → Result B Fault) → Result B Fault
-(Ok x) >>= f = f x
-(Err e) >>= f = Err e
 
 -- a fault at a token
 abbrev pub at_fault : {A : Type 0} → Code → ℕ → Result A Fault

@@ -35,3 +35,7 @@ mutual
   pub data Expressions : Type 0 where
     Empty : Expressions
     Listed : (first : Expression) (more : Expressions) → Expressions
+
+-- the token of a reference's first name
+abbrev pub first_token : Reference → ℕ
+first_token (Named name arguments more) = name.at

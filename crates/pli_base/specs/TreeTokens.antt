@@ -4,7 +4,7 @@
 use Rattle.std.specs.Prelude.{ℕ, ◌+◌, ◌≤◌, nat_lt, List, [], ◌∷◌, ◌++◌, Option, Some, None, if◌then◌else◌}
 use Rattle.pli_base.specs.Syntax.{Expression, Referred, Constant, Parenthesized, Prefix, Infix, Reference}
 use Rattle.pli_base.specs.Syntax.{Named, JoinedParts, Alone, Joined, Arguments, Absent, Given, Expressions}
-use Rattle.pli_base.specs.Syntax.{Empty, Listed}
+use Rattle.pli_base.specs.Syntax.{Empty, Listed, first_token}
 use Rattle.pli_base.specs.Declarations.{Item}
 use Rattle.pli_base.specs.Statements.{Range, To, By, Repeat, Control, While, Iterate, Allocation, Statement}
 use Rattle.pli_base.specs.Statements.{Numbered, Body, Assign, Declare, Procedure, Begin, Do, If, On, Allocate}
@@ -79,10 +79,6 @@ control_tokens (Iterate variable equals first range condition) =
     ++ (equals
     ∷ (expression_tokens first
     ++ (tokens_of_some range_tokens range ++ tokens_of_some expression_tokens condition)))
-
--- the token of a reference's first name
-abbrev pub first_token : Reference → ℕ
-first_token (Named name arguments more) = name.at
 
 -- IN and SET stand in either order
 abbrev pub placed_tokens : (area target : Option Reference) → List ℕ

@@ -1,9 +1,10 @@
 -- The words and signs of the language, and tests of tokens (X3.74).
-use Rattle.std.specs.Prelude.{ℕ, Bool, true, false, ◌||◌, nat_eq, List, [], ◌∷◌, Option, Some, None, codes}
-use Rattle.std.specs.Prelude.{if◌then◌else◌}
+use Rattle.std.specs.Prelude.{◌≡◌, ℕ, Bool, true, false, ◌||◌, nat_eq, List, [], ◌∷◌, Option, Some, None}
+use Rattle.std.specs.Prelude.{codes, if◌then◌else◌}
 use Rattle.std.specs.Cmp.Lexicographic.{pointwise}
 use Rattle.std.specs.List.{list_any}
 use Rattle.pli_base.specs.Name.{Name}
+use Rattle.pli_base.specs.declared.syntax.Identifier.{Identifier}
 use Rattle.pli_base.specs.declared.token.Sign.TheVariants.{Colon, Semicolon, Comma, Period, OpenParenthesis}
 use Rattle.pli_base.specs.declared.token.Sign.TheVariants.{CloseParenthesis}
 use Rattle.pli_base.specs.declared.token.TokenText.{TokenText}
@@ -69,6 +70,10 @@ behind fits (t ∷ ts) = if fits t then Some ts else None
 unfoldable pub name_first : Tokens → Option (Name × Tokens)
 name_first (Word n ∷ ts) = Some (n, ts)
 name_first _ = None
+
+-- a name with its token
+abbrev pub SpellsIdentifier : ℕ → Tokens → Identifier → Type 0
+SpellsIdentifier p ts i = (ts ≡ Word i.name ∷ []) × (i.at ≡ p)
 
 -- the precision of the FIXED BINARY variables that can be declared
 abbrev pub declared_precision : ℕ

@@ -1,1 +1,2 @@
+pub mod FailureAnswers
 pub mod ReadingAnswers

@@ -2,6 +2,7 @@
 //! None of the types leads back to itself. An ENTRY or RETURNS in the description of a parameter or of a result is a fault of
 //! the declaration whatever its parentheses hold, so that nothing is kept of them, and a text may nest them as deep as it likes.
 ghost use Rattle.std.specs.Prelude.{◌≡◌, IfOk};
+ghost use Rattle.pli_base.specs.Declarations.{integer_of};
 
 use crate::name::Name;
 use crate::string::{BitString, CharacterString};
@@ -13,6 +14,16 @@ use std::alloc::{AllocError, Global};
 pub struct Integer {
     pub negative: bool,
     pub value: u32,
+}
+
+impl Integer {
+    /// The number that it spells.
+    pub fn number(self) -> i64
+        ensures { result ≡ integer_of self }
+    {
+        let value = i64::from(self.value);
+        if self.negative { 0 - value } else { value }
+    }
 }
 
 /// The bounds of a dimension. Where there is no lower bound, it is 1 (X3.74).

@@ -1,9 +1,11 @@
 //! Names, codes, tokens, trees and devices: what every other crate speaks of.
 #![tactic(auto)]
 
+mod character;
 mod code;
 pub mod declaration;
 mod device;
+mod failure;
 mod line;
 mod name;
 mod reading;
@@ -12,8 +14,10 @@ mod string;
 pub mod syntax;
 mod token;
 
+pub use character::{decimal_value, is_digit, is_letter, is_name_character};
 pub use code::{Code, code_order, one_code};
 pub use device::{Device, Failed, Sink, Source, put_all, take_all};
+pub use failure::Failure;
 pub use line::Line;
 pub use name::{NAME_LIMIT, Name};
 pub use reading::{

@@ -6,8 +6,9 @@ ghost use Rattle.std.specs.Ordering.{nat_cmp};
 ghost use Rattle.std.specs.Cmp.Rules.{hashing};
 ghost use Rattle.std.specs.Cmp;
 ghost use Rattle.std.proofs.Common.{rules, refl};
-ghost use Rattle.pli_base.specs.Name.{name_of, is_letter, is_name_character, has_form, upper};
+ghost use Rattle.pli_base.specs.Name.{name_of, has_form, upper};
 
+use crate::character::{is_letter, is_name_character};
 use std::cmp::Ordering;
 use std::fmt;
 use std::fmt::Write;
@@ -39,20 +40,6 @@ impl Model for Name {
     ghost inverse = { λ v. record { bytes = v ++ replicate (31 - length v) 0; count = length v } };
 
     ghost inverse_ok = { restored };
-}
-
-/// Whether `byte` is a letter.
-fn is_letter(byte: u8) -> bool
-    ensures { result ≡ is_letter byte }
-{
-    matches!(byte, b'A'..=b'Z' | b'a'..=b'z')
-}
-
-/// Whether `byte` may follow the first letter of a name.
-fn is_name_character(byte: u8) -> bool
-    ensures { result ≡ is_name_character byte }
-{
-    is_letter(byte) || matches!(byte, b'0'..=b'9' | b'_' | b'$')
 }
 
 /// Whether `text` is a letter followed by characters of names.

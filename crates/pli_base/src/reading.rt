@@ -3,36 +3,15 @@ ghost use Rattle.std.specs.Option.{option_copied};
 ghost use Rattle.std.specs.Prelude.{◌≡◌, ◌+◌, length, option_map, IfOk, IfSome};
 ghost use Rattle.pli_base.specs.Words.{behind, name_first, is_open, is_close, is_comma, is_period, is_colon, is_semicolon};
 ghost use Rattle.pli_base.specs.Reading.{misfit, taken};
-ghost use Rattle.pli_base.specs.answers.ReadingAnswers.{Gives};
-ghost use Rattle.pli_base.specs.declared.reading.ParseError.TheVariants.{OutOfMemory};
+ghost use Rattle.pli_base.specs.answers.FailureAnswers.{Gives};
 
 use crate::code::Code;
+use crate::failure::Failure;
 use crate::name::Name;
 use crate::token::{Fault, Sign, TokenText};
-use std::alloc::{AllocError, AllocFailed};
 
 /// Why there is no tree: the one fault of the tokens, or want of memory.
-#[derive(Clone, Copy)]
-pub enum ParseError {
-    Fault(Fault),
-    OutOfMemory,
-}
-
-impl From<AllocError> for ParseError {
-    ghost from_gives = { λ _ e. e ≡ OutOfMemory };
-
-    fn from(_error: AllocError) -> ParseError {
-        ParseError::OutOfMemory
-    }
-}
-
-impl<T: Drop> From<AllocFailed<T>> for ParseError {
-    ghost from_gives = { λ _ e. e ≡ OutOfMemory };
-
-    fn from(_error: AllocFailed<T>) -> ParseError {
-        ParseError::OutOfMemory
-    }
-}
+pub type ParseError = Failure<Fault>;
 
 /// What was read, the place behind it, and the tokens from there. Tokens are counted from 0.
 #[derive(Drop)]
@@ -53,7 +32,7 @@ impl<'a, T> Front<'a, T> {
 
 /// The fault at the token `at`.
 pub fn fault(code: Code, at: u32) -> ParseError
-    ensures { result ≡ ParseError.Fault (record { code = code; at = at }) }
+    ensures { result ≡ Failure.Fault (record { code = code; at = at }) }
 {
     ParseError::Fault(Fault { code, at })
 }
@@ -61,7 +40,7 @@ pub fn fault(code: Code, at: u32) -> ParseError
 /// The fault at the first token, which cannot stand there; where the text ends, at its last token.
 #[tactic(auto, unfolding(crate::specs::Reading::misfit))]
 pub fn misfit(code: Code, at: u32, texts: &[TokenText]) -> ParseError
-    ensures { result ≡ ParseError.Fault (misfit code at texts.now) }
+    ensures { result ≡ Failure.Fault (misfit code at texts.now) }
 {
     match texts {
         [] => fault(Code::EndMissing, at.saturating_sub(1)),

@@ -1,10 +1,11 @@
 -- The commands that a line can spell (own).
-use Rattle.std.specs.Prelude.{◌≡◌, ℕ, ◌+◌, ◌-◌, ◌*◌, nat_eq, nat_lt, nat_le, Bool, ◌&&◌, List, [], codes}
-use Rattle.std.specs.Prelude.{length, drop, fold, Option, Some, None, option_map, unwrap_or, if◌then◌else◌}
+use Rattle.std.specs.Prelude.{◌≡◌, ℕ, ◌+◌, nat_eq, nat_lt, nat_le, Bool, ◌&&◌, List, [], codes}
+use Rattle.std.specs.Prelude.{length, drop, Option, Some, None, option_map, unwrap_or, if◌then◌else◌}
 use Rattle.std.specs.Prelude.{refl}
 use Rattle.std.specs.Option.{option_and_then}
 use Rattle.std.specs.List.{list_all, position, before_first}
 use Rattle.std.specs.Str.{str_eq_ignore_ascii_case}
+use Rattle.pli_base.specs.Digits.{value_in}
 use Rattle.pli_base.specs.Name.{Name, is_digit, name_of}
 use Rattle.pli_members.specs.declared.kind.MemberKind.{MemberKind}
 use Rattle.pli_members.specs.declared.kind.MemberKind.TheVariants.{Source, Include}
@@ -54,15 +55,11 @@ behind_blank text = option_map (λ k. drop (k + 1) text) (position is_blank text
 abbrev pub is_word : List ℕ → List ℕ → Bool
 is_word word text = str_eq_ignore_ascii_case text word
 
--- the value of decimal digits
-abbrev pub decimal_value : List ℕ → ℕ
-decimal_value digits = fold (λ value digit. value * 10 + (digit - 48)) 0 digits
-
 -- the number that one to so many digits spell
 abbrev pub number_of : (limit : ℕ) → List ℕ → Option ℕ
 number_of limit digits =
     if nat_lt 0 (length digits) && nat_le (length digits) limit && list_all is_digit digits
-    then Some (decimal_value digits) else None
+    then Some (value_in 10 digits) else None
 
 -- the command, where nothing stands behind its word
 abbrev pub alone : Command → Option (List ℕ) → Option Command

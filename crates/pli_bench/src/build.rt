@@ -40,7 +40,7 @@ pub fn build(
     }
     match link(alloc, units) {
         Ok(module) => Ok(Built::Made(stored(alloc, &module)?)),
-        Err(LinkError::Faults(faults)) => Ok(Built::Diagnosed(link_text(alloc, &faults)?)),
+        Err(LinkError::Fault(faults)) => Ok(Built::Diagnosed(link_text(alloc, &faults)?)),
         Err(LinkError::OutOfMemory) => Err(AllocError),
     }
 }

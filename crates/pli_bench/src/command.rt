@@ -3,10 +3,10 @@ ghost use Rattle.std.specs.Prelude.{◌≡◌, ◌≤◌, ◌<◌, ◌^◌, IfSo
 ghost use Rattle.std.specs.Option.{option_copied};
 ghost use Rattle.std.specs.List.{list_all, position};
 ghost use Rattle.pli_base.specs.Name.{is_digit};
-ghost use Rattle.pli_bench.specs.Commands.{is_blank, first_word, behind_blank, is_word, decimal_value, number_of, kind_of_word, numbered_text, numbered_of, add_of, insert_of, replace_of, remove_of, run_of, command_of};
+ghost use Rattle.pli_bench.specs.Commands.{is_blank, first_word, behind_blank, is_word, number_of, kind_of_word, numbered_text, numbered_of, add_of, insert_of, replace_of, remove_of, run_of, command_of};
 ghost use Rattle.pli_bench.specs.views.CommandView.{command_view};
 
-use pli_base::Name;
+use pli_base::{Name, decimal_value, is_digit};
 use pli_members::MemberKind;
 
 /// The greatest number of bytes in a command (own).
@@ -131,30 +131,10 @@ fn is_word(word: &[u8], text: &[u8]) -> bool
     text.eq_ignore_ascii_case(word)
 }
 
-fn is_digit(byte: u8) -> bool
-    ensures { result ≡ is_digit byte }
-{
-    matches!(byte, b'0'..=b'9')
-}
-
 fn all_digits(text: &[u8]) -> bool
     ensures { result ≡ list_all is_digit text.now }
 {
     text.iter().all(|byte| is_digit(*byte))
-}
-
-/// The value of digits.
-fn decimal_value(digits: &[u8]) -> u64
-    requires count { length digits.now ≤ 18 }
-    requires form { IsTrue (list_all is_digit digits.now) }
-    ensures value { result ≡ decimal_value digits.now }
-    ensures below { result < 10 ^ length digits.now }
-{
-    let mut value = 0;
-    for digit in digits {
-        value = value * 10 + u64::from(*digit - b'0');
-    }
-    value
 }
 
 /// The number that one to `limit` digits spell.

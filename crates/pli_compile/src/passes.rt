@@ -4,15 +4,14 @@ ghost use Rattle.pli_base.specs.views.StatementView.{unit_view};
 ghost use Rattle.pli_resolve.specs.ResolvedUnits.{resolved_unit_of};
 ghost use Rattle.pli_type.specs.NamedUnits.{checked_unit};
 ghost use Rattle.pli_meaning.specs.Scratch.{coded_from, compiled_texts};
-ghost use Rattle.pli_compile.specs.answers.Outcomes.{Compiles, of_checking, of_generating, of_parsing, of_resolving};
+ghost use Rattle.pli_compile.specs.answers.Outcomes.{Compiles, of_fault, of_faults, of_generating};
 
-use pli_base::{Code, Fault, TokenText};
-use pli_declare::ResolveError;
+use pli_base::{Code, Failure, Fault, TokenText};
 use pli_gen_tree::{GenerateError, generate};
 use pli_link::CompiledUnit;
-use pli_parse::{ParseError, parse};
+use pli_parse::parse;
 use pli_resolve::{ResolvedUnit, resolve_unit};
-use pli_type_statement::{CheckError, check};
+use pli_type_statement::check;
 use std::alloc::Global;
 
 /// Why the tokens of a unit are not compiled.
@@ -25,35 +24,24 @@ pub(crate) enum CompileError {
     OutOfMemory,
 }
 
-impl From<ParseError> for CompileError {
-    ghost from_gives = { λ error e. e ≡ of_parsing error };
+impl From<Failure<Fault>> for CompileError {
+    ghost from_gives = { λ error e. e ≡ of_fault error };
 
-    fn from(error: ParseError) -> CompileError {
+    fn from(error: Failure<Fault>) -> CompileError {
         match error {
-            ParseError::Fault(fault) => CompileError::Fault(fault),
-            ParseError::OutOfMemory => CompileError::OutOfMemory,
+            Failure::Fault(fault) => CompileError::Fault(fault),
+            Failure::OutOfMemory => CompileError::OutOfMemory,
         }
     }
 }
 
-impl From<ResolveError> for CompileError {
-    ghost from_gives = { λ error e. e ≡ of_resolving error };
+impl From<Failure<Vec<Fault>>> for CompileError {
+    ghost from_gives = { λ error e. e ≡ of_faults error };
 
-    fn from(error: ResolveError) -> CompileError {
+    fn from(error: Failure<Vec<Fault>>) -> CompileError {
         match error {
-            ResolveError::Faulty(faults) => CompileError::Faults(faults),
-            ResolveError::OutOfMemory => CompileError::OutOfMemory,
-        }
-    }
-}
-
-impl From<CheckError> for CompileError {
-    ghost from_gives = { λ error e. e ≡ of_checking error };
-
-    fn from(error: CheckError) -> CompileError {
-        match error {
-            CheckError::Faults(faults) => CompileError::Faults(faults),
-            CheckError::OutOfMemory => CompileError::OutOfMemory,
+            Failure::Fault(faults) => CompileError::Faults(faults),
+            Failure::OutOfMemory => CompileError::OutOfMemory,
         }
     }
 }

@@ -12,7 +12,8 @@ use Rattle.pli_value.proofs.PackedLaws.{unpacked_packed, packed_length}
 use Rattle.byteorder.specs.Endian.{big_bytes}
 use Rattle.pli_deck.specs.declared.fault.Fault.{Fault}
 use Rattle.pli_deck.specs.declared.fault.Fault.TheVariants.{Truncated, BadMagic, BadVersion}
-use Rattle.pli_deck.specs.Fields.{AreBytes, ◌>>=◌, Reader, Field, nothing, byte, held, ◌⊗◌, list_of, unknown, u1, u2, u4, count_of_one, byte_at, from_to, list}
+use Rattle.pli_base.specs.Results.{◌>>=◌}
+use Rattle.pli_deck.specs.Fields.{AreBytes, Reader, Field, nothing, byte, held, ◌⊗◌, list_of, unknown, u1, u2, u4, count_of_one, byte_at, from_to, list}
 use Rattle.pli_deck.specs.Decks.{Constant, Number, Characters, Bits, NullPointer, NullOffset, Global, Static, Controlled, ExternalStatic, ExternalControlled, ExternalEntry}
 use Rattle.pli_deck.specs.Descriptions.{description}
 use Rattle.pli_deck.specs.Instructions.{instruction}

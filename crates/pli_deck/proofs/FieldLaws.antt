@@ -12,7 +12,8 @@ use Rattle.byteorder.specs.Endian.{big_bytes, big_number}
 use Rattle.byteorder.specs.Numbers.{big_number-reads_back, length-bytes_high_first}
 use Rattle.pli_deck.specs.declared.fault.Fault.{Fault}
 use Rattle.pli_deck.specs.declared.fault.Fault.TheVariants.{Truncated}
-use Rattle.pli_deck.specs.Fields.{AreBytes, BothWays, ◌>>=◌, Field, nothing, byte_at, byte, number_at, number, held, checked, is_near, signed, followed, ◌⊗◌, shaped, many, list_of, u2, u4, from_to}
+use Rattle.pli_base.specs.Results.{◌>>=◌}
+use Rattle.pli_deck.specs.Fields.{AreBytes, BothWays, Field, nothing, byte_at, byte, number_at, number, held, checked, is_near, signed, followed, ◌⊗◌, shaped, many, list_of, u2, u4, from_to}
 
 -- ---- steps that did not fail
 

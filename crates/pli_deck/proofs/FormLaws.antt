@@ -1,6 +1,7 @@
 -- Fields with a tag: what is read in one of the forms is of that form.
 use Rattle.std.proofs.Common.{◌≡◌, ℕ, zero, suc, ◌+◌, true, List, [], ◌∷◌, ◌++◌, get_or, Ok, refl, sym, ap, subst, ◌∙◌, arith}
-use Rattle.pli_deck.specs.Fields.{AreBytes, ◌>>=◌, Reader, Field, Form, byte_at, form, made, unknown, tagged}
+use Rattle.pli_base.specs.Results.{◌>>=◌}
+use Rattle.pli_deck.specs.Fields.{AreBytes, Reader, Field, Form, byte_at, form, made, unknown, tagged}
 use Rattle.pli_deck.proofs.FieldLaws.{IsField, Taken, bind_ok, ok_is, as_shaped, byte_law, byte_again}
 
 -- what was read behind a tag

@@ -5,7 +5,8 @@ use Rattle.std.proofs.lemmas.Bool.{ltb-false, le-ltb, and_parts, eqb-true, eq-eq
 use Rattle.std.proofs.lemmas.List.{take_at, drop_at, take-append-drop, length-append, length-take-le}
 use Rattle.pli_deck.specs.declared.fault.Fault.{Fault}
 use Rattle.pli_deck.specs.declared.fault.Fault.TheVariants.{Truncated}
-use Rattle.pli_deck.specs.Fields.{AreBytes, ◌>>=◌, Field, many, checked, followed, ◌⊗◌, shaped, u1, u2, u4, from_to}
+use Rattle.pli_base.specs.Results.{◌>>=◌}
+use Rattle.pli_deck.specs.Fields.{AreBytes, Field, many, checked, followed, ◌⊗◌, shaped, u1, u2, u4, from_to}
 use Rattle.pli_deck.specs.Decks.{Deck}
 use Rattle.pli_deck.specs.DeckFields.{name, after_version, deck}
 use Rattle.pli_deck.specs.DeckFaults.{fault_of}

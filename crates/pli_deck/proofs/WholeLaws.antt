@@ -2,7 +2,8 @@
 use Rattle.std.proofs.Common.{◌≡◌, ℕ, true, List, [], ◌∷◌, ◌++◌, Option, Some, None, Result, Ok, refl, sym, ap, ◌∙◌, subst}
 use Rattle.std.proofs.lemmas.List.{append-nil}
 use Rattle.pli_deck.specs.declared.fault.Fault.{Fault}
-use Rattle.pli_deck.specs.Fields.{◌>>=◌, AreBytes, Field}
+use Rattle.pli_base.specs.Results.{◌>>=◌}
+use Rattle.pli_deck.specs.Fields.{AreBytes, Field}
 use Rattle.pli_deck.specs.Whole.{unless_faulty, whole, whole_read}
 use Rattle.pli_deck.proofs.FieldLaws.{IsField, bind_ok, ok_is}
 

@@ -10,7 +10,8 @@ use Rattle.pli_value.specs.Packing.{packed, unpacked}
 use Rattle.pli_deck.specs.declared.fault.Fault.TheVariants.{Truncated, BadMagic, BadVersion}
 use Rattle.pli_deck.specs.declared.fault.Fault.{Fault}
 use Rattle.pli_deck.specs.declared.instruction.Instruction.{Instruction}
-use Rattle.pli_deck.specs.Fields.{◌>>=◌, Field, Form, Reader, byte_at, nothing, checked, held, signed, ◌⊗◌}
+use Rattle.pli_base.specs.Results.{◌>>=◌}
+use Rattle.pli_deck.specs.Fields.{Field, Form, Reader, byte_at, nothing, checked, held, signed, ◌⊗◌}
 use Rattle.pli_deck.specs.Fields.{shaped, list_of, form, made, unknown, tagged, byte, u1, u2, u4, from_to}
 use Rattle.pli_deck.specs.Fields.{count_of_one}
 use Rattle.pli_deck.specs.Fields.{list}

@@ -1,6 +1,7 @@
 -- Fields (own): how a value stands in bytes. A field says three things of a value: the bytes that spell it,
 -- whether it has a spelling at all, and how it is read from the front of bytes.
 use Rattle.std.specs.Prelude.{◌≡◌, ◌<◌, ℕ, zero, suc, ◌^◌, nat_le, nat_lt, Bool, true, ◌&&◌, ℤ}
+use Rattle.pli_base.specs.Results.{◌>>=◌}
 use Rattle.std.specs.Prelude.{unsigned_abs}
 use Rattle.std.specs.Prelude.{List, [], ◌∷◌, ◌++◌, length, drop, get_or, Result, Ok, Err}
 use Rattle.std.specs.Prelude.{if◌then◌else◌}
@@ -9,12 +10,6 @@ use Rattle.std.specs.List.{flat_map, list_all}
 use Rattle.byteorder.specs.Endian.{big_bytes, big_number}
 use Rattle.pli_deck.specs.declared.fault.Fault.{Fault}
 use Rattle.pli_deck.specs.declared.fault.Fault.TheVariants.{Truncated, OutOfRange}
-
--- one thing read behind another, up to the first fault
-infixl 10 ◌>>=◌
-abbrev pub ◌>>=◌ : {A B : Type 0} → Result A Fault → (A → Result B Fault) → Result B Fault
-(Ok x) >>= f = f x
-(Err e) >>= f = Err e
 
 -- what is read from the front: a value and the bytes behind it, or the first fault
 abbrev pub Reader : Type 0 → Type 0

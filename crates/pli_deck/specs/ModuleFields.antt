@@ -10,7 +10,8 @@ use Rattle.std.specs.Ordering.{nat_cmp}
 use Rattle.pli_base.specs.Name.{Name}
 use Rattle.pli_deck.specs.declared.fault.Fault.{Fault}
 use Rattle.pli_deck.specs.declared.fault.Fault.TheVariants.{Truncated}
-use Rattle.pli_deck.specs.Fields.{◌>>=◌, Field, Reader, many, checked, followed, ◌⊗◌, shaped, list_of}
+use Rattle.pli_base.specs.Results.{◌>>=◌}
+use Rattle.pli_deck.specs.Fields.{Field, Reader, many, checked, followed, ◌⊗◌, shaped, list_of}
 use Rattle.pli_deck.specs.Fields.{u1, u2, u4, from_to}
 use Rattle.pli_deck.specs.Decks.{Global, Static, Controlled, ExternalStatic, ExternalControlled}
 use Rattle.pli_deck.specs.Decks.{ExternalEntry, Deck}

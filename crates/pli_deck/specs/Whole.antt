@@ -2,7 +2,8 @@
 use Rattle.std.specs.Prelude.{ℕ, List, [], ◌∷◌, Option, Some, None, Result, Ok, Err}
 use Rattle.pli_deck.specs.declared.fault.Fault.{Fault}
 use Rattle.pli_deck.specs.declared.fault.Fault.TheVariants.{Trailing}
-use Rattle.pli_deck.specs.Fields.{◌>>=◌, Field}
+use Rattle.pli_base.specs.Results.{◌>>=◌}
+use Rattle.pli_deck.specs.Fields.{Field}
 
 -- what was read, if it has no fault as a whole
 abbrev pub unless_faulty : {X : Type 0} → Option Fault → X → Result X Fault

@@ -38,7 +38,7 @@ impl From<ReadError> for LoadError {
 
     fn from(error: ReadError) -> LoadError {
         match error {
-            ReadError::Memory => LoadError::Memory,
+            ReadError::OutOfMemory => LoadError::Memory,
             ReadError::Fault(fault) => LoadError::Fault(fault),
         }
     }

@@ -1,7 +1,8 @@
 -- A count of one byte is read as a byte.
 use Rattle.std.proofs.Common.{◌≡◌, ℕ, List, [], ◌∷◌, ap}
 use Rattle.std.specs.Int.{is_in_range}
-use Rattle.pli_deck.specs.Fields.{◌>>=◌, held, number_at, byte_at, from_to, count_of_one, u1}
+use Rattle.pli_base.specs.Results.{◌>>=◌}
+use Rattle.pli_deck.specs.Fields.{held, number_at, byte_at, from_to, count_of_one, u1}
 use Rattle.pli_deck.proofs.FieldLaws.{count_read, no_count}
 
 one_byte : (bytes : List ℕ) → number_at 1 bytes ≡ byte_at bytes

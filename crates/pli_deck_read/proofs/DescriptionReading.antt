@@ -4,20 +4,21 @@ use Rattle.std.proofs.lemmas.List.{get_or_past}
 use Rattle.pli_map.specs.Description.{Description}
 use Rattle.pli_deck.specs.declared.fault.Fault.{Fault}
 use Rattle.pli_deck.specs.declared.fault.Fault.TheVariants.{OutOfRange}
-use Rattle.pli_deck_read.specs.declared.error.ReadError.{ReadError}
-use Rattle.pli_deck_read.specs.declared.error.ReadError.TheVariants as errors
-use Rattle.pli_deck.specs.Fields.{◌>>=◌, Field, Reader, byte_at, unknown}
+use Rattle.pli_base.specs.declared.failure.Failure.{Failure}
+use Rattle.pli_base.specs.declared.failure.Failure.TheVariants as errors
+use Rattle.pli_base.specs.Results.{◌>>=◌}
+use Rattle.pli_deck.specs.Fields.{Field, Reader, byte_at, unknown}
 use Rattle.pli_deck.specs.Descriptions.{description_readers, described, description_within}
-use Rattle.pli_deck_read.specs.Reading.{Fails}
+use Rattle.pli_base.specs.answers.FailureAnswers.{Fails}
 
 abbrev by_tag : List (Reader Description) → ℕ × List ℕ → Result (Description × List ℕ) Fault
 by_tag readers t = get_or readers t.0 unknown t.1
 
 -- no tag
-pub without_tag : (levels : ℕ) (bytes : List ℕ) (e : ReadError) → Fails e (byte_at bytes) → Fails e ((description_within levels).read bytes)
+pub without_tag : (levels : ℕ) (bytes : List ℕ) (e : Failure Fault) → Fails e (byte_at bytes) → Fails e ((description_within levels).read bytes)
 unfolding description_within
-without_tag zero bytes errors.Memory h = tt
-without_tag (suc n) bytes errors.Memory h = tt
+without_tag zero bytes errors.OutOfMemory h = tt
+without_tag (suc n) bytes errors.OutOfMemory h = tt
 without_tag zero bytes (errors.Fault f) h = ap (λ r. r >>= by_tag []) h
 without_tag (suc n) bytes (errors.Fault f) h = ap (λ r. r >>= by_tag (description_readers (description_within n))) h
 

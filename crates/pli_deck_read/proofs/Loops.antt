@@ -4,10 +4,11 @@ use Rattle.std.proofs.lemmas.List.{append-nil}
 use Rattle.std.proofs.lemmas.Bool.{lt-ltb, le-ltb, cases_lt}
 use Rattle.pli_deck.specs.declared.fault.Fault.{Fault}
 use Rattle.pli_deck.specs.declared.fault.Fault.TheVariants.{Truncated}
-use Rattle.pli_deck_read.specs.declared.error.ReadError.{ReadError}
-use Rattle.pli_deck_read.specs.declared.error.ReadError.TheVariants as errors
-use Rattle.pli_deck.specs.Fields.{◌>>=◌, Reader, byte_at, many}
-use Rattle.pli_deck_read.specs.Reading.{Fails}
+use Rattle.pli_base.specs.declared.failure.Failure.{Failure}
+use Rattle.pli_base.specs.declared.failure.Failure.TheVariants as errors
+use Rattle.pli_base.specs.Results.{◌>>=◌}
+use Rattle.pli_deck.specs.Fields.{Reader, byte_at, many}
+use Rattle.pli_base.specs.answers.FailureAnswers.{Fails}
 
 -- what was read before, and what is still read
 abbrev pub in_front : {X : Type 0} → List X → List X × List ℕ → Result (List X × List ℕ) Fault
@@ -31,10 +32,10 @@ goes_on read front count i bytes x behind total lt h so_far =
     let one : with_front front (many read (count - i) bytes) ≡ with_front (front ++ x ∷ []) (many read (count - (i + 1)) behind) = rw (k, h) (regroup front x (many read (count - (i + 1)) behind)) in
     sym one ∙ so_far
 
-pub ends : {X : Type 0} (read : Reader X) (e : ReadError) (front : List X) (count i : ℕ) (bytes : List ℕ) (total : Result (List X × List ℕ) Fault) → i < count → Fails e (read bytes)
+pub ends : {X : Type 0} (read : Reader X) (e : Failure Fault) (front : List X) (count i : ℕ) (bytes : List ℕ) (total : Result (List X × List ℕ) Fault) → i < count → Fails e (read bytes)
     → with_front front (many read (count - i) bytes) ≡ total → Fails e total
 unfolding many
-ends read errors.Memory front count i bytes total lt h so_far = tt
+ends read errors.OutOfMemory front count i bytes total lt h so_far = tt
 ends read (errors.Fault f) front count i bytes total lt h so_far =
     let k : count - i ≡ suc (count - (i + 1)) = omega arith in
     let one : with_front front (many read (count - i) bytes) ≡ Err f = rw (k, h) refl in

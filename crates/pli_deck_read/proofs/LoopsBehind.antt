@@ -4,10 +4,10 @@ use Rattle.std.proofs.lemmas.List.{append-nil}
 use Rattle.pli_deck.specs.declared.fault.Fault.{Fault}
 use Rattle.pli_deck.specs.Fields.{Field}
 use Rattle.pli_deck.specs.ModuleFields.{many_behind}
-use Rattle.pli_deck_read.specs.declared.error.ReadError.{ReadError}
-use Rattle.pli_deck_read.specs.declared.error.ReadError.TheVariants as errors
+use Rattle.pli_base.specs.declared.failure.Failure.{Failure}
+use Rattle.pli_base.specs.declared.failure.Failure.TheVariants as errors
 use Rattle.pli_deck_read.specs.Earlier.{last_of}
-use Rattle.pli_deck_read.specs.Reading.{Fails}
+use Rattle.pli_base.specs.answers.FailureAnswers.{Fails}
 use Rattle.pli_deck_read.proofs.Loops.{with_front, regroup}
 
 pub last_pushed : {X : Type 0} (xs : List X) (x : X) → last_of (xs ++ x ∷ []) ≡ Some x
@@ -36,10 +36,10 @@ goes_on_behind f before front count i bytes x behind total lt h so_far =
     rw (k, h) (regroup front x (many_behind f (Some x) (count - (i + 1)) behind)) in
     sym one ∙ so_far
 
-pub ends_behind : {X : Type 0} (f : Option X → Field X) (before : Option X) (e : ReadError) (front : List X) (count i : ℕ) (bytes : List ℕ) (total : Result (List X × List ℕ) Fault)
+pub ends_behind : {X : Type 0} (f : Option X → Field X) (before : Option X) (e : Failure Fault) (front : List X) (count i : ℕ) (bytes : List ℕ) (total : Result (List X × List ℕ) Fault)
     → i < count → Fails e ((f before).read bytes) → with_front front (many_behind f before (count - i) bytes) ≡ total → Fails e total
 unfolding many_behind
-ends_behind f before errors.Memory front count i bytes total lt h so_far = tt
+ends_behind f before errors.OutOfMemory front count i bytes total lt h so_far = tt
 ends_behind f before (errors.Fault d) front count i bytes total lt h so_far =
     let k : count - i ≡ suc (count - (i + 1)) = omega arith in
     let one : with_front front (many_behind f before (count - i) bytes) ≡ Err d = rw (k, h) refl in

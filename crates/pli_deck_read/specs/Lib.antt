@@ -1,4 +1,3 @@
 pub mod Earlier
 pub mod Operands
-pub mod Reading
 pub mod TablesView

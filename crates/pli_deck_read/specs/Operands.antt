@@ -1,32 +1,33 @@
 -- Reading the operands of an instruction, one behind another, up to the first error.
 use Rattle.std.specs.Prelude.{◌≡◌, ℕ, List, Option, Some, None, Result, Ok, Err}
 use Rattle.pli_deck.specs.Fields.{Reader}
-use Rattle.pli_deck_read.specs.Reading.{Fails}
-use Rattle.pli_deck_read.specs.declared.error.ReadError.{ReadError}
+use Rattle.pli_base.specs.answers.FailureAnswers.{Fails}
+use Rattle.pli_base.specs.declared.failure.Failure.{Failure}
+use Rattle.pli_deck.specs.declared.fault.Fault.{Fault}
 use Rattle.pli_deck_read.specs.declared.operands.Operands.{Operands}
 
 -- what is left to be read, unless there was an error
-abbrev pub left_of : Option ReadError → List ℕ → Result (List ℕ) ReadError
+abbrev pub left_of : Option (Failure Fault) → List ℕ → Result (List ℕ) (Failure Fault)
 left_of None bytes = Ok bytes
 left_of (Some e) bytes = Err e
 
 -- what is left of operands
-abbrev pub operands_view : Operands → Result (List ℕ) ReadError
+abbrev pub operands_view : Operands → Result (List ℕ) (Failure Fault)
 operands_view o = left_of o.error o.rest.now
 
 -- the first of two errors
-abbrev pub kept : Option ReadError → ReadError → Option ReadError
+abbrev pub kept : Option (Failure Fault) → Failure Fault → Option (Failure Fault)
 kept None e = Some e
 kept (Some d) e = Some d
 
 -- reading gives this value and leaves so much, or there was an error before, or there is one now
-abbrev pub IsRead : {X : Type 0} → Reader X → (before : Result (List ℕ) ReadError) → X
-    → (behind : Result (List ℕ) ReadError) → Type 0
+abbrev pub IsRead : {X : Type 0} → Reader X → (before : Result (List ℕ) (Failure Fault)) → X
+    → (behind : Result (List ℕ) (Failure Fault)) → Type 0
 IsRead read (Ok bytes) x (Ok rest) = read bytes ≡ Ok (x, rest)
 IsRead read (Ok bytes) x (Err e) = Fails e (read bytes)
 IsRead read (Err d) x behind = behind ≡ Err d
 
 -- the same, as one fact
-pub record Reads {X : Type 0} (read : Reader X) (before : Result (List ℕ) ReadError) (value : X)
-    (behind : Result (List ℕ) ReadError) : Type 0 where
+pub record Reads {X : Type 0} (read : Reader X) (before : Result (List ℕ) (Failure Fault)) (value : X)
+    (behind : Result (List ℕ) (Failure Fault)) : Type 0 where
   pub is_read : IsRead read before value behind

@@ -5,7 +5,7 @@ ghost use Rattle.pli_deck.specs.Fields.{made, list_of, u4};
 ghost use Rattle.pli_deck.specs.Decks as plain;
 ghost use Rattle.pli_deck.specs.DeckFields as deck_fields;
 ghost use Rattle.pli_deck.specs.DeckView.{constant_view, initial_view, template_view};
-ghost use Rattle.pli_deck_read.specs.Reading.{Gives};
+ghost use Rattle.pli_base.specs.answers.FailureAnswers.{Gives};
 
 use crate::error::ReadError;
 use crate::reading::{

@@ -5,7 +5,7 @@ ghost use Rattle.pli_map.specs.views.DescriptionView.{description_view};
 ghost use Rattle.pli_deck.specs.Fields.{Field, many, list};
 ghost use Rattle.pli_deck.specs.Descriptions as description_fields;
 ghost use Rattle.pli_deck.specs.Descriptions.{description, description_within, described};
-ghost use Rattle.pli_deck_read.specs.Reading.{Gives};
+ghost use Rattle.pli_base.specs.answers.FailureAnswers.{Gives};
 
 use crate::error::ReadError;
 use crate::reading::{

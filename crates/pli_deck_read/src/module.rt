@@ -4,7 +4,7 @@ ghost use Rattle.pli_deck.specs.ModuleFields as plain;
 ghost use Rattle.pli_deck.specs.ModuleSpelling.{SpellsModule, module_fault, module_read};
 ghost use Rattle.pli_deck.specs.ModuleView.{module_view};
 ghost use Rattle.pli_deck.specs.Whole.{whole};
-ghost use Rattle.pli_deck_read.specs.Reading.{Gives};
+ghost use Rattle.pli_base.specs.answers.FailureAnswers.{Gives};
 
 use crate::error::ReadError;
 use crate::modules::module_at;

@@ -7,7 +7,7 @@ ghost use Rattle.pli_deck.specs.DeckView.{deck_view, global_view};
 ghost use Rattle.pli_deck.specs.ModuleFields as module_fields;
 ghost use Rattle.pli_deck.specs.ModuleView.{kind_number, external_view, member_view, module_view};
 ghost use Rattle.pli_deck_read.specs.Earlier.{last_of};
-ghost use Rattle.pli_deck_read.specs.Reading.{Gives};
+ghost use Rattle.pli_base.specs.answers.FailureAnswers.{Gives};
 
 use crate::error::ReadError;
 use crate::read::read;

@@ -2,7 +2,7 @@
 ghost use Rattle.std.specs.Prelude.{◌≡◌};
 ghost use Rattle.pli_deck.specs.Fields.{Reader, u1, u2, u4, from_to, signed, unknown};
 ghost use Rattle.pli_deck_read.specs.Operands.{operands_view, kept, Reads};
-ghost use Rattle.pli_deck_read.specs.Reading.{Gives};
+ghost use Rattle.pli_base.specs.answers.FailureAnswers.{Gives};
 
 use crate::error::ReadError;
 use crate::reading::{byte_of, byte_within, short_of, signed_within, word_of};

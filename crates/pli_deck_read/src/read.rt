@@ -5,7 +5,7 @@ ghost use Rattle.pli_deck.specs.DeckView.{deck_view};
 ghost use Rattle.pli_deck.specs.DeckFaults.{fault_of};
 ghost use Rattle.pli_deck.specs.Spelling.{SpellsDeck, deck_read};
 ghost use Rattle.pli_deck.specs.Whole.{whole};
-ghost use Rattle.pli_deck_read.specs.Reading.{Gives};
+ghost use Rattle.pli_base.specs.answers.FailureAnswers.{Gives};
 
 use crate::error::ReadError;
 use crate::whole::deck_at;

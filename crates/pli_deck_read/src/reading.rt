@@ -3,7 +3,7 @@ ghost use Rattle.std.specs.Prelude.{◌≡◌, ◌≤◌, List, Result, length, 
 ghost use Rattle.pli_deck.specs.Fields.{byte_at, number_at, many, byte, list, list_of, u1, u2, count_of_one, from_to, signed};
 ghost use Rattle.pli_deck.specs.Fields as fields;
 ghost use Rattle.pli_deck.specs.DeckFields as deck_fields;
-ghost use Rattle.pli_deck_read.specs.Reading.{Gives};
+ghost use Rattle.pli_base.specs.answers.FailureAnswers.{Gives};
 
 use crate::error::ReadError;
 use byteorder::{BigEndian, ByteOrder};

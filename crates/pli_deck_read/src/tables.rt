@@ -5,7 +5,7 @@ ghost use Rattle.pli_deck.specs.Decks as plain;
 ghost use Rattle.pli_deck.specs.DeckFields as deck_fields;
 ghost use Rattle.pli_deck.specs.DeckView.{signature_view, global_view, block_view};
 ghost use Rattle.pli_deck.specs.Instructions.{instruction};
-ghost use Rattle.pli_deck_read.specs.Reading.{Gives};
+ghost use Rattle.pli_base.specs.answers.FailureAnswers.{Gives};
 
 use crate::error::ReadError;
 use crate::operations::operation_of;

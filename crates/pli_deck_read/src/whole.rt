@@ -4,7 +4,7 @@ ghost use Rattle.pli_deck.specs.Fields.{Reader};
 ghost use Rattle.pli_deck.specs.DeckFields as deck_fields;
 ghost use Rattle.pli_deck.specs.DeckView.{deck_view};
 ghost use Rattle.pli_deck_read.specs.TablesView.{tables_view};
-ghost use Rattle.pli_deck_read.specs.Reading.{Gives};
+ghost use Rattle.pli_base.specs.answers.FailureAnswers.{Gives};
 
 use crate::constants::{Constants, Templates, are_same};
 use crate::described::descriptions_of;

@@ -12,7 +12,6 @@ ghost use Rattle.pli_declare.specs.Resolved.{block_at};
 ghost use Rattle.pli_declare.specs.views.BlockView.{block_view};
 ghost use Rattle.pli_declare.specs.views.ResolvedView.{IsResolved};
 ghost use Rattle.pli_declare.specs.answers.Walks.{AreParameters};
-ghost use Rattle.pli_declare.specs.declared.resolving.ResolveError.TheVariants.{OutOfMemory};
 
 use crate::attributes::named_meanings;
 use crate::block::Block;
@@ -22,7 +21,7 @@ use crate::scopes::Scopes;
 use crate::unit::faults_told;
 use crate::uses::use_meanings;
 use pli_base::statement::Procedure;
-use pli_base::{Fault, Name};
+use pli_base::{Failure, Fault, Name};
 use pli_declare_constructs::Nesting;
 use pli_declare_found::searched_tables;
 use pli_declare_outline::{Outline, Placed};
@@ -30,21 +29,8 @@ use pli_declare_tables::{Tables, owners_stand_before};
 use pli_declare_variables::{Declaration, declare};
 use std::alloc::{AllocError, Global};
 
-/// Why there is no resolved unit.
-#[derive(Drop)]
-pub enum ResolveError {
-    /// All faults of declarations and uses, in the order of their tokens.
-    Faulty(Vec<Fault>),
-    OutOfMemory,
-}
-
-impl From<AllocError> for ResolveError {
-    ghost from_gives = { λ _ error. error ≡ OutOfMemory };
-
-    fn from(_error: AllocError) -> ResolveError {
-        ResolveError::OutOfMemory
-    }
-}
+/// Why there is no resolved unit: all faults of declarations and uses, in the order of their tokens, or want of memory.
+pub type ResolveError = Failure<Vec<Fault>>;
 
 /// What a region declares, where no declaration has a fault.
 fn declared_block<'a>(
@@ -161,7 +147,7 @@ fn resolve_told<'a>(
     if faults.is_empty() {
         Ok(resolved(alloc, unit, &scopes)?)
     } else {
-        Err(ResolveError::Faulty(faults))
+        Err(ResolveError::Fault(faults))
     }
 }
 

@@ -1,14 +1,11 @@
 -- The bounds of dimensions.
-use Rattle.std.specs.Prelude.{Bool, not, ◌&&◌, ◌||◌, nat_lt, int_le, ℤ, pos, negsuc, ◌-ℤ◌, if◌then◌else◌}
+use Rattle.std.specs.Prelude.{Bool, not, ◌&&◌, ◌||◌, nat_lt, int_le, ℤ, pos, negsuc}
+use Rattle.pli_base.specs.Declarations.{integer_of}
 use Rattle.std.specs.Prelude.{Option, Some, None, List, length, map}
 use Rattle.std.specs.List.{list_all}
 use Rattle.pli_base.specs.declared.declaration.Bounds.{Bounds}
 use Rattle.pli_base.specs.declared.declaration.Integer.{Integer}
 use Rattle.pli_map.specs.declared.description.Bounds as described
-
--- the number that an integer spells
-abbrev pub integer_of : Integer → ℤ
-integer_of i = if i.negative then pos 0 -ℤ pos i.value else pos i.value
 
 -- a lower bound, 1 by default
 abbrev pub low_of : Option Integer → ℤ

@@ -8,7 +8,6 @@ ghost use Rattle.pli_declare_attributes.specs.Faults.{parameter_of, parameter_fa
 ghost use Rattle.pli_declare_attributes.specs.Faults as spec;
 ghost use Rattle.pli_declare_attributes.specs.Completed.{storage_at, storage_of, scope_of, variable_of, completed_of};
 ghost use Rattle.pli_declare_attributes.specs.views.CompletedView.{variable_view, completed_view, IsCompleted, IsResult};
-ghost use Rattle.pli_declare_attributes.specs.declared.complete.AttributeError.TheVariants.{OutOfMemory};
 
 use crate::completed::{Completed, Scope, Storage, Variable};
 use crate::extents::all_described;
@@ -20,26 +19,13 @@ use crate::place::{Place, Position};
 use crate::set::AttributeSet;
 use crate::summary::Summary;
 use crate::types::scalar;
-use pli_base::Code;
+use pli_base::{Code, Failure};
 use pli_base::declaration::{Attribute, DescribedAttribute, ParameterDescription};
 use pli_map::{Bounds, Description, size};
 use std::alloc::{AllocError, Global};
 
-/// Why there is nothing to which an item's attributes are completed.
-#[derive(Drop)]
-pub enum AttributeError {
-    /// The least fault of the item.
-    Faulty(Code),
-    OutOfMemory,
-}
-
-impl From<AllocError> for AttributeError {
-    ghost from_gives = { λ _ error. error ≡ OutOfMemory };
-
-    fn from(_error: AllocError) -> AttributeError {
-        AttributeError::OutOfMemory
-    }
-}
+/// Why there is nothing to which an item's attributes are completed: its least fault, or want of memory.
+pub type AttributeError = Failure<Code>;
 
 /// The storage class: AUTOMATIC by default; EXTERNAL implies STATIC unless CONTROLLED stands.
 fn storage(set: AttributeSet) -> Storage
@@ -197,7 +183,7 @@ pub fn completed_item<'a>(
     ensures { IsCompleted result place (item_view facts.now.item.now) }
 {
     if let Some(code) = item_fault(place, facts) {
-        return Err(AttributeError::Faulty(code));
+        return Err(AttributeError::Fault(code));
     }
     let attributes = facts.item.attributes.as_slice();
     let set = facts.summary.set;

@@ -1,9 +1,9 @@
 //! The bounds of dimensions.
 ghost use Rattle.std.specs.Prelude.{◌≡◌, ◌≤ℤ◌, negsuc, pos, IsTrue, true, IfOk};
 ghost use Rattle.std.specs.List.{list_all};
-ghost use Rattle.pli_declare_attributes.specs.Extents.{integer_of, low_of, bounds_of, are_good, are_bad_bounds, all_bounds};
+ghost use Rattle.pli_declare_attributes.specs.Extents.{low_of, bounds_of, are_good, are_bad_bounds, all_bounds};
 
-use pli_base::declaration::{Bounds, Integer};
+use pli_base::declaration::Bounds;
 use std::alloc::{AllocError, Global};
 
 /// How many dimensions an item may have of its own (own).
@@ -12,20 +12,12 @@ const DIMENSION_LIMIT: usize = 8;
 /// The greatest bound (own); the least is as far below 0.
 const BOUND_LIMIT: i64 = 32_767;
 
-/// A constant as a number.
-fn number(integer: Integer) -> i64
-    ensures { result ≡ integer_of integer }
-{
-    let value = i64::from(integer.value);
-    if integer.negative { 0 - value } else { value }
-}
-
 /// The lower bound of a dimension, 1 by default (X3.74).
 fn low(bounds: Bounds) -> i64
     ensures { result ≡ low_of bounds.low }
 {
     match bounds.low {
-        Some(low) => number(low),
+        Some(low) => low.number(),
         None => 1,
     }
 }
@@ -35,7 +27,7 @@ fn good(bounds: Bounds) -> bool
     ensures { result ≡ are_good bounds }
 {
     let low = low(bounds);
-    let high = number(bounds.high);
+    let high = bounds.high.number();
     -BOUND_LIMIT <= low && low <= high && high <= BOUND_LIMIT
 }
 
@@ -66,7 +58,7 @@ pub(crate) fn described(bounds: Bounds) -> pli_map::Bounds
 {
     pli_map::Bounds {
         low: low(bounds) as i16,
-        high: number(bounds.high) as i16,
+        high: bounds.high.number() as i16,
     }
 }
 

@@ -5,7 +5,7 @@ use Rattle.std.specs.Prelude.{ℕ, ◌+◌, nat_lt, Option, Some, None, List, []
 use Rattle.std.specs.List.{flat_map}
 use Rattle.pli_base.specs.Syntax.{Expression, Referred, Constant, Parenthesized, Prefix, Infix, Reference}
 use Rattle.pli_base.specs.Syntax.{Named, JoinedParts, Alone, Joined, Arguments, Absent, Given, Expressions}
-use Rattle.pli_base.specs.Syntax.{Empty, Listed}
+use Rattle.pli_base.specs.Syntax.{Empty, Listed, first_token}
 use Rattle.pli_base.specs.declared.syntax.Identifier.{Identifier}
 use Rattle.pli_base.specs.declared.syntax.Joining.TheVariants.{Member, Located}
 use Rattle.pli_base.specs.Declarations.{Item}
@@ -96,10 +96,6 @@ control_marks (While condition) = expression_marks condition
 control_marks (Iterate variable equals first range condition) =
     reference_marks variable ++ expression_marks first ++ optional_marks range_marks range
     ++ optional_marks expression_marks condition
-
--- the token of a reference's first name
-abbrev pub first_token : Reference → ℕ
-first_token (Named name arguments more) = name.at
 
 -- two references in the order of the text
 abbrev pub both_marks : (area target : Option Reference) → List Mark

@@ -10,7 +10,8 @@ use Rattle.pli_map.specs.Sizes.{size_of, alignment_of, end_behind, greatest_alig
 use Rattle.pli_map.specs.declared.layout.Layout.{Layout}
 use Rattle.pli_map.proofs.Members.{later}
 use Rattle.pli_map.proofs.Alignments.{members_positive}
-use Rattle.pli_declare_attributes.specs.Extents.{low_of, integer_of, are_good, are_bad_bounds, all_bounds, bounds_of}
+use Rattle.pli_base.specs.Declarations.{integer_of}
+use Rattle.pli_declare_attributes.specs.Extents.{low_of, are_good, are_bad_bounds, all_bounds, bounds_of}
 use Rattle.pli_declare_attributes.specs.Faults.{with_bounds}
 use Rattle.pli_declare_attributes.proofs.Shapes.{bounds_good}
 use Rattle.pli_declare_variables.specs.Descriptions.{member_then, members_made, inside}

@@ -39,7 +39,7 @@ fn completed<'a>(
     match completed_item(alloc, place, facts) {
         Ok(completed) => Ok(completed),
         Err(AttributeError::OutOfMemory) => Err(AllocError),
-        Err(AttributeError::Faulty(_)) => unreachable!(),
+        Err(AttributeError::Fault(_)) => unreachable!(),
     }
 }
 

@@ -1,8 +1,7 @@
 -- The statements of a unit that is read begin where they should.
 use Rattle.std.proofs.Common.{◌≡◌, ◌+◌, ℕ, zero, suc, Option, Some, length, sym, ◌∙◌}
-use Rattle.pli_base.specs.Syntax.{Reference, Named}
+use Rattle.pli_base.specs.Syntax.{Reference, Named, first_token}
 use Rattle.pli_base.specs.Statements.{Heading, Statement, Numbered, Body, Assign, Procedure, Begin, Do, If, On, Statements, Ended, Before, Alternative, NoElse, Else, count}
-use Rattle.pli_base.specs.TreeTokens.{first_token}
 use Rattle.pli_base.specs.Words.{Tokens}
 use Rattle.pli_base.specs.declared.syntax.Identifier.{Identifier}
 use Rattle.pli_parse.proofs.StatementRead.{unit_reads}

@@ -3,7 +3,7 @@
 use Rattle.std.specs.Prelude.{◌≡◌, ℕ, Option, Some, Ok}
 use Rattle.pli_base.specs.Statements.{Statement, Numbered, Body, Assign, Procedure, Begin, Do, If, On}
 use Rattle.pli_base.specs.Statements.{Statements, Ended, Before, Alternative, NoElse, Else, ExternalProcedure}
-use Rattle.pli_base.specs.TreeTokens.{first_token}
+use Rattle.pli_base.specs.Syntax.{first_token}
 use Rattle.pli_base.specs.Words.{Tokens}
 use Rattle.pli_base.specs.declared.syntax.Identifier.{Identifier}
 use Rattle.pli_parse_statement.specs.StatementReading.{unit_of}

@@ -8,10 +8,11 @@ use Rattle.pli_base.specs.declared.code.Code.TheVariants.{UnendedComment}
 use Rattle.pli_base.specs.declared.token.TokenText.{TokenText}
 use Rattle.pli_base.specs.declared.token.Token.{Token}
 use Rattle.pli_lex.specs.declared.answer.LexFault.{LexFault}
-use Rattle.pli_lex.specs.declared.answer.LexError.{LexError}
-use Rattle.pli_lex.specs.declared.answer.LexError.TheVariants as errors
+use Rattle.pli_base.specs.declared.failure.Failure.{Failure}
+use Rattle.pli_base.specs.declared.failure.Failure.TheVariants as errors
 use Rattle.pli_lex.specs.Characters.{line_end, is_line_end, text_of, line_ends, is_blank, begins_with, begins_comment}
-use Rattle.pli_lex.specs.answers.Answers.{Fails, in_comment, reads}
+use Rattle.pli_base.specs.answers.FailureAnswers.{Fails}
+use Rattle.pli_lex.specs.answers.Answers.{in_comment, reads}
 use Rattle.pli_lex.specs.Reading.{token_at, closing_width, comment, piece, piece_at, with_front, tokens_after, lexed}
 use Rattle.pli_lex.proofs.CommentsEnd.{closes_on_line, closes_later, closes_within}
 use Rattle.pli_lex.proofs.FoundStands.{token_stands}
@@ -146,7 +147,7 @@ front_fails front (Ok others) fault e = absurd cc
 front_fails front (Err other) fault e = cc
 
 -- what fails behind some tokens fails where they were read
-pub fails_so_far : (e : LexError) (now before : List Token) (read total : Result (List Token) LexFault) → with_front now read ≡ with_front before total → Fails e read → Fails e total
+pub fails_so_far : (e : Failure LexFault) (now before : List Token) (read total : Result (List Token) LexFault) → with_front now read ≡ with_front before total → Fails e read → Fails e total
 fails_so_far errors.OutOfMemory now before read total so_far fails = tt
 fails_so_far (errors.Fault fault) now before read total so_far fails = front_fails before total fault (sym so_far ∙ ap (with_front now) fails)
 
@@ -202,7 +203,7 @@ line_passes lines i number line began left now after total lt is so_far passes =
     let split : text_of (drop i lines) ≡ line ++ line_end ∷ rest = ap text_of (drop_more lines i line lt) ∙ ap (λ (l : List ℕ). l ++ line_end ∷ rest) (sym is) in
     sym (passes rest) ∙ ap (λ (l : List ℕ). with_front now (reads began number l)) (sym split) ∙ so_far
 
-pub line_fails : (e : LexError) (lines : List (List ℕ)) (i number : ℕ) (line : List ℕ) (began : Option ℕ) (now : List Token) (total : Result (List Token) LexFault) → i < length lines → line ≡ get_or lines i line
+pub line_fails : (e : Failure LexFault) (lines : List (List ℕ)) (i number : ℕ) (line : List ℕ) (began : Option ℕ) (now : List Token) (total : Result (List Token) LexFault) → i < length lines → line ≡ get_or lines i line
     → with_front now (reads began number (text_of (drop i lines))) ≡ total → ((more : List ℕ) → Fails e (reads began number (line ++ line_end ∷ more))) → Fails e total
 line_fails e lines i number line began now total lt is so_far fails =
     let rest = text_of (drop (i + 1) lines) in

@@ -10,7 +10,8 @@ use Rattle.pli_lex.specs.declared.answer.LexFault.{LexFault}
 use Rattle.pli_lex.specs.Characters.{line_ends, is_line_end}
 use Rattle.pli_lex.specs.Tokens.{IsSeparator, AreSeparators, IsGap, SpellsUpTo}
 use Rattle.pli_lex.specs.Faults.{NothingStands, IsCodeOf}
-use Rattle.pli_lex.specs.Reading.{◌>>=◌, Piece, piece_at, at_line, with_front, tokens_in, tokens_after}
+use Rattle.pli_base.specs.Results.{◌>>=◌}
+use Rattle.pli_lex.specs.Reading.{Piece, piece_at, at_line, with_front, tokens_in, tokens_after}
 use Rattle.pli_lex.proofs.FrontStands.{PieceStands, piece_stands, token_piece, separator_piece, separator_some, token_some, nothing_stands, piece_code}
 
 -- ---- line ends

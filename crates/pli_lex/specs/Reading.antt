@@ -1,6 +1,7 @@
 -- Reading a text from left to right (own): its tokens, or the fault of the first place where nothing can
 -- stand.
 use Rattle.std.specs.Prelude.{ℕ, zero, suc, ◌+◌, ◌-◌, nat_eq, Bool, false, ◌&&◌, not, List, [], ◌∷◌, ◌++◌}
+use Rattle.pli_base.specs.Results.{◌>>=◌}
 use Rattle.std.specs.Prelude.{length, take, drop, Option, Some, None, Result, Ok, Err, if◌then◌else◌}
 use Rattle.std.specs.List.{prefix_len}
 use Rattle.std.specs.Option.{is_some, option_map}
@@ -18,12 +19,6 @@ use Rattle.pli_lex.specs.Characters.{text_of, line_ends, is_line_end, is_blank, 
 use Rattle.pli_lex.specs.Characters.{is_width_digit, continues_number, begins_with, begins_comment}
 use Rattle.pli_lex.specs.Signs.{sign_of}
 use Rattle.pli_lex.specs.Tokens.{is_constant, is_binary_constant, width_of, are_digits, bits_in}
-
-infixl 10 ◌>>=◌
--- goes on with what was read, or stays at the fault
-abbrev pub ◌>>=◌ : {A B E : Type 0} → Result A E → (A → Result B E) → Result B E
-(Ok x) >>= f = f x
-(Err e) >>= f = Err e
 
 -- ---- a token
 

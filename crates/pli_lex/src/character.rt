@@ -1,28 +1,9 @@
 //! The kinds of characters.
 ghost use Rattle.std.specs.Prelude.{◌≡◌};
-ghost use Rattle.pli_base.specs.Name.{is_letter, is_digit, is_name_character, upper};
+ghost use Rattle.pli_base.specs.Name.{is_name_character};
 ghost use Rattle.pli_lex.specs.Characters.{is_blank, is_b, is_binary_digit, is_width_digit, digit_value, continues_number, begins_with, begins_comment};
 
-/// Whether `byte` is a letter, in either case.
-pub fn is_letter(byte: u8) -> bool
-    ensures { result ≡ is_letter byte }
-{
-    matches!(byte, b'A'..=b'Z' | b'a'..=b'z')
-}
-
-/// Whether `byte` is a decimal digit.
-pub fn is_digit(byte: u8) -> bool
-    ensures { result ≡ is_digit byte }
-{
-    matches!(byte, b'0'..=b'9')
-}
-
-/// Whether `byte` may follow the first letter of a name (X3.74; `$` is own).
-pub fn is_name_character(byte: u8) -> bool
-    ensures { result ≡ is_name_character byte }
-{
-    is_letter(byte) || is_digit(byte) || matches!(byte, b'_' | b'$')
-}
+use pli_base::is_name_character;
 
 /// Whether `byte` is a blank or a tab.
 pub fn is_blank(byte: u8) -> bool

@@ -6,8 +6,8 @@ ghost use Rattle.pli_base.specs.Name.{is_digit};
 ghost use Rattle.pli_lex.specs.Characters.{is_binary_digit, begins_with};
 ghost use Rattle.pli_lex.specs.Reading.{number_at, decimal, binary};
 
-use crate::character::{begins_with_b, continues_number, is_binary_digit, is_digit};
-use pli_base::{Code, TokenText};
+use crate::character::{begins_with_b, continues_number, is_binary_digit};
+use pli_base::{Code, TokenText, decimal_value, is_digit};
 
 /// The greatest number of digits in a decimal constant (own).
 const DECIMAL_LIMIT: usize = 10;
@@ -23,19 +23,6 @@ fn number_width(text: &[u8]) -> usize
     ensures { result ≡ prefix_len is_digit text.now }
 {
     text.iter().take_while(|byte| is_digit(**byte)).count()
-}
-
-/// The value of at most ten digits.
-fn decimal_value(digits: &[u8]) -> u64
-    requires count { length digits.now ≤ 10 }
-    requires form { IsTrue (list_all is_digit digits.now) }
-    ensures { result ≡ value_in 10 digits.now }
-{
-    let mut value = 0;
-    for digit in digits {
-        value = value * 10 + u64::from(*digit - b'0');
-    }
-    value
 }
 
 /// Whether each byte is a binary digit.

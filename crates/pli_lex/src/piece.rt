@@ -4,11 +4,10 @@ ghost use Rattle.std.specs.List.{prefix_len};
 ghost use Rattle.pli_base.specs.Name.{is_name_character};
 ghost use Rattle.pli_lex.specs.Reading.{word_at, token_at, closing_width};
 
-use crate::character::{is_digit, is_letter, is_name_character};
 use crate::number::number_at;
 use crate::quoted::string_at;
 use crate::sign::sign_at;
-use pli_base::{Code, Name, TokenText};
+use pli_base::{Code, Name, TokenText, is_digit, is_letter, is_name_character};
 use std::alloc::{AllocError, Global};
 
 /// How many characters of names a text begins with.

@@ -5,7 +5,6 @@ ghost use Rattle.pli_link.specs.Names as meaning;
 ghost use Rattle.pli_link.specs.answers.Linking.{Links, fault_of, main_faults_of};
 ghost use Rattle.pli_link.specs.answers.Tables.{AreNames, HaveClasses, units_in};
 ghost use Rattle.pli_link.specs.views.UnitView.{compiled_view};
-ghost use Rattle.pli_link.specs.declared.linking.LinkError.TheVariants.{OutOfMemory};
 
 use crate::global_fault::GlobalFault;
 use crate::linked::{linked_units, main_at};
@@ -15,10 +14,10 @@ use crate::order::{main_names, repeated_names, sort};
 use crate::sizes::is_too_large;
 use crate::units::{LinkedName, NamedUnit};
 use indexmap::{IndexMap, IndexSet};
-use pli_base::Name;
+use pli_base::{Failure, Name};
 use pli_type_keys::TemplateKey;
 use pli_unit_code::Module;
-use std::alloc::{AllocError, AllocFailed, Global};
+use std::alloc::{AllocError, Global};
 
 /// A fault of linking.
 #[derive(Clone, Copy)]
@@ -40,30 +39,8 @@ pub enum LinkFault {
     ModuleTooLarge,
 }
 
-/// Why units are not linked.
-#[derive(Drop)]
-pub enum LinkError {
-    /// All faults, by code, name and unit.
-    Faults(Vec<LinkFault>),
-    /// Memory ran out.
-    OutOfMemory,
-}
-
-impl From<AllocError> for LinkError {
-    ghost from_gives = { λ _ e. e ≡ OutOfMemory };
-
-    fn from(_error: AllocError) -> LinkError {
-        LinkError::OutOfMemory
-    }
-}
-
-impl<T: Drop> From<AllocFailed<T>> for LinkError {
-    ghost from_gives = { λ _ e. e ≡ OutOfMemory };
-
-    fn from(_error: AllocFailed<T>) -> LinkError {
-        LinkError::OutOfMemory
-    }
-}
+/// Why units are not linked: all faults, by code, name and unit, or want of memory.
+pub type LinkError = Failure<Vec<LinkFault>>;
 
 /// The module of units, which come in the order of their names; or all faults.
 pub fn link(alloc: Global, units: Vec<NamedUnit>) -> Result<Module, LinkError>
@@ -72,10 +49,10 @@ pub fn link(alloc: Global, units: Vec<NamedUnit>) -> Result<Module, LinkError>
     let procedures = procedures(alloc, &units)?;
     let faults = faults_of(alloc, &units, &procedures)?;
     if !faults.is_empty() {
-        return Err(LinkError::Faults(faults));
+        return Err(LinkError::Fault(faults));
     }
     let Some(main) = main_at(&units) else {
-        return Err(LinkError::Faults(faults));
+        return Err(LinkError::Fault(faults));
     };
     Ok(Module {
         units: linked_units(alloc, &procedures, units)?,

@@ -5,7 +5,8 @@ use Rattle.pli_base.specs.laws.FaultPlaceLaws.{passes_none, passes_one, passes_t
 use Rattle.pli_parse_fault.specs.FaultCodes.{is_of_part, IsToldOf}
 use Rattle.pli_parse_fault.proofs.ToldFaults.{told_first, told_last, told_behind, told_stands}
 use Rattle.pli_base.specs.Words.{Tokens, is_procedure, is_semicolon, is_open, is_word}
-use Rattle.pli_base.specs.Reading.{◌>>=◌, Front, at_fault, misplaced}
+use Rattle.pli_base.specs.Results.{◌>>=◌}
+use Rattle.pli_base.specs.Reading.{Front, at_fault, misplaced}
 use Rattle.pli_base.specs.declared.code.Code.{Code}
 use Rattle.pli_base.specs.declared.code.Code.TheVariants.{NoProcedure, NotAStatement, SemicolonExpected, ThenExpected, WrongEndName, EndMissing, TextAfterEnd, BadLabel, NestedTooDeep, MisplacedStatement}
 use Rattle.pli_base.specs.declared.token.Fault.{Fault}

@@ -5,7 +5,8 @@ use Rattle.pli_base.specs.laws.FaultPlaceLaws.{passes_none, passes_one}
 use Rattle.pli_parse_fault.specs.FaultCodes.{IsToldOf}
 use Rattle.pli_parse_fault.proofs.ToldFaults.{told_first}
 use Rattle.pli_base.specs.Words.{Tokens, same_name, is_semicolon, is_open, is_word}
-use Rattle.pli_base.specs.Reading.{◌>>=◌, Front}
+use Rattle.pli_base.specs.Results.{◌>>=◌}
+use Rattle.pli_base.specs.Reading.{Front}
 use Rattle.pli_base.specs.Syntax.{Expression, Reference}
 use Rattle.pli_base.specs.declared.code.Code.TheVariants.{NotAStatement, ParenthesisExpected, SemicolonExpected, BadDo, BadCondition, BadOption}
 use Rattle.pli_base.specs.declared.token.Fault.{Fault}

@@ -3,7 +3,8 @@ use Rattle.std.proofs.Common.{◌≡◌, ◌+◌, ⊎_elim, ℕ, suc, zero, Bool
 use Rattle.std.proofs.lemmas.List.{append-nil}
 use Rattle.pli_base.specs.Name.{Name}
 use Rattle.pli_base.specs.Words.{Tokens, is_procedure}
-use Rattle.pli_base.specs.Reading.{◌>>=◌, Front, misplaced}
+use Rattle.pli_base.specs.Results.{◌>>=◌}
+use Rattle.pli_base.specs.Reading.{Front, misplaced}
 use Rattle.pli_base.specs.declared.token.Fault.{Fault}
 use Rattle.pli_base.specs.declared.token.Sign.TheVariants.{Colon, Semicolon}
 use Rattle.pli_base.specs.declared.token.TokenText.{TokenText}

@@ -1,7 +1,8 @@
 -- What is read is spelled so: what stands behind CALL and PROCEDURE, labels and the ends of blocks.
 use Rattle.std.proofs.Common.{◌≡◌, ◌+◌, ℕ, suc, zero, true, List, [], ◌∷◌, ◌++◌, Option, Some, None, Result, Ok, option_map, length, codes, refl, ap, ◌∙◌, sym, subst, arith}
-use Rattle.pli_base.specs.Words.{Tokens, is_open, is_word, behind}
-use Rattle.pli_base.specs.Reading.{◌>>=◌, Front, read_as, mapped, taken, if_open, or_none}
+use Rattle.pli_base.specs.Words.{Tokens, is_open, is_word, behind, SpellsIdentifier}
+use Rattle.pli_base.specs.Results.{◌>>=◌}
+use Rattle.pli_base.specs.Reading.{Front, read_as, mapped, taken, if_open, or_none}
 use Rattle.pli_base.specs.Syntax.{Arguments}
 use Rattle.pli_base.specs.declared.code.Code.TheVariants.{BadOption}
 use Rattle.pli_base.specs.declared.token.Fault.{Fault}
@@ -21,7 +22,7 @@ use Rattle.pli_parse_declaration.proofs.DeclarationRead.{Reads}
 use Rattle.pli_parse_declaration.proofs.DeclarationItemsRead.{returned_reads}
 use Rattle.pli_base.specs.Statements.{ProcedureOption, Main, Returns, Recursive, Heading, Body, Call}
 use Rattle.pli_parse_statement.specs.StatementReading.{uncounted, call_at, OptionWord, OptionsWord, ReturnsWord, RecursiveWord, option_first, main_at, options_by, options_from, heading_at}
-use Rattle.pli_parse_statement.specs.StatementGrammar.{SpellsIdentifier, SpellsCall, SpellsParameters, SpellsOption, SpellsOptions, SpellsHeading}
+use Rattle.pli_parse_statement.specs.StatementGrammar.{SpellsCall, SpellsParameters, SpellsOption, SpellsOptions, SpellsHeading}
 use Rattle.pli_parse.proofs.StatementReadTools as tools
 use Rattle.pli_parse.proofs.StatementReadTools.{uncounted_ok, stopped_ok, identifier_reads, parenthesized_reads, word_first}
 use Rattle.pli_parse.proofs.StatementReadParts.{MaybeEnclosed, open_reads}

@@ -1,7 +1,8 @@
 -- What is read is spelled so: allocations, and what stands behind PUT and CALL.
 use Rattle.std.proofs.Common.{◌≡◌, ◌+◌, inl, inr, ℕ, suc, [], ◌∷◌, ◌++◌, Option, Some, None, Result, Ok, length, codes, refl, ap, ◌∙◌, sym, subst, arith}
 use Rattle.pli_base.specs.Words.{Tokens}
-use Rattle.pli_base.specs.Reading.{◌>>=◌, Front}
+use Rattle.pli_base.specs.Results.{◌>>=◌}
+use Rattle.pli_base.specs.Reading.{Front}
 use Rattle.pli_base.specs.Syntax.{Reference}
 use Rattle.pli_base.specs.declared.token.Fault.{Fault}
 use Rattle.pli_base.specs.declared.token.TokenText.TheVariants.{Word}

@@ -1,7 +1,7 @@
 -- What is read is spelled so: the statements in which none stands.
 use Rattle.std.proofs.Common.{◌≡◌, ◌+◌, inl, inr, ℕ, [], ◌∷◌, ◌++◌, Option, Some, None, Result, Ok, length, codes, refl, ap, ◌∙◌, sym, subst, arith, append_assoc}
 use Rattle.pli_base.specs.Name.{Name}
-use Rattle.pli_base.specs.Words.{Tokens, is_open, behind}
+use Rattle.pli_base.specs.Words.{Tokens, is_open, behind, SpellsIdentifier}
 use Rattle.pli_base.specs.Reading.{Front, read_as, mapped, if_open}
 use Rattle.pli_base.specs.Syntax.{Expression}
 use Rattle.pli_base.specs.declared.code.Code.TheVariants.{NotAStatement}
@@ -20,7 +20,7 @@ use Rattle.pli_base.specs.Statements as body
 use Rattle.pli_base.specs.Statements.{Body, BodyAwaitsElse}
 use Rattle.pli_parse_statement.specs.StatementWords.{Context, keyword_of}
 use Rattle.pli_parse_statement.specs.StatementReading.{expression_in, reference_in, closing, assignment_at, condition_at, allocation_at, put_at, call_at, is_labelled, else_first, standing_misplaced, misplacement}
-use Rattle.pli_parse_statement.specs.StatementGrammar.{BeginsAssignment, IsOfItsKind, SpellsIdentifier, SpellsCondition, SpellsAllocation, SpellsPut, SpellsCall, SpellsValue, StandsIn, MayReturn, SpellsBody}
+use Rattle.pli_parse_statement.specs.StatementGrammar.{BeginsAssignment, IsOfItsKind, SpellsCondition, SpellsAllocation, SpellsPut, SpellsCall, SpellsValue, StandsIn, MayReturn, SpellsBody}
 use Rattle.pli_parse_statement.specs.declared.keyword.Keyword.TheVariants as words
 use Rattle.pli_parse.proofs.StatementReadTools.{expression_reads, reference_reads, identifier_reads, list_reads, stopped_ok, equals_ok}
 use Rattle.pli_parse.proofs.StatementReadParts.{MaybeEnclosed, open_reads, condition_reads}

@@ -2,8 +2,9 @@
 use Rattle.std.proofs.Common.{◌≡◌, ◌+◌, ℕ, Bool, true, false, cond, [], ◌∷◌, Option, Some, None, Result, Ok, Err, length, refl, ap, ◌∙◌, sym, subst, arith}
 use Rattle.pli_base.specs.Name.{Name}
 use Rattle.pli_base.specs.laws.NameLaws.{equal_from_pointwise}
-use Rattle.pli_base.specs.Words.{Tokens, same_name, is_semicolon, is_open, is_word, behind, name_first}
-use Rattle.pli_base.specs.Reading.{◌>>=◌, Front, taken}
+use Rattle.pli_base.specs.Words.{Tokens, same_name, is_semicolon, is_open, is_word, behind, name_first, SpellsIdentifier}
+use Rattle.pli_base.specs.Results.{◌>>=◌}
+use Rattle.pli_base.specs.Reading.{Front, taken}
 use Rattle.pli_base.specs.declared.code.Code.{Code}
 use Rattle.pli_base.specs.declared.code.Code.TheVariants.{SemicolonExpected, ParenthesisExpected}
 use Rattle.pli_base.specs.declared.token.Fault.{Fault}
@@ -20,7 +21,7 @@ use Rattle.pli_parse_fault.proofs.Steps.{same_ok, some_same, bind_ok}
 use Rattle.pli_parse_declaration.proofs.DeclarationRead.{Reads, enclosed_spelled, listed_reads}
 use Rattle.pli_parse_statement.specs.StatementWords.{behind_word}
 use Rattle.pli_parse_statement.specs.StatementReading.{uncounted, expression_in, reference_in, stopped, parenthesized, is_equals, if_word, optional_at}
-use Rattle.pli_parse_statement.specs.StatementGrammar.{SpellsIdentifier, SpellsEnclosed, SpellsOptional}
+use Rattle.pli_parse_statement.specs.StatementGrammar.{SpellsEnclosed, SpellsOptional}
 use Rattle.pli_parse_declaration.specs.declared.list.Separator.TheVariants.{Commas}
 
 -- the count of operators is dropped

@@ -1,18 +1,19 @@
 -- Statements of a block or group, read by a loop.
 use Rattle.std.proofs.Common.{◌≡◌, ◌<◌, ℕ, ◌+◌, suc, zero, List, [], ◌∷◌, ◌++◌, Option, Result, Ok, Err, length, refl, ap, ◌∙◌, sym, arith}
 use Rattle.pli_base.specs.Words.{Tokens}
-use Rattle.pli_base.specs.Reading.{◌>>=◌, Front, read_as}
+use Rattle.pli_base.specs.Results.{◌>>=◌}
+use Rattle.pli_base.specs.Reading.{Front, read_as}
 use Rattle.pli_base.specs.declared.syntax.Identifier.{Identifier}
 use Rattle.pli_base.specs.declared.token.Fault.{Fault}
-use Rattle.pli_base.specs.declared.reading.ParseError.TheVariants as errors
+use Rattle.pli_base.specs.declared.failure.Failure.TheVariants as errors
 use Rattle.pli_base.specs.Statements as tree
 use Rattle.pli_base.specs.Statements.{count, list_count}
 use Rattle.pli_parse_statement.specs.StatementWords.{Context}
 use Rattle.pli_base.specs.views.StatementView.{statement_view, statements_view}
 use Rattle.pli_base.specs.declared.statement.Statement.{Statement}
 use Rattle.pli_parse_statement.specs.StatementReading.{StatementReader, Listing, Next, EndsHere, Another, next_of, list_by, list_from, before, ending_at}
-use Rattle.pli_base.specs.declared.reading.ParseError.{ParseError}
-use Rattle.pli_base.specs.answers.ReadingAnswers.{Fails}
+use Rattle.pli_base.specs.declared.failure.Failure.{Failure}
+use Rattle.pli_base.specs.answers.FailureAnswers.{Fails}
 
 -- statements in front of others
 abbrev pub in_front : List Statement → tree.Statements → tree.Statements
@@ -69,13 +70,13 @@ module _ (one : StatementReader) (c : Context) (label : Option Identifier) where
           ∙ turned bound Another next so_far,
     )
 
-    pub statement_fails : (e : ParseError) → next_of ts ≡ Another → Fails e (one c p k ts) → RowsLeft done p k ts total → Fails e total
+    pub statement_fails : (e : Failure Fault) → next_of ts ≡ Another → Fails e (one c p k ts) → RowsLeft done p k ts total → Fails e total
     statement_fails errors.OutOfMemory next h left = tt
     statement_fails (errors.Fault f) next h (zero, small, so_far) = absurd (omega arith)
     statement_fails (errors.Fault f) next h (suc bound, small, so_far) =
         sym (turned bound Another next so_far) ∙ ap (λ r. with_rows done (r >>= λ x. list_from one c label bound x.next (k + count x.value) x.rest >>= before x.value)) h
 
-    pub end_fails : (us : Tokens) (e : ParseError) → next_of ts ≡ EndsHere us → Fails e (ending_at label (p + 1) us) → RowsLeft done p k ts total → Fails e total
+    pub end_fails : (us : Tokens) (e : Failure Fault) → next_of ts ≡ EndsHere us → Fails e (ending_at label (p + 1) us) → RowsLeft done p k ts total → Fails e total
     end_fails us errors.OutOfMemory next h left = tt
     end_fails us (errors.Fault f) next h (zero, small, so_far) = absurd (omega arith)
     end_fails us (errors.Fault f) next h (suc bound, small, so_far) =

@@ -1,8 +1,9 @@
 -- What is spelled so is read: the heading of a procedure, and the end of a block.
 use Rattle.std.proofs.Common.{◌≡◌, ◌+◌, ◌<◌, ℕ, suc, zero, List, [], ◌∷◌, ◌++◌, Option, Some, None, Result, length, codes, refl, ap, ◌∙◌, sym, subst, arith, append_assoc, length-append}
 use Rattle.pli_base.specs.Name.{Name}
-use Rattle.pli_base.specs.Words.{Tokens, is_open, behind}
-use Rattle.pli_base.specs.Reading.{◌>>=◌, Front, read_as, mapped, taken, if_open, or_none}
+use Rattle.pli_base.specs.Words.{Tokens, is_open, behind, SpellsIdentifier}
+use Rattle.pli_base.specs.Results.{◌>>=◌}
+use Rattle.pli_base.specs.Reading.{Front, read_as, mapped, taken, if_open, or_none}
 use Rattle.pli_base.specs.declared.syntax.Identifier.{Identifier}
 use Rattle.pli_base.specs.declared.token.Fault.{Fault}
 use Rattle.pli_base.specs.declared.token.Sign.TheVariants.{Semicolon, OpenParenthesis, CloseParenthesis}
@@ -12,7 +13,7 @@ use Rattle.pli_parse_declaration.specs.DeclarationReading.{list_at, identifier_a
 use Rattle.pli_parse_declaration.proofs.DeclarationReadAgain.{Anyhow, NoOpen, ListEnds, placed, open_behind, no_open_word, enclosed_again, commas_close}
 use Rattle.pli_parse_declaration.proofs.DeclarationItemsAgain.{returned_again}
 use Rattle.pli_base.specs.Statements.{ProcedureOption, Main, Returns, Recursive, Heading}
-use Rattle.pli_parse_statement.specs.StatementGrammar.{SpellsIdentifier, SpellsParameters, SpellsOption, SpellsOptions, SpellsHeading}
+use Rattle.pli_parse_statement.specs.StatementGrammar.{SpellsParameters, SpellsOption, SpellsOptions, SpellsHeading}
 use Rattle.pli_parse_statement.specs.StatementReading.{stopped, parenthesized, option_word, option_first, main_at, options_by, options_from, heading_at, named_end, ending_at}
 use Rattle.pli_parse.proofs.StatementSpelledTools.{same_again}
 use Rattle.pli_parse.proofs.StatementSpelledParts.{identifier_again, commas_again, stopped_again}

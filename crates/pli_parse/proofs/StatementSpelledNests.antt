@@ -2,7 +2,8 @@
 use Rattle.std.proofs.Common.{⊎_elim, ◌⊎◌, inl, inr, ◌≡◌, ◌+◌, ◌<◌, ℕ, suc, zero, false, [], ◌∷◌, ◌++◌, Option, Some, None, Result, Ok, option_map, length, codes, refl, ap, ◌∙◌, sym, subst, arith, append_assoc, length-append}
 use Rattle.pli_base.specs.Name.{Name}
 use Rattle.pli_base.specs.Words.{Tokens, is_word, is_semicolon, behind}
-use Rattle.pli_base.specs.Reading.{◌>>=◌, Front, read_as, mapped, taken}
+use Rattle.pli_base.specs.Results.{◌>>=◌}
+use Rattle.pli_base.specs.Reading.{Front, read_as, mapped, taken}
 use Rattle.pli_base.specs.Syntax.{Expression}
 use Rattle.pli_base.specs.declared.code.Code.TheVariants.{ThenExpected, SemicolonExpected}
 use Rattle.pli_base.specs.declared.syntax.Identifier.{Identifier}

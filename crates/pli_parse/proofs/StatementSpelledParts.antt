@@ -1,8 +1,9 @@
 -- What is spelled so is read: parts of statements.
 use Rattle.std.proofs.Common.{◌≡◌, ◌+◌, ◌<◌, ℕ, cond, [], ◌∷◌, ◌++◌, Some, None, Result, Ok, length, refl, ap, ◌∙◌, sym, subst, arith, append_assoc, length-append}
 use Rattle.pli_base.specs.Name.{Name}
-use Rattle.pli_base.specs.Words.{Tokens, is_semicolon, behind, name_first}
-use Rattle.pli_base.specs.Reading.{◌>>=◌, Front, read_as, mapped, taken, enclosed}
+use Rattle.pli_base.specs.Words.{Tokens, is_semicolon, behind, name_first, SpellsIdentifier}
+use Rattle.pli_base.specs.Results.{◌>>=◌}
+use Rattle.pli_base.specs.Reading.{Front, read_as, mapped, taken, enclosed}
 use Rattle.pli_base.specs.Syntax.{Expression, Referred, Constant, Parenthesized, Prefix, Infix, Reference, Named}
 use Rattle.pli_base.specs.declared.code.Code.TheVariants.{SemicolonExpected}
 use Rattle.pli_base.specs.declared.token.Fault.{Fault}
@@ -14,7 +15,7 @@ use Rattle.pli_parse_expression.proofs.SpelledIsRead.{expression_is_read, refere
 use Rattle.pli_parse_declaration.specs.DeclarationGrammar.{Anywhere, SpellsListed}
 use Rattle.pli_parse_declaration.specs.DeclarationReading.{list_at, identifier_at, name_at}
 use Rattle.pli_parse_declaration.proofs.DeclarationReadAgain.{ReadAgain, Anyhow, ListEnds, placed, open_taken, enclosed_again, listed_again, comma_goes, commas_close}
-use Rattle.pli_parse_statement.specs.StatementGrammar.{SpellsIdentifier, SpellsCondition, SpellsClosed, SpellsEnclosed, SpellsOptional}
+use Rattle.pli_parse_statement.specs.StatementGrammar.{SpellsCondition, SpellsClosed, SpellsEnclosed, SpellsOptional}
 use Rattle.pli_parse_statement.specs.StatementReading.{uncounted, expression_in, reference_in, stopped, closing, parenthesized, condition_from, condition_at, if_word, optional_at}
 use Rattle.pli_parse_statement.specs.StatementWords.{behind_word}
 use Rattle.pli_parse.proofs.StatementSpelledTools.{same_again}

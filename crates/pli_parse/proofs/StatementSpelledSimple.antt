@@ -1,8 +1,9 @@
 -- What is spelled so is read: statements that contain no others.
 use Rattle.std.proofs.Common.{⊎_elim, ◌≡◌, ◌+◌, ℕ, Bool, true, false, cond, List, [], ◌∷◌, ◌++◌, Option, Some, None, Result, Ok, length, codes, refl, ap, ◌∙◌, sym, subst, arith, append_assoc, length-append}
 use Rattle.pli_base.specs.Name.{Name}
-use Rattle.pli_base.specs.Words.{Tokens, is_open, behind}
-use Rattle.pli_base.specs.Reading.{◌>>=◌, Front, read_as, mapped, taken, if_open}
+use Rattle.pli_base.specs.Words.{Tokens, is_open, behind, SpellsIdentifier}
+use Rattle.pli_base.specs.Results.{◌>>=◌}
+use Rattle.pli_base.specs.Reading.{Front, read_as, mapped, taken, if_open}
 use Rattle.pli_base.specs.Syntax.{Expression, Reference, Arguments}
 use Rattle.pli_base.specs.declared.code.Code.TheVariants.{NotAStatement}
 use Rattle.pli_base.specs.declared.syntax.Identifier.{Identifier}
@@ -16,7 +17,7 @@ use Rattle.pli_parse_declaration.specs.DeclarationReading.{list_at, identifier_a
 use Rattle.pli_parse_declaration.proofs.DeclarationReadAgain.{Anyhow, ListEnds, placed, open_behind, enclosed_again}
 use Rattle.pli_parse_declaration.proofs.DeclarationItemsAgain.{declaration_again}
 use Rattle.pli_base.specs.Statements.{Allocation, Heading, Control, Statement, Statements, Alternative, Body, Null, Assign, Declare, Procedure, Do, If, On, Revert, Signal, Stop, Allocate, Free, Call, Goto, Return, Put}
-use Rattle.pli_parse_statement.specs.StatementGrammar.{BeginsAssignment, SpellsIdentifier, SpellsKeyed, SpellsClosed, SpellsCondition, SpellsAllocation, SpellsCall, SpellsGoto, SpellsValue, SpellsPut, IsUnitBody, StandsIn, MayReturn}
+use Rattle.pli_parse_statement.specs.StatementGrammar.{BeginsAssignment, SpellsKeyed, SpellsClosed, SpellsCondition, SpellsAllocation, SpellsCall, SpellsGoto, SpellsValue, SpellsPut, IsUnitBody, StandsIn, MayReturn}
 use Rattle.pli_parse_statement.specs.StatementReading.{expression_in, reference_in, stopped, closing, is_equals, assignment_at, condition_at, allocation_at, put_at, call_at, Inside, is_labelled, unit_misplaced, standing_misplaced, misplacement, keyed_at, unless_misplaced, body_from}
 use Rattle.pli_parse_statement.specs.StatementWords.{Context, begins_assignment, Assigns, Empty, Keyed, first_kind, kind_of}
 use Rattle.pli_parse_statement.specs.declared.keyword.Keyword.{Keyword}

@@ -1,7 +1,7 @@
 -- How a statement that is spelled begins: with a `;`, or with a word behind which no `:` stands. So it has no label, is no END and no ELSE.
 use Rattle.std.proofs.Common.{⊎_elim, ◌⊎◌, inr, ◌≡◌, ◌+◌, ℕ, Bool, true, false, cond, List, [], ◌∷◌, ◌++◌, Option, Some, None, length, codes, refl, ap, ◌∙◌, sym, subst, append_assoc}
 use Rattle.pli_base.specs.Name.{Name}
-use Rattle.pli_base.specs.Words.{Tokens, same_name}
+use Rattle.pli_base.specs.Words.{Tokens, same_name, SpellsIdentifier}
 use Rattle.pli_base.specs.Syntax.{Expression, Referred, Constant, Parenthesized, Prefix, Infix, Reference, Named, JoinedParts, Alone, Joined, Arguments, Absent, Given}
 use Rattle.pli_base.specs.declared.syntax.ConstantValue.TheVariants as constants
 use Rattle.pli_base.specs.declared.syntax.PrefixOperator.TheVariants as prefixes
@@ -14,7 +14,7 @@ use Rattle.pli_parse_expression.specs.Expressions.{SpellsExpression, SpellsArgum
 use Rattle.pli_base.specs.Declarations.{Item}
 use Rattle.pli_parse_declaration.specs.DeclarationGrammar.{SpellsListed, SpellsLevel, SpellsItem, SpellsNames, SpellsDeclaration}
 use Rattle.pli_base.specs.Statements.{Heading, Control, While, Iterate, Allocation, ProcedureOption, Main, Returns, Recursive}
-use Rattle.pli_parse_statement.specs.StatementGrammar.{BeginsAssignment, SpellsKeyed, SpellsClosed, SpellsIdentifier, SpellsParameters, SpellsOptions, SpellsHeading, SpellsControl, SpellsAllocation, SpellsSkip, SpellsItems, SpellsPut, SpellsValue, SpellsGoto}
+use Rattle.pli_parse_statement.specs.StatementGrammar.{BeginsAssignment, SpellsKeyed, SpellsClosed, SpellsParameters, SpellsOptions, SpellsHeading, SpellsControl, SpellsAllocation, SpellsSkip, SpellsItems, SpellsPut, SpellsValue, SpellsGoto}
 use Rattle.pli_parse_statement.specs.StatementReading.{label_at, has_semicolon, is_labelled, Another, next_by, next_of, else_by, else_first}
 use Rattle.pli_parse_statement.specs.StatementWords.{keyword_of, behind_word, begins_assignment, Kind, Assigns, Keyed, word_kind, first_kind, kind_of}
 use Rattle.pli_parse_statement.specs.declared.keyword.Keyword.{Keyword}

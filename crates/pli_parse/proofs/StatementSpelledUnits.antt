@@ -3,7 +3,8 @@ use Rattle.std.proofs.Common.{◌≡◌, ◌+◌, ℕ, suc, Bool, true, false, �
 use Rattle.std.proofs.lemmas.List.{append-nil}
 use Rattle.pli_base.specs.Name.{Name}
 use Rattle.pli_base.specs.Words.{Tokens, same_name, is_procedure}
-use Rattle.pli_base.specs.Reading.{◌>>=◌, misplaced}
+use Rattle.pli_base.specs.Results.{◌>>=◌}
+use Rattle.pli_base.specs.Reading.{misplaced}
 use Rattle.pli_base.specs.declared.token.Sign.TheVariants.{Colon, Semicolon}
 use Rattle.pli_base.specs.declared.token.TokenText.TheVariants.{Word, Sign}
 use Rattle.pli_parse_fault.proofs.Steps.{same_ok, some_same}

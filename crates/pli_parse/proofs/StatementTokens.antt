@@ -2,10 +2,10 @@
 use Rattle.std.proofs.Common.{◌≡◌, ◌<◌, ◌≤◌, ◌+◌, ℕ, suc, zero, Bool, cond, List, [], ◌∷◌, ◌++◌, Option, Some, None, Ok, length, codes, ap, sym, subst, arith, ⊎_elim, length-append}
 use Rattle.std.proofs.lemmas.Bool.{lt-ltb, le-ltb}
 use Rattle.pli_base.specs.Name.{Name}
-use Rattle.pli_base.specs.Words.{Tokens}
+use Rattle.pli_base.specs.Words.{Tokens, SpellsIdentifier}
 use Rattle.pli_base.specs.Reading.{Front}
-use Rattle.pli_base.specs.Syntax.{Expression, Reference, Named}
-use Rattle.pli_base.specs.TreeTokens.{Rises, expression_tokens, reference_tokens, argument_tokens, tokens_of_each, tokens_of_some, name_tokens, item_tokens, range_tokens, control_tokens, first_token, placed_tokens, allocation_tokens, statement_tokens, begun_tokens, statements_tokens, alternative_tokens, unit_tokens}
+use Rattle.pli_base.specs.Syntax.{Expression, Reference, Named, first_token}
+use Rattle.pli_base.specs.TreeTokens.{Rises, expression_tokens, reference_tokens, argument_tokens, tokens_of_each, tokens_of_some, name_tokens, item_tokens, range_tokens, control_tokens, placed_tokens, allocation_tokens, statement_tokens, begun_tokens, statements_tokens, alternative_tokens, unit_tokens}
 use Rattle.pli_base.specs.laws.TreeTokenLaws.{rises_within, rises_on, rises_up}
 use Rattle.pli_base.specs.declared.syntax.Identifier.{Identifier}
 use Rattle.pli_base.specs.declared.token.Sign.TheVariants.{Semicolon, CloseParenthesis, Equals}
@@ -19,7 +19,7 @@ use Rattle.pli_parse_declaration.specs.DeclarationGrammar.{SpellsListed}
 use Rattle.pli_parse_declaration.proofs.DeclarationTokens.{Rise, listed_rise, declaration_rises}
 use Rattle.pli_parse_statement.specs.StatementWords.{Context, standing, the_unit, a_procedure}
 use Rattle.pli_parse_statement.specs.StatementReading.{statement_at, unit_of}
-use Rattle.pli_parse_statement.specs.StatementGrammar.{SpellsIdentifier, SpellsEnclosed, SpellsOptional, SpellsParameters, SpellsRange, SpellsControl, SpellsPlaced, SpellsAllocation, SpellsItems, SpellsPut, SpellsValue, SpellsLabel, SpellsStatement, SpellsBody, SpellsStatements, SpellsAlternative, SpellsUnit}
+use Rattle.pli_parse_statement.specs.StatementGrammar.{SpellsEnclosed, SpellsOptional, SpellsParameters, SpellsRange, SpellsControl, SpellsPlaced, SpellsAllocation, SpellsItems, SpellsPut, SpellsValue, SpellsLabel, SpellsStatement, SpellsBody, SpellsStatements, SpellsAlternative, SpellsUnit}
 use Rattle.pli_parse_statement.specs.declared.keyword.Standing.TheVariants.{InBlock, InGroup, AsClause}
 use Rattle.pli_parse.proofs.StatementRead.{statement_spelled, unit_reads}
 

@@ -8,7 +8,8 @@ ghost use Rattle.pli_parse_statement.specs.StatementReading as reading;
 ghost use Rattle.pli_base.specs.Statements as tree;
 ghost use Rattle.pli_parse_statement.specs.StatementWords as grammar;
 ghost use Rattle.pli_parse_statement.specs.answers.StatementAnswers.{heading_view, counted_view, Counts, inside_at, listing_view, context_view, words};
-ghost use Rattle.pli_base.specs.answers.ReadingAnswers.{Gives, Advances, front_view};
+ghost use Rattle.pli_base.specs.answers.FailureAnswers.{Gives};
+ghost use Rattle.pli_base.specs.answers.ReadingAnswers.{Advances, front_view};
 
 use pli_base::statement::{Body, Procedure, Statement};
 use pli_base::syntax::Identifier;

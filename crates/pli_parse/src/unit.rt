@@ -4,7 +4,7 @@ ghost use Rattle.pli_base.specs.Reading.{misplaced};
 ghost use Rattle.pli_base.specs.Words.{is_procedure};
 ghost use Rattle.pli_base.specs.views.StatementView.{unit_view};
 ghost use Rattle.pli_parse_statement.specs.StatementReading.{external_at, unit_of};
-ghost use Rattle.pli_base.specs.answers.ReadingAnswers.{Gives};
+ghost use Rattle.pli_base.specs.answers.FailureAnswers.{Gives};
 
 use crate::reader::{last_place, list_in};
 use pli_base::statement::Procedure;

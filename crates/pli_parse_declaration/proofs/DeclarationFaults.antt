@@ -5,7 +5,8 @@ use Rattle.pli_base.specs.laws.FaultPlaceLaws.{passes_none, passes_one, passes_o
 use Rattle.pli_parse_fault.specs.FaultCodes.{is_of_part, IsToldOf}
 use Rattle.pli_parse_fault.proofs.ToldFaults.{told_first, told_ended, told_behind, told_stands}
 use Rattle.pli_base.specs.Words.{Tokens, same_name, is_open, is_close, is_comma, is_semicolon}
-use Rattle.pli_base.specs.Reading.{◌>>=◌, Front}
+use Rattle.pli_base.specs.Results.{◌>>=◌}
+use Rattle.pli_base.specs.Reading.{Front}
 use Rattle.pli_base.specs.declared.code.Code.{Code}
 use Rattle.pli_base.specs.declared.code.Code.TheVariants.{ParenthesisExpected, SemicolonExpected, NameExpected, BadAttribute, ConstantExpected}
 use Rattle.pli_base.specs.declared.token.Fault.{Fault}

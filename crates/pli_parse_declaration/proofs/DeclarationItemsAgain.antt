@@ -1,8 +1,9 @@
 -- What is spelled so is read: attributes, descriptions and items.
 use Rattle.std.proofs.Common.{⊎_elim, ◌⊎◌, inl, inr, ◌≡◌, ◌+◌, ◌<◌, ℕ, true, cond, List, [], ◌∷◌, ◌++◌, Option, Some, None, Result, Ok, length, codes, refl, ap, ◌∙◌, sym, subst, arith, append_assoc, length-append}
 use Rattle.pli_base.specs.Name.{Name}
-use Rattle.pli_base.specs.Words.{Tokens, is_open, is_close, is_semicolon, behind}
-use Rattle.pli_base.specs.Reading.{◌>>=◌, Front, read_as, mapped, expected, taken, enclosed}
+use Rattle.pli_base.specs.Words.{Tokens, is_open, is_close, is_semicolon, behind, SpellsIdentifier}
+use Rattle.pli_base.specs.Results.{◌>>=◌}
+use Rattle.pli_base.specs.Reading.{Front, read_as, mapped, expected, taken, enclosed}
 use Rattle.pli_base.specs.declared.code.Code.TheVariants.{ParenthesisExpected, SemicolonExpected}
 use Rattle.pli_base.specs.declared.token.Fault.{Fault}
 use Rattle.pli_base.specs.declared.token.Sign.TheVariants.{Semicolon, Comma, OpenParenthesis, CloseParenthesis}
@@ -10,7 +11,7 @@ use Rattle.pli_base.specs.declared.token.TokenText.TheVariants.{Word, Sign}
 use Rattle.pli_parse_declaration.specs.DeclarationWords.{attribute_word, attribute_first, if_first, with_attribute, begins_description}
 use Rattle.pli_base.specs.Declarations as tree
 use Rattle.pli_parse_declaration.specs.DeclarationReading.{list_at, dimensions_at, identifier_at, simple_of, described_from, described_at, parameter_at, parameters_from, parameters_at, entry_from, entry_at, returned_at, attribute_from, attribute_at, attributes_from, attributes_at, level_at, names_from, names_at, item_at, items_at, declaration_at}
-use Rattle.pli_parse_declaration.specs.DeclarationGrammar.{between, SpellsListed, Anywhere, SpellsList, SpellsOptional, SpellsSimple, word_of, SpellsDescribed, SpellsParameter, SpellsParameters, SpellsReturned, SpellsAttribute, SpellsAttributes, SpellsIdentifier, SpellsNames, SpellsLevel, SpellsItem, SpellsItems, SpellsDeclaration, EndsItems}
+use Rattle.pli_parse_declaration.specs.DeclarationGrammar.{between, SpellsListed, Anywhere, SpellsList, SpellsOptional, SpellsSimple, word_of, SpellsDescribed, SpellsParameter, SpellsParameters, SpellsReturned, SpellsAttribute, SpellsAttributes, SpellsNames, SpellsLevel, SpellsItem, SpellsItems, SpellsDeclaration, EndsItems}
 use Rattle.pli_base.specs.declared.syntax.Identifier.{Identifier}
 use Rattle.pli_parse_declaration.specs.declared.word.AttributeWord.{AttributeWord}
 use Rattle.pli_parse_declaration.specs.declared.word.AttributeWord.TheVariants as attribute

@@ -1,12 +1,13 @@
 -- A list, read by a loop.
 use Rattle.std.proofs.Common.{◌≡◌, ◌<◌, ℕ, suc, zero, List, [], ◌∷◌, ◌++◌, Some, None, Result, Ok, Err, length, refl, ap, ◌∙◌, sym, arith, append_assoc}
 use Rattle.pli_base.specs.Words.{Tokens}
-use Rattle.pli_base.specs.Reading.{◌>>=◌, Front, read_as}
+use Rattle.pli_base.specs.Results.{◌>>=◌}
+use Rattle.pli_base.specs.Reading.{Front, read_as}
 use Rattle.pli_base.specs.declared.token.Fault.{Fault}
-use Rattle.pli_base.specs.declared.reading.ParseError.TheVariants as errors
+use Rattle.pli_base.specs.declared.failure.Failure.TheVariants as errors
 use Rattle.pli_parse_declaration.specs.DeclarationReading.{listed_after, listed_at}
-use Rattle.pli_base.specs.declared.reading.ParseError.{ParseError}
-use Rattle.pli_base.specs.answers.ReadingAnswers.{Fails}
+use Rattle.pli_base.specs.declared.failure.Failure.{Failure}
+use Rattle.pli_base.specs.answers.FailureAnswers.{Fails}
 use Rattle.pli_parse_declaration.specs.Separators.{separated, behind_separator}
 use Rattle.pli_parse_declaration.specs.declared.list.Separator.{Separator}
 
@@ -44,7 +45,7 @@ module _ {A : Type 0} (separator : Separator) (one : ℕ → Tokens → Result (
   is_done x read none (suc bound, small, so_far) =
       sym (turned bound x read so_far) ∙ ap (λ o. with_done done (listed_after separator (listed_at separator one bound) x o)) none
 
-  pub fails : (e : ParseError) → Fails e (one p ts) → Left separator one done p ts total → Fails e total
+  pub fails : (e : Failure Fault) → Fails e (one p ts) → Left separator one done p ts total → Fails e total
   unfolding listed_at
   fails errors.OutOfMemory h left = tt
   fails (errors.Fault f) h (zero, small, so_far) = absurd (omega arith)

@@ -2,15 +2,16 @@
 use Rattle.std.proofs.Common.{◌≡◌, ◌<◌, ◌+◌, ℕ, suc, zero, true, false, List, [], ◌∷◌, Result, Ok, length, refl, ap, ◌∙◌, sym, arith}
 use Rattle.std.proofs.lemmas.Bool.{eqb-true}
 use Rattle.pli_base.specs.Words.{Tokens}
-use Rattle.pli_base.specs.Reading.{◌>>=◌, Front, read_as}
+use Rattle.pli_base.specs.Results.{◌>>=◌}
+use Rattle.pli_base.specs.Reading.{Front, read_as}
 use Rattle.pli_base.specs.declared.token.Fault.{Fault}
-use Rattle.pli_base.specs.declared.reading.ParseError.TheVariants as errors
+use Rattle.pli_base.specs.declared.failure.Failure.TheVariants as errors
 use Rattle.pli_parse_declaration.specs.declared.nest.Open.{Open}
 use Rattle.pli_parse_declaration.specs.declared.nest.Expects.{Expects}
 use Rattle.pli_parse_declaration.specs.declared.nest.Expects.TheVariants as expects
 use Rattle.pli_parse_declaration.specs.DeclarationReading.{Walk, step_at, is_over, walked_after, walked, nest_at}
-use Rattle.pli_base.specs.declared.reading.ParseError.{ParseError}
-use Rattle.pli_base.specs.answers.ReadingAnswers.{Fails}
+use Rattle.pli_base.specs.declared.failure.Failure.{Failure}
+use Rattle.pli_base.specs.answers.FailureAnswers.{Fails}
 
 -- the walk from here is the whole walk
 abbrev pub Walks : List Open → Expects → ℕ → Tokens → Result (Front (Unit {0})) Fault → Type 0
@@ -45,7 +46,7 @@ module _ (opens : List Open) (what : Expects) (p : ℕ) (ts : Tokens) (total : R
   is_done w step ended (zero, small, so_far) = absurd (omega arith)
   is_done w step ended (suc bound, small, so_far) = sym (turned bound w step so_far) ∙ over (walked bound) w.opens w.expects w.next w.rest ended
 
-  pub fails : (e : ParseError) → Fails e (step_at opens what p ts) → Walks opens what p ts total → Fails e total
+  pub fails : (e : Failure Fault) → Fails e (step_at opens what p ts) → Walks opens what p ts total → Fails e total
   unfolding walked
   fails errors.OutOfMemory h left = tt
   fails (errors.Fault f) h (zero, small, so_far) = absurd (omega arith)

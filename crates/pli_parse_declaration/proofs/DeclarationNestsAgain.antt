@@ -3,7 +3,8 @@ use Rattle.std.proofs.Common.{◌≡◌, ◌+◌, ◌<◌, ℕ, suc, zero, true,
 use Rattle.std.specs.Prelude.{is_some}
 use Rattle.pli_base.specs.Name.{Name}
 use Rattle.pli_base.specs.Words.{Tokens, is_close, behind}
-use Rattle.pli_base.specs.Reading.{◌>>=◌, Front, read_as, expected}
+use Rattle.pli_base.specs.Results.{◌>>=◌}
+use Rattle.pli_base.specs.Reading.{Front, read_as, expected}
 use Rattle.pli_base.specs.declared.code.Code.TheVariants.{ParenthesisExpected}
 use Rattle.pli_base.specs.declared.token.Fault.{Fault}
 use Rattle.pli_base.specs.declared.token.Sign.TheVariants.{Comma, OpenParenthesis, CloseParenthesis}

@@ -2,8 +2,9 @@
 use Rattle.std.proofs.Common.{⊎_elim, ◌≡◌, ◌+◌, ◌<◌, ℕ, suc, zero, Bool, true, false, List, [], ◌∷◌, ◌++◌, Option, Some, None, Result, Ok, length, codes, refl, ap, ◌∙◌, sym, subst, arith, append_assoc, length-append}
 use Rattle.std.proofs.lemmas.List.{append-nil}
 use Rattle.pli_base.specs.Name.{Name}
-use Rattle.pli_base.specs.Words.{Tokens, is_open, is_close, is_comma, behind, name_first, is_colon}
-use Rattle.pli_base.specs.Reading.{◌>>=◌, Front, read_as, mapped, taken, enclosed, if_open, or_none}
+use Rattle.pli_base.specs.Words.{Tokens, is_open, is_close, is_comma, behind, name_first, is_colon, SpellsIdentifier}
+use Rattle.pli_base.specs.Results.{◌>>=◌}
+use Rattle.pli_base.specs.Reading.{Front, read_as, mapped, taken, enclosed, if_open, or_none}
 use Rattle.pli_base.specs.declared.code.Code.TheVariants.{ParenthesisExpected}
 use Rattle.pli_base.specs.declared.token.Fault.{Fault}
 use Rattle.pli_base.specs.declared.token.Sign.TheVariants.{Colon, Comma, OpenParenthesis, CloseParenthesis}
@@ -11,7 +12,7 @@ use Rattle.pli_base.specs.declared.token.TokenText.TheVariants.{Word, Decimal, S
 use Rattle.pli_parse_declaration.specs.DeclarationWords.{attribute_word, with_rest, attribute_first}
 use Rattle.pli_base.specs.Declarations as tree
 use Rattle.pli_parse_declaration.specs.DeclarationReading.{listed_after, listed_at, list_at, number_at, signed, integer_at, bounds_from, bounds_at, dimensions_at, length_at, with_scale, scaled_at, precision_at, name_at, identifier_at, area_at, locator_at, repeated_at, null_from, value_at, values_at, simple_of}
-use Rattle.pli_parse_declaration.specs.DeclarationGrammar.{between, SpellsListed, Anywhere, SpellsList, SpellsEnclosed, SpellsOptional, SpellsNumber, SpellsSigned, SpellsInteger, SpellsRange, SpellsBounds, SpellsDimensions, SpellsScaled, SpellsName, SpellsValue, word_of, SpellsBehind, SpellsIdentifier}
+use Rattle.pli_parse_declaration.specs.DeclarationGrammar.{between, SpellsListed, Anywhere, SpellsList, SpellsEnclosed, SpellsOptional, SpellsNumber, SpellsSigned, SpellsInteger, SpellsRange, SpellsBounds, SpellsDimensions, SpellsScaled, SpellsName, SpellsValue, word_of, SpellsBehind}
 use Rattle.pli_base.specs.declared.declaration.Integer.{Integer}
 use Rattle.pli_base.specs.declared.declaration.Bounds.{Bounds}
 use Rattle.pli_base.specs.declared.declaration.InitialValue.{InitialValue}

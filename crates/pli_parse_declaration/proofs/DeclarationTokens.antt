@@ -2,7 +2,7 @@
 use Rattle.std.proofs.Common.{◌≡◌, ◌+◌, ℕ, List, [], ◌∷◌, ◌++◌, Ok, length, ap, sym, subst, arith, ⊎_elim, length-append}
 use Rattle.pli_base.specs.TreeTokens.{Rises, tokens_of_each, name_tokens, item_tokens}
 use Rattle.pli_base.specs.laws.TreeTokenLaws.{rises_within, rises_on}
-use Rattle.pli_base.specs.Words.{Tokens}
+use Rattle.pli_base.specs.Words.{Tokens, SpellsIdentifier}
 use Rattle.pli_base.specs.Reading.{Front}
 use Rattle.pli_base.specs.Declarations as tree
 use Rattle.pli_base.specs.declared.token.Sign.TheVariants.{CloseParenthesis, Semicolon}
@@ -11,7 +11,7 @@ use Rattle.pli_parse_declaration.specs.DeclarationReading.{items_at, declaration
 use Rattle.pli_parse_declaration.specs.declared.list.Separator.{Separator}
 use Rattle.pli_parse_declaration.specs.declared.list.Separator.TheVariants.{Commas}
 use Rattle.pli_parse_declaration.specs.Separators.{behind_separator}
-use Rattle.pli_parse_declaration.specs.DeclarationGrammar.{between, SpellsListed, SpellsIdentifier, SpellsNames, SpellsItem, SpellsItems, SpellsDeclaration}
+use Rattle.pli_parse_declaration.specs.DeclarationGrammar.{between, SpellsListed, SpellsNames, SpellsItem, SpellsItems, SpellsDeclaration}
 use Rattle.pli_parse_declaration.proofs.DeclarationSteps.{separator_place}
 use Rattle.pli_parse_declaration.proofs.DeclarationItemsRead.{items_reads, declaration_reads}
 

@@ -3,7 +3,7 @@
 use Rattle.std.specs.Prelude.{◌≡◌, ℕ, ◌+◌, ◌⊎◌, Bool, true, false, Option, Some, None, List, [], ◌∷◌, ◌++◌}
 use Rattle.std.specs.Prelude.{length, codes}
 use Rattle.pli_base.specs.Name.{Name}
-use Rattle.pli_base.specs.Words.{Tokens, is_open, is_comma, behind}
+use Rattle.pli_base.specs.Words.{Tokens, is_open, is_comma, behind, SpellsIdentifier}
 use Rattle.pli_base.specs.Reading.{Front}
 use Rattle.pli_base.specs.declared.token.Sign.TheVariants.{Colon, Semicolon, Comma, Period, OpenParenthesis}
 use Rattle.pli_base.specs.declared.token.Sign.TheVariants.{CloseParenthesis, Plus, Minus}
@@ -203,10 +203,6 @@ SpellsAttribute ts (tree.Returns attributes) =
 abbrev pub SpellsAttributes : Tokens → List tree.Attribute → Type 0
 SpellsAttributes ts [] = ts ≡ []
 SpellsAttributes ts (a ∷ more) = SpellsList Nothing SpellsAttribute ts (a ∷ more)
-
--- a name with its token
-abbrev pub SpellsIdentifier : ℕ → Tokens → Identifier → Type 0
-SpellsIdentifier p ts i = (ts ≡ Word i.name ∷ []) × (i.at ≡ p)
 
 -- name | "(" name {"," name} ")": one name alone and a list of one name are one tree
 abbrev pub SpellsNames : ℕ → Tokens → List Identifier → Type 0

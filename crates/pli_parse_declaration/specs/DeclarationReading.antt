@@ -6,7 +6,8 @@ use Rattle.std.specs.Prelude.{Ok, List, [], ◌∷◌, length, codes, if◌then�
 use Rattle.pli_base.specs.Name.{Name}
 use Rattle.pli_base.specs.Words.{Tokens, same_name, is_open, is_close, is_comma, is_semicolon, behind}
 use Rattle.pli_base.specs.Words.{name_first, is_colon}
-use Rattle.pli_base.specs.Reading.{◌>>=◌, at_fault, Front, expected, read_as, mapped, taken, enclosed}
+use Rattle.pli_base.specs.Results.{◌>>=◌}
+use Rattle.pli_base.specs.Reading.{at_fault, Front, expected, read_as, mapped, taken, enclosed}
 use Rattle.pli_base.specs.Reading.{if_open, or_none}
 use Rattle.pli_base.specs.declared.code.Code.TheVariants.{ParenthesisExpected, SemicolonExpected}
 use Rattle.pli_base.specs.declared.code.Code.TheVariants.{NameExpected, EndMissing, BadAttribute}

@@ -2,7 +2,8 @@
 ghost use Rattle.std.specs.Prelude.{◌≡◌, ◌≤◌, ◌+◌, length, map, IfOk};
 ghost use Rattle.pli_base.specs.views.DeclarationView.{described_view, parameter_view};
 ghost use Rattle.pli_parse_declaration.specs.DeclarationReading.{list_at, described_at, parameter_at, parameters_at, returned_at};
-ghost use Rattle.pli_base.specs.answers.ReadingAnswers.{Gives, Advances, front_view};
+ghost use Rattle.pli_base.specs.answers.FailureAnswers.{Gives};
+ghost use Rattle.pli_base.specs.answers.ReadingAnswers.{Advances, front_view};
 ghost use Rattle.pli_parse_declaration.specs.declared.list.Separator.TheVariants.{Commas, Nothing};
 ghost use Rattle.std.proofs.Common.{refl};
 ghost use Rattle.pli_base.specs.Declarations as tree;

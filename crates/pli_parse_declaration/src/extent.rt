@@ -4,7 +4,8 @@ ghost use Rattle.pli_parse_declaration.specs.DeclarationReading.{list_at, number
 ghost use Rattle.pli_parse_declaration.specs.answers.DeclarationAnswers.{measured_at};
 ghost use Rattle.pli_base.specs.Words.{is_open, behind};
 ghost use Rattle.pli_base.specs.Reading.{if_open};
-ghost use Rattle.pli_base.specs.answers.ReadingAnswers.{Gives, Advances, Continues, front_view};
+ghost use Rattle.pli_base.specs.answers.FailureAnswers.{Gives};
+ghost use Rattle.pli_base.specs.answers.ReadingAnswers.{Advances, Continues, front_view};
 ghost use Rattle.pli_parse_declaration.specs.declared.list.Separator.TheVariants.{Commas};
 ghost use Rattle.pli_base.specs.declared.declaration.Bounds as bounds;
 ghost use Rattle.std.proofs.Common.{sym};

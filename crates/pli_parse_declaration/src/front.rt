@@ -2,7 +2,8 @@
 ghost use Rattle.std.specs.Option.{option_copied};
 ghost use Rattle.std.specs.Prelude.{◌≡◌, ℕ, option_map, ◌≤◌, ◌+◌, length, IfOk, IfSome};
 ghost use Rattle.pli_base.specs.Reading.{taken};
-ghost use Rattle.pli_base.specs.answers.ReadingAnswers.{Gives, Advances, Continues, front_view};
+ghost use Rattle.pli_base.specs.answers.FailureAnswers.{Gives};
+ghost use Rattle.pli_base.specs.answers.ReadingAnswers.{Advances, Continues, front_view};
 ghost use Rattle.pli_parse_declaration.specs.DeclarationWords.{attribute_first, with_attribute, begins_description, is_zero};
 ghost use Rattle.pli_parse_declaration.specs.DeclarationReading.{number_at, level_at};
 ghost use Rattle.pli_parse_declaration.specs.answers.DeclarationAnswers.{number_from, level_from};

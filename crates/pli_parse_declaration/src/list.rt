@@ -3,7 +3,8 @@ ghost use Rattle.std.specs.Prelude.{◌≡◌, ℕ, ◌≤◌, ◌+◌, List, Re
 ghost use Rattle.pli_base.specs.Words.{Tokens};
 ghost use Rattle.pli_base.specs.Reading as reading;
 ghost use Rattle.pli_base.specs.declared.token.Fault as token;
-ghost use Rattle.pli_base.specs.answers.ReadingAnswers.{Gives, Advances, front_view};
+ghost use Rattle.pli_base.specs.answers.FailureAnswers.{Gives};
+ghost use Rattle.pli_base.specs.answers.ReadingAnswers.{Advances, front_view};
 ghost use Rattle.pli_parse_declaration.specs.Separators.{separated, behind_separator};
 ghost use Rattle.pli_parse_declaration.specs.DeclarationReading.{list_at};
 

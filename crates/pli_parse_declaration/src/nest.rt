@@ -4,7 +4,8 @@ ghost use Rattle.std.specs.Prelude.{◌≡◌, ◌≤◌, ◌+◌, ◌<◌, [], 
 ghost use Rattle.pli_base.specs.Words.{is_close, behind};
 ghost use Rattle.pli_parse_declaration.specs.DeclarationReading.{description_walk, parameters_walk, word_walk, closed_walk, behind_walk, step_at, is_over, nest_at};
 ghost use Rattle.pli_parse_declaration.specs.answers.DeclarationAnswers.{walk_view};
-ghost use Rattle.pli_base.specs.answers.ReadingAnswers.{Gives, Advances, Continues, front_view};
+ghost use Rattle.pli_base.specs.answers.FailureAnswers.{Gives};
+ghost use Rattle.pli_base.specs.answers.ReadingAnswers.{Advances, Continues, front_view};
 
 use crate::extent::dimensions_at;
 use crate::front::{attribute_first, begins_description};

@@ -12,12 +12,13 @@ use Rattle.pli_base.specs.declared.syntax.Joining.{Joining}
 use Rattle.pli_base.specs.declared.token.Fault.{Fault}
 use Rattle.pli_parse_expression.specs.Operators.{operator_limit, level_of, operator_at, joining_at}
 use Rattle.pli_parse_expression.specs.Reading.{Front, Reader, limited, operand_then, grouped, infix_from, right_of, closed, listed_behind, further_from, listed_at, arguments_at, part_behind, parts_behind, joined_from, reference_behind, reference_of}
-use Rattle.pli_base.specs.declared.reading.ParseError.TheVariants as errors
+use Rattle.pli_base.specs.declared.failure.Failure.TheVariants as errors
 use Rattle.pli_base.specs.views.SyntaxView.{expressions_view, arguments_view, joined_view}
 use Rattle.pli_base.specs.Words.{Tokens, name_first, behind, is_comma, is_close}
-use Rattle.pli_base.specs.Reading.{◌>>=◌, at_fault, misfit, taken}
-use Rattle.pli_base.specs.declared.reading.ParseError.{ParseError}
-use Rattle.pli_base.specs.answers.ReadingAnswers.{Fails}
+use Rattle.pli_base.specs.Results.{◌>>=◌}
+use Rattle.pli_base.specs.Reading.{at_fault, misfit, taken}
+use Rattle.pli_base.specs.declared.failure.Failure.{Failure}
+use Rattle.pli_base.specs.answers.FailureAnswers.{Fails}
 
 -- the operators that are left go on with the expression so far, for a bound that is great enough
 abbrev pub OperatorsLeft : Reader → (min count : ℕ) → Expression → ℕ → Tokens → Result (Front Expression) Fault → Type 0
@@ -60,7 +61,7 @@ module _ (operand : Reader) (bound : ℕ) (o : InfixOperator) (count p : ℕ) (t
   within : count < operator_limit → right_of operand bound o count p ts ≡ operand_then operand (infix_from operand bound) (level_of o + 1) (count + 1) (p + 1) ts
   within few = ap (λ b. cond b (operand_then operand (infix_from operand bound) (level_of o + 1) (count + 1) (p + 1) ts) (at_fault NestedTooDeep p)) (lt-ltb count operator_limit few)
 
-  pub operand_fails : (e : ParseError) → count < operator_limit → Fails e (operand (count + 1) (p + 1) ts) → Fails e (right_of operand bound o count p ts)
+  pub operand_fails : (e : Failure Fault) → count < operator_limit → Fails e (operand (count + 1) (p + 1) ts) → Fails e (right_of operand bound o count p ts)
   operand_fails errors.OutOfMemory few h = tt
   operand_fails (errors.Fault f) few h = within few ∙ ap (λ r. r >>= λ z. infix_from operand bound (level_of o + 1) z.count z.value z.next z.rest) h
 
@@ -88,7 +89,7 @@ module _ (operand : Reader) (min count : ℕ) (left : Expression) (p : ℕ) (ts 
       turned bound so_far
       ∙ limited_then (nat_lt count operator_limit) p (operand_then operand (infix_from operand bound) (level_of o.0 + 1) (count + 1) (p + 1) o.1) (leads bound)
 
-  pub right_fails : (e : ParseError) → length o.1 < length ts → ((bound : ℕ) → length o.1 < bound → Fails e (right_of operand bound o.0 count p o.1))
+  pub right_fails : (e : Failure Fault) → length o.1 < length ts → ((bound : ℕ) → length o.1 < bound → Fails e (right_of operand bound o.0 count p o.1))
       → OperatorsLeft operand min count left p ts total → Fails e total
   right_fails errors.OutOfMemory less h left_over = tt
   right_fails (errors.Fault f) less h (zero, small, so_far) = absurd (omega arith)
@@ -136,7 +137,7 @@ module _ (one : Option Reader) (done : List JoinedPart) (count p : ℕ) (ts : To
     behind_name : (bound : ℕ) → with_parts done (joined_from one (suc bound) count p ts) ≡ total → total ≡ with_parts done (arguments_at one count (p + 1 + 1) n.1 >>= behind_list bound)
     behind_name bound so_far = joining_turned bound so_far ∙ ap (λ o. with_parts done (part_behind one (joined_from one bound) j.0 count (p + 1) j.1 o)) named
 
-    pub arguments_fail : (e : ParseError) → Fails e (arguments_at one count (p + 1 + 1) n.1) → PartsLeft one done count p ts total → Fails e total
+    pub arguments_fail : (e : Failure Fault) → Fails e (arguments_at one count (p + 1 + 1) n.1) → PartsLeft one done count p ts total → Fails e total
     arguments_fail errors.OutOfMemory h left_over = tt
     arguments_fail (errors.Fault f) h (zero, small, so_far) = absurd (omega arith)
     arguments_fail (errors.Fault f) h (suc bound, small, so_far) = behind_name bound so_far ∙ ap (λ r. with_parts done (r >>= behind_list bound)) h
@@ -195,7 +196,7 @@ module _ (one : Reader) (done : List made.Expression) (count p : ℕ) (ts us : T
   unfolding further_from
   comma_turned bound so_far = sym so_far ∙ ap (λ o. closed_list done (listed_behind one (further_from one bound) count p ts o)) found
 
-  pub one_fails : (e : ParseError) → Fails e (one count (p + 1) us) → ListLeft one done count p ts total → Fails e total
+  pub one_fails : (e : Failure Fault) → Fails e (one count (p + 1) us) → ListLeft one done count p ts total → Fails e total
   one_fails errors.OutOfMemory h left_over = tt
   one_fails (errors.Fault f) h (zero, small, so_far) = absurd (omega arith)
   one_fails (errors.Fault f) h (suc bound, small, so_far) = comma_turned bound so_far ∙ ap (λ r. closed_list done (r >>= behind_one bound)) h
@@ -210,7 +211,7 @@ module _ (one : Reader) (done : List made.Expression) (count p : ℕ) (ts us : T
         ∙ sym (comma_turned bound so_far ∙ ap (λ r. closed_list done (r >>= behind_one bound)) read),
   )
 
-pub first_fails : (one : Reader) (count p : ℕ) (ts : Tokens) (e : ParseError) → Fails e (one count p ts) → Fails e (listed_at one count p ts)
+pub first_fails : (one : Reader) (count p : ℕ) (ts : Tokens) (e : Failure Fault) → Fails e (one count p ts) → Fails e (listed_at one count p ts)
 unfolding listed_at
 first_fails one count p ts errors.OutOfMemory h = tt
 first_fails one count p ts (errors.Fault f) h = ap (λ r. r >>= λ x. further_from one (length x.rest + 1) x.count x.next x.rest >>= λ y. closed (Listed x.value y.value) y.count y.next y.rest) h
@@ -232,7 +233,7 @@ module _ (one : Reader) (done : List made.Expression) (count p : ℕ) (ts : Toke
   list_turned bound so_far =
       sym so_far ∙ ap (λ o. closed_list done (listed_behind one (further_from one bound) count p ts o)) none ∙ ap (λ v. closed v count p ts) (expressions_all done)
 
-  pub close_fails : (e : ParseError) → Fails e (taken is_close ParenthesisExpected p ts) → ListLeft one done count p ts total → Fails e total
+  pub close_fails : (e : Failure Fault) → Fails e (taken is_close ParenthesisExpected p ts) → ListLeft one done count p ts total → Fails e total
   close_fails errors.OutOfMemory h left_over = tt
   close_fails (errors.Fault f) h (zero, small, so_far) = absurd (omega arith)
   close_fails (errors.Fault f) h (suc bound, small, so_far) = list_turned bound so_far ∙ ap (λ r. r >>= λ us. Ok (record { value = expressions_view done; count = count; next = p + 1; rest = us })) h

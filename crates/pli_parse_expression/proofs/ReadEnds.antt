@@ -21,7 +21,7 @@ use Rattle.pli_base.specs.Words.{Tokens, name_first}
 use Rattle.pli_parse_expression.specs.Expressions.{operators, SpellsOutermost, SpellsReferenceAlone}
 use Rattle.pli_parse_expression.specs.Ends.{parts_go_on, NoneGoesOn, ReferenceEnds, NoInfix, ExpressionEnds}
 use Rattle.pli_parse_expression.specs.Reading.{Front, Reader, opened, closed, operand_then, grouped, infix_from, expression_of, list_at, arguments_at, part_behind, parts_behind, joined_from, reference_behind, reference_of, prefix_of, parenthesis_of, constant_at, operand_of, inside, operand_at, expression_at, argument_of, reference_at}
-use Rattle.pli_base.specs.Reading.{◌>>=◌}
+use Rattle.pli_base.specs.Results.{◌>>=◌}
 use Rattle.pli_parse_expression.proofs.ReadingTools.{limited_ok, wanted_none, closed_ok}
 use Rattle.pli_parse_fault.proofs.Steps.{same_ok, bind_ok}
 use Rattle.pli_parse_expression.specs.laws.Laws.{FrontSpells}

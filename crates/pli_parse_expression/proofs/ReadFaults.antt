@@ -19,7 +19,8 @@ use Rattle.pli_base.specs.declared.token.TokenText.TheVariants.{Word, Decimal, B
 use Rattle.pli_parse_expression.specs.Operators.{operator_limit, level_of, operator_at, joining_at, begins_expression}
 use Rattle.pli_base.specs.Words.{Tokens, name_first, behind, is_comma}
 use Rattle.pli_parse_expression.specs.Reading.{Front, Reader, limited, opened, closed, operand_then, grouped, infix_from, expression_of, listed_behind, further_from, listed_at, list_at, arguments_at, part_behind, parts_behind, joined_from, reference_behind, reference_of, prefix_of, parenthesis_of, constant_at, operand_of, inside, operand_at, expression_at, argument_of, reference_at}
-use Rattle.pli_base.specs.Reading.{◌>>=◌, at_fault, misfit, taken}
+use Rattle.pli_base.specs.Results.{◌>>=◌}
+use Rattle.pli_base.specs.Reading.{at_fault, misfit, taken}
 use Rattle.pli_parse_expression.proofs.ReadingTools.{operator_ok, joining_ok, name_ok, comma_ok}
 
 -- what was read passes over so many tokens at least, and a fault stands at one of them

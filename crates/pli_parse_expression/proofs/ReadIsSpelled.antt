@@ -20,7 +20,7 @@ use Rattle.pli_parse_expression.specs.laws.Laws.{FrontSpells}
 use Rattle.pli_parse_expression.proofs.ReadingTools.{limited_ok, wanted_none, closed_ok, operator_ok, operator_below, level_small, none_above, joining_ok, name_ok, comma_ok}
 use Rattle.pli_parse_fault.proofs.Steps.{same_ok, bind_ok}
 use Rattle.pli_base.specs.Words.{Tokens, name_first, behind, is_comma}
-use Rattle.pli_base.specs.Reading.{◌>>=◌}
+use Rattle.pli_base.specs.Results.{◌>>=◌}
 
 -- the front of the tokens spells what was read, which has so many operators and fits; the rest is left
 pub record IsRead {A : Type 0} (Spells : ℕ → Tokens → A → Type 0) (count_of : A → ℕ) (Fits : A → Type 0) (count p : ℕ) (ts : Tokens) (x : Front A) : Type 0 where

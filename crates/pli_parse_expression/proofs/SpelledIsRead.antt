@@ -23,7 +23,8 @@ use Rattle.pli_parse_expression.proofs.ReadingTools.{level_small}
 use Rattle.pli_parse_fault.proofs.Steps.{same_ok}
 use Rattle.pli_parse_expression.proofs.ReadIsSpelled.{IsOperandOf, total, count_given, count_joined, count_reference, total_is, reference_is, ListFits}
 use Rattle.pli_base.specs.Words.{Tokens, name_first, behind}
-use Rattle.pli_base.specs.Reading.{◌>>=◌, at_fault, taken}
+use Rattle.pli_base.specs.Results.{◌>>=◌}
+use Rattle.pli_base.specs.Reading.{at_fault, taken}
 
 -- what is read of tokens with more behind them
 abbrev pub all_read : {A : Type 0} → A → (count next : ℕ) → Tokens → Result (Front A) Fault

@@ -20,7 +20,8 @@ use Rattle.pli_base.specs.declared.token.TokenText.TheVariants.{Word, Decimal, B
 use Rattle.pli_parse_expression.specs.Operators.{operator_limit, level_of, operator_at, joining_at}
 use Rattle.pli_parse_expression.specs.Operators.{begins_expression}
 use Rattle.pli_base.specs.Words.{Tokens, name_first, behind, is_comma, is_close}
-use Rattle.pli_base.specs.Reading.{◌>>=◌, at_fault, expected, taken}
+use Rattle.pli_base.specs.Results.{◌>>=◌}
+use Rattle.pli_base.specs.Reading.{at_fault, expected, taken}
 
 -- what was read, how many operators the outermost expression has so far, the place behind it and the tokens
 -- from there

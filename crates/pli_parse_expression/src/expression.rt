@@ -4,7 +4,7 @@ ghost use Rattle.pli_base.specs.Syntax.{Infix};
 ghost use Rattle.pli_base.specs.views.SyntaxView.{expression_view, reference_view};
 ghost use Rattle.pli_parse_expression.specs.Operators.{infix_of, level_of, operator_at, joining_at, begins_expression};
 ghost use Rattle.pli_parse_expression.specs.Reading.{infix_from, right_of, operand_at, inside, expression_at, expression_of, argument_of, listed_at, list_at, arguments_at, joined_from, reference_of, reference_at, prefix_of, parenthesis_of, constant_at};
-ghost use Rattle.pli_base.specs.answers.ReadingAnswers.{Gives};
+ghost use Rattle.pli_base.specs.answers.FailureAnswers.{Gives};
 ghost use Rattle.pli_parse_expression.specs.answers.Answers.{front_view, Advances, Stays};
 ghost use Rattle.pli_base.specs.views.SyntaxView.{expressions_view, arguments_view, joined_view};
 

@@ -4,7 +4,8 @@ use Rattle.std.specs.Prelude.{◌≡◌, ℕ, ◌+◌, ◌-◌, ◌<◌, ◌⊎�
 use Rattle.std.proofs.Common.{refl, ap, ◌∙◌, sym, subst, arith, inl, inr, ⊎_elim, append_assoc, append-nil, length-append}
 use Rattle.pli_base.specs.Words.{Tokens}
 use Rattle.pli_parse_fault.specs.FirstFaults.{CanBeCompleted, IsFirstFault}
-use Rattle.pli_base.specs.Reading.{◌>>=◌, misfit}
+use Rattle.pli_base.specs.Results.{◌>>=◌}
+use Rattle.pli_base.specs.Reading.{misfit}
 use Rattle.pli_base.specs.declared.code.Code.{Code}
 use Rattle.pli_base.specs.declared.code.Code.TheVariants.{EndMissing}
 use Rattle.pli_base.specs.declared.token.Fault.{Fault}

@@ -1,6 +1,6 @@
 -- Steps of reading, taken apart.
 use Rattle.std.proofs.Common.{◌≡◌, Option, Some, Result, Ok, Err, refl}
-use Rattle.pli_base.specs.Reading.{◌>>=◌}
+use Rattle.pli_base.specs.Results.{◌>>=◌}
 use Rattle.pli_base.specs.declared.token.Fault.{Fault}
 
 pub same_ok : {A : Type 0} {x y : A} → ◌≡◌ {A = Result A Fault} (Ok x) (Ok y) → x ≡ y

@@ -1,16 +1,17 @@
 -- Options of a procedure, read by a loop.
 use Rattle.std.proofs.Common.{◌≡◌, ◌<◌, ℕ, ◌+◌, suc, zero, List, [], ◌∷◌, ◌++◌, Some, None, Result, Ok, Err, length, refl, ap, ◌∙◌, sym, arith, append_assoc, append-nil}
 use Rattle.pli_base.specs.Words.{Tokens}
-use Rattle.pli_base.specs.Reading.{◌>>=◌, Front, read_as, mapped}
+use Rattle.pli_base.specs.Results.{◌>>=◌}
+use Rattle.pli_base.specs.Reading.{Front, read_as, mapped}
 use Rattle.pli_base.specs.declared.token.Fault.{Fault}
-use Rattle.pli_base.specs.declared.reading.ParseError.TheVariants as errors
+use Rattle.pli_base.specs.declared.failure.Failure.TheVariants as errors
 use Rattle.pli_parse_declaration.specs.DeclarationReading.{returned_at}
 use Rattle.pli_parse_declaration.proofs.DeclarationLists.{with_done}
 use Rattle.pli_base.specs.Statements.{ProcedureOption}
 use Rattle.pli_parse_statement.specs.StatementReading.{OptionWord, OptionsWord, ReturnsWord, RecursiveWord, option_first, options_by, options_from}
 use Rattle.pli_parse_statement.specs.answers.StatementAnswers.{option_of}
-use Rattle.pli_base.specs.declared.reading.ParseError.{ParseError}
-use Rattle.pli_base.specs.answers.ReadingAnswers.{Fails}
+use Rattle.pli_base.specs.declared.failure.Failure.{Failure}
+use Rattle.pli_base.specs.answers.FailureAnswers.{Fails}
 
 -- with what was read before, the options that are left are all of them
 abbrev pub OptionsLeft : List ProcedureOption → ℕ → Tokens → Result (Front (List ProcedureOption)) Fault → Type 0
@@ -62,7 +63,7 @@ module _ (done : List ProcedureOption) (p : ℕ) (ts : Tokens) (total : Result (
         ∙ turned bound w us first so_far,
   )
 
-  pub fails : (w : OptionWord) (us : Tokens) (e : ParseError) → option_first ts ≡ Some (w, us) → Fails e (option_of w (p + 1) us) → OptionsLeft done p ts total → Fails e total
+  pub fails : (w : OptionWord) (us : Tokens) (e : Failure Fault) → option_first ts ≡ Some (w, us) → Fails e (option_of w (p + 1) us) → OptionsLeft done p ts total → Fails e total
   fails w us errors.OutOfMemory first h left = tt
   fails w us (errors.Fault f) first h (zero, small, so_far) = absurd (omega arith)
   fails w us (errors.Fault f) first h (suc bound, small, so_far) =

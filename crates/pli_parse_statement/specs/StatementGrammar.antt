@@ -4,7 +4,7 @@
 use Rattle.std.specs.Prelude.{◌≡◌, ℕ, ◌+◌, ◌⊎◌, Bool, true, false, Option, Some, None, List, [], ◌∷◌, ◌++◌}
 use Rattle.std.specs.Prelude.{length, codes}
 use Rattle.pli_base.specs.Name.{Name}
-use Rattle.pli_base.specs.Words.{Tokens}
+use Rattle.pli_base.specs.Words.{Tokens, SpellsIdentifier}
 use Rattle.pli_base.specs.Syntax.{Expression, Reference, Arguments}
 use Rattle.pli_base.specs.declared.syntax.Identifier.{Identifier}
 use Rattle.pli_base.specs.declared.token.Sign.TheVariants.{Colon, Semicolon, OpenParenthesis}
@@ -44,10 +44,6 @@ IsOfItsKind p ts (Assign target equals value) = BeginsAssignment p ts
 IsOfItsKind p ts body = BeginsAssignment p ts → ⊥
 
 -- parts of statements; so many levels may still be opened in their expressions
-
--- a name with its token
-abbrev pub SpellsIdentifier : ℕ → Tokens → Identifier → Type 0
-SpellsIdentifier p ts i = (ts ≡ Word i.name ∷ []) × (i.at ≡ p)
 
 -- the name of a condition
 abbrev pub SpellsCondition : Tokens → Condition → Type 0

@@ -6,7 +6,8 @@ use Rattle.std.specs.Prelude.{ℕ, zero, suc, ◌+◌, ◌-◌, Bool, true, fals
 use Rattle.std.specs.Prelude.{Err, List, [], ◌∷◌, length, option_map, is_some, codes, if◌then◌else◌}
 use Rattle.pli_base.specs.Name.{Name}
 use Rattle.pli_base.specs.Words.{Tokens, same_name, is_word, is_open, is_semicolon, behind}
-use Rattle.pli_base.specs.Reading.{◌>>=◌, at_fault, Front, misplaced, expected, read_as, mapped, taken}
+use Rattle.pli_base.specs.Results.{◌>>=◌}
+use Rattle.pli_base.specs.Reading.{at_fault, Front, misplaced, expected, read_as, mapped, taken}
 use Rattle.pli_base.specs.Reading.{enclosed, if_open, or_none}
 use Rattle.pli_base.specs.Syntax.{Expression, Reference}
 use Rattle.pli_base.specs.declared.syntax.Identifier.{Identifier}

@@ -7,7 +7,8 @@ ghost use Rattle.pli_parse_statement.specs.StatementReading.{expression_in, pare
 ghost use Rattle.pli_parse_statement.specs.StatementReading as reading;
 ghost use Rattle.pli_parse_statement.specs.answers.ControlAnswers.{limited};
 ghost use Rattle.pli_parse_statement.specs.answers.StatementAnswers.{specified_view, BehindWhile};
-ghost use Rattle.pli_base.specs.answers.ReadingAnswers.{Gives, Advances, Continues, front_view};
+ghost use Rattle.pli_base.specs.answers.FailureAnswers.{Gives};
+ghost use Rattle.pli_base.specs.answers.ReadingAnswers.{Advances, Continues, front_view};
 
 use crate::cursor::{
     EachExpression, behind_word, equals_taken, expression_in, is_name, parenthesized, reference_in,

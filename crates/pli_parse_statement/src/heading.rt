@@ -7,7 +7,8 @@ ghost use Rattle.pli_base.specs.views.StatementView as views;
 ghost use Rattle.pli_parse_statement.specs.StatementReading.{main_at, options_from, heading_at};
 ghost use Rattle.pli_parse_statement.specs.answers.StatementAnswers.{heading_view, option_view, option_of};
 ghost use Rattle.pli_base.specs.Reading.{taken, mapped, or_none, if_open};
-ghost use Rattle.pli_base.specs.answers.ReadingAnswers.{Gives, Advances, Continues, front_view};
+ghost use Rattle.pli_base.specs.answers.FailureAnswers.{Gives};
+ghost use Rattle.pli_base.specs.answers.ReadingAnswers.{Advances, Continues, front_view};
 ghost use Rattle.pli_parse_declaration.specs.declared.list.Separator.TheVariants.{Commas};
 
 use crate::cursor::is_name;

@@ -10,7 +10,8 @@ ghost use Rattle.pli_parse_statement.specs.answers.StatementAnswers.{words, plac
 ghost use Rattle.pli_parse_statement.specs.StatementWords.{the_unit};
 ghost use Rattle.pli_parse_statement.specs.StatementReading.{stopped, closing, condition_at, assignment_at, has_place, with_place, places_from, allocation_at, put_from, put_at, call_at, keyed_at, expression_in, reference_in};
 ghost use Rattle.pli_base.specs.Reading.{if_open, mapped};
-ghost use Rattle.pli_base.specs.answers.ReadingAnswers.{Gives, Advances, Continues, front_view};
+ghost use Rattle.pli_base.specs.answers.FailureAnswers.{Gives};
+ghost use Rattle.pli_base.specs.answers.ReadingAnswers.{Advances, Continues, front_view};
 ghost use Rattle.pli_parse_declaration.specs.declared.list.Separator.TheVariants.{Commas};
 ghost use Rattle.std.proofs.Common.{refl};
 

@@ -19,7 +19,8 @@ use Rattle.pli_base.specs.declared.declaration.Bounds as written
 use Rattle.pli_map.specs.Description.{Description, FixedBinary, Character, Varying, Bit, Pointer, Offset, Area, Array, Structure, Members, NoMembers, MemberThen}
 use Rattle.pli_map.specs.declared.description.Bounds.{Bounds}
 use Rattle.pli_declare_attributes.specs.Agreement.{agrees_as_entry, agrees_as_built_in, agrees_as_variable, is_at_level_one, is_missing, is_plain, set_agrees}
-use Rattle.pli_declare_attributes.specs.Extents.{low_of, integer_of, bounds_of, are_good, are_bad_bounds, all_bounds, is_array}
+use Rattle.pli_base.specs.Declarations.{integer_of}
+use Rattle.pli_declare_attributes.specs.Extents.{low_of, bounds_of, are_good, are_bad_bounds, all_bounds, is_array}
 use Rattle.pli_declare_attributes.specs.Faults.{first_of, shape_fault, own_fault, item_fault, entry_fault, parameters_in, with_bounds, described_scalar}
 use Rattle.pli_declare_attributes.specs.Sets.{outermost, set_of, each_once, has, none_of, entry, returns, external, built_in, within}
 use Rattle.pli_declare_attributes.specs.Types.{number_of, number_or, is_bad_precision, is_bad_length, scalar_of}

@@ -3,7 +3,8 @@ ghost use Rattle.std.specs.Prelude.{Some};
 use crate::members::{name, same};
 use pli_base::{
     BitString, CharacterString, Code, Device, Failed, Line, NAME_LIMIT, Name, Sink, Source,
-    TokenText, code_order, one_code, put_all, take_all,
+    TokenText, code_order, decimal_value, is_digit, is_letter, is_name_character, one_code,
+    put_all, take_all,
 };
 use std::alloc::Global;
 use std::collections::HashMap;
@@ -24,6 +25,17 @@ fn names(rt: HostRuntime) {
     }
     let written = format!(in rt.alloc(); "{sum:?}").expect(&rt, "memory");
     same(&rt, "SUM_1$", &written);
+}
+
+#[test]
+fn characters(rt: HostRuntime) {
+    assert!(rt; is_letter(b'a') && is_letter(b'Z') && !is_letter(b'0') && !is_letter(b'_'));
+    assert!(rt; is_digit(b'0') && is_digit(b'9') && !is_digit(b'a') && !is_digit(b':'));
+    assert!(rt; is_name_character(b'$') && is_name_character(b'_') && !is_name_character(b'-'));
+    assert!(rt;
+        decimal_value(b"007") == 7
+            && decimal_value(b"999999999999999999") == 999_999_999_999_999_999
+    );
 }
 
 /// The values of three names.

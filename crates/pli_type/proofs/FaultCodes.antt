@@ -1,7 +1,7 @@
 -- The faults of types have the codes of types.
 use Rattle.std.proofs.Common.{ℕ, Bool, true, false, IsTrue, Option, Some, None, List, [], ◌∷◌, ◌++◌, Result, Ok}
 use Rattle.std.proofs.Common.{Err, if◌then◌else◌, refl}
-use Rattle.pli_base.specs.Reading.{◌>>=◌}
+use Rattle.pli_base.specs.Results.{◌>>=◌}
 use Rattle.pli_base.specs.Statements as tree
 use Rattle.pli_base.specs.Statements.{Statement, Numbered, Body, Statements, Ended, Before, Alternative}
 use Rattle.pli_base.specs.Syntax.{Expression, Referred, Constant, Parenthesized, Prefix, Infix, Reference, Named}

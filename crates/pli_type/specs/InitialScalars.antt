@@ -1,12 +1,11 @@
 -- Initial values: which scalars of a variable have the values that INITIAL says, for an item's elements in
 -- row-major order over all its dimensions, and each fitted to its scalar (X3.74; the order own).
-use Rattle.std.specs.Prelude.{ℕ, zero, suc, ◌+◌, Option, Some, None, List, [], ◌∷◌, ◌++◌, replicate, pos, ℤ}
-use Rattle.std.specs.Prelude.{◌-ℤ◌, if◌then◌else◌}
+use Rattle.std.specs.Prelude.{ℕ, zero, suc, ◌+◌, Option, Some, None, List, [], ◌∷◌, ◌++◌, replicate}
+use Rattle.pli_base.specs.Declarations.{integer_of}
 use Rattle.std.specs.List.{flat_map}
 use Rattle.std.specs.Option.{unwrap_or}
 use Rattle.pli_base.specs.declared.declaration.InitialValue.{InitialValue}
 use Rattle.pli_base.specs.declared.declaration.InitialValue.TheVariants as initial
-use Rattle.pli_base.specs.declared.declaration.Integer.{Integer}
 use Rattle.pli_map.specs.Description.{Description, Array, Structure, Members, NoMembers, MemberThen}
 use Rattle.pli_map.specs.Scalars.{scalars_in}
 use Rattle.pli_map.specs.Values.{first_value}
@@ -41,10 +40,6 @@ abbrev mutual
   scalars_in_member (MemberThen d ds) zero path first = scalars_on d path first
   scalars_in_member (MemberThen d ds) (suc i) path first = scalars_in_member ds i path (first + scalars_in d)
 
--- the number that an integer spells
-abbrev pub signed : Integer → ℤ
-signed i = if i.negative then pos 0 -ℤ pos i.value else pos i.value
-
 -- a value for as many elements as its factor says
 abbrev pub times : Option ℕ → Value → List Value
 times None v = v ∷ []
@@ -54,7 +49,7 @@ times (Some factor) v = replicate factor v
 abbrev pub values_written : List InitialValue → List Value
 values_written [] = []
 values_written (initial.Integer factor value ∷ more) =
-    times factor (Number (signed value)) ++ values_written more
+    times factor (Number (integer_of value)) ++ values_written more
 values_written (initial.Characters text ∷ more) = Characters text ∷ values_written more
 values_written (initial.Bits bits ∷ more) = Bits bits ∷ values_written more
 values_written (initial.Null ∷ more) = values_written more

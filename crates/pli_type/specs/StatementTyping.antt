@@ -3,7 +3,8 @@
 use Rattle.std.specs.Prelude.{ℕ, suc, ◌+◌, nat_eq, Bool, true, false, Option, Some, None, is_none, option_map}
 use Rattle.std.specs.Prelude.{List, [], ◌∷◌, ◌++◌, length, map, Result, Ok, Err, if◌then◌else◌}
 use Rattle.std.specs.List.{list_any}
-use Rattle.pli_base.specs.Reading.{◌>>=◌, at_fault}
+use Rattle.pli_base.specs.Results.{◌>>=◌}
+use Rattle.pli_base.specs.Reading.{at_fault}
 use Rattle.pli_base.specs.Statements as tree
 use Rattle.pli_base.specs.Statements.{Range, Statement, Numbered, Body, Assign, Declare, Statements}
 use Rattle.pli_base.specs.Statements.{Before, Ended, Alternative}

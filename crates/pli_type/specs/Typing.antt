@@ -3,7 +3,8 @@
 -- called name; in a reference its locator, then each subscript, then the reference itself (own).
 use Rattle.std.specs.Prelude.{ℕ, ◌+◌, Bool, true, false, Option, Some, None, option_map}
 use Rattle.std.specs.Prelude.{List, [], ◌∷◌, ◌++◌, Result, Ok}
-use Rattle.pli_base.specs.Reading.{◌>>=◌, at_fault}
+use Rattle.pli_base.specs.Results.{◌>>=◌}
+use Rattle.pli_base.specs.Reading.{at_fault}
 use Rattle.pli_base.specs.Syntax.{Expression, Referred, Constant, Parenthesized, Prefix, Infix, Reference}
 use Rattle.pli_base.specs.Syntax.{Named}
 use Rattle.pli_base.specs.Syntax.{JoinedParts, Alone, Joined, Arguments, Absent, Given, Expressions, Empty}

@@ -1,23 +1,23 @@
 -- One step behind another, where each gives a value or a fault.
 use Rattle.std.proofs.Common.{◌≡◌, Result, Ok, Err, IsErrAnd, List, [], ◌∷◌, ◌++◌, refl, ap, sym, subst, append_assoc}
-use Rattle.pli_base.specs.Reading.{◌>>=◌}
+use Rattle.pli_base.specs.Results.{◌>>=◌}
 use Rattle.pli_base.specs.declared.token.Fault.{Fault}
-use Rattle.pli_type_expression.specs.answers.TypingAnswers.{Fails, Gives}
-use Rattle.pli_type_expression.specs.declared.answer.TypeError.{TypeError}
-use Rattle.pli_type_expression.specs.declared.answer.TypeError.TheVariants as errors
+use Rattle.pli_base.specs.answers.FailureAnswers.{Fails, Gives}
+use Rattle.pli_base.specs.declared.failure.Failure.{Failure}
+use Rattle.pli_base.specs.declared.failure.Failure.TheVariants as errors
 
 -- the fault of the first step is that of the whole
-pub fails_on : {X Y : Type 0} (e : TypeError) (r : Result X Fault) (k : X → Result Y Fault) → Fails e r
+pub fails_on : {X Y : Type 0} (e : Failure Fault) (r : Result X Fault) (k : X → Result Y Fault) → Fails e r
     → Fails e (r >>= k)
 fails_on errors.OutOfMemory r k p = tt
 fails_on (errors.Fault f) r k p = ap (λ s. s >>= k) p
 
 -- what is equal fails alike
-pub fails_as : {Y : Type 0} (e : TypeError) (r s : Result Y Fault) → r ≡ s → Fails e s → Fails e r
+pub fails_as : {Y : Type 0} (e : Failure Fault) (r s : Result Y Fault) → r ≡ s → Fails e s → Fails e r
 fails_as e r s q p = let P : Result _ Fault → Type 0 = λ t. Fails e t in subst P (sym q) p
 
 -- where a step fails, what a `?` returns fails alike
-pub exits : {X Y : Type 0} (view : X → Y) (r : Result X TypeError) (e : TypeError) (typed : Result Y Fault)
+pub exits : {X Y : Type 0} (view : X → Y) (r : Result X (Failure Fault)) (e : Failure Fault) (typed : Result Y Fault)
     → IsErrAnd r (λ d. d ≡ e) → Fails e typed → Gives view r typed
 exits view (Ok x) e typed is p = absurd is
 exits view (Err d) e typed is p = subst (λ d. Fails d typed) (sym is) p

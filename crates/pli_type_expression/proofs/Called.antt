@@ -1,7 +1,7 @@
 -- Calls of built-in functions as they are written.
 use Rattle.std.proofs.Common.{◌≡◌, ℕ, ◌+◌, ◌∷◌, [], List, Option, Result, Ok, refl, ap, ◌∙◌, sym}
 use Rattle.std.proofs.Common.{subst, length, add_comm, add-one}
-use Rattle.pli_base.specs.Reading.{◌>>=◌}
+use Rattle.pli_base.specs.Results.{◌>>=◌}
 use Rattle.pli_base.specs.declared.syntax.Expression.{Expression}
 use Rattle.pli_base.specs.declared.token.Fault.{Fault}
 use Rattle.pli_base.specs.views.SyntaxView.{expressions_view}
@@ -11,12 +11,12 @@ use Rattle.pli_type.specs.Names.{Naming}
 use Rattle.pli_type.specs.References.{Role}
 use Rattle.pli_type.specs.Typing.{all_arguments, roles_or_none, how_many}
 use Rattle.pli_type_expression.specs.Segments.{function_typed}
-use Rattle.pli_type_expression.specs.answers.TypingAnswers.{Fails, Gives}
-use Rattle.pli_type_expression.specs.declared.answer.TypeError.{TypeError}
+use Rattle.pli_base.specs.answers.FailureAnswers.{Fails, Gives}
+use Rattle.pli_base.specs.declared.failure.Failure.{Failure}
 use Rattle.pli_type_expression.proofs.Binds.{fails_on, fails_as, bind_ok}
 
 -- what is equal is given alike
-pub gives_as : {X Y : Type 0} (view : X → Y) (r : Result X TypeError) (typed other : Result Y Fault)
+pub gives_as : {X Y : Type 0} (view : X → Y) (r : Result X (Failure Fault)) (typed other : Result Y Fault)
     → typed ≡ other → Gives view r other → Gives view r typed
 gives_as view r typed other q p = let P : Result _ Fault → Type 0 = λ t. Gives view r t in subst P (sym q) p
 
@@ -34,7 +34,7 @@ module _ (n : Naming) (f : BuiltInFunction) (at : ℕ) (xs : List Expression) (r
   call_by_roles =
       ap (λ o. all_arguments n (roles_or_none o) (expressions_view xs) >>= λ gs. function_called n.greatest f at o gs) known
 
-  pub call_unmeant : (error : TypeError) → Fails error (all_arguments n (roles_or_none roles) (expressions_view xs))
+  pub call_unmeant : (error : Failure Fault) → Fails error (all_arguments n (roles_or_none roles) (expressions_view xs))
       → Fails error (function_typed n f at (expressions_view xs))
   call_unmeant error p =
       fails_as error _ _ call_by_roles

@@ -16,8 +16,9 @@ use Rattle.pli_type.specs.Typing.{all_subscripts, all_arguments}
 use Rattle.pli_type_tree.specs.declared.expression.TypedExpression.{TypedExpression}
 use Rattle.pli_type_tree.specs.views.TypedView as typed
 use Rattle.pli_type_expression.specs.Segments.{next_segment, last_segment}
-use Rattle.pli_type_expression.specs.answers.TypingAnswers.{Fails}
-use Rattle.pli_type_expression.specs.declared.answer.TypeError.{TypeError}
+use Rattle.pli_base.specs.answers.FailureAnswers.{Fails}
+use Rattle.pli_base.specs.declared.failure.Failure.{Failure}
+use Rattle.pli_base.specs.declared.token.Fault.{Fault}
 use Rattle.pli_type_expression.specs.declared.argument.Argument.{Argument}
 use Rattle.pli_type_expression.specs.views.TypingView.{argument_view}
 use Rattle.pli_type_expression.proofs.Binds.{fails_on, fails_as, bind_ok, none_before}
@@ -37,7 +38,7 @@ module _ (n : Naming) (s : Segment) (xs : List part.JoinedPart) (i : ℕ) (x : p
       ap (λ ys. last_segment n s (joined_view ys)) (at_place xs i x within is)
       ∙ bind_ok (next_segment n s x.joining x.part.name (arguments_view x.part.arguments)) t (λ t. last_segment n t (joined_view (drop (i + 1) xs))) p
 
-  pub part_fails : (error : TypeError)
+  pub part_fails : (error : Failure Fault)
       → Fails error (next_segment n s x.joining x.part.name (arguments_view x.part.arguments))
       → Fails error (last_segment n s (joined_view (drop i xs)))
   part_fails error p =
@@ -60,14 +61,14 @@ module _ (n : Naming) (xs : List program.Expression) (i : ℕ) (e : program.Expr
       ∙ more_subscripts n (map typed.expression_view done) (expression_view e) (expressions_view (drop (i + 1) xs)) v (typed.expression_view x) p q
       ∙ ap (λ zs. subscripts_with n zs (expressions_view (drop (i + 1) xs))) (sym (ap (map typed.expression_view) pushed ∙ map-append typed.expression_view done (x ∷ [])))
 
-  pub subscript_valueless : (done : List TypedExpression) (error : TypeError)
+  pub subscript_valueless : (done : List TypedExpression) (error : Failure Fault)
       → Fails error (value_of n (expression_view e))
       → Fails error (subscripts_with n (map typed.expression_view done) (expressions_view (drop i xs)))
   subscript_valueless done error p =
       fails_as error _ _ (ap (subscripts_with n (map typed.expression_view done)) listed)
       (subscript_unmeant n (map typed.expression_view done) (expression_view e) (expressions_view (drop (i + 1) xs)) error p)
 
-  pub subscript_no_number : (done : List TypedExpression) (v : TypedValue) (error : TypeError)
+  pub subscript_no_number : (done : List TypedExpression) (v : TypedValue) (error : Failure Fault)
       → value_of n (expression_view e) ≡ Ok v
       → Fails error (subscript_value n.greatest (first_token (expression_view e)) v)
       → Fails error (subscripts_with n (map typed.expression_view done) (expressions_view (drop i xs)))
@@ -86,7 +87,7 @@ module _ (n : Naming) (xs : List program.Expression) (i : ℕ) (e : program.Expr
       ∙ ap (λ zs. arguments_with n (drop (i + 1) roles) zs (expressions_view (drop (i + 1) xs)))
       (ap (λ b. map argument_view done ++ b ∷ []) (sym q) ∙ sym (ap (map argument_view) pushed ∙ map-append argument_view done (a ∷ [])))
 
-  pub argument_undenoted : (roles : List Role) (done : List Argument) (role : Role) (error : TypeError)
+  pub argument_undenoted : (roles : List Role) (done : List Argument) (role : Role) (error : Failure Fault)
       → role ≡ get_or roles i AsArgument → Fails error (denoted n role (expression_view e))
       → Fails error (arguments_with n (drop i roles) (map argument_view done) (expressions_view (drop i xs)))
   argument_undenoted roles done role error r p =

@@ -3,7 +3,7 @@ use Rattle.std.proofs.Common.{◌≡◌, ℕ, ◌++◌, ◌∷◌, [], List, Boo
 use Rattle.std.proofs.Common.{length, arith}
 use Rattle.std.proofs.lemmas.Bool.{ne_eqb}
 use Rattle.std.specs.Bool.{◌==◌}
-use Rattle.pli_base.specs.Reading.{◌>>=◌}
+use Rattle.pli_base.specs.Results.{◌>>=◌}
 use Rattle.pli_base.specs.Syntax.{Absent, Given, Expressions}
 use Rattle.pli_base.specs.declared.syntax.JoinedPart.{JoinedPart}
 use Rattle.pli_base.specs.views.SyntaxView.{joined_view}
@@ -20,9 +20,10 @@ use Rattle.pli_type_names.specs.declared.naming.NamedProcedure.{NamedProcedure}
 use Rattle.pli_type_names.specs.declared.naming.NamedVariable.{NamedVariable}
 use Rattle.pli_type_tree.specs.TypedTree.{TypedExpression}
 use Rattle.pli_type_expression.specs.Segments.{function_typed}
-use Rattle.pli_type_expression.specs.answers.TypingAnswers.{Fails, Gives}
+use Rattle.pli_base.specs.answers.FailureAnswers.{Fails, Gives}
 use Rattle.pli_type_expression.specs.views.TypingView.{of_name}
-use Rattle.pli_type_expression.specs.declared.answer.TypeError.{TypeError}
+use Rattle.pli_base.specs.declared.failure.Failure.{Failure}
+use Rattle.pli_base.specs.declared.token.Fault.{Fault}
 use Rattle.pli_type_expression.proofs.Binds.{fails_on, fails_as, bind_assoc, bind_ok}
 use Rattle.pli_type_expression.proofs.Called.{gives_as}
 
@@ -50,7 +51,7 @@ begun_at_function n (ALabel s) f p located at list = absurd p
 begun_at_function n Untyped f p located at list = absurd p
 
 -- a call of a function of the program
-pub call_given : {X : Type 0} (view : X → Segment) (result : Result X TypeError) (n : Naming) (w : NamedAs)
+pub call_given : {X : Type 0} (view : X → Segment) (result : Result X (Failure Fault)) (n : Naming) (w : NamedAs)
     (p : NamedProcedure) → IsMeantAs (answers.Procedure p) w → (located : Bool) (at : ℕ) (list : Expressions)
     (gs : List Argument) → all_arguments n [] list ≡ Ok gs
     → ((q : names.NamedProcedure) → IsProcedure p q → Gives view result (procedure_called n.greatest q at gs))
@@ -132,7 +133,7 @@ ended_at_variable (ALabel s) v p role located at xs r h = absurd p
 ended_at_variable Untyped v p role located at xs r h = absurd p
 
 pub ended_with_fault : (w : NamedAs) (v : NamedVariable) → IsMeantAs (answers.Variable v) w → (role : Role)
-    (located : Bool) (at : ℕ) (xs : List TypedExpression) (error : TypeError)
+    (located : Bool) (at : ℕ) (xs : List TypedExpression) (error : Failure Fault)
     → ((named : names.NamedVariable) → IsVariable v named
     → Fails error (variable_meant role located at named xs))
     → Fails error (ended role (of_name w located at xs))
@@ -154,7 +155,7 @@ call_of_argument (x ∷ xs) = ne_eqb (length (x ∷ xs)) 0 (λ e. omega arith)
 
 -- the fault of an argument, whether that is of a call or not
 pub procedure_unmeant : (n : Naming) (w : NamedAs) (p : NamedProcedure) → IsMeantAs (answers.Procedure p) w
-    → (call located : Bool) (at : ℕ) (list : Expressions) (error : TypeError)
+    → (call located : Bool) (at : ℕ) (list : Expressions) (error : Failure Fault)
     → Fails error (all_arguments n [] list) → Fails error (begun n w call located at (Given list))
 procedure_unmeant n (AProcedure q) p is true located at list error e =
     fails_on error (all_arguments n [] list) (λ gs. procedure_called n.greatest q at gs) e

@@ -1,7 +1,7 @@
 -- The walk over expressions and references, step by step.
 use Rattle.std.proofs.Common.{◌≡◌, ℕ, ◌+◌, ◌∷◌, ◌++◌, [], List, Bool, true, false, Result, Ok, Err, refl, ap, sym}
 use Rattle.std.proofs.Common.{◌∙◌, suc, zero, drop, get_or, add-one}
-use Rattle.pli_base.specs.Reading.{◌>>=◌}
+use Rattle.pli_base.specs.Results.{◌>>=◌}
 use Rattle.pli_base.specs.Syntax.{Expression, Parenthesized, Prefix, Infix, Named, JoinedParts, Alone, Joined}
 use Rattle.pli_base.specs.Syntax.{Arguments, Expressions, Listed}
 use Rattle.pli_base.specs.declared.syntax.Identifier.{Identifier}
@@ -23,8 +23,8 @@ use Rattle.pli_type.specs.Typing.{all_subscripts, subscripts_in, all_arguments, 
 use Rattle.pli_type.specs.Typing.{or_fault, subscript_value, ended, with_more, is_call}
 use Rattle.pli_type_tree.specs.TypedTree.{TypedExpression}
 use Rattle.pli_type_expression.specs.Segments.{last_segment}
-use Rattle.pli_type_expression.specs.answers.TypingAnswers.{Fails}
-use Rattle.pli_type_expression.specs.declared.answer.TypeError.{TypeError}
+use Rattle.pli_base.specs.answers.FailureAnswers.{Fails}
+use Rattle.pli_base.specs.declared.failure.Failure.{Failure}
 use Rattle.pli_type_expression.proofs.Binds.{fails_on, fails_as, bind_ok, one_behind}
 
 -- subscripts
@@ -50,13 +50,13 @@ more_subscripts n xs e more v x p q =
     ∙ one_behind (all_subscripts n more) xs x
 
 pub subscript_unmeant : (n : Naming) (xs : List TypedExpression) (e : Expression) (more : Expressions)
-    (error : TypeError) → Fails error (value_of n e) → Fails error (subscripts_with n xs (Listed e more))
+    (error : Failure Fault) → Fails error (value_of n e) → Fails error (subscripts_with n xs (Listed e more))
 subscript_unmeant n xs e more error p =
     let g : List TypedExpression → Result (List TypedExpression) Fault = λ ys. Ok (xs ++ ys) in
     fails_on error _ g (fails_on error (value_of n e) (subscript_then n e more) p)
 
 pub subscript_refused : (n : Naming) (xs : List TypedExpression) (e : Expression) (more : Expressions)
-    (v : TypedValue) (error : TypeError) → value_of n e ≡ Ok v
+    (v : TypedValue) (error : Failure Fault) → value_of n e ≡ Ok v
     → Fails error (subscript_value n.greatest (first_token e) v)
     → Fails error (subscripts_with n xs (Listed e more))
 subscript_refused n xs e more v error p q =
@@ -96,7 +96,7 @@ more_arguments n roles i gs e more d p =
     ∙ one_behind (all_arguments n (drop (i + 1) roles) more) gs (argument e d)
 
 pub argument_unmeant : (n : Naming) (roles : List Role) (i : ℕ) (gs : List Argument) (e : Expression)
-    (more : Expressions) (error : TypeError) → Fails error (denoted n (get_or roles i AsArgument) e)
+    (more : Expressions) (error : Failure Fault) → Fails error (denoted n (get_or roles i AsArgument) e)
     → Fails error (arguments_with n (drop i roles) gs (Listed e more))
 argument_unmeant n roles i gs e more error p =
     let k : Denoted → Result (List Argument) Fault = λ d. (all_arguments n (drop (i + 1) roles) more >>= λ gs. Ok (argument e d ∷ gs)) in
@@ -147,13 +147,13 @@ referred_ends n role name arguments more s t p q =
     ∙ joined_ends n role s more ∙ bind_ok (last_segment n s more) t (ended role) q
 
 reference_unbegun : (n : Naming) (role : Role) (name : Identifier) (arguments : Arguments) (more : JoinedParts)
-    (error : TypeError) → Fails error (begun n (n.meaning name.at) (is_call role false more) false name.at arguments)
+    (error : Failure Fault) → Fails error (begun n (n.meaning name.at) (is_call role false more) false name.at arguments)
     → Fails error (referred n role (Named name arguments more))
 reference_unbegun n role name arguments more error p =
     fails_on error (begun n (n.meaning name.at) (is_call role false more) false name.at arguments) (λ s. joined n role s more) p
 
 reference_unended : (n : Naming) (role : Role) (name : Identifier) (arguments : Arguments) (more : JoinedParts)
-    (s : Segment) (error : TypeError)
+    (s : Segment) (error : Failure Fault)
     → begun n (n.meaning name.at) (is_call role false more) false name.at arguments ≡ Ok s
     → Fails error (last_segment n s more) → Fails error (referred n role (Named name arguments more))
 reference_unended n role name arguments more s error p q =
@@ -171,14 +171,14 @@ module _ (n : Naming) (role : Role) (r : Reference) (parts : List JoinedPart) (c
   so : begins (is_call role false (joined_view (out-Reference r).joined.items)) ≡ begins call
   so = sym (ap begins (is ∙ ap (λ xs. is_call role false (joined_view xs)) same))
 
-  pub written_unbegun : (error : TypeError) → Fails error (begins call) → Fails error (referred n role (reference_view r))
+  pub written_unbegun : (error : Failure Fault) → Fails error (begins call) → Fails error (referred n role (reference_view r))
   written_unbegun error p =
       let x = out-Reference r in
       fails_as error _ _ (ap (referred n role) (reference_out r))
       (reference_unbegun n role x.first.name (arguments_view x.first.arguments) (joined_view x.joined.items) error
       (fails_as error _ _ so p))
 
-  pub written_unended : (s : Segment) (error : TypeError) → begins call ≡ Ok s
+  pub written_unended : (s : Segment) (error : Failure Fault) → begins call ≡ Ok s
       → Fails error (last_segment n s (joined_view parts)) → Fails error (referred n role (reference_view r))
   written_unended s error p q =
       let x = out-Reference r in
@@ -200,7 +200,7 @@ pub parenthesized_typed : (n : Naming) (role : Role) (at : ℕ) (inner : Express
     → value_of n inner ≡ Ok v → denoted n role (Parenthesized at inner) ≡ Ok (DenotesResult v)
 parenthesized_typed n role at inner v p = ap (λ s. s >>= λ v. Ok (DenotesResult v)) p
 
-pub parenthesized_unmeant : (n : Naming) (role : Role) (at : ℕ) (inner : Expression) (error : TypeError)
+pub parenthesized_unmeant : (n : Naming) (role : Role) (at : ℕ) (inner : Expression) (error : Failure Fault)
     → Fails error (value_of n inner) → Fails error (denoted n role (Parenthesized at inner))
 parenthesized_unmeant n role at inner error p = fails_on error (value_of n inner) (λ v. Ok (DenotesResult v)) p
 
@@ -214,11 +214,11 @@ module _ (n : Naming) (role : Role) (operator : PrefixOperator) (at : ℕ) (oper
       → denoted n role (Prefix operator at operand) ≡ Ok (DenotesResult u)
   prefix_typed v u p q = ap (λ s. s >>= prefix_of n operator at) p ∙ ap (λ s. s >>= λ u. Ok (DenotesResult u)) q
 
-  pub prefix_unmeant : (error : TypeError) → Fails error (value_of n operand)
+  pub prefix_unmeant : (error : Failure Fault) → Fails error (value_of n operand)
       → Fails error (denoted n role (Prefix operator at operand))
   prefix_unmeant error p = fails_on error (value_of n operand) (prefix_of n operator at) p
 
-  pub prefix_refused : (v : TypedValue) (error : TypeError) → value_of n operand ≡ Ok v
+  pub prefix_refused : (v : TypedValue) (error : Failure Fault) → value_of n operand ≡ Ok v
       → Fails error (or_fault WrongOperandType at (prefix_value n.greatest operator v))
       → Fails error (denoted n role (Prefix operator at operand))
   prefix_refused v error p q =
@@ -240,17 +240,17 @@ module _ (n : Naming) (role : Role) (operator : InfixOperator) (at : ℕ) (left 
       ap (λ s. s >>= right_of n operator at right) p ∙ ap (λ s. s >>= infix_of n operator at v) q
       ∙ ap (λ s. s >>= λ u. Ok (DenotesResult u)) e
 
-  pub left_unmeant : (error : TypeError) → Fails error (value_of n left)
+  pub left_unmeant : (error : Failure Fault) → Fails error (value_of n left)
       → Fails error (denoted n role (Infix operator at left right))
   left_unmeant error p = fails_on error (value_of n left) (right_of n operator at right) p
 
-  pub right_unmeant : (v : TypedValue) (error : TypeError) → value_of n left ≡ Ok v
+  pub right_unmeant : (v : TypedValue) (error : Failure Fault) → value_of n left ≡ Ok v
       → Fails error (value_of n right) → Fails error (denoted n role (Infix operator at left right))
   right_unmeant v error p q =
       fails_as error _ _ (ap (λ s. s >>= right_of n operator at right) p)
       (fails_on error (value_of n right) (infix_of n operator at v) q)
 
-  pub infix_refused : (v w : TypedValue) (error : TypeError) → value_of n left ≡ Ok v → value_of n right ≡ Ok w
+  pub infix_refused : (v w : TypedValue) (error : Failure Fault) → value_of n left ≡ Ok v → value_of n right ≡ Ok w
       → Fails error (or_fault WrongOperandType at (infix_value n.greatest operator v w))
       → Fails error (denoted n role (Infix operator at left right))
   infix_refused v w error p q e =

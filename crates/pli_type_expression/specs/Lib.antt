@@ -1,6 +1,5 @@
 pub mod Bounded
 pub mod Literals
 pub mod Segments
-pub mod answers
 pub mod views
 pub mod Quotients

@@ -1,6 +1,6 @@
 -- A reference, segment by segment.
 use Rattle.std.specs.Prelude.{ℕ, true, false, Result, Ok}
-use Rattle.pli_base.specs.Reading.{◌>>=◌}
+use Rattle.pli_base.specs.Results.{◌>>=◌}
 use Rattle.pli_base.specs.Syntax.{JoinedParts, Alone, Joined, Arguments, Expressions}
 use Rattle.pli_base.specs.declared.syntax.Identifier.{Identifier}
 use Rattle.pli_base.specs.declared.syntax.Joining.{Joining}

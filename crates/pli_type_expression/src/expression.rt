@@ -7,11 +7,11 @@ ghost use Rattle.pli_type.specs.Unbuilt.{later_expression, later_reference, late
 ghost use Rattle.pli_type.specs.views.ValueView.{value_view};
 ghost use Rattle.pli_type_expression.specs.Segments.{next_segment, last_segment, function_typed};
 ghost use Rattle.pli_type_names.specs.UnitNaming.{compiled_in, naming_in};
-ghost use Rattle.pli_type_expression.specs.answers.TypingAnswers.{Gives};
+ghost use Rattle.pli_base.specs.answers.FailureAnswers.{Gives};
 ghost use Rattle.pli_type_expression.specs.views.TypingView.{argument_view, denoted_view, meant_view, role_view, segment_view};
 ghost use Rattle.pli_type_tree.specs.views.TypedView.{expression_view};
 
-use crate::answer::{TypeError, fault};
+use crate::answer::TypeError;
 use crate::argument::{Argument, number_written};
 use crate::constant::constant;
 use crate::function::{function_called, roles_of};
@@ -22,7 +22,7 @@ use crate::procedure::procedure_called;
 use crate::role::{Role, role_at};
 use crate::segment::{Segment, is_call};
 use crate::subscripts::subscript;
-use pli_base::Code;
+use pli_base::{Code, fault};
 use pli_base::syntax::{Expression, JoinedPart, Joining, Part, Reference};
 use pli_resolve::BuiltInFunction;
 use pli_type::TypedValue;

@@ -6,14 +6,14 @@ ghost use Rattle.pli_type.specs.FunctionCalls as spec;
 ghost use Rattle.pli_type.specs.views.ValueView.{value_view};
 ghost use Rattle.pli_type_expression.specs.Bounded.{is_bound};
 ghost use Rattle.pli_type_expression.specs.Quotients.{precision_written, quotient_of};
-ghost use Rattle.pli_type_expression.specs.answers.TypingAnswers.{Gives};
+ghost use Rattle.pli_base.specs.answers.FailureAnswers.{Gives};
 ghost use Rattle.pli_type_expression.specs.views.TypingView.{argument_view, denoted_view, meant_view, role_view};
 
-use crate::answer::{TypeError, fault};
+use crate::answer::TypeError;
 use crate::argument::Argument;
 use crate::meaning::{Denoted, Meant};
 use crate::role::Role;
-use pli_base::Code;
+use pli_base::{Code, fault};
 use pli_map::{Bounds, Description};
 use pli_resolve::BuiltInFunction;
 use pli_type::{ExpressionType, TypedValue, call, quotient};

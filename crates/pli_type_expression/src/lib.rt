@@ -17,7 +17,7 @@ mod subscripts;
 mod token;
 mod variable;
 
-pub use answer::{TypeError, fault};
+pub use answer::TypeError;
 pub use argument::Argument;
 pub use expression::{arguments, denoted, meant, referred, value_of};
 pub use meaning::{Denoted, Meant, Referent};

@@ -4,12 +4,12 @@ ghost use Rattle.pli_base.specs.views.SyntaxView.{expression_view};
 ghost use Rattle.pli_type.specs.FunctionCalls.{meant_as, meant_by};
 ghost use Rattle.pli_type.specs.Typing.{first_token, one_value};
 ghost use Rattle.pli_type.specs.views.ValueView.{value_view};
-ghost use Rattle.pli_type_expression.specs.answers.TypingAnswers.{Gives};
+ghost use Rattle.pli_base.specs.answers.FailureAnswers.{Gives};
 ghost use Rattle.pli_type_expression.specs.views.TypingView.{denoted_view, meant_view, referent_view};
 
-use crate::answer::{TypeError, fault};
+use crate::answer::TypeError;
 use crate::token::first_token;
-use pli_base::Code;
+use pli_base::{Code, fault};
 use pli_base::syntax::Expression;
 use pli_map::Description;
 use pli_type::{ExpressionType, TypedValue};

@@ -4,10 +4,10 @@ ghost use Rattle.pli_base.specs.declared.code.Code.TheVariants.{WrongOperandType
 ghost use Rattle.pli_type.specs.ExpressionTypes as spec;
 ghost use Rattle.pli_type.specs.Typing.{or_fault};
 ghost use Rattle.pli_type.specs.views.ValueView.{value_view};
-ghost use Rattle.pli_type_expression.specs.answers.TypingAnswers.{Gives};
+ghost use Rattle.pli_base.specs.answers.FailureAnswers.{Gives};
 
-use crate::answer::{TypeError, fault};
-use pli_base::Code;
+use crate::answer::TypeError;
+use pli_base::{Code, fault};
 use pli_base::syntax::{InfixOperator, PrefixOperator};
 use pli_type::{TypedValue, infix_value, prefix_value};
 use std::alloc::Global;

@@ -3,13 +3,13 @@ ghost use Rattle.std.specs.Prelude.{◌≡◌};
 ghost use Rattle.pli_map.specs.Scalars.{is_scalar};
 ghost use Rattle.pli_map.specs.views.DescriptionView.{description_view};
 ghost use Rattle.pli_type.specs.References as spec;
-ghost use Rattle.pli_type_expression.specs.answers.TypingAnswers.{Gives};
+ghost use Rattle.pli_base.specs.answers.FailureAnswers.{Gives};
 ghost use Rattle.pli_type_expression.specs.views.TypingView.{referent_view, role_view};
 
-use crate::answer::{TypeError, fault};
+use crate::answer::TypeError;
 use crate::meaning::Referent;
 use crate::role::Role;
-use pli_base::Code;
+use pli_base::{Code, fault};
 use pli_map::Description;
 
 /// Whether a description is no array and no structure.

@@ -3,12 +3,12 @@ ghost use Rattle.std.specs.Prelude.{◌≡◌};
 ghost use Rattle.pli_base.specs.views.SyntaxView as syntax;
 ghost use Rattle.pli_type.specs.Typing.{first_token, subscript_value};
 ghost use Rattle.pli_type.specs.views.ValueView.{value_view};
-ghost use Rattle.pli_type_expression.specs.answers.TypingAnswers.{Gives};
+ghost use Rattle.pli_base.specs.answers.FailureAnswers.{Gives};
 ghost use Rattle.pli_type_tree.specs.views.TypedView.{expression_view};
 
-use crate::answer::{TypeError, fault};
+use crate::answer::TypeError;
 use crate::token::first_token;
-use pli_base::Code;
+use pli_base::{Code, fault};
 use pli_base::syntax::Expression;
 use pli_type::TypedValue;
 use pli_type_tree::TypedExpression;

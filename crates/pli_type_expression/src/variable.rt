@@ -2,17 +2,17 @@
 ghost use Rattle.std.specs.Prelude.{◌≡◌, ℕ, List, map, option_map, IfOk};
 ghost use Rattle.pli_type.specs.Names as names;
 ghost use Rattle.pli_type.specs.References as spec;
-ghost use Rattle.pli_type_expression.specs.answers.TypingAnswers.{Gives};
+ghost use Rattle.pli_base.specs.answers.FailureAnswers.{Gives};
 ghost use Rattle.pli_type_expression.specs.views.TypingView.{referent_view, role_view};
 ghost use Rattle.pli_type_names.specs.Meant.{IsVariable, is_way};
 ghost use Rattle.pli_type_names.specs.views.NameView.{part_view};
 ghost use Rattle.pli_type_tree.specs.views.TypedView.{expression_view, reference_view, root_view, stride_view, subscripts_view};
 
-use crate::answer::{TypeError, fault};
+use crate::answer::TypeError;
 use crate::meaning::Referent;
 use crate::permission::permitted;
 use crate::role::Role;
-use pli_base::Code;
+use pli_base::{Code, fault};
 use pli_type_names::{NamedVariable, StridedPart};
 use pli_type_tree::{Root, Stride, TypedExpression, TypedReference, TypedSubscript};
 use std::alloc::{AllocError, Global};

@@ -1,7 +1,7 @@
 -- References lead to the parts that they are typed as.
 use Rattle.std.specs.Prelude.{◌≡◌, ℕ, Bool, true, false, not, ◌&&◌, IsTrue, Option, Some, None, option_and_then, List, [], ◌∷◌, ◌++◌, length, Result, Ok, Err, refl, if◌then◌else◌}
 use Rattle.std.proofs.Common.{sym, ap, ◌∙◌, subst}
-use Rattle.pli_base.specs.Reading.{◌>>=◌}
+use Rattle.pli_base.specs.Results.{◌>>=◌}
 use Rattle.pli_base.specs.declared.token.Fault.{Fault}
 use Rattle.pli_map.specs.Scalars.{is_scalar}
 use Rattle.pli_type.specs.NamedUnits.{is_plain}

@@ -1,7 +1,7 @@
 -- Forms that have no statements in them, and how many temporaries an iteration has.
 use Rattle.std.specs.Prelude.{◌≡◌, ℕ, suc, Option, Some, None, is_none, List}
 use Rattle.std.specs.Prelude.{Result, Ok, Err, refl}
-use Rattle.pli_base.specs.Reading.{◌>>=◌}
+use Rattle.pli_base.specs.Results.{◌>>=◌}
 use Rattle.pli_base.specs.Statements as tree
 use Rattle.pli_base.specs.Statements.{Range}
 use Rattle.pli_base.specs.Syntax.{Expression, Referred, Reference, Arguments}

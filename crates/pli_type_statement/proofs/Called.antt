@@ -3,7 +3,8 @@ use Rattle.std.proofs.Common.{◌≡◌, arith, ◌∷◌, [], ℕ, List, length
 use Rattle.std.specs.Bool.{◌==◌}
 use Rattle.std.specs.Vec.{vec_len}
 use Rattle.std.proofs.lemmas.Bool.{eq-eqb, ne_eqb}
-use Rattle.pli_base.specs.Reading.{◌>>=◌, at_fault}
+use Rattle.pli_base.specs.Results.{◌>>=◌}
+use Rattle.pli_base.specs.Reading.{at_fault}
 use Rattle.pli_map.specs.views.DescriptionView.{description_view}
 use Rattle.pli_base.specs.Statements.{Range}
 use Rattle.pli_base.specs.Syntax.{Arguments, Expression, Referred}
@@ -27,9 +28,9 @@ use Rattle.pli_type.specs.Names.{Naming, NamedAs, NamedProcedure, AVariable, AFu
 use Rattle.pli_type.specs.ProcedureCalls.{arguments_passed}
 use Rattle.pli_type.specs.StatementTyping.{Surroundings, jump, arguments_typed, call_of, call_typed, controls, iteration, limits, no_function, return_typed, returned_value, without_subscripts}
 use Rattle.pli_type_expression.proofs.Binds.{bind_ok, fails_as, fails_on}
-use Rattle.pli_type_expression.specs.answers.TypingAnswers.{Fails, Gives}
-use Rattle.pli_type_expression.specs.declared.answer.TypeError.{TypeError}
-use Rattle.pli_type_expression.specs.declared.answer.TypeError.TheVariants as errors
+use Rattle.pli_base.specs.answers.FailureAnswers.{Fails, Gives}
+use Rattle.pli_base.specs.declared.failure.Failure.{Failure}
+use Rattle.pli_base.specs.declared.failure.Failure.TheVariants as errors
 use Rattle.pli_type_names.specs.Meant.{IsMeantAs, IsProcedure}
 use Rattle.pli_type_names.specs.UnitNaming.{Names, naming_in}
 use Rattle.pli_type_names.specs.declared.naming.NamedAs as program_name
@@ -65,7 +66,7 @@ call_passed names name list gs q typed meant =
     ∙ ap (λ m. call_of (naming_in names).greatest name.at m gs) meant
     ∙ ap (λ g. arguments_passed g q name.at gs >>= no_function name.at q.callee q.returned) (greatest_is names)
 
-pub call_fails : (names : Names) (name : Identifier) (list : Arguments) (gs : List Argument) (q : NamedProcedure) (e : TypeError) (g : ℕ) → g ≡ 31
+pub call_fails : (names : Names) (name : Identifier) (list : Arguments) (gs : List Argument) (q : NamedProcedure) (e : Failure Fault) (g : ℕ) → g ≡ 31
     → arguments_typed (naming_in names) list ≡ Ok gs → (naming_in names).meaning name.at ≡ AProcedure q
     → Fails e (arguments_passed g q name.at gs) → Fails e (call_typed (naming_in names) name list)
 call_fails names name list gs q errors.OutOfMemory g is typed meant h = tt
@@ -99,7 +100,7 @@ token_of : (r : syntax.Reference) → first_token (Referred (reference_in r)) �
 token_of r = ap (λ r. first_token (Referred r)) (reference_out r)
 
 pub iteration_fails : (n : Naming) (temporary : ℕ) (v : syntax.Reference) (equals : ℕ) (first : Expression) (range : Option Range)
-    (tested : Option Expression) (a : TypedValue) (k : typed.TypedRange) (d : Denoted) (e : TypeError)
+    (tested : Option Expression) (a : TypedValue) (k : typed.TypedRange) (d : Denoted) (e : Failure Fault)
     → value_of n first ≡ Ok a → limits n range ≡ Ok k → referred n AsLocator (reference_in v) ≡ Ok d
     → Fails e (controls (out-Reference v).first.name.at k d)
     → Fails e (iteration n temporary (reference_in v) equals first range tested)
@@ -159,13 +160,13 @@ return_of : (names : Names) (s : Surroundings) (at : ℕ) (e : program_tree.Expr
 return_of names s at e value is = ap (λ o. return_typed (naming_in names) s at (option_map syntax_view.expression_view o)) is
 
 pub return_fails : (names : Names) (s : Surroundings) (at : ℕ) (e : program_tree.Expression)
-    (value : Option program_tree.Expression) (error : TypeError) → value ≡ Some e
+    (value : Option program_tree.Expression) (error : Failure Fault) → value ≡ Some e
     → Fails error (value_of (naming_in names) (syntax_view.expression_view e))
     → Fails error (return_typed (naming_in names) s at (option_map syntax_view.expression_view value))
 return_fails names s at e value error is h =
     fails_as error _ _ (return_of names s at e value is) (fails_on error _ _ h)
 
-pub return_goes_on : {X : Type 0} (view : X → Form) (result : Result X TypeError) (names : Names) (s : Surroundings) (at : ℕ)
+pub return_goes_on : {X : Type 0} (view : X → Form) (result : Result X (Failure Fault)) (names : Names) (s : Surroundings) (at : ℕ)
     (e : program_tree.Expression) (value : Option program_tree.Expression) (v : TypedValue) (greatest first : ℕ)
     → value ≡ Some e → value_of (naming_in names) (syntax_view.expression_view e) ≡ Ok v → greatest ≡ 31
     → first ≡ first_token (syntax_view.expression_view e)

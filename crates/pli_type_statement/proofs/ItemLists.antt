@@ -2,7 +2,7 @@
 use Rattle.std.proofs.Common.{◌≡◌, ◌++◌, ◌+◌, ◌<◌, ◌≤◌, ℕ, [], ◌∷◌, List, Result, Ok, Err, map, drop, get_or, length, false, refl, ap, sym, ◌∙◌, append-nil, append_assoc}
 use Rattle.std.proofs.lemmas.List.{at_drop_more}
 use Rattle.std.specs.List.{list_any}
-use Rattle.pli_base.specs.Reading.{◌>>=◌}
+use Rattle.pli_base.specs.Results.{◌>>=◌}
 use Rattle.pli_base.specs.Syntax as tree
 use Rattle.pli_base.specs.declared.syntax.Expression.{Expression}
 use Rattle.pli_base.specs.declared.token.Fault.{Fault}
@@ -10,9 +10,9 @@ use Rattle.pli_base.specs.views.SyntaxView as syntax
 use Rattle.pli_type.specs.Names.{Compiled, Naming}
 use Rattle.pli_type.specs.StatementTyping.{item, items}
 use Rattle.pli_type.specs.Unbuilt.{later_expression}
-use Rattle.pli_type_expression.specs.answers.TypingAnswers.{Fails}
-use Rattle.pli_type_expression.specs.declared.answer.TypeError.{TypeError}
-use Rattle.pli_type_expression.specs.declared.answer.TypeError.TheVariants as errors
+use Rattle.pli_base.specs.answers.FailureAnswers.{Fails}
+use Rattle.pli_base.specs.declared.failure.Failure.{Failure}
+use Rattle.pli_base.specs.declared.failure.Failure.TheVariants as errors
 use Rattle.pli_type_tree.specs.TypedTree.{TypedExpression}
 use Rattle.pli_type_statement.proofs.Built.{both_false}
 use Rattle.pli_type_statement.proofs.Searches.{past_lists}
@@ -64,7 +64,7 @@ item_typed n es i e xs ys x whole is lt h put was =
     ∙ was
 
 pub item_stops : (n : Naming) (es : List Expression) (i : ℕ) (e : Expression) (xs : List TypedExpression)
-    (error : TypeError) (whole : Result (List TypedExpression) Fault) → e ≡ get_or es i e → i < length es
+    (error : Failure Fault) (whole : Result (List TypedExpression) Fault) → e ≡ get_or es i e → i < length es
     → Fails error (item n (syntax.expression_view e))
     → behind xs (items n (map syntax.expression_view (drop i es))) ≡ whole
     → Fails error whole

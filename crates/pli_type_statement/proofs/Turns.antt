@@ -1,6 +1,6 @@
 -- One turn of the loop over statements; and statements by their parts.
 use Rattle.std.proofs.Common.{◌≡◌, IfOk, ◌++◌, ◌+◌, ◌<◌, ◌≤◌, ◌&&◌, ℕ, zero, suc, Bool, true, false, [], ◌∷◌, List, Option, Some, None, option_map, Result, Ok, Err, map, drop, get_or, length, is_some, refl, ap, sym, ◌∙◌, subst, append_assoc, arith}
-use Rattle.pli_base.specs.Reading.{◌>>=◌}
+use Rattle.pli_base.specs.Results.{◌>>=◌}
 use Rattle.pli_base.specs.Statements as tree
 use Rattle.pli_base.specs.Statements.{Control, Numbered}
 use Rattle.pli_base.specs.Syntax.{Expression}

@@ -1,5 +1,6 @@
 -- The typed unit, by its parts.
 use Rattle.std.proofs.Common.{◌≡◌, ◌∷◌, ◌++◌, [], ℕ, Bool, List, Option, Some, None, Result, Ok, Err, refl, ap, sym, ◌∙◌, subst}
+use Rattle.std.specs.Global.{Vec}
 use Rattle.pli_base.specs.declared.code.Code.TheVariants.{NotYetBuilt}
 use Rattle.pli_base.specs.declared.statement.Procedure.{Procedure, out-Procedure}
 use Rattle.pli_base.specs.declared.token.Fault.{Fault}
@@ -17,8 +18,8 @@ use Rattle.pli_type_tree.specs.Templates.{Template}
 use Rattle.pli_type_tree.specs.TypedTree.{Signature, Global, TypedProcedure, TypedStatements, TypedUnit}
 use Rattle.pli_type_tree.specs.declared.unit.TypedUnit as program
 use Rattle.pli_type_statement.specs.answers.Answers.{Checks}
-use Rattle.pli_type_statement.specs.declared.checking.CheckError.{CheckError}
-use Rattle.pli_type_statement.specs.declared.checking.CheckError.TheVariants as errors
+use Rattle.pli_base.specs.declared.failure.Failure.{Failure}
+use Rattle.pli_base.specs.declared.failure.Failure.TheVariants as errors
 use Rattle.pli_type_statement.specs.Parts.{unit_named, given, told, Adds}
 use Rattle.pli_type_statement.specs.Walking.{unit_with}
 
@@ -113,7 +114,7 @@ unfolding unit_named procedure_in
 returned_found u = refl
 
 -- an answer to an equal question
-pub moved_answer : (x : Result program.TypedUnit CheckError) (r s : Result TypedUnit (List Fault)) → r ≡ s → Checks x r → Checks x s
+pub moved_answer : (x : Result program.TypedUnit (Failure (Vec Fault))) (r s : Result TypedUnit (List Fault)) → r ≡ s → Checks x r → Checks x s
 moved_answer (Ok u) r s e h = sym e ∙ h
-moved_answer (Err (errors.Faults fs)) r s e h = sym e ∙ h
+moved_answer (Err (errors.Fault fs)) r s e h = sym e ∙ h
 moved_answer (Err errors.OutOfMemory) r s e h = tt

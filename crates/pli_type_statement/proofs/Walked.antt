@@ -1,6 +1,6 @@
 -- What the walk does at parts of statements, put together.
 use Rattle.std.proofs.Common.{◌≡◌, ◌++◌, ◌+◌, ◌≤◌, ℕ, suc, Bool, List, [], ◌∷◌, Option, Some, None, option_map, Result, Ok, Err, IfOk, OnOk, map, length, take, refl, ap, sym, ◌∙◌, subst, append-nil, append_assoc, arith}
-use Rattle.pli_base.specs.Reading.{◌>>=◌}
+use Rattle.pli_base.specs.Results.{◌>>=◌}
 use Rattle.pli_base.specs.Statements as tree
 use Rattle.pli_base.specs.declared.token.Fault.{Fault}
 use Rattle.pli_type.specs.Names.{Naming, NamedUnit}
@@ -9,9 +9,9 @@ use Rattle.pli_base.specs.views.StatementView.{unit_view}
 use Rattle.pli_resolve.specs.ResolvedUnits.{resolved_unit_of}
 use Rattle.pli_type.specs.StatementTyping.{Surroundings, WithProcedures, alone, of_own, together, made, naming_at, if_form}
 use Rattle.pli_type.specs.Temporaries.{Next}
-use Rattle.pli_type_expression.specs.answers.TypingAnswers.{Gives}
-use Rattle.pli_type_expression.specs.declared.answer.TypeError.{TypeError}
-use Rattle.pli_type_expression.specs.declared.answer.TypeError.TheVariants as errors
+use Rattle.pli_base.specs.answers.FailureAnswers.{Gives}
+use Rattle.pli_base.specs.declared.failure.Failure.{Failure}
+use Rattle.pli_base.specs.declared.failure.Failure.TheVariants as errors
 use Rattle.pli_type_names.specs.UnitNaming.{naming_in}
 use Rattle.pli_type_tree.specs.TypedTree.{TypedExpression, TypedStatement, TypedProcedure, OtherWise, If}
 use Rattle.pli_type_statement.specs.Around.{Around, surroundings_of}
@@ -25,13 +25,13 @@ Typed A = Result (WithProcedures A) (List Fault)
 
 -- faults of its own
 
-noted_part : {X Y : Type 0} (view : X → Y) (answer : Result X TypeError) (typed : Result Y Fault)
+noted_part : {X Y : Type 0} (view : X → Y) (answer : Result X (Failure Fault)) (typed : Result Y Fault)
     → Gives view answer typed → IsKnown answer → option_map view (part_in answer) ≡ given (of_own typed)
 noted_part view (Ok x) typed g k = ap (λ r. given (of_own r)) (sym g)
 noted_part view (Err (errors.Fault f)) typed g k = ap (λ r. given (of_own r)) (sym g)
 noted_part view (Err errors.OutOfMemory) typed g k = absurd k
 
-noted_faults : {X Y : Type 0} (view : X → Y) (answer : Result X TypeError) (typed : Result Y Fault)
+noted_faults : {X Y : Type 0} (view : X → Y) (answer : Result X (Failure Fault)) (typed : Result Y Fault)
     → Gives view answer typed → IsKnown answer → faults_in answer ≡ told (of_own typed)
 noted_faults view (Ok x) typed g k = ap (λ r. told (of_own r)) (sym g)
 noted_faults view (Err (errors.Fault f)) typed g k = ap (λ r. told (of_own r)) (sym g)
@@ -47,7 +47,7 @@ unfolding unit_named naming_in
 named_at w p = ap (named_unit 31 (resolved_unit_of (unit_view w.naming.unit))).naming p.blocks
 
 pub own_walked : {X Y E : Type 0} (old new : Walk) (view : X → Y) (typed : Naming → Result Y Fault)
-    (answer : Result X TypeError) (result : Result (Option X) E) (after : Next) → IsPlaced old
+    (answer : Result X (Failure Fault)) (result : Result (Option X) E) (after : Next) → IsPlaced old
     → Gives view answer (typed (naming_in old.naming))
     → IfOk result (λ part. part ≡ part_in answer)
     → OnOk result (new.faults.items ≡ old.faults.items ++ faults_in answer) → OnOk result (IsKnown answer)

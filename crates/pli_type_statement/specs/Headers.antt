@@ -1,6 +1,6 @@
 -- What controls a group, apart from its list.
 use Rattle.std.specs.Prelude.{ℕ, Option, Some, None, Result, Ok}
-use Rattle.pli_base.specs.Reading.{◌>>=◌}
+use Rattle.pli_base.specs.Results.{◌>>=◌}
 use Rattle.pli_base.specs.Statements as tree
 use Rattle.pli_base.specs.Statements.{Control}
 use Rattle.pli_base.specs.declared.token.Fault.{Fault}

@@ -1,6 +1,6 @@
 -- The second part of what is typed of a group with a control variable.
 use Rattle.std.specs.Prelude.{ℕ, Option, List, Result, Ok}
-use Rattle.pli_base.specs.Reading.{◌>>=◌}
+use Rattle.pli_base.specs.Results.{◌>>=◌}
 use Rattle.pli_base.specs.Statements.{Range}
 use Rattle.pli_base.specs.Syntax.{Expression}
 use Rattle.pli_base.specs.declared.code.Code.TheVariants.{CannotAssign}

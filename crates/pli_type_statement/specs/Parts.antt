@@ -13,8 +13,8 @@ use Rattle.pli_type.specs.StatementTyping.{WithProcedures}
 use Rattle.pli_resolve.specs.TreeBlocks.{blocks_of, blocks_among, blocks_behind}
 use Rattle.pli_type.specs.Temporaries.{Next, temporaries_of}
 use Rattle.pli_type.specs.Temporaries.{temporaries_among, temporaries_behind}
-use Rattle.pli_type_expression.specs.declared.answer.TypeError.{TypeError}
-use Rattle.pli_type_expression.specs.declared.answer.TypeError.TheVariants as errors
+use Rattle.pli_base.specs.declared.failure.Failure.{Failure}
+use Rattle.pli_base.specs.declared.failure.Failure.TheVariants as errors
 use Rattle.pli_type_tree.specs.TypedTree as typed
 
 -- what it is, where it has no fault
@@ -35,17 +35,17 @@ Adds (Ok x) old new = new ≡ old ++ x.procedures
 Adds (Err fs) old new = Unit {0}
 
 -- what typing answered, where it has no fault
-abbrev pub part_in : {A : Type 0} → Result A TypeError → Option A
+abbrev pub part_in : {A : Type 0} → Result A (Failure Fault) → Option A
 part_in (Ok x) = Some x
 part_in (Err e) = None
 
 -- the fault that it told
-abbrev pub faults_in : {A : Type 0} → Result A TypeError → List Fault
+abbrev pub faults_in : {A : Type 0} → Result A (Failure Fault) → List Fault
 faults_in (Err (errors.Fault f)) = f ∷ []
 faults_in answer = []
 
 -- memory did not run out
-abbrev pub IsKnown : {A : Type 0} → Result A TypeError → Type 0
+abbrev pub IsKnown : {A : Type 0} → Result A (Failure Fault) → Type 0
 IsKnown (Err errors.OutOfMemory) = ⊥
 IsKnown answer = Unit {0}
 

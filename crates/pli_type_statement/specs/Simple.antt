@@ -1,6 +1,7 @@
 -- Statements without statements in them.
 use Rattle.std.specs.Prelude.{ℕ, Bool, true, false, List, Result, Ok}
-use Rattle.pli_base.specs.Reading.{◌>>=◌, at_fault}
+use Rattle.pli_base.specs.Results.{◌>>=◌}
+use Rattle.pli_base.specs.Reading.{at_fault}
 use Rattle.pli_base.specs.Statements as tree
 use Rattle.pli_base.specs.Syntax.{Expression}
 use Rattle.pli_base.specs.declared.code.Code.TheVariants.{NotYetBuilt}

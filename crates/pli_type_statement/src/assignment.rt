@@ -3,18 +3,16 @@ ghost use Rattle.std.specs.Prelude.{◌≡◌, false};
 ghost use Rattle.pli_base.specs.views.SyntaxView as syntax;
 ghost use Rattle.pli_type.specs.StatementTyping as spec;
 ghost use Rattle.pli_type.specs.Unbuilt.{later_expression, later_reference};
-ghost use Rattle.pli_type_expression.specs.answers.TypingAnswers.{Gives};
+ghost use Rattle.pli_base.specs.answers.FailureAnswers.{Gives};
 ghost use Rattle.pli_type_expression.specs.views.TypingView.{denoted_view, meant_view, referent_view};
 ghost use Rattle.pli_type_names.specs.UnitNaming.{compiled_in, naming_in};
 ghost use Rattle.pli_type_tree.specs.views.TypedView.{form_view};
 
-use pli_base::Code;
+use pli_base::{Code, fault};
 use pli_base::syntax::{Expression, Reference};
 use pli_map::is_scalar;
 use pli_type::converted;
-use pli_type_expression::{
-    Denoted, Meant, Referent, Role, TypeError, fault, meant, referred, value_of,
-};
+use pli_type_expression::{Denoted, Meant, Referent, Role, TypeError, meant, referred, value_of};
 use pli_type_names::Naming;
 use pli_type_tree::Form;
 use std::alloc::Global;

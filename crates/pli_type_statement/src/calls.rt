@@ -3,14 +3,14 @@ ghost use Rattle.std.specs.Prelude.{◌≡◌, false, map};
 ghost use Rattle.pli_base.specs.views.SyntaxView as syntax;
 ghost use Rattle.pli_type.specs.StatementTyping as spec;
 ghost use Rattle.pli_type.specs.Unbuilt.{later_arguments};
-ghost use Rattle.pli_type_expression.specs.answers.TypingAnswers.{Gives};
+ghost use Rattle.pli_base.specs.answers.FailureAnswers.{Gives};
 ghost use Rattle.pli_type_expression.specs.views.TypingView.{argument_view};
 ghost use Rattle.pli_type_names.specs.UnitNaming.{compiled_in, naming_in};
 ghost use Rattle.pli_type_tree.specs.views.TypedView.{form_view};
 
-use pli_base::Code;
+use pli_base::{Code, fault};
 use pli_base::syntax::{Expression, Identifier};
-use pli_type_expression::{Argument, TypeError, arguments, fault, pass};
+use pli_type_expression::{Argument, TypeError, arguments, pass};
 use pli_type_names::{NamedAs, Naming};
 use pli_type_tree::Form;
 use std::alloc::Global;

@@ -13,7 +13,6 @@ ghost use Rattle.pli_type_names.specs.UnitNaming.{compiled_in};
 ghost use Rattle.pli_type_statement.specs.Around.{outermost};
 ghost use Rattle.pli_type_statement.specs.Walking.{external_with, finished, unit_with};
 ghost use Rattle.pli_type_statement.specs.answers.Answers.{Checks};
-ghost use Rattle.pli_type_statement.specs.declared.checking.CheckError.TheVariants.{OutOfMemory};
 ghost use Rattle.pli_type_statement.specs.views.AroundView.{around_view};
 ghost use Rattle.pli_type_tree.specs.views.GlobalView.{globals_view, signature_view};
 ghost use Rattle.pli_type_tree.specs.views.TemplateView.{groups_view};
@@ -25,7 +24,7 @@ use crate::statement::type_statements;
 use crate::surroundings::Surroundings;
 use crate::walk::{Next, Walk};
 use pli_base::statement::{Procedure, Statement};
-use pli_base::{Code, Fault};
+use pli_base::{Code, Failure, Fault};
 use pli_map::Description;
 use pli_resolve::ResolvedUnit;
 use pli_type_names::{Naming, name_unit};
@@ -34,32 +33,12 @@ use pli_type_tree::{
     BlockHead, Signature, TypedProcedure, TypedStatement, TypedUnit, VariableGroup,
 };
 use pli_type_unbuilt::{first_unbuilt, is_main};
-use std::alloc::{AllocError, AllocFailed, Global};
+use std::alloc::{AllocError, Global};
 
-/// Why a unit has no typed tree.
-#[derive(Drop)]
-pub enum CheckError {
-    /// All its faults of types, in the order of the text: one for each statement, and of an IF and a group one for what
-    /// stands in front of the statements in them; or Z1 alone, at the first form that is not compiled yet.
-    Faults(Vec<Fault>),
-    OutOfMemory,
-}
-
-impl From<AllocError> for CheckError {
-    ghost from_gives = { λ _ e. e ≡ OutOfMemory };
-
-    fn from(_error: AllocError) -> CheckError {
-        CheckError::OutOfMemory
-    }
-}
-
-impl<T: Drop> From<AllocFailed<T>> for CheckError {
-    ghost from_gives = { λ _ e. e ≡ OutOfMemory };
-
-    fn from(_error: AllocFailed<T>) -> CheckError {
-        CheckError::OutOfMemory
-    }
-}
+/// Why a unit has no typed tree: all its faults of types, in the order of the text, one for each statement, and of an IF
+/// and a group one for what stands in front of the statements in them; or Z1 alone, at the first form that is not
+/// compiled yet; or want of memory.
+pub type CheckError = Failure<Vec<Fault>>;
 
 /// Z1 at a token, alone.
 fn not_yet_built(alloc: Global, at: u32) -> Result<TypedUnit, CheckError>
@@ -70,7 +49,7 @@ fn not_yet_built(alloc: Global, at: u32) -> Result<TypedUnit, CheckError>
         code: Code::NotYetBuilt,
         at,
     })?;
-    Err(CheckError::Faults(faults))
+    Err(CheckError::Fault(faults))
 }
 
 /// In the list of the external procedure, which is block 0, and gives this if it is a function.
@@ -219,7 +198,7 @@ fn built<'a>(
         }
         None => {
             let Walk { faults, .. } = walk;
-            Err(CheckError::Faults(faults))
+            Err(CheckError::Fault(faults))
         }
     }
 }

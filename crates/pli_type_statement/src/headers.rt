@@ -3,7 +3,7 @@ ghost use Rattle.std.specs.Prelude.{◌≡◌, false, option_map};
 ghost use Rattle.pli_base.specs.views.StatementView.{control_view, range_view};
 ghost use Rattle.pli_type.specs.Temporaries as spec;
 ghost use Rattle.pli_type.specs.Unbuilt.{later_control, later_part};
-ghost use Rattle.pli_type_expression.specs.answers.TypingAnswers.{Gives};
+ghost use Rattle.pli_base.specs.answers.FailureAnswers.{Gives};
 ghost use Rattle.pli_type_names.specs.UnitNaming.{compiled_in, naming_in};
 ghost use Rattle.pli_type_statement.specs.Headers.{header_typed};
 ghost use Rattle.pli_type_statement.specs.views.HeaderView.{header_view};

@@ -5,14 +5,14 @@ ghost use Rattle.pli_base.specs.views.SyntaxView as syntax;
 ghost use Rattle.pli_type.specs.StatementTyping as spec;
 ghost use Rattle.pli_type.specs.Unbuilt.{later_expression};
 ghost use Rattle.pli_type.specs.views.ValueView.{value_view};
-ghost use Rattle.pli_type_expression.specs.answers.TypingAnswers.{Gives};
+ghost use Rattle.pli_base.specs.answers.FailureAnswers.{Gives};
 ghost use Rattle.pli_type_names.specs.UnitNaming.{compiled_in, naming_in};
 ghost use Rattle.pli_type_tree.specs.views.TypedView.{expression_view};
 
-use pli_base::Code;
+use pli_base::{Code, fault};
 use pli_base::syntax::Expression;
 use pli_type::{ExpressionType, printed};
-use pli_type_expression::{TypeError, fault, first_token, value_of};
+use pli_type_expression::{TypeError, first_token, value_of};
 use pli_type_names::Naming;
 use pli_type_tree::TypedExpression;
 use std::alloc::Global;

@@ -7,22 +7,20 @@ ghost use Rattle.pli_operation.specs.views.OperationView.{operation_view};
 ghost use Rattle.pli_type.specs.StatementTyping as spec;
 ghost use Rattle.pli_type.specs.Unbuilt.{later_expression, later_part, later_range, later_reference};
 ghost use Rattle.pli_type.specs.views.ValueView.{value_view};
-ghost use Rattle.pli_type_expression.specs.answers.TypingAnswers.{Gives};
+ghost use Rattle.pli_base.specs.answers.FailureAnswers.{Gives};
 ghost use Rattle.pli_type_expression.specs.views.TypingView.{denoted_view, referent_view};
 ghost use Rattle.pli_type_names.specs.UnitNaming.{compiled_in, naming_in};
 ghost use Rattle.pli_type_statement.specs.Iterations.{iteration_of, iteration_with};
 ghost use Rattle.pli_type_tree.specs.views.TypedView as typed;
 
 use crate::items::condition;
-use pli_base::Code;
+use pli_base::{Code, fault};
 use pli_base::statement::Range;
 use pli_base::syntax::{Expression, Reference};
 use pli_map::Description;
 use pli_operation::Operation;
 use pli_type::{TypedValue, conversions, converted};
-use pli_type_expression::{
-    Denoted, Referent, Role, TypeError, fault, first_token, referred, value_of,
-};
+use pli_type_expression::{Denoted, Referent, Role, TypeError, first_token, referred, value_of};
 use pli_type_names::Naming;
 use pli_type_tree::{Iteration, TypedExpression, TypedRange, TypedReference};
 use std::alloc::Global;

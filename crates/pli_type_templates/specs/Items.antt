@@ -2,7 +2,8 @@
 use Rattle.std.specs.Prelude.{ℕ, Option, Some, None, List, map, pos}
 use Rattle.pli_base.specs.declared.declaration.InitialValue.{InitialValue}
 use Rattle.pli_base.specs.declared.declaration.InitialValue.TheVariants as initial
-use Rattle.pli_type.specs.InitialScalars.{InitialItem, each_with, values_written, signed}
+use Rattle.pli_base.specs.Declarations.{integer_of}
+use Rattle.pli_type.specs.InitialScalars.{InitialItem, each_with, values_written}
 use Rattle.pli_type_templates.specs.Plans.{Plan, scalars_planned}
 use Rattle.pli_type_tree.specs.Templates.{InitialScalar}
 use Rattle.pli_value.specs.Value.{Value, Number, Characters, Bits}
@@ -21,7 +22,7 @@ elements_of initial.Null = 0
 
 -- the value of each of them; null has none, and stands for no element
 abbrev pub value_of : InitialValue → Value
-value_of (initial.Integer factor value) = Number (signed value)
+value_of (initial.Integer factor value) = Number (integer_of value)
 value_of (initial.Characters text) = Characters text
 value_of (initial.Bits bits) = Bits bits
 value_of initial.Null = Number (pos 0)

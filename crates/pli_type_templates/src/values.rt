@@ -3,13 +3,13 @@ ghost use Rattle.std.specs.Prelude.{◌≡◌, ◌++◌, IfOk, get_or, length, o
 ghost use Rattle.std.specs.Option.{unwrap_or};
 ghost use Rattle.pli_map.specs.Values.{first_value};
 ghost use Rattle.pli_map.specs.views.DescriptionView.{description_view};
-ghost use Rattle.pli_type.specs.InitialScalars.{as_held, signed, values_written};
+ghost use Rattle.pli_type.specs.InitialScalars.{as_held, values_written};
 ghost use Rattle.pli_type_templates.specs.Items.{elements_of, value_of};
 ghost use Rattle.pli_value.specs.Strings.{fitted};
 ghost use Rattle.pli_value.specs.Value as plain;
 ghost use Rattle.pli_value.specs.Value.{value_view};
 
-use pli_base::declaration::{InitialValue, Integer};
+use pli_base::declaration::InitialValue;
 use pli_map::{Description, holds};
 use pli_value::bit::Bits;
 use pli_value::{Value, character};
@@ -40,17 +40,6 @@ pub(crate) fn elements_written(values: &[InitialValue]) -> Result<usize, AllocEr
             .ok_or(AllocError)?;
     }
     Ok(count)
-}
-
-/// The number that an integer spells.
-fn signed(integer: Integer) -> i64
-    ensures { result ≡ signed integer }
-{
-    if integer.negative {
-        -i64::from(integer.value)
-    } else {
-        i64::from(integer.value)
-    }
 }
 
 /// The bit at a place, counted from 0; 0 behind the end.
@@ -176,7 +165,7 @@ pub(crate) fn held(
     ensures { IfOk result (λ held. value_view held ≡ as_held (description_view description.now) (value_of written.now)) }
 {
     match written {
-        InitialValue::Integer { value, .. } => held_number(alloc, description, signed(*value)),
+        InitialValue::Integer { value, .. } => held_number(alloc, description, value.number()),
         InitialValue::Characters(text) => held_characters(alloc, description, text.bytes()),
         InitialValue::Bits(bits) => held_bits(alloc, description, bits.bits()),
         InitialValue::Null => held_number(alloc, description, 0),

@@ -131,7 +131,7 @@ fn show_step(text: &mut Shown, module: &Module) {
 fn show_linked(text: &mut Shown, alloc: Global, units: Vec<NamedUnit>) {
     match link(alloc, units) {
         Ok(module) => show_step(text, &module),
-        Err(LinkError::Faults(faults)) => {
+        Err(LinkError::Fault(faults)) => {
             for fault in &faults {
                 show_fault(text, *fault);
             }

@@ -65,7 +65,7 @@ fn read_as(rt: &impl Abort, alloc: Global, kind: Kind, bytes: &[u8]) -> Spelled 
         Ok(written) if written.as_slice() == bytes => Spelled::Same,
         Ok(_) => Spelled::Other,
         Err(ReadError::Fault(_)) => Spelled::Faulty,
-        Err(ReadError::Memory) => panic!(rt; "memory"),
+        Err(ReadError::OutOfMemory) => panic!(rt; "memory"),
     }
 }
 

@@ -1,12 +1,9 @@
 -- What the passes of the compiler answer, apart from where it lies in memory.
 use Rattle.std.specs.Prelude.{◌≡◌, List, [], ◌∷◌, Result, Ok, Err}
+use Rattle.std.specs.Global.{Vec}
 use Rattle.pli_base.specs.declared.token.Fault as fault
-use Rattle.pli_base.specs.declared.reading.ParseError.{ParseError}
-use Rattle.pli_base.specs.declared.reading.ParseError.TheVariants as parsing
-use Rattle.pli_declare.specs.declared.resolving.ResolveError.{ResolveError}
-use Rattle.pli_declare.specs.declared.resolving.ResolveError.TheVariants as resolving
-use Rattle.pli_type_statement.specs.declared.checking.CheckError.{CheckError}
-use Rattle.pli_type_statement.specs.declared.checking.CheckError.TheVariants as checking
+use Rattle.pli_base.specs.declared.failure.Failure.{Failure}
+use Rattle.pli_base.specs.declared.failure.Failure.TheVariants as failures
 use Rattle.pli_link.specs.Units as link
 use Rattle.pli_gen_tree.specs.declared.generating.GenerateError.{GenerateError}
 use Rattle.pli_gen_tree.specs.declared.generating.GenerateError.TheVariants as generating
@@ -19,19 +16,14 @@ use Rattle.pli_compile.specs.declared.passes.CompileError.TheVariants.{Fault, Fa
 -- the errors of the passes, as errors of compiling
 
 -- what reading has told
-abbrev pub of_parsing : ParseError → CompileError
-of_parsing (parsing.Fault f) = Fault f
-of_parsing parsing.OutOfMemory = OutOfMemory
+abbrev pub of_fault : Failure fault.Fault → CompileError
+of_fault (failures.Fault f) = Fault f
+of_fault failures.OutOfMemory = OutOfMemory
 
--- what declarations have told
-abbrev pub of_resolving : ResolveError → CompileError
-of_resolving (resolving.Faulty faults) = Faults faults
-of_resolving resolving.OutOfMemory = OutOfMemory
-
--- what types have told
-abbrev pub of_checking : CheckError → CompileError
-of_checking (checking.Faults faults) = Faults faults
-of_checking checking.OutOfMemory = OutOfMemory
+-- what declarations, or types, have told
+abbrev pub of_faults : Failure (Vec fault.Fault) → CompileError
+of_faults (failures.Fault faults) = Faults faults
+of_faults failures.OutOfMemory = OutOfMemory
 
 -- what code has told
 abbrev pub of_generating : GenerateError → CompileError

@@ -1,8 +1,9 @@
 -- What the code answers where it makes code of a deck: what is made, or that nothing is, or that memory ran
 -- out.
 use Rattle.std.specs.Prelude.{◌≡◌, Option, Some, None, Result, Ok, Err}
-use Rattle.pli_deck_read.specs.declared.error.ReadError.{ReadError}
-use Rattle.pli_deck_read.specs.declared.error.ReadError.TheVariants as reading
+use Rattle.pli_base.specs.declared.failure.Failure.{Failure}
+use Rattle.pli_deck.specs.declared.fault.Fault.{Fault}
+use Rattle.pli_base.specs.declared.failure.Failure.TheVariants as reading
 use Rattle.pli_deck_load.specs.declared.error.LoadError.{LoadError}
 use Rattle.pli_deck_load.specs.declared.error.LoadError.TheVariants as errors
 
@@ -18,6 +19,6 @@ Makes view (Ok x) made = made ≡ Some (view x)
 Makes view (Err e) made = Lacks e made
 
 -- what reading lacks
-abbrev pub load_error : ReadError → LoadError
-load_error reading.Memory = errors.Memory
+abbrev pub load_error : Failure Fault → LoadError
+load_error reading.OutOfMemory = errors.Memory
 load_error (reading.Fault f) = errors.Fault f

@@ -4,18 +4,13 @@ use Rattle.std.specs.Global.{Vec}
 use Rattle.pli_base.specs.declared.code.Code.TheVariants.{UnendedComment}
 use Rattle.pli_base.specs.declared.token.Token.{Token}
 use Rattle.pli_lex.specs.declared.answer.LexFault.{LexFault}
-use Rattle.pli_lex.specs.declared.answer.LexError.{LexError}
-use Rattle.pli_lex.specs.declared.answer.LexError.TheVariants as errors
+use Rattle.pli_base.specs.declared.failure.Failure.{Failure}
+use Rattle.pli_base.specs.answers.FailureAnswers.{Fails}
 use Rattle.pli_lex.specs.Characters.{line_end}
 use Rattle.pli_lex.specs.Reading.{closing_width, with_front, tokens_after}
 
--- the failure is the fault that reading meets, or want of memory
-abbrev pub Fails : {A : Type 0} → LexError → Result A LexFault → Type 0
-Fails errors.OutOfMemory read = Unit {0}
-Fails (errors.Fault fault) read = read ≡ Err fault
-
 -- the answer is what reading gives, unless memory runs out
-abbrev pub Gives : Result (Vec Token) LexError → Result (List Token) LexFault → Type 0
+abbrev pub Gives : Result (Vec Token) (Failure LexFault) → Result (List Token) LexFault → Type 0
 Gives (Ok tokens) read = read ≡ Ok tokens.items
 Gives (Err e) read = Fails e read
 
@@ -32,7 +27,8 @@ reads (Some began) number text = in_comment began number text (closing_width tex
 
 -- Whatever lines come behind what is left of a line: the tokens before, and those that are read from there,
 -- are the tokens after, and those that are read then.
-abbrev pub Passes : Result (Option ℕ × ℕ) LexError → List Token → List Token → Option ℕ → ℕ → List ℕ → Type 0
+abbrev pub Passes : Result (Option ℕ × ℕ) (Failure LexFault) → List Token → List Token → Option ℕ → ℕ
+    → List ℕ → Type 0
 Passes (Ok passed) before after began number text =
     (more : List ℕ)
     → with_front before (reads began number (text ++ line_end ∷ more))
@@ -41,7 +37,8 @@ Passes (Err e) before after began number text =
     (more : List ℕ) → Fails e (reads began number (text ++ line_end ∷ more))
 
 -- the same of the whole line
-abbrev pub PassesLine : Result (Option ℕ) LexError → List Token → List Token → Option ℕ → ℕ → List ℕ → Type 0
+abbrev pub PassesLine : Result (Option ℕ) (Failure LexFault) → List Token → List Token → Option ℕ → ℕ
+    → List ℕ → Type 0
 PassesLine (Ok left) before after began number text =
     (more : List ℕ) → with_front before (reads began number (text ++ line_end ∷ more))
     ≡ with_front after (reads left (number + 1) more)

@@ -1,5 +1,6 @@
 -- What the linker answers, as callers see it.
 use Rattle.std.specs.Prelude.{◌≡◌, Result, Ok, Err, List, ◌++◌, map}
+use Rattle.std.specs.Global.{Vec}
 use Rattle.pli_link.specs.Link.{in_order, later, mains, none_among}
 use Rattle.pli_link.specs.Units.{Compiled, procedure_of}
 use Rattle.pli_unit_code.specs.Modules.{Module}
@@ -7,8 +8,8 @@ use Rattle.pli_unit_code.specs.views.CodeView.{module_view}
 use Rattle.pli_unit_code.specs.declared.code.Module as declared_module
 use Rattle.pli_link.specs.declared.linking.LinkFault.{LinkFault}
 use Rattle.pli_link.specs.declared.linking.LinkFault.TheVariants as faults
-use Rattle.pli_link.specs.declared.linking.LinkError.{LinkError}
-use Rattle.pli_link.specs.declared.linking.LinkError.TheVariants.{Faults, OutOfMemory}
+use Rattle.pli_base.specs.declared.failure.Failure.{Failure}
+use Rattle.pli_base.specs.declared.failure.Failure.TheVariants.{Fault, OutOfMemory}
 use Rattle.pli_link.specs.declared.linking.NameFault.{NameFault}
 use Rattle.pli_link.specs.declared.linking.NameFault.TheVariants as names
 use Rattle.pli_link.specs.declared.units.LinkedName.{LinkedName}
@@ -26,7 +27,8 @@ main_faults_of cs =
     none_among (mains cs) ++ map faults.TwoMainProcedures (in_order (map procedure_of (later (mains cs))))
 
 -- the module, or all faults, unless memory runs out
-abbrev pub Links : Result declared_module.Module LinkError → Result Module (List LinkFault) → Type 0
+abbrev pub Links : Result declared_module.Module (Failure (Vec LinkFault)) → Result Module (List LinkFault)
+    → Type 0
 Links (Ok m) given = given ≡ Ok (module_view m)
-Links (Err (Faults faults)) given = given ≡ Err faults.items
+Links (Err (Fault faults)) given = given ≡ Err faults.items
 Links (Err OutOfMemory) given = Unit {0}

@@ -1,6 +1,7 @@
 -- What the reader of a group's specification answers, by its parts.
 use Rattle.std.specs.Prelude.{ℕ, Option, Some, Result, codes}
-use Rattle.pli_base.specs.Reading.{◌>>=◌, Front, read_as}
+use Rattle.pli_base.specs.Results.{◌>>=◌}
+use Rattle.pli_base.specs.Reading.{Front, read_as}
 use Rattle.pli_base.specs.Statements.{Control, Iterate}
 use Rattle.pli_base.specs.Syntax.{Expression, Reference}
 use Rattle.pli_base.specs.declared.token.Fault.{Fault}

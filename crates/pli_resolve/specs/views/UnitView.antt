@@ -1,5 +1,6 @@
 -- What a resolved unit keeps, and its blocks, apart from where they lie in memory.
 use Rattle.std.specs.Prelude.{◌≡◌, ℕ, nat_eq, [], map, Result}
+use Rattle.std.specs.Global.{Vec}
 use Rattle.std.specs.List.{flat_map}
 use Rattle.indexmap.specs.IndexMap.{get}
 use Rattle.pli_base.specs.Statements.{ExternalProcedure}
@@ -10,7 +11,8 @@ use Rattle.pli_map.specs.views.DescriptionView.{description_view}
 use Rattle.pli_declare_outline.specs.Outlines.{outline_of}
 use Rattle.pli_declare_tables.specs.Tables.{inner_marks}
 use Rattle.pli_declare.specs.Resolved.{resolved_of}
-use Rattle.pli_declare.specs.declared.resolving.ResolveError.{ResolveError}
+use Rattle.pli_base.specs.declared.failure.Failure.{Failure}
+use Rattle.pli_base.specs.declared.token.Fault.{Fault}
 use Rattle.pli_declare.specs.views.ResolvedView.{IsResolved}
 use Rattle.pli_resolve.specs.StatementPlaces.{unit_starts, unit_places}
 use Rattle.pli_resolve.specs.Symbols.{found_in, ways_of}
@@ -79,5 +81,5 @@ pub record IsUnitOf (u : ExternalProcedure) (tables : UnitTables) (undescribed :
 
 -- the resolved unit of this tree, where there are no faults; or all of them; want of memory is possible
 -- anywhere
-abbrev pub IsResolvedUnit : Result Procedure ResolveError → ExternalProcedure → Type 0
+abbrev pub IsResolvedUnit : Result Procedure (Failure (Vec Fault)) → ExternalProcedure → Type 0
 IsResolvedUnit answer u = IsResolved answer u

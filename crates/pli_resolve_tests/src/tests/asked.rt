@@ -157,7 +157,7 @@ fn put_names(shown: &mut Shown, alloc: Global, asked: Asked, resolved: &Resolved
 fn put_named(shown: &mut Shown, alloc: Global, asked: Asked, unit: &Procedure) {
     match named(alloc, unit) {
         Ok(resolved) => put_names(shown, alloc, asked, &resolved),
-        Err(ResolveError::Faulty(faults)) => show_faults(shown, &faults),
+        Err(ResolveError::Fault(faults)) => show_faults(shown, &faults),
         Err(ResolveError::OutOfMemory) => shown.refuse(),
     }
 }
@@ -177,7 +177,7 @@ fn put_whole(shown: &mut Shown, alloc: Global, asked: Asked, resolved: &Resolved
 fn put_resolved(shown: &mut Shown, alloc: Global, asked: Asked, unit: &Procedure) {
     match resolve_unit(alloc, unit) {
         Ok(resolved) => put_whole(shown, alloc, asked, &resolved),
-        Err(ResolveError::Faulty(faults)) => show_faults(shown, &faults),
+        Err(ResolveError::Fault(faults)) => show_faults(shown, &faults),
         Err(ResolveError::OutOfMemory) => shown.refuse(),
     }
 }

@@ -142,7 +142,7 @@ fn show_completed(shown: &mut Shown, completed: &Completed) {
 fn put_completed(shown: &mut Shown, alloc: Global, place: Place, facts: &ItemFacts) {
     match completed_item(alloc, place, facts) {
         Ok(completed) => show_completed(shown, &completed),
-        Err(AttributeError::Faulty(code)) => shown.put(code.label()),
+        Err(AttributeError::Fault(code)) => shown.put(code.label()),
         Err(AttributeError::OutOfMemory) => shown.refuse(),
     }
 }
@@ -154,7 +154,7 @@ fn put_copied(shown: &mut Shown, alloc: Global, place: Place, facts: &ItemFacts)
             Ok(copy) => show_completed(shown, &copy),
             Err(_) => shown.refuse(),
         },
-        Err(AttributeError::Faulty(code)) => shown.put(code.label()),
+        Err(AttributeError::Fault(code)) => shown.put(code.label()),
         Err(AttributeError::OutOfMemory) => shown.refuse(),
     }
 }

@@ -20,7 +20,7 @@ use Rattle.pli_type_expression.proofs.Meanings.{begun_at_variable, begun_at_func
 use Rattle.pli_type_expression.proofs.Sizes.{item_size, part_size, expression_size, reference_size, arguments_size, list_size, parts_size}
 use Rattle.pli_type_expression.proofs.Walks.{written_ends, written_unbegun, written_unended, parenthesized_typed, parenthesized_unmeant, prefix_typed, prefix_unmeant, prefix_refused, infix_typed, left_unmeant, right_unmeant, infix_refused}
 use Rattle.pli_type_expression.specs.Segments.{next_segment, function_typed}
-use Rattle.pli_type_expression.specs.declared.answer.TypeError.TheVariants.{OutOfMemory}
+use Rattle.pli_base.specs.declared.failure.Failure.TheVariants.{OutOfMemory}
 use Rattle.pli_type_expression.specs.declared.argument.Argument.{Argument}
 use Rattle.pli_type_tree.specs.declared.expression.TypedExpression.{TypedExpression}
 use Rattle.pli_type_expression.proofs.Built.{item_built, part_built, reference_built, constant_built}

@@ -3,7 +3,7 @@ use Rattle.std.proofs.lemmas.Result.{err_from_is_err_and}
 use Rattle.pli_base.specs.views.SyntaxView as syntax
 use Rattle.pli_map.specs.views.DescriptionView.{description_view}
 use Rattle.pli_type.specs.StatementTyping as spec
-use Rattle.pli_type_expression.specs.answers.TypingAnswers.{Fails}
+use Rattle.pli_base.specs.answers.FailureAnswers.{Fails}
 use Rattle.pli_type_expression.specs.views.TypingView.{argument_view}
 use Rattle.pli_type_names.specs.Meant.{IsMeantAs}
 use Rattle.pli_type_names.specs.UnitNaming.{naming_in}

@@ -5,7 +5,7 @@ use Rattle.pli_base.specs.views.StatementView.{range_view}
 use Rattle.pli_base.specs.views.SyntaxView as syntax
 use Rattle.pli_type.specs.StatementTyping.{controls}
 use Rattle.pli_type.specs.views.ValueView.{value_view}
-use Rattle.pli_type_expression.specs.answers.TypingAnswers.{Gives}
+use Rattle.pli_base.specs.answers.FailureAnswers.{Gives}
 use Rattle.pli_type_expression.specs.views.TypingView.{denoted_view, referent_view}
 use Rattle.pli_type_names.specs.UnitNaming.{naming_in}
 use Rattle.pli_type_tree.specs.views.TypedView as typed

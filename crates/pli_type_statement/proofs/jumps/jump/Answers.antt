@@ -1,7 +1,7 @@
 use Rattle.std.proofs.Common.{None, ap, sym, ◌∙◌, subst}
 use Rattle.pli_base.specs.declared.code.Code.TheVariants.{NotYetBuilt}
 use Rattle.pli_type.specs.StatementTyping as spec
-use Rattle.pli_type_expression.specs.answers.TypingAnswers.{Fails}
+use Rattle.pli_base.specs.answers.FailureAnswers.{Fails}
 use Rattle.pli_type_names.specs.Meant.{IsMeantAs}
 use Rattle.pli_type_names.specs.UnitNaming.{naming_in}
 use Rattle.pli_type_statement.specs.Around.{blocks_of, surroundings_of}

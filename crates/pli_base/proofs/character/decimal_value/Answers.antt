@@ -1,6 +1,6 @@
 use Rattle.std.proofs.Common.{◌<◌, ◌≤◌, ◌^◌, ℕ, arith, lit<}
 use Rattle.std.proofs.Math.Nat.{pow-le-pow_right}
-use Rattle.pli_bench.proofs.command.decimal_value.Goals as goal
+use Rattle.pli_base.proofs.character.decimal_value.Goals as goal
 
 -- with a digit more, the value of at most 17 digits is below ten to the 18th power
 below : (i value : ℕ) → i < 18 → value < 10 ^ i → value < 10 ^ 17
